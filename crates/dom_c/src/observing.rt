@@ -1,7 +1,7 @@
 //! The commands of mutation observers.
 
 ghost use Rattle.std.specs.Prelude.{◌≡◌, Ok};
-ghost use Rattle.dom_model.specs.Commands.Command.{CreateObserver, Observe, Disconnect, TakeRecords, Notify, Pending};
+ghost use Rattle.dom_model.specs.Commands.Command.{CreateObserver, Observe, Disconnect, TakeRecords, Notify, Pending, ReleaseObserver};
 ghost use Rattle.dom_wire.specs.Sessions.{command_view};
 ghost use Rattle.dom_c.specs.Answers.{Answers};
 ghost use Rattle.dom_c.specs.Reads.{Reads, then_make};
@@ -91,4 +91,12 @@ pub extern "C" fn hp_pending(handle: &mut Handle) -> u8
     ensures { Answers handle.old handle.new (Ok Pending) result }
 {
     handle.take(Ok(Command::Observing(Observing::Pending)))
+}
+
+/// Lets an observer go: it watches nothing more, and the records that wait for it are dropped.
+#[unsafe(no_mangle)]
+pub extern "C" fn hp_release_observer(handle: &mut Handle, observer: u32) -> u8
+    ensures { Answers handle.old handle.new (Ok (ReleaseObserver observer)) result }
+{
+    handle.take(Ok(Command::Observing(Observing::ReleaseObserver(ObserverId::new(observer)))))
 }

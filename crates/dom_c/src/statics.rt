@@ -1,7 +1,7 @@
 //! The commands of static ranges.
 
 ghost use Rattle.std.specs.Prelude.{◌≡◌, Ok};
-ghost use Rattle.dom_model.specs.Commands.Command.{CreateStaticRange, DescribeStaticRange};
+ghost use Rattle.dom_model.specs.Commands.Command.{CreateStaticRange, DescribeStaticRange, ReleaseStaticRange};
 ghost use Rattle.dom_c.specs.Answers.{Answers};
 ghost use Rattle.dom_c.specs.Told.{told, number_told};
 ghost use Rattle.dom_c.specs.Places.{static_ends_told};
@@ -50,4 +50,12 @@ pub extern "C" fn hp_static_range(handle: &mut Handle, range: u32, ends: &mut St
         Ok(Command::StaticRanging(StaticRanging::DescribeStaticRange(StaticId::new(range)))),
         ends,
     )
+}
+
+/// Lets a static range go.
+#[unsafe(no_mangle)]
+pub extern "C" fn hp_release_static_range(handle: &mut Handle, range: u32) -> u8
+    ensures { Answers handle.old handle.new (Ok (ReleaseStaticRange range)) result }
+{
+    handle.take(Ok(Command::StaticRanging(StaticRanging::ReleaseStaticRange(StaticId::new(range)))))
 }

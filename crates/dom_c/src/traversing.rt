@@ -1,7 +1,7 @@
 //! The commands of node iterators and tree walkers.
 
 ghost use Rattle.std.specs.Prelude.{◌≡◌, Ok};
-ghost use Rattle.dom_model.specs.Commands.Command.{CreateIterator, CreateWalker, DescribeIterator, NextNode, PreviousNode, DescribeWalker, SetCurrent, Walk};
+ghost use Rattle.dom_model.specs.Commands.Command.{CreateIterator, CreateWalker, DescribeIterator, NextNode, PreviousNode, DescribeWalker, SetCurrent, Walk, ReleaseIterator, ReleaseWalker};
 ghost use Rattle.dom_wire.specs.Sessions.{command_view};
 ghost use Rattle.dom_c.specs.Answers.{Answers};
 ghost use Rattle.dom_c.specs.Reads.{Reads, move_in, then_make};
@@ -170,4 +170,20 @@ pub extern "C" fn hp_walk(handle: &mut Handle, walker: u32, direction: u8, node:
     ensures told { node.new ≡ maybe_number_told (told handle.new result) node.old }
 {
     handle.take_maybe_number(read_walk(walker, direction), node)
+}
+
+/// Lets an iterator go.
+#[unsafe(no_mangle)]
+pub extern "C" fn hp_release_iterator(handle: &mut Handle, iterator: u32) -> u8
+    ensures { Answers handle.old handle.new (Ok (ReleaseIterator iterator)) result }
+{
+    handle.take(Ok(Command::Traversing(Traversing::ReleaseIterator(IteratorId::new(iterator)))))
+}
+
+/// Lets a walker go.
+#[unsafe(no_mangle)]
+pub extern "C" fn hp_release_walker(handle: &mut Handle, walker: u32) -> u8
+    ensures { Answers handle.old handle.new (Ok (ReleaseWalker walker)) result }
+{
+    handle.take(Ok(Command::Traversing(Traversing::ReleaseWalker(WalkerId::new(walker)))))
 }

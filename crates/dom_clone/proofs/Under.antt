@@ -1,7 +1,6 @@
 -- A root goes under a node of its node document, and the world stays whole.
 use Rattle.std.proofs.Common.{◌≡◌, ℕ, ◌<◌, Bool, true, false, if◌then◌else◌, Option, Some, None, IfSome, is_some, refl, ap, sym, ◌∙◌, subst, arith}
 use Rattle.std.proofs.lemmas.Bool.{false≢true}
-use Rattle.std.proofs.lemmas.List.Elements.{All-weaker}
 use Rattle.dom_model.specs.PlainLists.Lists.{among, or_else}
 use Rattle.dom_model.specs.Forests.Arena.{Entry}
 use Rattle.dom_model.specs.Forests.Kinds.{is_kind, may_stand_in}
@@ -27,10 +26,11 @@ use Rattle.dom_model.proofs.Forests.OneMoreRoot.{entry-more, entry-new, parent-n
 use Rattle.dom_model.proofs.Forests.ForestsBeside.{ancestors-older}
 use Rattle.dom_model.proofs.Worlds.Owners.{HasOwners-put}
 use Rattle.dom_model.proofs.Soundness.SoundPlacing.{sound-put_one}
+use Rattle.dom_model.proofs.Soundness.SoundWorlds.{statics-kept}
 use Rattle.dom_tree.specs.Standing.{MayStand}
 use Rattle.dom_observe.specs.Watchers.{Watches}
 use Rattle.dom_edit.specs.declared.world.World.{World}
-use Rattle.dom_edit.specs.Whole.{IsWhole, AreHeld, Keeps, Follows, unwatched}
+use Rattle.dom_edit.specs.Whole.{IsWhole, Keeps, Follows, unwatched}
 use Rattle.dom_edit.proofs.Covering.{covered-kept}
 use Rattle.dom_observe.proofs.HeldNames.{held-kept}
 use Rattle.dom_edit.proofs.Following.{follows-then, keeps-unwatched, sound-unwatched, whole-sound}
@@ -152,7 +152,7 @@ module _ (v : World) (h : IsWhole v) (parent child d : ℕ) (m : MayGoUnder v.tr
       let one : occurs parent (without child v.tree.forest) ≡ 1 = omega (arith, out, hp) in
       let t = total-put (one_at n) parent child None v.tree.forest one in
       omega arith) refl h.covered)
-      (All-weaker (AreHeld v.tree.forest) (AreHeld (put parent child None v.tree.forest)) (λ r k. record { start = there_put r.start.node k.start; end = there_put r.end.node k.end }) v.statics h.statics)
+      (statics-kept v.tree.forest (put parent child None v.tree.forest) there_put v.statics h.statics)
       (held-kept v.tree.forest (put parent child None v.tree.forest) v.observers there_put h.observers)
 
 -- A copy is made, and goes under a node.

@@ -13,6 +13,7 @@ ghost use Rattle.dom_model.specs.RangesAndContents.Contents.{is_in_one_data, cut
 ghost use Rattle.dom_ranges.specs.Tables.{range_in};
 ghost use Rattle.dom_model.specs.TokenText.Edits.{delete_contents_edits};
 ghost use Rattle.dom_edit.specs.Whole.{IsWhole, Follows, unwatched};
+ghost use Rattle.dom_edit.specs.Keeping.{KeepsLabels};
 ghost use Rattle.dom_edit.specs.Markers.{StandByEdits};
 ghost use Rattle.dom_content.specs.Drawing.{place_behind};
 ghost use Rattle.dom_content.specs.Left.{IsLeftOf};
@@ -39,6 +40,7 @@ fn cut_units(
     requires kind { kind_passes is_character_data world.old.tree.forest node ≡ true }
     requires within { offset ≤ length (data_of (unwatched world.old) node) }
     ensures cut { OnOk result (Follows world.old world.new (replace_data node offset count [])) }
+    ensures kept { KeepsLabels world.old world.new }
     ensures whole { IsWhole world.new }
 {
     replace_data_checked(world, alloc, node, offset, count, &[])
@@ -62,6 +64,7 @@ pub(crate) fn stand_at(world: &mut World, range: RangeId, place: Point)
     requires live { IsSome (range_in world.old.ranges range) }
     requires within { IsRange world.old.tree.forest (collapsed_at place) }
     ensures stands { Follows world.old world.new (with_range range (collapsed_at place)) }
+    ensures kept { KeepsLabels world.old world.new }
     ensures whole { IsWhole world.new }
 {
     world.ranges.collapse_at(range, place);
@@ -73,6 +76,7 @@ fn cut_from(world: &mut World, alloc: Global, start: Point) -> Result<(), AllocE
     requires held { HasNode world.old.tree.forest start.node }
     requires within { kind_passes is_character_data world.old.tree.forest start.node ≡ true → start.offset ≤ length (data_of (unwatched world.old) start.node) }
     ensures cut { OnOk result (Follows world.old world.new (cut_from start.node start.offset)) }
+    ensures kept { KeepsLabels world.old world.new }
     ensures whole { IsWhole world.new }
 {
     let Point { node, offset } = start;
@@ -88,6 +92,7 @@ fn cut_up_to(world: &mut World, alloc: Global, end: Point) -> Result<(), AllocEr
     requires whole { IsWhole world.old }
     requires held { HasNode world.old.tree.forest end.node }
     ensures cut { OnOk result (Follows world.old world.new (cut_up_to end.node end.offset)) }
+    ensures kept { KeepsLabels world.old world.new }
     ensures whole { IsWhole world.new }
 {
     let Point { node, offset } = end;
@@ -102,6 +107,7 @@ fn remove_each(world: &mut World, alloc: Global, nodes: &[NodeId]) -> Result<(),
     requires whole { IsWhole world.old }
     requires held { (n : ℕ) → 0 < hits n nodes.now → HasNode world.old.tree.forest n }
     ensures removed { OnOk result (Follows world.old world.new (remove_each nodes.now)) }
+    ensures kept { KeepsLabels world.old world.new }
     ensures whole { IsWhole world.new }
 {
     for node in nodes {
@@ -122,6 +128,7 @@ fn delete_between(
     requires ends { range_in world.old.ranges range ≡ Some (record { start = start; end = end }) }
     requires apart { is_in_one_data (unwatched world.old) (record { start = start; end = end }) ≡ false }
     ensures deleted { OnOk result (Follows world.old world.new (deleted_between range (record { start = start; end = end }))) }
+    ensures kept { KeepsLabels world.old world.new }
     ensures whole { IsWhole world.new }
 {
     let parts = parts_of(&world.tree, alloc, start, end)?;
@@ -139,6 +146,7 @@ fn delete_range(world: &mut World, alloc: Global, range: RangeId) -> Result<(), 
     requires whole { IsWhole world.old }
     requires held { IsSome (range_in world.old.ranges range) }
     ensures deleted { OnOk result (Follows world.old world.new (delete_contents range)) }
+    ensures kept { KeepsLabels world.old world.new }
     ensures whole { IsWhole world.new }
 {
     let (start, end) = world.ranges.ends(range);
@@ -159,6 +167,7 @@ pub fn delete_contents(world: &mut World, alloc: Global, range: RangeId) -> Resu
     ensures deleted { OnOk result (Follows world.old world.new (delete_contents range)) }
     ensures markers { OnOk result (StandByEdits world.old world.new (delete_contents_edits range)) }
     ensures left { OnOk result (IsLeftOf world.old world.new range) }
+    ensures kept { KeepsLabels world.old world.new }
     ensures whole { IsWhole world.new }
 {
     delete_range(world, alloc, range)

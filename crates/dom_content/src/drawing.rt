@@ -14,6 +14,7 @@ ghost use Rattle.dom_ranges.specs.Tables.{range_in};
 ghost use Rattle.dom_edit.specs.Inserting.{AreThere};
 ghost use Rattle.dom_model.specs.TokenText.Edits.{extract_edits, clone_contents_edits};
 ghost use Rattle.dom_edit.specs.Whole.{IsWhole, Follows, unwatched};
+ghost use Rattle.dom_edit.specs.Keeping.{KeepsLabels};
 ghost use Rattle.dom_edit.specs.Markers.{StandByEdits};
 ghost use Rattle.dom_edit.specs.Refusals.{IsRefused};
 ghost use Rattle.dom_content.specs.Left.{IsLeftOf, HoldsBetween, MovesBetween, CopiesBetween};
@@ -87,6 +88,7 @@ fn draw_units(
     requires room { HasRoom world.old (units_into moves into start.node start.offset (end.offset - start.offset)) }
     ensures drawn { OnOk result (Follows world.old world.new (units_into moves into start.node start.offset (end.offset - start.offset))) }
     ensures stays { OnOk result (Stays world.old world.new) }
+    ensures kept { KeepsLabels world.old world.new }
     ensures whole { IsWhole world.new }
 {
     let count = end.offset - start.offset;
@@ -110,6 +112,7 @@ fn draw_parts(
     requires room { HasRoom world.old (drawn_by moves into start end parts.now) }
     ensures drawn { OnOk result (Follows world.old world.new (drawn_by moves into start end parts.now)) }
     ensures stays { OnOk result (Stays world.old world.new) }
+    ensures kept { KeepsLabels world.old world.new }
     ensures whole { IsWhole world.new }
 {
     tail_into(world, alloc, moves, into, start.offset, &parts.first)?;
@@ -137,6 +140,7 @@ fn fill(
     requires room { HasRoom world.old (filled_by moves (in_one_data world.old.tree.forest (record { start = start; end = end })) into start end parts.now) }
     ensures drawn { OnOk result (Follows world.old world.new (filled_by moves (in_one_data world.old.tree.forest (record { start = start; end = end })) into start end parts.now)) }
     ensures stays { OnOk result (Stays world.old world.new) }
+    ensures kept { KeepsLabels world.old world.new }
     ensures whole { IsWhole world.new }
 {
     if start == end {
@@ -165,6 +169,7 @@ fn draw(
     ensures number { IfOk result (λ id. id ≡ world.old.tree.made) }
     ensures drawn { OnOk result (Follows world.old world.new (contents_drawn moves (record { start = start; end = end }))) }
     ensures stays { OnOk result (Stays world.old world.new) }
+    ensures kept { KeepsLabels world.old world.new }
     ensures whole { IsWhole world.new }
 {
     let document = document_in(&world.tree, start.node);
@@ -190,6 +195,7 @@ fn extract_parts(
     requires room { HasRoom world.old (contents_drawn true (record { start = start; end = end })) }
     ensures number { IfOk result (λ id. id ≡ world.old.tree.made) }
     ensures extracted { OnOk result (Follows world.old world.new (extracted range (record { start = start; end = end }))) }
+    ensures kept { KeepsLabels world.old world.new }
     ensures whole { IsWhole world.new }
 {
     let place = new_place(&world.tree, start, &parts.first);
@@ -216,6 +222,7 @@ pub fn extract(world: &mut World, alloc: Global, range: RangeId) -> Result<NodeI
     ensures held { IfOk result (λ id. HoldsBetween world.old world.new range id) }
     ensures moved { IfOk result (λ id. MovesBetween world.old world.new range id) }
     ensures refused { IfErr result (λ e. IsRefused e (check_extract range (unwatched world.old)) world.old world.new) }
+    ensures kept { KeepsLabels world.old world.new }
     ensures whole { IsWhole world.new }
 {
     let (start, end) = world.ranges.ends(range);
@@ -240,6 +247,7 @@ pub fn extract_checked(
     ensures left { OnOk result (IsLeftOf world.old world.new range) }
     ensures held { IfOk result (λ id. HoldsBetween world.old world.new range id) }
     ensures moved { IfOk result (λ id. MovesBetween world.old world.new range id) }
+    ensures kept { KeepsLabels world.old world.new }
     ensures whole { IsWhole world.new }
 {
     let (start, end) = world.ranges.ends(range);
@@ -261,6 +269,7 @@ pub fn clone_contents(world: &mut World, alloc: Global, range: RangeId) -> Resul
     ensures held { IfOk result (λ id. HoldsBetween world.old world.new range id) }
     ensures copied { IfOk result (λ id. CopiesBetween world.old world.new range id) }
     ensures refused { IfErr result (λ e. IsRefused e (check_extract range (unwatched world.old)) world.old world.new) }
+    ensures kept { KeepsLabels world.old world.new }
     ensures whole { IsWhole world.new }
 {
     let (start, end) = world.ranges.ends(range);

@@ -7,6 +7,7 @@ ghost use Rattle.dom_model.specs.Forests.Kinds.{is_character_data};
 ghost use Rattle.dom_model.specs.Forests.Nodes.{kind_passes};
 ghost use Rattle.dom_model.specs.RangesAndContents.Contents.{children_into, copy_into};
 ghost use Rattle.dom_edit.specs.Whole.{IsWhole, Keeps, Follows};
+ghost use Rattle.dom_edit.specs.Keeping.{KeepsLabels};
 ghost use Rattle.dom_content.specs.Paths.{HasRoom, Stays, DataStays, opened, inner_of, closed_one, closed};
 ghost use Rattle.dom_content.specs.Coming.{MayDraw, MayClose};
 
@@ -58,6 +59,7 @@ pub(crate) fn open_partial(
     ensures opened { OnOk result (Follows world.old world.new (opened into node)) }
     ensures stays { OnOk result (Stays world.old world.new) }
     ensures texts { OnOk result (DataStays world.old world.new) }
+    ensures kept { KeepsLabels world.old world.new }
     ensures whole { IsWhole world.new }
 {
     let document = document_in(&world.tree, node);
@@ -83,6 +85,7 @@ fn close_partial(
     requires room { HasRoom world.old (closed_one moves partial.now) }
     ensures closed { OnOk result (Follows world.old world.new (closed_one moves partial.now)) }
     ensures stays { OnOk result (Stays world.old world.new) }
+    ensures kept { KeepsLabels world.old world.new }
     ensures whole { IsWhole world.new }
 {
     children_into(world, alloc, moves, partial.inner, &partial.children)?;
@@ -101,6 +104,7 @@ pub(crate) fn close_all(
     requires room { HasRoom world.old (closed moves partials.items) }
     ensures closed { OnOk result (Follows world.old world.new (closed moves partials.items)) }
     ensures stays { OnOk result (Stays world.old world.new) }
+    ensures kept { KeepsLabels world.old world.new }
     ensures whole { IsWhole world.new }
 {
     while let Some(partial) = partials.pop() {
@@ -125,6 +129,7 @@ pub(crate) fn copy_into(
     requires room { HasRoom world.old (copy_into into node (λ inner v. children_into moves inner children.items v)) }
     ensures copied { OnOk result (Follows world.old world.new (copy_into into node (λ inner v. children_into moves inner children.items v))) }
     ensures stays { OnOk result (Stays world.old world.new) }
+    ensures kept { KeepsLabels world.old world.new }
     ensures whole { IsWhole world.new }
 {
     let partial = open_partial(world, alloc, into, node, children)?;

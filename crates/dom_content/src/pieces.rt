@@ -13,6 +13,7 @@ ghost use Rattle.dom_model.specs.DataAndCopies.Clones.{clone_node};
 ghost use Rattle.dom_model.specs.RangesAndContents.Contents.{new_fragment, clone_with, cut_if, units_into, child_into, children_into};
 ghost use Rattle.dom_edit.specs.Inserting.{IsUnreferred};
 ghost use Rattle.dom_edit.specs.Whole.{IsWhole, Follows, unwatched};
+ghost use Rattle.dom_edit.specs.Keeping.{KeepsLabels};
 ghost use Rattle.dom_content.specs.Paths.{HasRoom, Stays, KindsStay, DataStays};
 ghost use Rattle.dom_content.specs.Coming.{MayDraw};
 
@@ -39,6 +40,7 @@ pub(crate) fn new_fragment(
     ensures made_held { OnOk result (HasNode world.new.tree.forest world.old.tree.made) }
     ensures stays { OnOk result (Stays world.old world.new) }
     ensures texts { OnOk result (DataStays world.old world.new) }
+    ensures kept { KeepsLabels world.old world.new }
     ensures whole { IsWhole world.new }
 {
     let label = Label {
@@ -68,6 +70,7 @@ pub(crate) fn put_last(
     ensures stays { OnOk result (Stays world.old world.new) }
     ensures kinds { OnOk result (KindsStay world.old world.new) }
     ensures texts { OnOk result (DataStays world.old world.new) }
+    ensures kept { KeepsLabels world.old world.new }
     ensures whole { IsWhole world.new }
 {
     world.insert_unreferred(alloc, parent, node, None)
@@ -85,6 +88,7 @@ fn move_last(
     requires child { IsSome (parent_of world.old.tree.forest node) }
     ensures moved { OnOk result (Follows world.old world.new (append node parent)) }
     ensures stays { OnOk result (Stays world.old world.new) }
+    ensures kept { KeepsLabels world.old world.new }
     ensures whole { IsWhole world.new }
 {
     world.insert(alloc, parent, node, None)
@@ -106,6 +110,7 @@ pub(crate) fn copy_of(
     ensures stays { OnOk result (Stays world.old world.new) }
     ensures kinds { OnOk result (KindsStay world.old world.new) }
     ensures texts { OnOk result (DataStays world.old world.new) }
+    ensures kept { KeepsLabels world.old world.new }
     ensures whole { IsWhole world.new }
 {
     clone_node(world, alloc, node, deep)
@@ -144,6 +149,7 @@ fn copy_with(
     ensures stays { OnOk result (Stays world.old world.new) }
     ensures kinds { OnOk result (KindsStay world.old world.new) }
     ensures texts { OnOk result (DataStays world.old world.new) }
+    ensures kept { KeepsLabels world.old world.new }
     ensures whole { IsWhole world.new }
 {
     let label = world.tree.label(node).try_clone(alloc)?;
@@ -167,6 +173,7 @@ fn cut_if(
     requires within { offset ≤ length (data_of (unwatched world.old) node) }
     ensures cut { OnOk result (Follows world.old world.new (cut_if moves node offset count)) }
     ensures stays { OnOk result (Stays world.old world.new) }
+    ensures kept { KeepsLabels world.old world.new }
     ensures whole { IsWhole world.new }
 {
     if !moves {
@@ -192,6 +199,7 @@ pub(crate) fn units_into(
     requires room { HasRoom world.old (units_into moves into node offset count) }
     ensures drawn { OnOk result (Follows world.old world.new (units_into moves into node offset count)) }
     ensures stays { OnOk result (Stays world.old world.new) }
+    ensures kept { KeepsLabels world.old world.new }
     ensures whole { IsWhole world.new }
 {
     let units = part_of(&world.tree, alloc, node, offset, count)?;
@@ -214,6 +222,7 @@ pub(crate) fn child_into(
     requires room { HasRoom world.old (child_into moves into node) }
     ensures drawn { OnOk result (Follows world.old world.new (child_into moves into node)) }
     ensures stays { OnOk result (Stays world.old world.new) }
+    ensures kept { KeepsLabels world.old world.new }
     ensures whole { IsWhole world.new }
 {
     if moves {
@@ -236,6 +245,7 @@ pub(crate) fn children_into(
     requires room { HasRoom world.old (children_into moves into nodes.now) }
     ensures drawn { OnOk result (Follows world.old world.new (children_into moves into nodes.now)) }
     ensures stays { OnOk result (Stays world.old world.new) }
+    ensures kept { KeepsLabels world.old world.new }
     ensures whole { IsWhole world.new }
 {
     for node in nodes {

@@ -10,6 +10,7 @@ ghost use Rattle.dom_model.specs.Forests.Nodes.{kind_passes};
 ghost use Rattle.dom_model.specs.DataAndCopies.Data.{content_in};
 ghost use Rattle.dom_model.specs.RangesAndContents.Contents.{tail_into, head_into};
 ghost use Rattle.dom_edit.specs.Whole.{IsWhole, Keeps, Follows};
+ghost use Rattle.dom_edit.specs.Keeping.{KeepsLabels};
 ghost use Rattle.dom_content.specs.Paths.{HasRoom, Stays, DataStays, opened, inner_of, entered};
 ghost use Rattle.dom_content.specs.Coming.{MayDraw, IsPathTo};
 
@@ -49,6 +50,7 @@ fn open_tail(
     ensures opened { OnOk result (Follows world.old world.new (opened into node)) }
     ensures stays { OnOk result (Stays world.old world.new) }
     ensures texts { OnOk result (DataStays world.old world.new) }
+    ensures kept { KeepsLabels world.old world.new }
     ensures whole { IsWhole world.new }
 {
     let behind = children_past(&world.tree, alloc, node, next)?;
@@ -71,6 +73,7 @@ fn tail_of_last(
     requires room { HasRoom world.old (tail_into moves into offset (node ∷ [])) }
     ensures drawn { OnOk result (Follows world.old world.new (tail_into moves into offset (node ∷ []))) }
     ensures stays { OnOk result (Stays world.old world.new) }
+    ensures kept { KeepsLabels world.old world.new }
     ensures whole { IsWhole world.new }
 {
     if world.tree.has_data(node) {
@@ -97,6 +100,7 @@ fn tail_along(
     requires room { HasRoom world.old (tail_into moves into offset (first ∷ below.now)) }
     ensures drawn { OnOk result (Follows world.old world.new (tail_into moves into offset (first ∷ below.now))) }
     ensures stays { OnOk result (Stays world.old world.new) }
+    ensures kept { KeepsLabels world.old world.new }
     ensures whole { IsWhole world.new }
 {
     let mut partials: Partials = SmallVec::new(alloc);
@@ -127,6 +131,7 @@ pub(crate) fn tail_into(
     requires room { HasRoom world.old (tail_into moves into offset path.now) }
     ensures drawn { OnOk result (Follows world.old world.new (tail_into moves into offset path.now)) }
     ensures stays { OnOk result (Stays world.old world.new) }
+    ensures kept { KeepsLabels world.old world.new }
     ensures whole { IsWhole world.new }
 {
     match path.split_first() {
@@ -154,6 +159,7 @@ fn open_head(
     ensures children { IfOk result (λ p. p.children.items ≡ []) }
     ensures entered { OnOk result (Follows world.old world.new (entered moves into node next)) }
     ensures stays { OnOk result (Stays world.old world.new) }
+    ensures kept { KeepsLabels world.old world.new }
     ensures whole { IsWhole world.new }
 {
     let ahead = children_ahead(&world.tree, alloc, node, next)?;
@@ -177,6 +183,7 @@ fn head_of_last(
     requires room { HasRoom world.old (head_into moves into offset (node ∷ [])) }
     ensures drawn { OnOk result (Follows world.old world.new (head_into moves into offset (node ∷ []))) }
     ensures stays { OnOk result (Stays world.old world.new) }
+    ensures kept { KeepsLabels world.old world.new }
     ensures whole { IsWhole world.new }
 {
     if world.tree.has_data(node) {
@@ -202,6 +209,7 @@ fn head_along(
     requires room { HasRoom world.old (head_into moves into offset (first ∷ below.now)) }
     ensures drawn { OnOk result (Follows world.old world.new (head_into moves into offset (first ∷ below.now))) }
     ensures stays { OnOk result (Stays world.old world.new) }
+    ensures kept { KeepsLabels world.old world.new }
     ensures whole { IsWhole world.new }
 {
     let mut partials: Partials = SmallVec::new(alloc);
@@ -232,6 +240,7 @@ pub(crate) fn head_into(
     requires room { HasRoom world.old (head_into moves into offset path.now) }
     ensures drawn { OnOk result (Follows world.old world.new (head_into moves into offset path.now)) }
     ensures stays { OnOk result (Stays world.old world.new) }
+    ensures kept { KeepsLabels world.old world.new }
     ensures whole { IsWhole world.new }
 {
     match path.split_first() {

@@ -1,6 +1,5 @@
 -- What is whole after steps that keep numbers, labels and node documents.
 use Rattle.std.proofs.Common.{◌≡◌, ℕ, ◌+◌, ◌-◌, ◌≤◌, min, true, List, length, refl, ap, sym, ◌∙◌, subst, arith}
-use Rattle.std.proofs.lemmas.List.Elements.{All-weaker}
 use Rattle.dom_model.specs.declared.Kind.TheVariants.{Document}
 use Rattle.dom_model.specs.Forests.Kinds.{is_kind, is_character_data}
 use Rattle.dom_model.specs.Forests.Forest.{Node, Forest, Grove, empty, node, occurs, entry_in, with_node}
@@ -15,12 +14,13 @@ use Rattle.dom_model.specs.DataAndCopies.Data.{content_in, data_of, with_data, r
 use Rattle.dom_model.specs.Forests.Attributes.{Attribute, with_attribute, without_attribute}
 use Rattle.dom_model.specs.Soundness.Owners.{HasOwners, IsOwned}
 use Rattle.dom_model.proofs.Soundness.SoundData.{sound-replace_units, sound-set_attribute, sound-remove_attribute}
+use Rattle.dom_model.proofs.Soundness.SoundWorlds.{statics-kept}
 use Rattle.dom_ranges.specs.Tables.{RangeTable}
 use Rattle.dom_model.proofs.PlainLists.Numbers.{same_or, same, apart}
 use Rattle.dom_model.proofs.Worlds.SameShape.{bare_node, with_node-alike, kind-alike, occurs-alike}
 use Rattle.dom_model.proofs.RangesAndContents.RangesSpliced.{there-alike}
 use Rattle.dom_edit.specs.declared.world.World.{World}
-use Rattle.dom_edit.specs.Whole.{AreHeld, AreCovered, IsWhole, Keeps, Follows, unwatched}
+use Rattle.dom_edit.specs.Whole.{AreCovered, IsWhole, Keeps, Follows, unwatched}
 use Rattle.dom_observe.specs.Watchers.{Watches}
 use Rattle.dom_observe.proofs.HeldNames.{held-kept}
 use Rattle.std.proofs.lemmas.Bool.Decides.{nat_tests}
@@ -56,7 +56,7 @@ module _ (n : ℕ) (change : Node Content → Node Content) (keeps : (x : Node C
       (subst HasOwners (sym forest) (owners-with_node old.tree.forest h.owners))
       (subst (AreCovered new.tree) (sym covered)
       (covered-kept old.tree new.tree old.ranges.covered (λ m. let z : occurs m new.tree.forest ≡ occurs m old.tree.forest = ap (occurs m) forest ∙ occurs-alike a m in omega arith) made h.covered))
-      (rw (forest, statics) (All-weaker (AreHeld old.tree.forest) (AreHeld (with_node n change old.tree.forest)) (λ r k. record { start = there-alike a r.start.node k.start; end = there-alike a r.end.node k.end }) old.statics h.statics))
+      (rw (forest, statics) (statics-kept old.tree.forest (with_node n change old.tree.forest) (there-alike a) old.statics h.statics))
       (rw (forest, observers) (held-kept old.tree.forest (with_node n change old.tree.forest) old.observers (there-alike a) h.observers))
 
 -- units are replaced, and ends move

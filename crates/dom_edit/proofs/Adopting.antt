@@ -14,7 +14,7 @@ use Rattle.dom_model.proofs.Worlds.SameShape.{with_tree-alike, occurs-alike}
 use Rattle.dom_model.proofs.Worlds.Measured.{kind-cut}
 use Rattle.dom_model.proofs.Worlds.Owners.{HasOwners-adopted}
 use Rattle.dom_model.proofs.RangesAndContents.RangesSpliced.{there-alike}
-use Rattle.dom_model.proofs.Soundness.SoundWorlds.{there_after_cut}
+use Rattle.dom_model.proofs.Soundness.SoundWorlds.{there_after_cut, statics-kept}
 use Rattle.dom_model.proofs.Soundness.SoundEditing.{sound-adopted}
 use Rattle.dom_model.proofs.MutationAlgorithms.Loosened.{forest-remove}
 use Rattle.dom_observe.specs.Held.{NamesHeld}
@@ -23,7 +23,7 @@ use Rattle.dom_edit.specs.declared.world.World.{World}
 use Rattle.dom_edit.specs.Whole.{IsWhole, Keeps, Follows, unwatched}
 use Rattle.dom_edit.proofs.Following.{keeps-unwatched, whole-sound}
 use Rattle.dom_edit.proofs.Covering.{covered-kept}
-use Rattle.dom_edit.proofs.Leaving.{sound-unwatched, statics-held}
+use Rattle.dom_edit.proofs.Leaving.{sound-unwatched}
 
 -- what a removal leaves of the trees
 module _ (v new : World) (suppressed : Bool) (n : ℕ) (h : IsWhole v) (held : HasNode v.tree.forest n) (f : Follows v new (remove suppressed n)) where
@@ -54,7 +54,7 @@ whole-adopted v new n d h root document tree ranges statics iterators walkers ob
       iterators = sym iterators;
       walkers = sym walkers;
     } in
-    let held = statics-held f g (there-alike (with_tree-alike (in_document d) (λ x. refl) n f)) v.statics h.statics in
+    let held = statics-kept f g (there-alike (with_tree-alike (in_document d) (λ x. refl) n f)) v.statics h.statics in
     whole-sound new (record (unwatched v) { forest = g }) keeps (sound-adopted n d (unwatched v) (sound-unwatched v h))
     (subst HasOneDocument forest (HasOneDocument-adopted n d f h.forest.once root h.documents))
     (subst HasOwners forest (HasOwners-adopted n d f document h.owners))

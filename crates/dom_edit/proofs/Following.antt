@@ -1,8 +1,9 @@
 -- Steps of the definitions that follow one another, and what a world of the code shows after one.
-use Rattle.std.proofs.Common.{◌≡◌, refl, sym, All, subst}
+use Rattle.std.proofs.Common.{◌≡◌, Option, IfSome, All, refl, sym, subst}
 use Rattle.std.proofs.lemmas.List.Elements.{All-nil}
 use Rattle.dom_model.specs.Forests.Forest.{IsForest}
 use Rattle.dom_model.specs.Forests.Documents.{HasOneDocument}
+use Rattle.dom_model.specs.Worlds.World.{Range}
 use Rattle.dom_model.specs.Worlds.World as model
 use Rattle.dom_model.specs.Soundness.Sound.{IsRegistration, IsSound}
 use Rattle.dom_model.specs.Soundness.Owners.{HasOwners}
@@ -34,7 +35,7 @@ pub keeps-unwatched : (v : World) → Keeps v (unwatched v)
 keeps-unwatched v = record { forest = refl; made = refl; ranges = refl; static_ranges = refl; iterators = refl; walkers = refl }
 
 -- a world of the code is whole where it keeps a sound world, each node document is where it should be, and all nodes are covered
-pub whole-sound : (v : World) (w : model.World) → Keeps v w → IsSound w → HasOneDocument v.tree.forest → HasOwners v.tree.forest → AreCovered v.tree v.ranges.covered → All (AreHeld v.tree.forest) v.statics → NamesHeld v.tree.forest v.observers → IsWhole v
+pub whole-sound : (v : World) (w : model.World) → Keeps v w → IsSound w → HasOneDocument v.tree.forest → HasOwners v.tree.forest → AreCovered v.tree v.ranges.covered → All (λ (r : Option Range). IfSome r (AreHeld v.tree.forest)) v.statics → NamesHeld v.tree.forest v.observers → IsWhole v
 whole-sound v w k s documents owners covered statics names = record {
   forest = subst (λ g. IsForest g) (rw (k.forest, k.made) refl) s.forest;
   documents = documents;

@@ -1,10 +1,9 @@
 -- A node leaves its parent: what follows, and that the world stays whole.
-use Rattle.std.proofs.Common.{◌≡◌, ℕ, Bool, true, List, [], ◌∷◌, Option, Some, None, IfSome, All, refl, ap, sym, ◌∙◌, subst, arith}
-use Rattle.std.proofs.lemmas.List.Elements.{All-weaker}
-use Rattle.dom_model.specs.Forests.Forest.{HasNode, Forest, one_at, occurs, parent_of, previous_of, next_of, index_of, inclusive_descendants, ancestors, cut}
+use Rattle.std.proofs.Common.{◌≡◌, ℕ, Bool, true, List, [], ◌∷◌, Option, Some, None, IfSome, refl, ap, sym, ◌∙◌, subst, arith}
+use Rattle.dom_model.specs.Forests.Forest.{HasNode, one_at, occurs, parent_of, previous_of, next_of, index_of, inclusive_descendants, ancestors, cut}
 use Rattle.dom_model.specs.Forests.Documents.{HasOneDocument}
 use Rattle.dom_model.specs.Worlds.World as model
-use Rattle.dom_model.specs.Worlds.World.{Content, Range, Observing}
+use Rattle.dom_model.specs.Worlds.World.{Observing}
 use Rattle.dom_model.specs.Soundness.Sound.{IsSound}
 use Rattle.dom_model.specs.BoundaryPoints.Points.{map_ranges, after_removal}
 use Rattle.dom_model.specs.MutationAlgorithms.PreRemoval.{pre_removed_all}
@@ -15,7 +14,7 @@ use Rattle.dom_model.proofs.Forests.Entries.{HasNode-occurs}
 use Rattle.dom_model.proofs.Forests.Indices.{parent-there}
 use Rattle.dom_model.proofs.Forests.Paths.{parent-path}
 use Rattle.dom_model.proofs.Forests.Totals.{total-cut}
-use Rattle.dom_model.proofs.Soundness.SoundWorlds.{there_after_cut, sound-remove}
+use Rattle.dom_model.proofs.Soundness.SoundWorlds.{there_after_cut, statics-kept, sound-remove}
 use Rattle.dom_model.proofs.MutationAlgorithms.OwnersKept.{owned-cut}
 use Rattle.dom_ranges.specs.Tables.{RangeTable, IsCovered}
 use Rattle.dom_observe.specs.Held.{NamesHeld}
@@ -23,7 +22,7 @@ use Rattle.dom_observe.specs.Watchers.{Watches}
 use Rattle.dom_observe.proofs.HeldNames.{held-kept}
 use Rattle.dom_observe.proofs.Watching.{watches-unstood}
 use Rattle.dom_edit.specs.declared.world.World.{World}
-use Rattle.dom_edit.specs.Whole.{AreHeld, AreCovered, IsWhole, Keeps, Follows, unwatched}
+use Rattle.dom_edit.specs.Whole.{AreCovered, IsWhole, Keeps, Follows, unwatched}
 pub use Rattle.dom_edit.proofs.Following.{sound-unwatched}
 use Rattle.dom_edit.proofs.Following.{keeps-unwatched, whole-sound}
 use Rattle.dom_edit.proofs.Covering.{covered-kept}
@@ -47,10 +46,6 @@ held-covered v h n held = h.covered.held n held
 pub parent-held : (v : World) → IsWhole v → (n p : ℕ) → parent_of v.tree.forest n ≡ Some p → HasNode v.tree.forest p
 parent-held v h n p e =
     HasNode-occurs v.tree.forest p (parent-path v.tree.forest h.forest.once n p (parent-there v.tree.forest n p e) e).0
-
--- nodes that are held stay so
-pub statics-held : (f g : Forest Content) → ((n : ℕ) → HasNode f n → HasNode g n) → (rs : List Range) → All (AreHeld f) rs → All (AreHeld g) rs
-statics-held f g there rs h = All-weaker (AreHeld f) (AreHeld g) (λ r k. record { start = there r.start.node k.start; end = there r.end.node k.end }) rs h
 
 -- Ends and iterators give way, and the node becomes a root.
 
@@ -84,7 +79,7 @@ whole-taken v new n p h e f covered observers =
     let k = f.keeps (unwatched v) (keeps-unwatched v) in
     let sound = subst (λ q. IsSound (removed_from true n q (unwatched v))) e (sound-remove true n (unwatched v) (sound-unwatched v h)) in
     let owned = owned-cut n v.tree.forest h.forest.once (well_owned v h) in
-    let held = statics-held v.tree.forest (cut n v.tree.forest) (there_after_cut v.tree.forest n) v.statics h.statics in
+    let held = statics-kept v.tree.forest (cut n v.tree.forest) (there_after_cut v.tree.forest n) v.statics h.statics in
     whole-sound new (transients_made n p (taken_out n p (unwatched v)))
     (record { forest = k.forest; made = k.made; ranges = k.ranges; static_ranges = k.static_ranges; iterators = k.iterators; walkers = k.walkers })
     sound (subst HasOneDocument k.forest owned.documents) (subst HasOwners k.forest owned.owners)

@@ -19,3 +19,4 @@ pub mod Named
 pub mod Marking
 pub mod Unrefused
 pub mod CallerLemmas
+pub mod Releasing

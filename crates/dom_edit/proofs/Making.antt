@@ -19,6 +19,7 @@ use Rattle.dom_model.proofs.Forests.Documents.{HasOneDocument-new_root}
 use Rattle.dom_model.proofs.Worlds.Measured.{entry-joined, entry-beside, kind-beside}
 use Rattle.dom_model.proofs.Worlds.Owners.{HasOwners-new_root, kind-there}
 use Rattle.dom_model.proofs.Soundness.SoundMaking.{sound-made_node}
+use Rattle.dom_model.proofs.Soundness.SoundWorlds.{statics-kept}
 use Rattle.dom_ranges.specs.Chained.{covered_to}
 use Rattle.dom_observe.specs.Held.{NamesHeld}
 use Rattle.dom_observe.specs.Watchers.{Watches}
@@ -27,7 +28,7 @@ use Rattle.dom_edit.specs.declared.world.World.{World}
 use Rattle.dom_edit.specs.Whole.{AreCovered, IsWhole, Follows, unwatched}
 use Rattle.dom_edit.proofs.Following.{keeps-unwatched, whole-sound}
 use Rattle.dom_edit.proofs.Covering.{covered-more, covered-made}
-use Rattle.dom_edit.proofs.Leaving.{sound-unwatched, statics-held}
+use Rattle.dom_edit.proofs.Leaving.{sound-unwatched}
 
 abbrev pub new_node : ℕ → Option ℕ → Label → Content → Node Content
 new_node made document label body = record { number = made; document = unwrap_or document made; label = label; body = body }
@@ -71,7 +72,7 @@ whole-made v new document label body h given own follows covered observers =
     let k = follows.keeps (unwatched v) (keeps-unwatched v) in
     let owned = owned-new f v.tree.made document label body (h.forest.small v.tree.made (omega arith)) given own in
     let there : (n : ℕ) → HasNode f n → HasNode (beside f (node x empty empty)) n = λ n held. subst (λ e. IsSome e) (sym (entry-beside f (node x empty empty) n (occurs-HasNode f n held))) held in
-    let held = statics-held f (beside f (node x empty empty)) there v.statics h.statics in
+    let held = statics-kept f (beside f (node x empty empty)) there v.statics h.statics in
     let made = k.made in
     whole-sound new (made_node (unwrap_or document v.tree.made) label body (unwatched v)) k
     (sound-made_node (unwrap_or document v.tree.made) label body (unwatched v) (sound-unwatched v h))

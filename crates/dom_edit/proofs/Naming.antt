@@ -1,10 +1,9 @@
 -- What names the nodes of a tree, part by part, and a tree that nothing names.
 use Rattle.std.specs.Prelude.{◌==◌, ◌||◌, is_some, map}
 use Rattle.std.specs.List.{list_any, flat_map}
-use Rattle.std.proofs.Common.{◌≡◌, ℕ, suc, Bool, true, false, List, [], ◌∷◌, ◌++◌, Option, Some, None, All, refl, ap, sym, ◌∙◌, subst, arith}
+use Rattle.std.proofs.Common.{◌≡◌, ℕ, suc, Bool, true, false, List, [], ◌∷◌, ◌++◌, Option, Some, None, IfSome, All, refl, ap, sym, ◌∙◌, subst, arith}
 use Rattle.std.proofs.lemmas.Bool.{false≢true, or_parts}
 use Rattle.std.proofs.lemmas.List.Folds.{list_any-append}
-use Rattle.std.proofs.lemmas.List.Elements.{All-nil, All-cons, All-head, All-tail}
 use Rattle.dom_model.specs.declared.Kind.{Kind}
 use Rattle.dom_model.specs.declared.Kind.TheVariants.{Element, Text, ProcessingInstruction, Comment, Document, DocumentType, DocumentFragment}
 use Rattle.dom_model.specs.PlainLists.Lists.{among}
@@ -15,7 +14,7 @@ use Rattle.dom_model.specs.Forests.EachNode.{EachNode}
 use Rattle.dom_model.specs.Worlds.World as model
 use Rattle.dom_model.specs.Worlds.World.{Content, Range}
 use Rattle.dom_model.specs.Forests.Nodes.{is_of_kind}
-use Rattle.dom_model.specs.MutationAlgorithms.Discarding.{nodes_of_range, nodes_of_live, nodes_of_iterator, nodes_of_walker, observed_nodes, named_nodes, is_held_outside, is_in_use, discarded}
+use Rattle.dom_model.specs.MutationAlgorithms.Discarding.{nodes_of_range, nodes_of_iterator, nodes_of_walker, nodes_unless_released, observed_nodes, named_nodes, is_held_outside, is_in_use, discarded}
 use Rattle.dom_model.specs.Soundness.Owners.{IsOwned, HasOwners}
 use Rattle.dom_model.proofs.PlainLists.Numbers.{same_or, same, apart}
 use Rattle.dom_model.proofs.Forests.Changes.{seen, nothing, just}
@@ -54,19 +53,19 @@ parted p a b c d e =
 
 -- a number of a tree is among those that the parts of the code's world name
 pub named-own : (v : World) (p : ℕ → Bool)
-    → ((((list_any p (flat_map nodes_of_live v.ranges.ranges) || list_any p (flat_map nodes_of_range v.statics)) || list_any p (flat_map nodes_of_iterator v.iterators)) || list_any p (flat_map nodes_of_walker v.walkers)) || list_any p (named v.observers)) ≡ list_any p (named_in v)
-named-own v p = parted p (flat_map nodes_of_live v.ranges.ranges) (flat_map nodes_of_range v.statics) (flat_map nodes_of_iterator v.iterators) (flat_map nodes_of_walker v.walkers) (named v.observers)
+    → ((((list_any p (flat_map (nodes_unless_released nodes_of_range) v.ranges.ranges) || list_any p (flat_map (nodes_unless_released nodes_of_range) v.statics)) || list_any p (flat_map (nodes_unless_released nodes_of_iterator) v.iterators)) || list_any p (flat_map (nodes_unless_released nodes_of_walker) v.walkers)) || list_any p (named v.observers)) ≡ list_any p (named_in v)
+named-own v p = parted p (flat_map (nodes_unless_released nodes_of_range) v.ranges.ranges) (flat_map (nodes_unless_released nodes_of_range) v.statics) (flat_map (nodes_unless_released nodes_of_iterator) v.iterators) (flat_map (nodes_unless_released nodes_of_walker) v.walkers) (named v.observers)
 
 -- and among those that a world names which it keeps
 pub named-parts : (v : World) (w : model.World) (top : ℕ) → Keeps v w → (p : ℕ → Bool) → p ≡ (λ m. among m (inclusive_descendants v.tree.forest top))
-    → ((((list_any p (flat_map nodes_of_live v.ranges.ranges) || list_any p (flat_map nodes_of_range v.statics)) || list_any p (flat_map nodes_of_iterator v.iterators)) || list_any p (flat_map nodes_of_walker v.walkers)) || list_any p (observed_nodes w.observing))
+    → ((((list_any p (flat_map (nodes_unless_released nodes_of_range) v.ranges.ranges) || list_any p (flat_map (nodes_unless_released nodes_of_range) v.statics)) || list_any p (flat_map (nodes_unless_released nodes_of_iterator) v.iterators)) || list_any p (flat_map (nodes_unless_released nodes_of_walker) v.walkers)) || list_any p (observed_nodes w.observing))
     ≡ list_any (λ m. among m (inclusive_descendants w.forest top)) (named_nodes w)
 named-parts v w top k p e =
     let inside : p ≡ (λ m. among m (inclusive_descendants w.forest top)) = e ∙ ap (λ f m. among m (inclusive_descendants f top)) (sym k.forest) in
-    let ranges = flat_map nodes_of_live v.ranges.ranges in
-    let statics = flat_map nodes_of_range v.statics in
-    let iterators = flat_map nodes_of_iterator v.iterators in
-    let walkers = flat_map nodes_of_walker v.walkers in
+    let ranges = flat_map (nodes_unless_released nodes_of_range) v.ranges.ranges in
+    let statics = flat_map (nodes_unless_released nodes_of_range) v.statics in
+    let iterators = flat_map (nodes_unless_released nodes_of_iterator) v.iterators in
+    let walkers = flat_map (nodes_unless_released nodes_of_walker) v.walkers in
     let observed = observed_nodes w.observing in
     let all : named_nodes w ≡ ranges ++ (statics ++ (iterators ++ (walkers ++ observed))) = rw (k.ranges, k.static_ranges, k.iterators, k.walkers) refl in
     parted p ranges statics iterators walkers observed ∙ (ap (list_any p) (sym all) ∙ ap (λ q. list_any q (named_nodes w)) inside)
@@ -157,21 +156,10 @@ not_used v n named e none free =
 
 -- What is left where a tree goes.
 
-statics-left : (f rest : Forest Content) (p : ℕ → Bool) → ((m : ℕ) → p m ≡ false → HasNode f m → HasNode rest m) → (rs : List Range)
-    → All (AreHeld f) rs → list_any p (flat_map nodes_of_range rs) ≡ false → All (AreHeld rest) rs
-statics-left f rest p stays [] h k = All-nil (AreHeld rest)
-statics-left f rest p stays (r ∷ rs) h k =
-    let start = or_parts (p r.start.node) (p r.end.node || list_any p (flat_map nodes_of_range rs)) k in
-    let end = or_parts (p r.end.node) (list_any p (flat_map nodes_of_range rs)) start.1 in
-    let first = All-head (AreHeld f) r rs h in
-    All-cons (AreHeld rest) r rs (record { start = stays r.start.node start.0 first.start; end = stays r.end.node end.0 first.end })
-    (statics-left f rest p stays rs (All-tail (AreHeld f) r rs h) end.1)
-
 -- no part names a node of a tree that nothing names
 record NamesNothing (v : World) (n : ℕ) : Type 0 where
   outside : is_held_outside v.tree.forest n ≡ false
-  ranges : list_any (λ m. among m (inclusive_descendants v.tree.forest n)) (flat_map nodes_of_live v.ranges.ranges) ≡ false
-  statics : list_any (λ m. among m (inclusive_descendants v.tree.forest n)) (flat_map nodes_of_range v.statics) ≡ false
+  ranges : list_any (λ m. among m (inclusive_descendants v.tree.forest n)) (flat_map (nodes_unless_released nodes_of_range) v.ranges.ranges) ≡ false
   observers : list_any (λ m. among m (inclusive_descendants v.tree.forest n)) (named v.observers) ≡ false
   unwatched_too : is_in_use (unwatched v) n ≡ false
 
@@ -179,14 +167,14 @@ names-nothing : (v : World) (n : ℕ) → is_used v n ≡ false → NamesNothing
 names-nothing v n free =
     let p : ℕ → Bool = λ m. among m (inclusive_descendants v.tree.forest n) in
     let apart = or_parts (is_held_outside v.tree.forest n) (list_any (λ m. among m (inclusive_descendants v.tree.forest n)) (named_in v)) free in
-    let a = list_any p (flat_map nodes_of_live v.ranges.ranges) in
-    let b = list_any p (flat_map nodes_of_range v.statics) in
-    let c = list_any p (flat_map nodes_of_iterator v.iterators) in
-    let d = list_any p (flat_map nodes_of_walker v.walkers) in
+    let a = list_any p (flat_map (nodes_unless_released nodes_of_range) v.ranges.ranges) in
+    let b = list_any p (flat_map (nodes_unless_released nodes_of_range) v.statics) in
+    let c = list_any p (flat_map (nodes_unless_released nodes_of_iterator) v.iterators) in
+    let d = list_any p (flat_map (nodes_unless_released nodes_of_walker) v.walkers) in
     let all = or_parts (((a || b) || c) || d) (list_any p (named v.observers)) (named-own v p ∙ apart.1) in
     let first = or_parts a b (or_parts (a || b) c (or_parts ((a || b) || c) d all.0).0).0 in
     let others : list_any p (named_nodes (unwatched v)) ≡ false = sym (named-parts v (unwatched v) n (keeps-unwatched v) p refl) ∙ ap (λ t. t || false) all.0 in
-    record { outside = apart.0; ranges = first.0; statics = first.1; observers = all.1; unwatched_too = rw (apart.0, others) refl }
+    record { outside = apart.0; ranges = first.0; observers = all.1; unwatched_too = rw (apart.0, others) refl }
 
 -- no end of a live range stands in it either
 pub no-end-inside : (v : World) (n : ℕ) → is_used v n ≡ false → list_any (λ m. among m (inclusive_descendants v.tree.forest n)) (live_nodes v.ranges) ≡ false
@@ -208,7 +196,8 @@ whole-left v new n h free tree ranges statics iterators walkers observers =
     let there = occurs-HasNode f m held in
     HasNode-occurs rest m (omega arith) in
     let forest : rest ≡ new.tree.forest = sym (ap (λ t. t.forest) tree) in
-    let left = statics-left f rest p stays v.statics h.statics nothing.statics in
+    let sound = sound-without n w (sound-unwatched v h) nothing.unwatched_too in
+    let left : All (λ (r : Option Range). IfSome r (AreHeld rest)) v.statics = sound.statics in
     let names = held-freed f rest v.observers (inclusive_descendants f n) (λ m held e. stays m e held) nothing.observers h.observers in
     let made : v.tree.made ≡ new.tree.made = sym (ap (λ t. t.made) tree) in
     let keeps : Keeps new (discarded n w) = record {
@@ -219,7 +208,7 @@ whole-left v new n h free tree ranges statics iterators walkers observers =
       iterators = sym iterators;
       walkers = sym walkers;
     } in
-    whole-sound new (discarded n w) keeps (sound-without n w (sound-unwatched v h) nothing.unwatched_too)
+    whole-sound new (discarded n w) keeps sound
     (subst HasOneDocument forest (HasOneDocument-without n f h.documents))
     (subst HasOwners forest (HasOwners-discarded n f h.forest.once nothing.outside h.owners))
     (subst (AreCovered new.tree) (sym (ap (λ r. r.covered) ranges))

@@ -6,7 +6,7 @@ use Rattle.dom_model.specs.PlainLists.Lists.{hits, among}
 use Rattle.dom_model.specs.Forests.Arena.{Entry}
 use Rattle.dom_model.specs.Forests.Documents.{HasOneDocument}
 use Rattle.dom_model.specs.Forests.Forest.{Node, Forest, empty, node, Grove, IsForest, HasNode, occurs, size, numbers, entry_in, children_of, index_of, put}
-use Rattle.dom_model.specs.Worlds.World.{Content, Point, Range, World}
+use Rattle.dom_model.specs.Worlds.World.{Content, Point, Range, Iterator, Walker, World}
 use Rattle.dom_model.specs.Soundness.Sound.{IsBoundary, IsRange, IsIterator, IsWalker, IsRegistration, AreHeld, IsSound}
 use Rattle.dom_model.specs.BoundaryPoints.Points.{after_gap}
 use Rattle.dom_model.specs.MutationAlgorithms.Editing.{document_in, put_in, put_all, gap_before}
@@ -48,10 +48,10 @@ pub sound-bare : (g : Grove Content) → IsForest g → IsSound (bare g)
 sound-bare g s = record {
   forest = s;
   ranges = All-nil (λ (r : Option Range). IfSome r (IsRange g.forest));
-  iterators = All-nil (IsIterator g.forest);
-  walkers = All-nil (IsWalker g.forest);
+  iterators = All-nil (λ (i : Option Iterator). IfSome i (IsIterator g.forest));
+  walkers = All-nil (λ (k : Option Walker). IfSome k (IsWalker g.forest));
   registrations = All-nil (IsRegistration g.forest);
-  statics = All-nil (AreHeld g.forest);
+  statics = All-nil (λ (r : Option Range). IfSome r (AreHeld g.forest));
 }
 
 -- the node document that is read

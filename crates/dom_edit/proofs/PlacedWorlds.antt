@@ -1,16 +1,16 @@
 -- The world of the code once roots have come in under a parent.
 use Rattle.std.proofs.Common.{◌≡◌, ℕ, ◌<◌, List, length, Option, refl, ap, sym, ◌∙◌, subst, arith}
-use Rattle.std.proofs.lemmas.List.Elements.{All-weaker}
 use Rattle.dom_model.specs.Forests.Forest.{Forest, Grove, HasNode}
 use Rattle.dom_model.specs.Worlds.World.{Content}
 use Rattle.dom_model.specs.Worlds.World as model
 use Rattle.dom_model.specs.MutationAlgorithms.Editing.{put_all, gap_before}
 use Rattle.dom_model.proofs.Forests.Entries.{HasNode-occurs, occurs-HasNode}
 use Rattle.dom_model.proofs.Soundness.SoundPlacing.{sound-put_all}
+use Rattle.dom_model.proofs.Soundness.SoundWorlds.{statics-kept}
 use Rattle.dom_observe.specs.Watchers.{Watches}
 use Rattle.dom_observe.proofs.HeldNames.{held-kept}
 use Rattle.dom_edit.specs.declared.world.World.{World}
-use Rattle.dom_edit.specs.Whole.{AreHeld, IsWhole, Keeps, Follows, unwatched}
+use Rattle.dom_edit.specs.Whole.{IsWhole, Keeps, Follows, unwatched}
 use Rattle.dom_edit.specs.Inserting.{all_placed, with_room, IsOpen}
 pub use Rattle.dom_edit.proofs.Following.{sound-unwatched}
 use Rattle.dom_edit.proofs.Following.{keeps-unwatched, whole-sound}
@@ -54,7 +54,7 @@ whole-placed parent child nodes v h ready =
     (sound-put_all parent child nodes (unwatched v) (sound-unwatched v h) ready.parent_there ready.placeable ready.before_child)
     placed.owned.documents placed.owned.owners
     (covered-kept v.tree new.tree v.ranges.covered (λ m. let z = placed.numbers m in omega arith) refl h.covered)
-    (All-weaker (AreHeld v.tree.forest) (AreHeld new.tree.forest) (λ r i. record { start = there r.start.node i.start; end = there r.end.node i.end }) v.statics h.statics)
+    (statics-kept v.tree.forest new.tree.forest there v.statics h.statics)
     (held-kept v.tree.forest new.tree.forest v.observers there h.observers)
 
 -- room is made, and then the tree changes

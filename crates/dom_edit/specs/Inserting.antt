@@ -2,7 +2,7 @@
 -- DOM Standard, "Mutation algorithms" (insert), "Live ranges".
 use Rattle.std.specs.Prelude.{◌≡◌, if◌then◌else◌, ℕ, ◌<◌, List, [], ◌∷◌, Option, Some, None}
 use Rattle.dom_model.specs.PlainLists.Lists.{hits, is_number}
-use Rattle.dom_model.specs.Forests.Forest.{Forest, HasNode, entry_in, occurs, children_of, next_of, ancestors, index_of, put, adopted}
+use Rattle.dom_model.specs.Forests.Forest.{Forest, entry_in, occurs, children_of, next_of, ancestors, index_of, put, adopted}
 use Rattle.dom_model.specs.Worlds.World.{Content, Range}
 use Rattle.dom_model.specs.BoundaryPoints.Points.{after_gap, map_ranges}
 use Rattle.dom_model.specs.declared.Kind.TheVariants.{DocumentFragment}

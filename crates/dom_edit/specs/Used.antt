@@ -3,17 +3,17 @@ use Rattle.std.specs.Prelude.{ℕ, Bool, ◌||◌, List, ◌++◌, flat_map}
 use Rattle.std.specs.List.{list_any}
 use Rattle.dom_model.specs.PlainLists.Lists.{among}
 use Rattle.dom_model.specs.Forests.Forest.{inclusive_descendants}
-use Rattle.dom_model.specs.MutationAlgorithms.Discarding.{nodes_of_range, nodes_of_live, nodes_of_iterator, nodes_of_walker, is_held_outside}
+use Rattle.dom_model.specs.MutationAlgorithms.Discarding.{nodes_of_range, nodes_of_iterator, nodes_of_walker, nodes_unless_released, is_held_outside}
 use Rattle.dom_observe.specs.Held.{named}
 use Rattle.dom_edit.specs.declared.world.World.{World}
 
 -- every node that another part than the tree names
 abbrev pub named_in : World → List ℕ
 named_in v =
-    flat_map nodes_of_live v.ranges.ranges
-    ++ (flat_map nodes_of_range v.statics
-    ++ (flat_map nodes_of_iterator v.iterators
-    ++ (flat_map nodes_of_walker v.walkers
+    flat_map (nodes_unless_released nodes_of_range) v.ranges.ranges
+    ++ (flat_map (nodes_unless_released nodes_of_range) v.statics
+    ++ (flat_map (nodes_unless_released nodes_of_iterator) v.iterators
+    ++ (flat_map (nodes_unless_released nodes_of_walker) v.walkers
     ++ named v.observers)))
 
 -- a node outside has the node as a child, or one of its inclusive descendants as its node document, or a part names one of these

@@ -3,7 +3,7 @@
 use Rattle.std.specs.Prelude.{◌≡◌, ℕ, ◌<◌, ◌≤◌, Bool, true, List, [], length, Option, All, IfSome}
 use Rattle.dom_model.specs.Forests.Forest.{Grove, HasNode, IsForest}
 use Rattle.dom_model.specs.Forests.Documents.{HasOneDocument}
-use Rattle.dom_model.specs.Worlds.World.{Content, Range}
+use Rattle.dom_model.specs.Worlds.World.{Content, Range, Iterator, Walker}
 use Rattle.dom_model.specs.Worlds.World as model
 use Rattle.dom_model.specs.Soundness.Sound.{IsRange, IsIterator, IsWalker, IsSound}
 pub use Rattle.dom_model.specs.Soundness.Sound.{AreHeld}
@@ -25,9 +25,9 @@ pub record IsWhole (v : World) : Type 0 where
   pub owners : HasOwners v.tree.forest
   pub covered : AreCovered v.tree v.ranges.covered
   pub ranges : All (λ (r : Option Range). IfSome r (IsRange v.tree.forest)) v.ranges.ranges
-  pub statics : All (AreHeld v.tree.forest) v.statics
-  pub iterators : All (IsIterator v.tree.forest) v.iterators
-  pub walkers : All (IsWalker v.tree.forest) v.walkers
+  pub statics : All (λ (r : Option Range). IfSome r (AreHeld v.tree.forest)) v.statics
+  pub iterators : All (λ (i : Option Iterator). IfSome i (IsIterator v.tree.forest)) v.iterators
+  pub walkers : All (λ (k : Option Walker). IfSome k (IsWalker v.tree.forest)) v.walkers
   pub observers : NamesHeld v.tree.forest v.observers
 
 -- all parts but those that watch are the world's

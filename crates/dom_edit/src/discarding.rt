@@ -17,7 +17,7 @@ impl World {
     /// Whether nothing outside of a node and its descendants names one of them: no parent, no node of which one is the node document, no
     /// range, iterator, walker or registration, and no record that waits.
     ///
-    /// It asks the nodes of that tree, and whatever else names nodes for what it keeps of their numbers.
+    /// What was released names nothing. It asks the nodes of that tree, and whatever else names nodes for what it keeps of their numbers.
     pub fn can_discard(&self, top: NodeId) -> bool
         requires whole { IsWhole self.now }
         requires held { HasNode self.now.tree.forest top }

@@ -4,6 +4,7 @@ pub mod Refusal
 pub mod Command
 pub mod Counts
 pub mod NewNumbers
+pub mod AskedFor
 pub mod Reply
 pub mod Guards
 pub mod AnswerMaking

@@ -85,13 +85,13 @@ module _ (u u1 u2 : ℕ → Option Registration) (lists lists1 : List (ℕ × Li
     (left : (k : ℕ) → u1 k ≡ left_by (From o node) (u k)) (swept : (n : ℕ) → on n lists1 ≡ filter (is_live u1) (on n lists))
     (is_key : find (own_at u o node) (on node lists) ≡ Some key)
     (changed : u2 key ≡ option_map (with_new_options options) (u1 key)) (others : (k : ℕ) → k ≢ key → u2 k ≡ u1 k)
-    (made : ℕ) (all : AllStand u made lists) where
-  pub stand-again : AllStand u2 made lists1
+    (there : ℕ → Bool) (all : AllStand u there lists) where
+  pub stand-again : AllStand u2 there lists1
   stand-again n =
-      all_imply (StandsOn u1 made n) (StandsOn u2 made n) one (on n lists1)
-      (stand-ended u u1 (From o node) lists lists1 left swept made all n)
+      all_imply (StandsOn u1 there n) (StandsOn u2 there n) one (on n lists1)
+      (stand-ended u u1 (From o node) lists lists1 left swept there all n)
     where
-      one : (k : ℕ) → StandsOn u1 made n k → StandsOn u2 made n k
+      one : (k : ℕ) → StandsOn u1 there n k → StandsOn u2 there n k
       one k s =
           elim (same_or k key) [
             | same e t ↦ record {
@@ -104,7 +104,7 @@ module _ (u u1 u2 : ℕ → Option Registration) (lists lists1 : List (ℕ × Li
           ]
 
   -- on another node there is none
-  elsewhere : (n : ℕ) → (n ≡ node → ⊥) → (k : ℕ) → StandsOn u made n k → own_at u o node k ≡ true → k ≡ key
+  elsewhere : (n : ℕ) → (n ≡ node → ⊥) → (k : ℕ) → StandsOn u there n k → own_at u o node k ≡ true → k ≡ key
   elsewhere n ne k s own =
       absurd (true≢false (sym own ∙ ap (λ p. option_map_or (is_registered o node) p false) s.is ∙ off))
     where
@@ -122,7 +122,7 @@ module _ (u u1 u2 : ℕ → Option Registration) (lists lists1 : List (ℕ × Li
   only once n =
       elim (same_or n node) [
         | same e t ↦ subst (λ m. AllByRecursion (λ k. own_at u o node k ≡ true → k ≡ key) (on m lists)) (sym e) (only_own u o node (on node lists) key is_key once)
-        | apart ne t ↦ all_imply (StandsOn u made n) (λ k. own_at u o node k ≡ true → k ≡ key) (elsewhere n ne) (on n lists) (all n)
+        | apart ne t ↦ all_imply (StandsOn u there n) (λ k. own_at u o node k ≡ true → k ≡ key) (elsewhere n ne) (on n lists) (all n)
       ]
 
   both : {A : Type 0} (P Q : A → Type 0) (xs : List A) → AllByRecursion P xs → AllByRecursion Q xs → AllByRecursion (λ x. P x × Q x) xs
@@ -134,22 +134,22 @@ module _ (u u1 u2 : ℕ → Option Registration) (lists lists1 : List (ℕ × Li
   found-again once n =
       found_changed u1 u2 (with_options o node options) (on n lists1)
       (subst (AllByRecursion (λ k. u2 k ≡ option_map (with_options o node options) (u1 k))) (sym (swept n))
-      (all_imply (λ k. (StandsOn u made n k × (own_at u o node k ≡ true → k ≡ key)) × (is_live u1 k ≡ true)) (λ k. u2 k ≡ option_map (with_options o node options) (u1 k)) one (filter (is_live u1) (on n lists))
-      (all_filter (λ k. StandsOn u made n k × (own_at u o node k ≡ true → k ≡ key)) (is_live u1) (on n lists)
-      (both (StandsOn u made n) (λ k. own_at u o node k ≡ true → k ≡ key) (on n lists) (all n) (only once n)))))
+      (all_imply (λ k. (StandsOn u there n k × (own_at u o node k ≡ true → k ≡ key)) × (is_live u1 k ≡ true)) (λ k. u2 k ≡ option_map (with_options o node options) (u1 k)) one (filter (is_live u1) (on n lists))
+      (all_filter (λ k. StandsOn u there n k × (own_at u o node k ≡ true → k ≡ key)) (is_live u1) (on n lists)
+      (both (StandsOn u there n) (λ k. own_at u o node k ≡ true → k ≡ key) (on n lists) (all n) (only once n)))))
       ∙ ap (map (with_options o node options)) (found-ended u u1 (From o node) lists lists1 left swept n)
     where
-      own_if : (k : ℕ) (s : StandsOn u made n k) → own_at u o node k ≡ is_registered o node s.registration
+      own_if : (k : ℕ) (s : StandsOn u there n k) → own_at u o node k ≡ is_registered o node s.registration
       own_if k s = ap (λ p. option_map_or (is_registered o node) p false) s.is
 
-      under_of : (k : ℕ) (s : StandsOn u made n k) → is_live u1 k ≡ true → u1 k ≡ Some s.registration
+      under_of : (k : ℕ) (s : StandsOn u there n k) → is_live u1 k ≡ true → u1 k ≡ Some s.registration
       under_of k s live = go (spares (From o node) s.registration) (left k ∙ ap (left_by (From o node)) s.is)
         where
           go : (b : Bool) → u1 k ≡ (if b then Some s.registration else None) → u1 k ≡ Some s.registration
           go true e = e
           go false e = absurd (true≢false (sym live ∙ ap is_some e))
 
-      one : (k : ℕ) → (StandsOn u made n k × (own_at u o node k ≡ true → k ≡ key)) × (is_live u1 k ≡ true) → u2 k ≡ option_map (with_options o node options) (u1 k)
+      one : (k : ℕ) → (StandsOn u there n k × (own_at u o node k ≡ true → k ≡ key)) × (is_live u1 k ≡ true) → u2 k ≡ option_map (with_options o node options) (u1 k)
       one k p =
           let s = p.0.0 in
           let is = under_of k s p.1 in
@@ -163,6 +163,6 @@ module _ (u u1 u2 : ℕ → Option Registration) (lists lists1 : List (ℕ × Li
                 others k ne ∙ is ∙ sym (ap (option_map (with_options o node options)) is ∙ ap (λ (b : Bool). Some (if b then record (s.registration) { options = options } else s.registration)) off)
           ]
         where
-          not_own : (j : ℕ) (s : StandsOn u made n j) → (own_at u o node j ≡ true → j ≡ key) → (j ≡ key → ⊥) → (b : Bool) → is_registered o node s.registration ≡ b → b ≡ false
+          not_own : (j : ℕ) (s : StandsOn u there n j) → (own_at u o node j ≡ true → j ≡ key) → (j ≡ key → ⊥) → (b : Bool) → is_registered o node s.registration ≡ b → b ≡ false
           not_own j s only_key ne true e = absurd (ne (only_key (own_if j s ∙ e)))
           not_own j s only_key ne false e = refl

@@ -1,16 +1,17 @@
 -- The records of the pending observers, one observer after another.
-use Rattle.std.proofs.Common.{◌≡◌, ℕ, zero, suc, ◌<◌, ◌==◌, Bool, true, false, not, if◌then◌else◌, List, [], ◌∷◌, ◌++◌, length, map, filter, take, Some, refl, ap, sym, ◌∙◌, subst, arith, cond, append-nil, nat_eq, inl, inr}
-use Rattle.std.specs.Prelude.{slice_index_or, slice_set, slice_get}
+use Rattle.std.proofs.Common.{◌≡◌, ℕ, zero, suc, ◌==◌, Bool, true, false, not, if◌then◌else◌, List, [], ◌∷◌, ◌++◌, length, map, filter, take, Some, refl, ap, sym, ◌∙◌, subst, cond, append-nil, nat_eq}
+use Rattle.std.specs.Prelude.{slice_set, slice_get, Option}
 use Rattle.std.specs.List.{AllByRecursion, IsDistinct}
-use Rattle.std.proofs.lemmas.List.{map-append, get_or_past, get_or-set_same, get_or-set_other, length-set}
+use Rattle.std.proofs.lemmas.List.{map-append}
 use Rattle.std.proofs.lemmas.List.Elements.{filter-append}
-use Rattle.std.proofs.lemmas.Bool.{cases_lt}
 use Rattle.dom_model.specs.PlainLists.Lists.{among}
 use Rattle.dom_model.specs.Worlds.World.{Observing}
 use Rattle.dom_model.specs.MutationObservers.Record.{Record, Told}
 use Rattle.dom_model.specs.MutationObservers.Records.{has_records, told_in, queue_of}
-use Rattle.dom_model.proofs.PlainLists.Numbers.{Same, same_or, same, apart}
+use Rattle.dom_observe.specs.Watchers.{records_at}
+use Rattle.dom_observe.specs.Kept.{has_queue}
 use Rattle.dom_observe.specs.Notifying.{waiting_for}
+use Rattle.dom_observe.proofs.QueueLists.{records-set}
 
 pub take-next : {A : Type 0} (xs : List A) (i : ℕ) (x : A) → slice_get xs i ≡ Some x → take (suc i) xs ≡ take i xs ++ x ∷ []
 take-next [] zero x h = let d : ⊥ = cc h in absurd d
@@ -44,29 +45,24 @@ among-next p x (y ∷ xs) = go (y == p) (x == p) (among-next p x xs)
     go false true i = i
     go false false i = i
 
-emptied-at : (qs : List (List Record)) (i : ℕ) → slice_index_or (slice_set qs i []) i [] ≡ []
-emptied-at qs i =
-    elim (cases_lt i (length qs)) [
-      | inl lt ↦ get_or-set_same qs i [] [] lt
-      | inr le ↦ get_or_past (slice_set qs i []) i [] (omega (arith, length-set qs i []))
-    ]
-
-module _ (queues0 queues queues' : List (List Record)) (keys : List ℕ) (i o : ℕ) (at : slice_get keys i ≡ Some o) (u : IsDistinct nat_eq keys)
-    (left : (p : ℕ) → slice_index_or queues p [] ≡ (if among p (take i keys) then [] else slice_index_or queues0 p []))
-    (emptied : queues' ≡ slice_set queues o []) where
+module _ (queues0 queues queues' : List (Option (List Record))) (keys : List ℕ) (i o : ℕ) (at : slice_get keys i ≡ Some o) (u : IsDistinct nat_eq keys) (there : has_queue queues o ≡ true)
+    (left : (p : ℕ) → records_at queues p ≡ (if among p (take i keys) then [] else records_at queues0 p))
+    (emptied : queues' ≡ slice_set queues o (Some [])) where
   -- what the observer waits for is still there
-  pub still-waiting : slice_index_or queues o [] ≡ slice_index_or queues0 o []
-  still-waiting = left o ∙ ap (λ b. if b then [] else slice_index_or queues0 o []) (fresh-at keys i o u at)
+  pub still-waiting : records_at queues o ≡ records_at queues0 o
+  still-waiting = left o ∙ ap (λ b. if b then [] else records_at queues0 o) (fresh-at keys i o u at)
 
-  pub left-next : (p : ℕ) → slice_index_or queues' p [] ≡ (if among p (take (suc i) keys) then [] else slice_index_or queues0 p [])
+  pub left-next : (p : ℕ) → records_at queues' p ≡ (if among p (take (suc i) keys) then [] else records_at queues0 p)
   left-next p =
-      ap (λ qs. slice_index_or qs p []) emptied
-      ∙ go (same_or o p)
-      ∙ sym (ap (λ b. if b then [] else slice_index_or queues0 p []) (ap (among p) (take-next keys i o at) ∙ among-next p o (take i keys)))
+      ap (λ qs. records_at qs p) emptied
+      ∙ records-set queues o there [] p
+      ∙ ap (λ rs. if o == p then [] else rs) (left p)
+      ∙ go (o == p) (among p (take i keys))
+      ∙ sym (ap (λ b. if b then [] else records_at queues0 p) (ap (among p) (take-next keys i o at) ∙ among-next p o (take i keys)))
     where
-      go : Same o p → slice_index_or (slice_set queues o []) p [] ≡ (if (if o == p then true else among p (take i keys)) then [] else slice_index_or queues0 p [])
-      go (same e t) = rw t (ap (λ k. slice_index_or (slice_set queues o []) k []) (sym e) ∙ emptied-at queues o)
-      go (apart ne t) = rw t (get_or-set_other queues o p [] [] (λ e. ne (sym e)) ∙ left p)
+      go : (b c : Bool) → (if b then [] else (if c then [] else records_at queues0 p)) ≡ (if (if b then true else c) then [] else records_at queues0 p)
+      go true c = refl
+      go false c = refl
 
   next_told : filter has_records (map (waiting_for queues0) (take (suc i) keys))
       ≡ filter has_records (map (waiting_for queues0) (take i keys)) ++ filter has_records (waiting_for queues0 o ∷ [])
@@ -76,21 +72,20 @@ module _ (queues0 queues queues' : List (List Record)) (keys : List ℕ) (i o : 
       ∙ filter-append has_records (map (waiting_for queues0) (take i keys)) (waiting_for queues0 o ∷ [])
 
   -- an observer with records is told them, and one without is left out
-  pub told-some : (records : List Record) → records ≡ slice_index_or queues o [] → (length records == 0) ≡ false → (told : List Told) → told ≡ filter has_records (map (waiting_for queues0) (take i keys))
+  pub told-some : (records : List Record) → records ≡ records_at queues o → (length records == 0) ≡ false → (told : List Told) → told ≡ filter has_records (map (waiting_for queues0) (take i keys))
       → told ++ record { observer = o; records = records } ∷ [] ≡ filter has_records (map (waiting_for queues0) (take (suc i) keys))
   told-some records is some told before =
-      let same_records : records ≡ slice_index_or queues0 o [] = is ∙ still-waiting in
+      let same_records : records ≡ records_at queues0 o = is ∙ still-waiting in
       let there : has_records (waiting_for queues0 o) ≡ true = ap (λ rs. not (length rs == 0)) (sym same_records) ∙ ap not some in
       (λ j. before j ++ record { observer = o; records = same_records j } ∷ [])
       ∙ sym (next_told ∙ ap (λ b. filter has_records (map (waiting_for queues0) (take i keys)) ++ cond b (waiting_for queues0 o ∷ []) []) there)
 
-  pub told-none : (records : List Record) → records ≡ slice_index_or queues o [] → (length records == 0) ≡ true → filter has_records (map (waiting_for queues0) (take i keys)) ≡ filter has_records (map (waiting_for queues0) (take (suc i) keys))
+  pub told-none : (records : List Record) → records ≡ records_at queues o → (length records == 0) ≡ true → filter has_records (map (waiting_for queues0) (take i keys)) ≡ filter has_records (map (waiting_for queues0) (take (suc i) keys))
   told-none records is none =
       let there : has_records (waiting_for queues0 o) ≡ false = ap (λ rs. not (length rs == 0)) (sym (is ∙ still-waiting)) ∙ ap not none in
       sym (next_told ∙ ap (λ b. filter has_records (map (waiting_for queues0) (take i keys)) ++ cond b (waiting_for queues0 o ∷ []) []) there ∙ append-nil (filter has_records (map (waiting_for queues0) (take i keys))))
 
--- the queues of observers that were made are those that the definition reads
-pub waiting-told : (queues : List (List Record)) (x : Observing) → ((i : ℕ) → i < length queues → slice_index_or queues i [] ≡ queue_of i x) → (ns : List ℕ) → AllByRecursion (λ o. o < length queues) ns
-    → map (waiting_for queues) ns ≡ map (told_in x) ns
-waiting-told queues x has [] all = refl
-waiting-told queues x has (n ∷ ns) all = (λ i. record { observer = n; records = has n all.0 i } ∷ waiting-told queues x has ns all.1 i)
+-- the queues are those that the definition reads
+pub waiting-told : (queues : List (Option (List Record))) (x : Observing) → ((i : ℕ) → records_at queues i ≡ queue_of i x) → (ns : List ℕ) → map (waiting_for queues) ns ≡ map (told_in x) ns
+waiting-told queues x has [] = refl
+waiting-told queues x has (n ∷ ns) = (λ i. record { observer = n; records = has n i } ∷ waiting-told queues x has ns i)

@@ -1,5 +1,5 @@
 -- Listeners, one after another, and the pending list.
-use Rattle.std.proofs.Common.{◌≡◌, ℕ, zero, suc, ◌<◌, ◌==◌, Bool, true, false, ◌||◌, if◌then◌else◌, List, [], ◌∷◌, ◌++◌, map, filter, take, Option, None, Some, refl, ap, sym, ◌∙◌, subst, cond, append-nil, nat_eq}
+use Rattle.std.proofs.Common.{◌≡◌, ℕ, zero, suc, ◌==◌, Bool, true, false, ◌||◌, if◌then◌else◌, List, [], ◌∷◌, ◌++◌, map, filter, take, Option, None, Some, refl, ap, sym, ◌∙◌, subst, cond, append-nil, nat_eq}
 use Rattle.std.specs.Prelude.{unwrap_or, slice_get, filter_map, option_to_list}
 use Rattle.std.specs.Map.{lookup, keys_of}
 use Rattle.std.specs.Option.{option_and_then}
@@ -15,11 +15,12 @@ use Rattle.dom_model.specs.Worlds.World.{Registration, Mutation}
 use Rattle.dom_model.specs.MutationObservers.Records.{interests, interested, asks_old_value, record_with, record_by, record_for}
 use Rattle.dom_model.specs.PlainLists.LastOnce.{with_last, with_all_last}
 use Rattle.dom_model.proofs.PlainLists.Numbers.{Same, same_or, same, apart}
+use Rattle.dom_observe.specs.Kept.{AllThere}
 use Rattle.dom_observe.specs.Registrations.{concerns, Stands}
 use Rattle.dom_observe.specs.Telling.{listener_of, listener_under, listeners, asked_by, flag_of, delivered}
 use Rattle.dom_observe.proofs.Tables.{all_append}
 
-swapped : (m n : ℕ) → (m == n) ≡ (n == m)
+pub swapped : (m n : ℕ) → (m == n) ≡ (n == m)
 swapped m n =
     elim (same_or m n) [
       | same e t ↦ elim (same_or n m) [ same _ u ↦ t ∙ sym u | apart ne _ ↦ absurd (ne (sym e)) ]
@@ -81,12 +82,12 @@ all_last-there p ns (m ∷ ms) h =
       | apart ne t ↦ let k = rw t at h in all_last-there p (with_last ns m) ms k
     ]
 
-pub bounded-last : (made n : ℕ) (ns : List ℕ) → AllByRecursion (λ o. o < made) ns → n < made → AllByRecursion (λ o. o < made) (with_last ns n)
-bounded-last made n ns h lt = go (among n ns)
+pub there-last : (there : ℕ → Bool) (n : ℕ) (ns : List ℕ) → AllThere there ns → there n ≡ true → AllThere there (with_last ns n)
+there-last there n ns h held_there = go (among n ns)
   where
-    go : (b : Bool) → AllByRecursion (λ o. o < made) (if b then ns else ns ++ n ∷ [])
+    go : (b : Bool) → AllThere there (if b then ns else ns ++ n ∷ [])
     go true = h
-    go false = all_append (λ o. o < made) ns (n ∷ []) h (lt, tt)
+    go false = all_append (λ o. there o ≡ true) ns (n ∷ []) h (held_there, tt)
 
 pub all_last-append : (ns ms : List ℕ) (m : ℕ) → with_all_last ns (ms ++ m ∷ []) ≡ with_last (with_all_last ns ms) m
 all_last-append ns [] m = refl
@@ -109,12 +110,12 @@ flag-last p ls l = ap asked_by (filter-append (λ (m : ℕ × Bool). m.0 == p) l
     go true (m ∷ own) = ap (λ v. Some v) (list_any-append (λ (k : ℕ × Bool). k.1) (m ∷ own) (l ∷ []) ∙ ap (λ v. list_any (λ (k : ℕ × Bool). k.1) (m ∷ own) || v) (off l.1))
     go false own = ap asked_by (append-nil own)
 
--- a listener is an observer that was made
-pub listener-made : (u : ℕ → Option Registration) (what : RecordType) (target : ℕ) (name : Option (List ℕ)) (made key : ℕ) (l : ℕ × Bool) → Stands u made key → listener_under u what target name key ≡ Some l → l.0 < made
-listener-made u what target name made key l s h = go (concerns what target name s.registration) (ap (option_and_then (listener_of what target name)) (sym s.is) ∙ h)
+-- a listener is an observer that is there
+pub listener-there : (u : ℕ → Option Registration) (what : RecordType) (target : ℕ) (name : Option (List ℕ)) (there : ℕ → Bool) (key : ℕ) (l : ℕ × Bool) → Stands u there key → listener_under u what target name key ≡ Some l → there l.0 ≡ true
+listener-there u what target name there key l s h = go (concerns what target name s.registration) (ap (option_and_then (listener_of what target name)) (sym s.is) ∙ h)
   where
-    go : (b : Bool) → (if b then Some (s.registration.observer, asks_old_value what s.registration.options) else None) ≡ Some l → l.0 < made
-    go true e = let d : (s.registration.observer, asks_old_value what s.registration.options) ≡ l = cc e in subst (λ k. k < made) (ap (λ (m : ℕ × Bool). m.0) d) s.observer
+    go : (b : Bool) → (if b then Some (s.registration.observer, asks_old_value what s.registration.options) else None) ≡ Some l → there l.0 ≡ true
+    go true e = let d : (s.registration.observer, asks_old_value what s.registration.options) ≡ l = cc e in subst (λ k. there k ≡ true) (ap (λ (m : ℕ × Bool). m.0) d) s.observer
     go false e = let d : ⊥ = cc e in absurd d
 
 -- Whom they are: the observers of the registrations that the mutation interests.

@@ -1,11 +1,10 @@
 -- What observers name, as their registrations and queues change.
-use Rattle.std.proofs.Common.{◌≡◌, ◌≢◌, ℕ, zero, suc, ◌<◌, ◌≤◌, ◌==◌, Bool, true, false, ◌||◌, if◌then◌else◌, List, [], ◌∷◌, ◌++◌, length, map, filter, Option, None, Some, option_map, refl, ap, sym, ◌∙◌, subst, nat_eq, arith, ◌⊎◌, inl, inr}
-use Rattle.std.specs.Prelude.{Vec, slice_index_or, slice_set, flat_map}
+use Rattle.std.proofs.Common.{◌≡◌, ◌≢◌, ℕ, zero, suc, ◌<◌, ◌==◌, Bool, true, false, ◌||◌, if◌then◌else◌, List, [], ◌∷◌, ◌++◌, length, map, filter, Option, None, Some, option_map, refl, ap, sym, ◌∙◌, subst, nat_eq}
+use Rattle.std.specs.Prelude.{Vec, unwrap_or, slice_index_or, slice_set, flat_map}
 use Rattle.std.specs.Map.{keys_of}
 use Rattle.std.specs.Option.{option_map_or}
 use Rattle.std.specs.List.{list_any, IsDistinct, AllByRecursion}
-use Rattle.std.proofs.lemmas.Bool.{true≢false, cases_lt, or_parts, or_from}
-use Rattle.std.proofs.lemmas.List.{get_or_past, get_or-set_same, get_or-set_other, length-set}
+use Rattle.std.proofs.lemmas.Bool.{true≢false, or_parts, or_from}
 use Rattle.std.proofs.lemmas.List.Folds.{list_any-append}
 use Rattle.slab.specs.Slab.{Slab}
 use Rattle.dom_model.specs.PlainLists.Lists.{among}
@@ -17,15 +16,16 @@ use Rattle.dom_model.proofs.PlainLists.Numbers.{Same, same_or, same, apart}
 use Rattle.dom_model.proofs.RangesAndContents.RangesElsewhere.{among-any}
 use Rattle.dom_observe.specs.declared.registration.Registration as held
 use Rattle.dom_observe.specs.declared.registration.Ended.{Ended}
-use Rattle.dom_observe.specs.Watchers.{Watchers, on}
-use Rattle.dom_observe.specs.Held.{named, watching, nodes_of_mutation, NamesOnly}
+use Rattle.dom_observe.specs.Watchers.{Watchers, records_at, on}
+use Rattle.dom_observe.specs.Held.{named, watching, nodes_of_mutation, NamesOnly, SameObservers}
 use Rattle.dom_observe.specs.Registrations.{at, listed, spares, left_by, is_live, AllLive, StandsOn, Added, with_new_options, transient_under}
-use Rattle.dom_observe.specs.Kept.{registered_nodes, IsKept}
+use Rattle.dom_observe.specs.Kept.{registered_nodes, has_queue, IsKept}
 use Rattle.dom_observe.specs.Naming.{names_one, NamesNone, TellsNone}
 use Rattle.dom_observe.specs.Telling.{delivered}
 use Rattle.dom_observe.proofs.Asked.{any-found}
 use Rattle.dom_observe.proofs.Finding.{list_any-map}
 use Rattle.dom_observe.proofs.Keeping.{on-registered_nodes}
+use Rattle.dom_observe.proofs.QueueLists.{records-set, records-gone, records-stay, records-more}
 use Rattle.dom_observe.proofs.Named.{any-flat, none_under, some_under, keys-registered_nodes}
 use Rattle.dom_observe.proofs.Tables.{all_imply, all_append, all_filter, all_at, transient_shape, alike-added}
 
@@ -39,23 +39,23 @@ module _ {A : Type 0} (p : A → Bool) where
   all_none (x ∷ xs) h = or_from (p x) (list_any p xs) h.0 (all_none xs h.1)
 
 -- each queue passes a test that no queue passes that is not there
-pub any_tells : (t : List Record → Bool) (qs : List (List Record)) → t [] ≡ false → list_any t qs ≡ false → (o : ℕ) → t (slice_index_or qs o []) ≡ false
+pub any_tells : (t : List Record → Bool) (qs : List (Option (List Record))) → t [] ≡ false → list_any (λ q. t (unwrap_or q [])) qs ≡ false → (o : ℕ) → t (records_at qs o) ≡ false
 any_tells t [] nothing h zero = nothing
 any_tells t [] nothing h (suc o) = nothing
-any_tells t (q ∷ qs) nothing h zero = (or_parts (t q) (list_any t qs) h).0
-any_tells t (q ∷ qs) nothing h (suc o) = any_tells t qs nothing (or_parts (t q) (list_any t qs) h).1 o
+any_tells t (q ∷ qs) nothing h zero = (or_parts (t (unwrap_or q [])) (list_any (λ p. t (unwrap_or p [])) qs) h).0
+any_tells t (q ∷ qs) nothing h (suc o) = any_tells t qs nothing (or_parts (t (unwrap_or q [])) (list_any (λ p. t (unwrap_or p [])) qs) h).1 o
 
-pub tells_any : (t : List Record → Bool) (qs : List (List Record)) → ((o : ℕ) → t (slice_index_or qs o []) ≡ false) → list_any t qs ≡ false
+pub tells_any : (t : List Record → Bool) (qs : List (Option (List Record))) → ((o : ℕ) → t (records_at qs o) ≡ false) → list_any (λ q. t (unwrap_or q [])) qs ≡ false
 tells_any t [] h = refl
-tells_any t (q ∷ qs) h = or_from (t q) (list_any t qs) (h 0) (tells_any t qs (λ o. h (suc o)))
+tells_any t (q ∷ qs) h = or_from (t (unwrap_or q [])) (list_any (λ p. t (unwrap_or p [])) qs) (h 0) (tells_any t qs (λ o. h (suc o)))
 
 -- what is named, by registrations and by records
 pub named-parts : (p : ℕ → Bool) (o : Watchers) → list_any p (named o)
-    ≡ (list_any (λ (e : ℕ × List Registration). list_any (λ r. list_any p (nodes_of_registration r)) e.1) o.nodes || list_any (λ (q : List Record). list_any (λ r. list_any p (nodes_of_record r)) q) o.queues)
+    ≡ (list_any (λ (e : ℕ × List Registration). list_any (λ r. list_any p (nodes_of_registration r)) e.1) o.nodes || list_any (λ (q : Option (List Record)). list_any (λ r. list_any p (nodes_of_record r)) (unwrap_or q [])) o.queues)
 named-parts p o =
-    list_any-append p (flat_map (λ (e : ℕ × List Registration). flat_map nodes_of_registration e.1) o.nodes) (flat_map (λ (q : List Record). flat_map nodes_of_record q) o.queues)
-    ∙ (λ i. any-flat p (λ (e : ℕ × List Registration). flat_map nodes_of_registration e.1) o.nodes i || any-flat p (λ (q : List Record). flat_map nodes_of_record q) o.queues i)
-    ∙ (λ i. list_any (λ (e : ℕ × List Registration). any-flat p nodes_of_registration e.1 i) o.nodes || list_any (λ (q : List Record). any-flat p nodes_of_record q i) o.queues)
+    list_any-append p (flat_map (λ (e : ℕ × List Registration). flat_map nodes_of_registration e.1) o.nodes) (flat_map (λ (q : Option (List Record)). flat_map nodes_of_record (unwrap_or q [])) o.queues)
+    ∙ (λ i. any-flat p (λ (e : ℕ × List Registration). flat_map nodes_of_registration e.1) o.nodes i || any-flat p (λ (q : Option (List Record)). flat_map nodes_of_record (unwrap_or q [])) o.queues i)
+    ∙ (λ i. list_any (λ (e : ℕ × List Registration). any-flat p nodes_of_registration e.1 i) o.nodes || list_any (λ (q : Option (List Record)). any-flat p nodes_of_record (unwrap_or q []) i) o.queues)
 
 -- What is registered on nodes, and what is under the keys that they have.
 module _ {A : Type 0} (table : Slab held.Registration) (entries : List (ℕ × Vec ℕ A)) where
@@ -73,12 +73,12 @@ module _ {A : Type 0} (table : Slab held.Registration) (entries : List (ℕ × V
       none_under q (registered_nodes table entries) (subst (IsDistinct nat_eq) (sym (keys-registered_nodes table entries)) distinct)
       (λ n. ap (list_any q) (on-registered_nodes table n entries) ∙ sym (any-found q (at table) (on n (listed entries))) ∙ all_none (λ k. option_map_or q (at table k) false) (on n (listed entries)) (all n))
 
-module _ {A : Type 0} (table : Slab held.Registration) (entries : List (ℕ × Vec ℕ A)) (queues : List (List Record)) (pending : List ℕ) where
+module _ {A : Type 0} (table : Slab held.Registration) (entries : List (ℕ × Vec ℕ A)) (queues : List (Option (List Record))) (pending : List ℕ) where
   abbrev shown : Watchers
   shown = record { nodes = registered_nodes table entries; queues = queues; pending = pending }
 
   pub none-named : (p : ℕ → Bool) → list_any p (named (record { nodes = registered_nodes table entries; queues = queues; pending = pending })) ≡ false → NamesNone p (at table) (listed entries) × TellsNone p queues
-  none-named p none = (registered, any_tells (list_any told) queues refl (or_parts (list_any (λ (e : ℕ × List Registration). list_any one e.1) (registered_nodes table entries)) (list_any (list_any told) queues) parts).1)
+  none-named p none = (registered, any_tells (list_any told) queues refl (or_parts (list_any (λ (e : ℕ × List Registration). list_any one e.1) (registered_nodes table entries)) (list_any (λ (q : Option (List Record)). list_any told (unwrap_or q [])) queues) parts).1)
     where
       one : Registration → Bool
       one r = list_any p (nodes_of_registration r)
@@ -86,55 +86,56 @@ module _ {A : Type 0} (table : Slab held.Registration) (entries : List (ℕ × V
       told : Record → Bool
       told r = list_any p (nodes_of_record r)
 
-      parts : (list_any (λ (e : ℕ × List Registration). list_any one e.1) (registered_nodes table entries) || list_any (list_any told) queues) ≡ false
+      parts : (list_any (λ (e : ℕ × List Registration). list_any one e.1) (registered_nodes table entries) || list_any (λ (q : Option (List Record)). list_any told (unwrap_or q [])) queues) ≡ false
       parts = sym (named-parts p shown) ∙ none
 
       registered : NamesNone p (at table) (listed entries)
-      registered = none_under_keys table entries one (or_parts (list_any (λ (e : ℕ × List Registration). list_any one e.1) (registered_nodes table entries)) (list_any (list_any told) queues) parts).0
+      registered = none_under_keys table entries one (or_parts (list_any (λ (e : ℕ × List Registration). list_any one e.1) (registered_nodes table entries)) (list_any (λ (q : Option (List Record)). list_any told (unwrap_or q [])) queues) parts).0
 
   pub named-none : (p : ℕ → Bool) → IsDistinct nat_eq (keys_of entries) → NamesNone p (at table) (listed entries) → TellsNone p queues
       → list_any p (named (record { nodes = registered_nodes table entries; queues = queues; pending = pending })) ≡ false
   named-none p distinct names tells =
       named-parts p shown
-      ∙ or_from (list_any (λ (e : ℕ × List Registration). list_any (λ r. list_any p (nodes_of_registration r)) e.1) (registered_nodes table entries)) (list_any (list_any (λ r. list_any p (nodes_of_record r))) queues)
+      ∙ or_from (list_any (λ (e : ℕ × List Registration). list_any (λ r. list_any p (nodes_of_registration r)) e.1) (registered_nodes table entries)) (list_any (λ (q : Option (List Record)). list_any (λ r. list_any p (nodes_of_record r)) (unwrap_or q [])) queues)
       (none_registered table entries (λ r. list_any p (nodes_of_registration r)) distinct names) (tells_any (list_any (λ r. list_any p (nodes_of_record r))) queues tells)
 
   all_among : (P : ℕ → Type 0) (xs : List ℕ) (i : ℕ) → AllByRecursion P xs → among i xs ≡ true → P i
   all_among P [] i h t = absurd (true≢false (sym t))
   all_among P (x ∷ xs) i h t = elim (same_or x i) [ same e u ↦ subst P e h.0 | apart ne u ↦ let k = rw u at t in all_among P xs i h.1 k ]
 
-  -- whom the registrations and the pending list name was made
-  pub watching-made : IsKept table entries queues pending → (i : ℕ) → among i (watching (record { nodes = registered_nodes table entries; queues = queues; pending = pending })) ≡ true → i < length queues
-  watching-made kept i there = go (cases_lt i (length queues))
+  -- whom the registrations and the pending list name is there
+  pub watching-there : IsKept table entries queues pending → (i : ℕ) → among i (watching (record { nodes = registered_nodes table entries; queues = queues; pending = pending })) ≡ true → has_queue queues i ≡ true
+  watching-there kept i there = go (has_queue queues i) refl
     where
       seen : List ℕ
       seen = flat_map (λ (e : ℕ × List Registration). map (λ (r : Registration). r.observer) e.1) (registered_nodes table entries)
 
-      other : length queues ≤ i → (n k : ℕ) → StandsOn (at table) (length queues) n k → option_map_or (λ (r : Registration). r.observer == i) (at table k) false ≡ false
-      other le n k s =
+      other : has_queue queues i ≡ false → (n k : ℕ) → StandsOn (at table) (has_queue queues) n k → option_map_or (λ (r : Registration). r.observer == i) (at table k) false ≡ false
+      other off n k s =
           ap (λ o. option_map_or (λ (r : Registration). r.observer == i) o false) s.is
-          ∙ elim (same_or s.registration.observer i) [ same e t ↦ absurd (let lt = s.observer in omega arith) | apart ne t ↦ t ]
+          ∙ elim (same_or s.registration.observer i) [ same e t ↦ absurd (true≢false (sym s.observer ∙ ap (has_queue queues) e ∙ off)) | apart ne t ↦ t ]
 
-      unregistered : length queues ≤ i → list_any (λ m. m == i) seen ≡ false
-      unregistered le =
+      unregistered : has_queue queues i ≡ false → list_any (λ m. m == i) seen ≡ false
+      unregistered off =
           any-flat (λ m. m == i) (λ (e : ℕ × List Registration). map (λ (r : Registration). r.observer) e.1) (registered_nodes table entries)
           ∙ (λ j. list_any (λ (e : ℕ × List Registration). list_any-map (λ m. m == i) (λ (r : Registration). r.observer) e.1 j) (registered_nodes table entries))
           ∙ none_registered table entries (λ (r : Registration). r.observer == i) kept.unique
-          (λ n. all_imply (StandsOn (at table) (length queues) n) (λ k. option_map_or (λ (r : Registration). r.observer == i) (at table k) false ≡ false) (other le n) (on n (listed entries)) (kept.stand n))
+          (λ n. all_imply (StandsOn (at table) (has_queue queues) n) (λ k. option_map_or (λ (r : Registration). r.observer == i) (at table k) false ≡ false) (other off n) (on n (listed entries)) (kept.stand n))
 
-      go : ((i < length queues) ⊎ (length queues ≤ i)) → i < length queues
-      go (inl lt) = lt
-      go (inr le) =
-          all_among (λ o. o < length queues) pending i kept.made
-          (among-any i pending ∙ ap (λ b. b || list_any (λ m. m == i) pending) (sym (unregistered le)) ∙ sym (list_any-append (λ m. m == i) seen pending) ∙ sym (among-any i (seen ++ pending)) ∙ there)
+      go : (b : Bool) → has_queue queues i ≡ b → b ≡ true
+      go true e = refl
+      go false off =
+          sym off
+          ∙ all_among (λ o. has_queue queues o ≡ true) pending i kept.there
+          (among-any i pending ∙ ap (λ b. b || list_any (λ m. m == i) pending) (sym (unregistered off)) ∙ sym (list_any-append (λ m. m == i) seen pending) ∙ sym (among-any i (seen ++ pending)) ∙ there)
 
 -- A step that lets no name in but these.
-module _ {A B : Type 0} (table : Slab held.Registration) (entries : List (ℕ × Vec ℕ A)) (queues : List (List Record)) (pending : List ℕ) (old : Watchers) (is : shown table entries queues pending ≡ old)
-    (table' : Slab held.Registration) (entries' : List (ℕ × Vec ℕ B)) (queues' : List (List Record)) (pending' : List ℕ)
+module _ {A B : Type 0} (table : Slab held.Registration) (entries : List (ℕ × Vec ℕ A)) (queues : List (Option (List Record))) (pending : List ℕ) (old : Watchers) (is : shown table entries queues pending ≡ old)
+    (table' : Slab held.Registration) (entries' : List (ℕ × Vec ℕ B)) (queues' : List (Option (List Record))) (pending' : List ℕ)
     (kept : IsKept table' entries' queues' pending') (these : List ℕ)
     (lets : (p : ℕ → Bool) → list_any p these ≡ false → NamesNone p (at table) (listed entries) → TellsNone p queues → NamesNone p (at table') (listed entries') × TellsNone p queues') where
   pub names-only : NamesOnly these old (record { nodes = registered_nodes table' entries'; queues = queues'; pending = pending' })
-  names-only = record { nodes = nodes; observers = watching-made table' entries' queues' pending' kept }
+  names-only = record { nodes = nodes; observers = watching-there table' entries' queues' pending' kept }
     where
       nodes : (n : ℕ) → among n (named (shown table' entries' queues' pending')) ≡ true → among n (named old ++ these) ≡ true
       nodes n there = go (among n (named old ++ these)) refl
@@ -149,10 +150,18 @@ module _ {A B : Type 0} (table : Slab held.Registration) (entries : List (ℕ ×
               absurd (true≢false (sym there ∙ among-any n (named (shown table' entries' queues' pending')) ∙ named-none table' entries' queues' pending' (λ m. m == n) kept.unique after.0 after.1))
 
 -- nothing changes
-pub names-same : {A : Type 0} (table : Slab held.Registration) (entries : List (ℕ × Vec ℕ A)) (queues : List (List Record)) (pending : List ℕ) → IsKept table entries queues pending
+pub names-same : {A : Type 0} (table : Slab held.Registration) (entries : List (ℕ × Vec ℕ A)) (queues : List (Option (List Record))) (pending : List ℕ) → IsKept table entries queues pending
     → (old : Watchers) → record { nodes = registered_nodes table entries; queues = queues; pending = pending } ≡ old → (these : List ℕ) → NamesOnly these old old
 names-same table entries queues pending kept old is these =
     subst (NamesOnly these old) is (names-only table entries queues pending old is table entries queues pending kept these (λ p _ names tells. (names, tells)))
+
+-- the same queues are of the same observers
+pub same-queues : (old new : Watchers) → new.queues ≡ old.queues → SameObservers old new
+same-queues old new e = record { made = ap length e; there = λ i. ap (λ qs. has_queue qs i) e }
+
+-- other queues of the same
+pub same-there : (old new : Watchers) (queues : List (Option (List Record))) → queues ≡ old.queues → length new.queues ≡ length queues → ((i : ℕ) → has_queue new.queues i ≡ has_queue queues i) → SameObservers old new
+same-there old new queues e made there = record { made = made ∙ ap length e; there = λ i. there i ∙ ap (λ qs. has_queue qs i) e }
 
 -- Registrations end, get other options, or come in.
 
@@ -223,22 +232,22 @@ module _ (p : ℕ → Bool) where
   tells_nothing : list_any (λ (r : Record). list_any p (nodes_of_record r)) [] ≡ false
   tells_nothing = refl
 
-  pub tells-emptied : (queues : List (List Record)) (i : ℕ) → TellsNone p queues → TellsNone p (slice_set queues i [])
-  tells-emptied queues i none o = go (same_or o i) (cases_lt i (length queues))
+  pub tells-emptied : (queues : List (Option (List Record))) (i : ℕ) → has_queue queues i ≡ true → TellsNone p queues → TellsNone p (slice_set queues i (Some []))
+  tells-emptied queues i there none o = ap (list_any (λ r. list_any p (nodes_of_record r))) (records-set queues i there [] o) ∙ go (i == o)
     where
-      told : List Record → Bool
-      told q = list_any (λ r. list_any p (nodes_of_record r)) q
+      go : (b : Bool) → list_any (λ r. list_any p (nodes_of_record r)) (if b then [] else records_at queues o) ≡ false
+      go true = refl
+      go false = none o
 
-      go : Same o i → ((i < length queues) ⊎ (length queues ≤ i)) → told (slice_index_or (slice_set queues i []) o []) ≡ false
-      go (same e t) (inl lt) = ap told (ap (λ k. slice_index_or (slice_set queues i []) k []) e ∙ get_or-set_same queues i [] [] lt)
-      go (same e t) (inr le) = ap told (get_or_past (slice_set queues i []) o [] (omega (arith, length-set queues i [], e)))
-      go (apart ne t) z = ap told (get_or-set_other queues i o [] [] ne) ∙ none o
+  pub tells-released : (queues : List (Option (List Record))) (i : ℕ) → TellsNone p queues → TellsNone p (slice_set queues i None)
+  tells-released queues i none o = go (same_or o i)
+    where
+      go : Same o i → list_any (λ r. list_any p (nodes_of_record r)) (records_at (slice_set queues i None) o) ≡ false
+      go (same e t) = ap (list_any (λ r. list_any p (nodes_of_record r))) (ap (records_at (slice_set queues i None)) e ∙ records-gone queues i)
+      go (apart ne t) = ap (list_any (λ r. list_any p (nodes_of_record r))) (records-stay queues i o ne) ∙ none o
 
-  pub tells-grown : (queues : List (List Record)) → TellsNone p queues → TellsNone p (queues ++ [] ∷ [])
-  tells-grown [] none zero = refl
-  tells-grown [] none (suc o) = none o
-  tells-grown (q ∷ queues) none zero = none 0
-  tells-grown (q ∷ queues) none (suc o) = tells-grown queues (λ i. none (suc i)) o
+  pub tells-grown : (queues : List (Option (List Record))) → TellsNone p queues → TellsNone p (queues ++ Some [] ∷ [])
+  tells-grown queues none o = ap (list_any (λ r. list_any p (nodes_of_record r))) (records-more queues o) ∙ none o
 
   pub tells-left : (b : Bool) (q : List Record) → list_any (λ r. list_any p (nodes_of_record r)) q ≡ false → list_any (λ r. list_any p (nodes_of_record r)) (if b then [] else q) ≡ false
   tells-left true q h = refl

@@ -1,9 +1,10 @@
 -- The keys of nodes and observers, as registrations come in and end.
-use Rattle.std.proofs.Common.{◌≡◌, ◌≢◌, ℕ, ◌<◌, ◌≤◌, ◌==◌, Bool, true, false, ◌&&◌, if◌then◌else◌, List, [], length, filter, Option, option_map, None, Some, refl, ap, sym, ◌∙◌, subst, arith}
+use Rattle.std.proofs.Common.{◌≡◌, ◌≢◌, ℕ, ◌<◌, ◌≤◌, ◌==◌, Bool, true, false, ◌&&◌, if◌then◌else◌, List, [], length, filter, Option, option_map, None, Some, refl, ap, sym, ◌∙◌, subst, arith, ◌⊎◌, inl, inr}
 use Rattle.std.specs.Prelude.{is_none, is_some, slice_index_or, slice_set}
+use Rattle.std.specs.Option.{option_map_or}
 use Rattle.std.specs.List.{AllByRecursion}
 use Rattle.std.proofs.lemmas.Bool.{true≢false}
-use Rattle.std.proofs.lemmas.List.{get_or-set_same, get_or-set_other, length-set}
+use Rattle.std.proofs.lemmas.List.{get_or-set_same, get_or-set_other}
 use Rattle.dom_model.specs.PlainLists.Lists.{hits, among}
 use Rattle.dom_model.specs.PlainLists.LastOnce.{with_last}
 use Rattle.dom_model.specs.Worlds.World.{Options, Registration}
@@ -11,47 +12,42 @@ use Rattle.dom_model.specs.MutationObservers.Observing.{transient_of}
 use Rattle.dom_model.proofs.PlainLists.Numbers.{same_or, same, apart}
 use Rattle.dom_observe.specs.declared.registration.Ended.{Ended}
 use Rattle.dom_observe.specs.declared.registration.Ended.TheVariants.{Transient, Of, From}
-use Rattle.dom_observe.specs.Watchers.{on}
 use Rattle.dom_observe.specs.Registrations.{is_live, left_by, lasts_for, passes_for, Placed, Owned, Stands, Added, NewKey, transient_under, with_new_options}
-use Rattle.dom_observe.specs.Kept.{IsIndexed}
-use Rattle.dom_observe.proofs.EndedOnes.{stays_by, stays_off, swept-two}
-use Rattle.dom_observe.proofs.Hearing.{stay-last, bounded-last}
-use Rattle.dom_observe.proofs.Owning.{lasting-kind, passing-kind, not_both, not_both2, owned-ended, owned-other, owned-new, owned-beside, owned-changed, placed-added, placed-changed, left-of, left-from}
-use Rattle.dom_observe.proofs.KeysOnce.{once-new, once-ended}
+use Rattle.dom_observe.specs.Kept.{AllThere, IsIndexed}
+use Rattle.dom_observe.proofs.EndedOnes.{stays_by, stays_off}
+use Rattle.dom_observe.proofs.Hearing.{stay-last, there-last}
+use Rattle.dom_observe.proofs.Owning.{lasting-kind, passing-kind, not_both, not_both2, owned-ended, owned-other, owned-new, owned-beside, owned-changed, placed-added, placed-changed, left-from}
+use Rattle.dom_observe.proofs.KeysOnce.{once-set, once-new, once-ended}
 use Rattle.dom_observe.proofs.Queued.{not_before}
 use Rattle.dom_observe.proofs.Tables.{all_at, all_imply, transient_shape}
 
 -- one more observer may have transient registrations
-pub indexed-pended : (u : ℕ → Option Registration) (lists : List (ℕ × List ℕ)) (ls ps : List (List ℕ)) (some : List ℕ) (made o : ℕ) → o < made → IsIndexed u lists ls ps some made → IsIndexed u lists ls ps (with_last some o) made
-indexed-pended u lists ls ps some made o lt ix = record {
+pub indexed-pended : (u : ℕ → Option Registration) (lists : List (ℕ × List ℕ)) (ls ps : List (List ℕ)) (some : List ℕ) (there : ℕ → Bool) (o : ℕ) → there o ≡ true → IsIndexed u lists ls ps some there → IsIndexed u lists ls ps (with_last some o) there
+indexed-pended u lists ls ps some there o held_there ix = record {
   placed = ix.placed;
   lasting = ix.lasting;
   passing = ix.passing;
   lasting_once = ix.lasting_once;
   passing_once = ix.passing_once;
   fleeting = λ p off. ix.fleeting p (not_before p some (with_last some o) (stay-last p o some) off);
-  known = bounded-last made o some ix.known lt;
-  lasting_room = ix.lasting_room;
-  passing_room = ix.passing_room;
+  known = there-last there o some ix.known held_there;
 }
 
 module _ (u : ℕ → Option Registration) (lists : List (ℕ × List ℕ)) (r : Registration) (v : ℕ → Option Registration) (lists' : List (ℕ × List ℕ)) (a : Added u lists r v lists')
-    (keys keys' : List ℕ) (key : NewKey u r v keys keys') (ls ps : List (List ℕ)) (some : List ℕ) (made : ℕ) (ix : IsIndexed u lists ls ps some made) where
+    (keys keys' : List ℕ) (key : NewKey u r v keys keys') (ls ps : List (List ℕ)) (some : List ℕ) (there : ℕ → Bool) (ix : IsIndexed u lists ls ps some there) where
   -- a transient registration comes in
-  pub indexed-transient : is_some r.source ≡ true → (ps' : List (List ℕ)) → r.observer < length ps → keys ≡ slice_index_or ps r.observer [] → ps' ≡ slice_set ps r.observer keys' → among r.observer some ≡ true → IsIndexed v lists' ls ps' some made
-  indexed-transient source ps' lt had set there = record {
+  pub indexed-transient : is_some r.source ≡ true → (ps' : List (List ℕ)) → r.observer < length ps → keys ≡ slice_index_or ps r.observer [] → ps' ≡ slice_set ps r.observer keys' → among r.observer some ≡ true → IsIndexed v lists' ls ps' some there
+  indexed-transient source ps' lt had set in_some = record {
     placed = placed-added u lists r v lists' a ix.placed;
     lasting = owned-beside u v r keys keys' key lasts_for (λ j. refl) (λ j. off (r.observer == j) r.source source) ls ix.lasting;
     passing = owned-new u v r keys keys' key passes_for passing-kind (λ j. on_its (r.observer == j) r.source source) ps ps' lt had set ix.passing;
     lasting_once = ix.lasting_once;
     passing_once = once-new u v r keys keys' key passes_for (λ j. refl) ps ps' lt had set ix.passing ix.passing_once;
     fleeting = λ p out. elim (same_or p r.observer) [
-      | same e t ↦ absurd (true≢false (sym there ∙ ap (λ q. among q some) (sym e) ∙ out))
+      | same e t ↦ absurd (true≢false (sym in_some ∙ ap (λ q. among q some) (sym e) ∙ out))
       | apart ne t ↦ ap (λ l. slice_index_or l p []) set ∙ get_or-set_other ps r.observer p keys' [] ne ∙ ix.fleeting p out
     ];
     known = ix.known;
-    lasting_room = ix.lasting_room;
-    passing_room = subst (λ l. made ≤ l) (sym (ap length set ∙ length-set ps r.observer keys')) ix.passing_room;
   }
     where
       off : (b : Bool) (s : Option ℕ) → is_some s ≡ true → (b && is_none s) ≡ false
@@ -65,7 +61,7 @@ module _ (u : ℕ → Option Registration) (lists : List (ℕ × List ℕ)) (r :
       on_its false (Some n) h = refl
 
   -- a lasting one comes in
-  pub indexed-lasting : r.source ≡ None → (ls' : List (List ℕ)) → r.observer < length ls → keys ≡ slice_index_or ls r.observer [] → ls' ≡ slice_set ls r.observer keys' → IsIndexed v lists' ls' ps some made
+  pub indexed-lasting : r.source ≡ None → (ls' : List (List ℕ)) → r.observer < length ls → keys ≡ slice_index_or ls r.observer [] → ls' ≡ slice_set ls r.observer keys' → IsIndexed v lists' ls' ps some there
   indexed-lasting source ls' lt had set = record {
     placed = placed-added u lists r v lists' a ix.placed;
     lasting = owned-new u v r keys keys' key lasts_for lasting-kind (λ j. ap (λ s. (r.observer == j) && is_none s) source ∙ on_its (r.observer == j)) ls ls' lt had set ix.lasting;
@@ -74,8 +70,6 @@ module _ (u : ℕ → Option Registration) (lists : List (ℕ × List ℕ)) (r :
     passing_once = ix.passing_once;
     fleeting = ix.fleeting;
     known = ix.known;
-    lasting_room = subst (λ l. made ≤ l) (sym (ap length set ∙ length-set ls r.observer keys')) ix.lasting_room;
-    passing_room = ix.passing_room;
   }
     where
       off : (b : Bool) → (b && false) ≡ false
@@ -87,9 +81,9 @@ module _ (u : ℕ → Option Registration) (lists : List (ℕ × List ℕ)) (r :
       on_its false = refl
 
 -- Registrations of an observer end, of those that last or of the transient ones.
-module _ (u v : ℕ → Option Registration) (lists lists' : List (ℕ × List ℕ)) (ls ps : List (List ℕ)) (some : List ℕ) (made o : ℕ) (ended : Ended) (ix : IsIndexed u lists ls ps some made) (placed : Placed v lists') where
+module _ (u v : ℕ → Option Registration) (lists lists' : List (ℕ × List ℕ)) (ls ps : List (List ℕ)) (some : List ℕ) (there : ℕ → Bool) (o : ℕ) (ended : Ended) (ix : IsIndexed u lists ls ps some there) (placed : Placed v lists') where
   pub indexed-lasting_ended : (ls' : List (List ℕ)) → o < length ls → ((k : ℕ) → v k ≡ (if among k (slice_index_or ls o []) then left_by ended (u k) else u k))
-      → ls' ≡ slice_set ls o (filter (is_live v) (slice_index_or ls o [])) → IsIndexed v lists' ls' ps some made
+      → ls' ≡ slice_set ls o (filter (is_live v) (slice_index_or ls o [])) → IsIndexed v lists' ls' ps some there
   indexed-lasting_ended ls' lt left set = record {
     placed = placed;
     lasting = owned-ended lasts_for lasting-kind u v ls o ix.lasting (stays_by u v (slice_index_or ls o []) ended left) (stays_off u v (slice_index_or ls o []) ended left) ls' lt set;
@@ -98,12 +92,10 @@ module _ (u v : ℕ → Option Registration) (lists lists' : List (ℕ × List �
     passing_once = ix.passing_once;
     fleeting = ix.fleeting;
     known = ix.known;
-    lasting_room = subst (λ l. made ≤ l) (sym (ap length set ∙ length-set ls o (filter (is_live v) (slice_index_or ls o [])))) ix.lasting_room;
-    passing_room = ix.passing_room;
   }
 
   pub indexed-passing_ended : (ps' : List (List ℕ)) → o < length ps → ((k : ℕ) → v k ≡ (if among k (slice_index_or ps o []) then left_by ended (u k) else u k))
-      → ps' ≡ slice_set ps o (filter (is_live v) (slice_index_or ps o [])) → IsIndexed v lists' ls ps' some made
+      → ps' ≡ slice_set ps o (filter (is_live v) (slice_index_or ps o [])) → IsIndexed v lists' ls ps' some there
   indexed-passing_ended ps' lt left set = record {
     placed = placed;
     lasting = owned-other passes_for passing-kind u v ps o ix.passing (stays_by u v (slice_index_or ps o []) ended left) (stays_off u v (slice_index_or ps o []) ended left) lasts_for (λ j. refl) (not_both2 o) ls ix.lasting;
@@ -115,53 +107,81 @@ module _ (u v : ℕ → Option Registration) (lists lists' : List (ℕ × List �
       | apart ne t ↦ ap (λ l. slice_index_or l p []) set ∙ get_or-set_other ps o p (filter (is_live v) (slice_index_or ps o [])) [] ne ∙ ix.fleeting p out
     ];
     known = ix.known;
-    lasting_room = ix.lasting_room;
-    passing_room = subst (λ l. made ≤ l) (sym (ap length set ∙ length-set ps o (filter (is_live v) (slice_index_or ps o [])))) ix.passing_room;
   }
 
 -- whom a transient registration that is made belongs to, and that it has a source
 pub made-transient : (u0 u : ℕ → Option Registration) (own : List ℕ) (node : ℕ) (standing : List ℕ) (i d : ℕ) → i < length standing → AllByRecursion (λ k. u k ≡ u0 k) standing → (r : Registration) → transient_under u own node (slice_index_or standing i d) ≡ Some r
-    → ((made : ℕ) → AllByRecursion (Stands u0 made) standing → r.observer < made) × (is_some r.source ≡ true)
+    → ((there : ℕ → Bool) → AllByRecursion (Stands u0 there) standing → there r.observer ≡ true) × (is_some r.source ≡ true)
 made-transient u0 u own node standing i d lt alike r some = (
-  (λ made bounded.
-      let at_key = all_at (Stands u0 made) standing i d bounded lt in
+  (λ there bounded.
+      let at_key = all_at (Stands u0 there) standing i d bounded lt in
       let same_one : Some s.0 ≡ Some at_key.registration = sym s.1 ∙ all_at (λ k. u k ≡ u0 k) standing i d alike lt ∙ at_key.is in
       let origin : s.0 ≡ at_key.registration = cc same_one in
-      subst (λ o. o < made) (ap (λ (t : Registration). t.observer) (sym origin) ∙ ap (λ (t : Registration). t.observer) s.2) at_key.observer),
+      subst (λ o. there o ≡ true) (ap (λ (t : Registration). t.observer) (sym origin) ∙ ap (λ (t : Registration). t.observer) s.2) at_key.observer),
   ap (λ (t : Registration). is_some t.source) (sym s.2),
 )
   where
     s : (s : Registration) × (u (slice_index_or standing i d) ≡ Some s) × (transient_of node s ≡ r)
     s = transient_shape u own node (u (slice_index_or standing i d)) r some
 
--- An observer is disconnected: what lasts ends, and then what does not.
-module _ (u v w : ℕ → Option Registration) (lists lists1 lists2 : List (ℕ × List ℕ)) (ls ls' ps ps' : List (List ℕ)) (some : List ℕ) (made o : ℕ) (ix : IsIndexed u lists ls ps some made) (lt : o < made)
-    (placed1 : Placed v lists1) (left1 : (k : ℕ) → v k ≡ (if among k (slice_index_or ls o []) then left_by (Of o) (u k) else u k)) (set1 : ls' ≡ slice_set ls o (filter (is_live v) (slice_index_or ls o [])))
-    (placed2 : Placed w lists2) (left2 : (k : ℕ) → w k ≡ (if among k (slice_index_or ps o []) then left_by (Of o) (v k) else v k)) (set2 : ps' ≡ slice_set ps o (filter (is_live w) (slice_index_or ps o []))) where
-  first_indexed : IsIndexed v lists1 ls' ps some made
-  first_indexed = indexed-lasting_ended u v lists lists1 ls ps some made o (Of o) ix placed1 ls' (let r = ix.lasting_room in omega arith) left1 set1
+-- An observer loses all its registrations.
+module _ (o : ℕ) (t : Registration → Bool) where
+  abbrev its : ℕ → Option Registration → Bool
+  its i p = option_map_or (λ (r : Registration). (r.observer == i) && t r) p false
 
-  pub disconnected-indexed : IsIndexed w lists2 ls' ps' some made
-  disconnected-indexed = indexed-passing_ended v w lists1 lists2 ls' ps some made o (Of o) first_indexed placed2 ps' (let r = ix.passing_room in omega arith) left2 set2
+  its-gone : (p : Option Registration) → its o (left_by (Of o) p) ≡ false
+  its-gone None = refl
+  its-gone (Some r) = elim (same_or r.observer o) [ same e c ↦ rw c refl | apart ne c ↦ rw c (ap (λ b. b && t r) c) ]
 
-  pub disconnected-left : (k : ℕ) → w k ≡ left_by (Of o) (u k)
-  disconnected-left k =
-      left-of o (u k) (v k) (w k)
-      (left1 k ∙ ap (λ b. if b then left_by (Of o) (u k) else u k) (ix.lasting o k))
-      (left2 k ∙ ap (λ b. if b then left_by (Of o) (v k) else v k) (first_indexed.passing o k))
+  others-stay : (i : ℕ) → (i ≡ o → ⊥) → (p : Option Registration) → its i (left_by (Of o) p) ≡ its i p
+  others-stay i ne None = refl
+  others-stay i ne (Some r) = elim (same_or r.observer o) [
+    | same e c ↦ rw c (elim (same_or r.observer i) [ same f d ↦ absurd (ne (sym f ∙ e)) | apart nf d ↦ sym (ap (λ b. b && t r) d) ])
+    | apart nf c ↦ rw c refl
+  ]
 
-  pub disconnected-swept : ((n : ℕ) → on n lists1 ≡ filter (is_live v) (on n lists)) → ((n : ℕ) → on n lists2 ≡ filter (is_live w) (on n lists1)) → (n : ℕ) → on n lists2 ≡ filter (is_live w) (on n lists)
-  disconnected-swept swept1 swept2 n = swept-two v w (on n lists) (on n lists1) (on n lists2) (stays_by v w (slice_index_or ps o []) (Of o) left2) (swept1 n) (swept2 n)
+  owned-left : (u v : ℕ → Option Registration) (lists : List (List ℕ)) → o < length lists → ((k : ℕ) → v k ≡ left_by (Of o) (u k)) → Owned its u lists → Owned its v (slice_set lists o [])
+  owned-left u v lists lt left owned i k = elim (same_or i o) [
+    | same e c ↦
+        ap (among k) (ap (λ j. slice_index_or (slice_set lists o []) j []) e ∙ get_or-set_same lists o [] [] lt)
+        ∙ sym (ap (its i) (left k) ∙ ap (λ j. its j (left_by (Of o) (u k))) e ∙ its-gone (u k))
+    | apart ne c ↦
+        ap (among k) (get_or-set_other lists o i [] [] ne) ∙ owned i k ∙ sym (ap (its i) (left k) ∙ others-stay i ne (u k))
+  ]
+
+module _ (u v : ℕ → Option Registration) (lists lists' : List (ℕ × List ℕ)) (ls ps : List (List ℕ)) (some : List ℕ) (there : ℕ → Bool) (o : ℕ) (ix : IsIndexed u lists ls ps some there)
+    (within1 : o < length ls) (within2 : o < length ps) (placed : Placed v lists') (left : (k : ℕ) → v k ≡ left_by (Of o) (u k)) where
+  none_left : (p : ℕ) → slice_index_or ps p [] ≡ [] → slice_index_or (slice_set ps o []) p [] ≡ []
+  none_left p none = elim (same_or p o) [
+    | same e t ↦ ap (λ q. slice_index_or (slice_set ps o []) q []) e ∙ get_or-set_same ps o [] [] within2
+    | apart ne t ↦ get_or-set_other ps o p [] [] ne ∙ none
+  ]
+
+  -- those that are left have transient ones only where they had, and are there by another test
+  pub indexed-left : (some' : List ℕ) (there' : ℕ → Bool) → ((p : ℕ) → among p some' ≡ false → (p ≡ o) ⊎ (among p some ≡ false)) → AllThere there' some' → IsIndexed v lists' (slice_set ls o []) (slice_set ps o []) some' there'
+  indexed-left some' there' out known = record {
+    placed = placed;
+    lasting = owned-left o (λ (r : Registration). is_none r.source) u v ls within1 left ix.lasting;
+    passing = owned-left o (λ (r : Registration). is_some r.source) u v ps within2 left ix.passing;
+    lasting_once = once-set ls (slice_set ls o []) o [] within1 refl (λ k. omega arith) ix.lasting_once;
+    passing_once = once-set ps (slice_set ps o []) o [] within2 refl (λ k. omega arith) ix.passing_once;
+    fleeting = λ p off. go p (out p off);
+    known = known;
+  }
+    where
+      go : (p : ℕ) → ((p ≡ o) ⊎ (among p some ≡ false)) → slice_index_or (slice_set ps o []) p [] ≡ []
+      go p (inl e) = ap (λ q. slice_index_or (slice_set ps o []) q []) e ∙ get_or-set_same ps o [] [] within2
+      go p (inr off) = none_left p (ix.fleeting p off)
 
 -- the transient registrations from a node end
-pub from-left : (u v : ℕ → Option Registration) (lists : List (ℕ × List ℕ)) (ls ps : List (List ℕ)) (some : List ℕ) (made o node : ℕ) → IsIndexed u lists ls ps some made
+pub from-left : (u v : ℕ → Option Registration) (lists : List (ℕ × List ℕ)) (ls ps : List (List ℕ)) (some : List ℕ) (there : ℕ → Bool) (o node : ℕ) → IsIndexed u lists ls ps some there
     → ((k : ℕ) → v k ≡ (if among k (slice_index_or ps o []) then left_by (From o node) (u k) else u k)) → (k : ℕ) → v k ≡ left_by (From o node) (u k)
-from-left u v lists ls ps some made o node ix left k = left k ∙ ap (λ b. if b then left_by (From o node) (u k) else u k) (ix.passing o k) ∙ left-from o node (u k)
+from-left u v lists ls ps some there o node ix left k = left k ∙ ap (λ b. if b then left_by (From o node) (u k) else u k) (ix.passing o k) ∙ left-from o node (u k)
 
 -- a registration gets other options
-pub indexed-changed : (u v : ℕ → Option Registration) (lists : List (ℕ × List ℕ)) (ls ps : List (List ℕ)) (some : List ℕ) (made key : ℕ) (options : Options) → v key ≡ option_map (with_new_options options) (u key) → ((k : ℕ) → k ≢ key → v k ≡ u k)
-    → IsIndexed u lists ls ps some made → IsIndexed v lists ls ps some made
-indexed-changed u v lists ls ps some made key options changed others ix = record {
+pub indexed-changed : (u v : ℕ → Option Registration) (lists : List (ℕ × List ℕ)) (ls ps : List (List ℕ)) (some : List ℕ) (there : ℕ → Bool) (key : ℕ) (options : Options) → v key ≡ option_map (with_new_options options) (u key) → ((k : ℕ) → k ≢ key → v k ≡ u k)
+    → IsIndexed u lists ls ps some there → IsIndexed v lists ls ps some there
+indexed-changed u v lists ls ps some there key options changed others ix = record {
   placed = placed-changed u v key options changed others lists ix.placed;
   lasting = owned-changed u v key options changed others lasts_for lasting-kind ls ix.lasting;
   passing = owned-changed u v key options changed others passes_for passing-kind ps ix.passing;
@@ -169,38 +189,33 @@ indexed-changed u v lists ls ps some made key options changed others ix = record
   passing_once = ix.passing_once;
   fleeting = ix.fleeting;
   known = ix.known;
-  lasting_room = ix.lasting_room;
-  passing_room = ix.passing_room;
 }
 
--- there is room for more observers
-pub indexed-seated : (u : ℕ → Option Registration) (lists : List (ℕ × List ℕ)) (ls ls' ps ps' : List (List ℕ)) (some : List ℕ) (made made' : ℕ) → ((i : ℕ) → slice_index_or ls' i [] ≡ slice_index_or ls i []) → ((i : ℕ) → slice_index_or ps' i [] ≡ slice_index_or ps i [])
-    → made ≤ made' → made' ≤ length ls' → made' ≤ length ps' → IsIndexed u lists ls ps some made → IsIndexed u lists ls' ps' some made'
-indexed-seated u lists ls ls' ps ps' some made made' same1 same2 le room1 room2 ix = record {
+-- as many observers at least are there, and each has the keys that it had
+pub indexed-alike : (u : ℕ → Option Registration) (lists : List (ℕ × List ℕ)) (ls ls' ps ps' : List (List ℕ)) (some : List ℕ) (there there' : ℕ → Bool)
+    → ((i : ℕ) → slice_index_or ls' i [] ≡ slice_index_or ls i []) → ((i : ℕ) → slice_index_or ps' i [] ≡ slice_index_or ps i []) → ((i : ℕ) → there i ≡ true → there' i ≡ true)
+    → IsIndexed u lists ls ps some there → IsIndexed u lists ls' ps' some there'
+indexed-alike u lists ls ls' ps ps' some there there' same1 same2 more ix = record {
   placed = ix.placed;
   lasting = λ i k. ap (among k) (same1 i) ∙ ix.lasting i k;
   passing = λ i k. ap (among k) (same2 i) ∙ ix.passing i k;
   lasting_once = λ i k. subst (λ keys. hits k keys ≤ 1) (sym (same1 i)) (ix.lasting_once i k);
   passing_once = λ i k. subst (λ keys. hits k keys ≤ 1) (sym (same2 i)) (ix.passing_once i k);
   fleeting = λ i off. same2 i ∙ ix.fleeting i off;
-  known = all_imply (λ o. o < made) (λ o. o < made') (λ o lt. omega arith) some ix.known;
-  lasting_room = room1;
-  passing_room = room2;
+  known = all_imply (λ o. there o ≡ true) (λ o. there' o ≡ true) more some ix.known;
 }
 
 -- everybody is notified
-pub indexed-notified : (u v : ℕ → Option Registration) (lists lists' : List (ℕ × List ℕ)) (ls ps ps' : List (List ℕ)) (some some' : List ℕ) (made : ℕ) → IsIndexed u lists ls ps some made → Placed v lists' → ((k : ℕ) → v k ≡ left_by Transient (u k))
-    → Owned passes_for v ps' → ((o : ℕ) → slice_index_or ps' o [] ≡ []) → length ps' ≡ length ps → some' ≡ [] → IsIndexed v lists' ls ps' some' made
-indexed-notified u v lists lists' ls ps ps' some some' made ix placed left owned none len gone = record {
+pub indexed-notified : (u v : ℕ → Option Registration) (lists lists' : List (ℕ × List ℕ)) (ls ps ps' : List (List ℕ)) (some some' : List ℕ) (there : ℕ → Bool) → IsIndexed u lists ls ps some there → Placed v lists' → ((k : ℕ) → v k ≡ left_by Transient (u k))
+    → Owned passes_for v ps' → ((o : ℕ) → slice_index_or ps' o [] ≡ []) → some' ≡ [] → IsIndexed v lists' ls ps' some' there
+indexed-notified u v lists lists' ls ps ps' some some' there ix placed left owned none gone = record {
   placed = placed;
   lasting = λ i k. ix.lasting i k ∙ sym (ap (lasts_for i) (left k) ∙ stays i (u k));
   passing = owned;
   lasting_once = ix.lasting_once;
   passing_once = λ i k. subst (λ keys. hits k keys ≤ 1) (sym (none i)) (omega arith);
   fleeting = λ o _. none o;
-  known = subst (AllByRecursion (λ o. o < made)) (sym gone) tt;
-  lasting_room = ix.lasting_room;
-  passing_room = let r = ix.passing_room in omega (arith, len, r);
+  known = subst (AllThere there) (sym gone) tt;
 }
   where
     stays : (i : ℕ) (p : Option Registration) → lasts_for i (left_by Transient p) ≡ lasts_for i p

@@ -1,5 +1,5 @@
 -- The nodes that registrations name are those that have keys.
-use Rattle.std.proofs.Common.{◌≡◌, ℕ, Bool, true, false, List, [], ◌∷◌, length, Option, Some, None, refl, ap, sym, ◌∙◌, subst, nat_eq}
+use Rattle.std.proofs.Common.{◌≡◌, ℕ, Bool, true, false, List, [], ◌∷◌, Option, Some, None, refl, ap, sym, ◌∙◌, subst, nat_eq}
 use Rattle.std.specs.Prelude.{Vec}
 use Rattle.std.specs.Map.{lookup, keys_of}
 use Rattle.std.specs.List.{list_any, AllByRecursion}
@@ -14,7 +14,7 @@ use Rattle.dom_model.proofs.PlainLists.Searches.{alike, passes_not, none-each}
 use Rattle.dom_observe.specs.declared.registration.Registration as held
 use Rattle.dom_observe.specs.Watchers.{on}
 use Rattle.dom_observe.specs.Registrations.{at, listed, is_on, StandsOn, HaveKeys, HaveSources, Placed}
-use Rattle.dom_observe.specs.Kept.{registered_nodes, IsKept}
+use Rattle.dom_observe.specs.Kept.{registered_nodes, has_queue, IsKept}
 use Rattle.dom_observe.specs.Naming.{names_one, NamesNone}
 use Rattle.dom_observe.proofs.Holding.{none_under_keys, none_registered}
 use Rattle.dom_observe.proofs.Keys.{keys_in, on-looked}
@@ -56,7 +56,7 @@ module _ {A : Type 0} where
       go [] is = absurd (full n f.0 f.1 is)
       go (k ∷ keys) is = (k, keys, on-looked n (listed es) ∙ ap keys_in f.1 ∙ is)
 
-module _ {A : Type 0} (table : Slab held.Registration) (entries : List (ℕ × Vec ℕ A)) (queues : List (List Record)) (pending : List ℕ)
+module _ {A : Type 0} (table : Slab held.Registration) (entries : List (ℕ × Vec ℕ A)) (queues : List (Option (List Record))) (pending : List ℕ)
     (kept : IsKept table entries queues pending) (placed : Placed (at table) (listed entries)) (have : HaveSources (at table)) (p : ℕ → Bool) where
   -- the node of a registration has its key
   has_key : (k : ℕ) (r : Registration) → at table k ≡ Some r → among r.node (keys_of entries) ≡ true
@@ -64,7 +64,7 @@ module _ {A : Type 0} (table : Slab held.Registration) (entries : List (ℕ × V
 
   -- the source of a transient one has the key of another
   none_named : list_any p (keys_of entries) ≡ false → NamesNone p (at table) (listed entries)
-  none_named none n = all_imply (StandsOn (at table) (length queues) n) (λ k. names_one p (at table k) ≡ false) one (on n (listed entries)) (kept.stand n)
+  none_named none n = all_imply (StandsOn (at table) (has_queue queues) n) (λ k. names_one p (at table k) ≡ false) one (on n (listed entries)) (kept.stand n)
     where
       source : (k : ℕ) (r : Registration) → at table k ≡ Some r → (o : Option ℕ) → r.source ≡ o → list_any p (if_any o) ≡ false
       source k r is None e = refl
@@ -73,7 +73,7 @@ module _ {A : Type 0} (table : Slab held.Registration) (entries : List (ℕ × V
           let s = own-shape r.observer m (at table w.key) w.own in
           or_from (p m) false (passes_not p (keys_of entries) m none (subst (λ i. among i (keys_of entries) ≡ true) s.3 (has_key w.key s.0 s.1))) refl
 
-      one : (k : ℕ) → StandsOn (at table) (length queues) n k → names_one p (at table k) ≡ false
+      one : (k : ℕ) → StandsOn (at table) (has_queue queues) n k → names_one p (at table k) ≡ false
       one k s =
           let r = s.registration in
           ap (names_one p) s.is
@@ -86,7 +86,7 @@ module _ {A : Type 0} (table : Slab held.Registration) (entries : List (ℕ × V
       one : (n : ℕ) → among n (keys_of entries) ≡ true → p n ≡ false
       one n there =
           let f = first-key n entries kept.full there in
-          let stand = subst (AllByRecursion (StandsOn (at table) (length queues) n)) f.2 (kept.stand n) in
+          let stand = subst (AllByRecursion (StandsOn (at table) (has_queue queues) n)) f.2 (kept.stand n) in
           let nameless = subst (AllByRecursion (λ k. names_one p (at table k) ≡ false)) f.2 (none n) in
           let r = stand.0.registration in
           subst (λ m. p m ≡ false) stand.0.node (or_parts (p r.node) (list_any p (if_any r.source)) (sym (ap (names_one p) stand.0.is) ∙ nameless.0)).0

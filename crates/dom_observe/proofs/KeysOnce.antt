@@ -1,5 +1,5 @@
 -- No list gets a key twice: what comes in has a key that was vacant, and what ends takes keys out.
-use Rattle.std.proofs.Common.{◌≡◌, ℕ, ◌<◌, ◌≤◌, Bool, false, List, [], ◌∷◌, ◌++◌, length, filter, Option, None, Some, refl, ap, sym, ◌∙◌, subst, arith}
+use Rattle.std.proofs.Common.{◌≡◌, ℕ, ◌<◌, ◌≤◌, Bool, false, List, [], ◌∷◌, ◌++◌, length, filter, Option, None, refl, ap, sym, ◌∙◌, subst, arith}
 use Rattle.std.specs.Prelude.{slice_index_or, slice_set}
 use Rattle.std.proofs.lemmas.List.{get_or-set_same, get_or-set_other}
 use Rattle.dom_model.specs.PlainLists.Lists.{hits, among}
@@ -11,7 +11,7 @@ use Rattle.dom_observe.specs.Kept.{HaveOnce}
 use Rattle.dom_observe.specs.Registrations.{Owned, NewKey}
 
 -- a list is put in place of another
-once-set : (lists lists' : List (List ℕ)) (i : ℕ) (keys : List ℕ) → i < length lists → lists' ≡ slice_set lists i keys → ((k : ℕ) → hits k keys ≤ 1) → HaveOnce lists → HaveOnce lists'
+pub once-set : (lists lists' : List (List ℕ)) (i : ℕ) (keys : List ℕ) → i < length lists → lists' ≡ slice_set lists i keys → ((k : ℕ) → hits k keys ≤ 1) → HaveOnce lists → HaveOnce lists'
 once-set lists lists' i keys lt set each once j k = elim (same_or j i) [
   | same e t ↦ subst (λ ks. hits k ks ≤ 1) (sym (ap (λ ls. slice_index_or ls j []) set ∙ ap (λ m. slice_index_or (slice_set lists i keys) m []) e ∙ get_or-set_same lists i keys [] lt)) (each k)
   | apart ne t ↦ subst (λ ks. hits k ks ≤ 1) (sym (ap (λ ls. slice_index_or ls j []) set ∙ get_or-set_other lists i j keys [] ne)) (once j k)

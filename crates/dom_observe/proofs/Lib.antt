@@ -12,6 +12,7 @@ pub mod Holding
 pub mod Indexing
 pub mod Keeping
 pub mod Keyed
+pub mod Keyrings
 pub mod Keys
 pub mod KeysOnce
 pub mod Named
@@ -21,7 +22,10 @@ pub mod Once
 pub mod Outcomes
 pub mod OwnKeys
 pub mod Owning
+pub mod QueueLists
 pub mod Queued
+pub mod Releasing
+pub mod Rosters
 pub mod Sounding
 pub mod Sources
 pub mod Tables

@@ -1,6 +1,6 @@
 -- The nodes that registrations and waiting records name, asked in the order of the code and in that of the definitions.
-use Rattle.std.proofs.Common.{◌≡◌, ℕ, suc, ◌+◌, ◌<◌, ◌==◌, Bool, true, false, ◌||◌, if◌then◌else◌, List, [], ◌∷◌, ◌++◌, length, filter, refl, ap, sym, ◌∙◌, nat_eq, arith, cond}
-use Rattle.std.specs.Prelude.{Vec, slice_index_or, flat_map}
+use Rattle.std.proofs.Common.{◌≡◌, ℕ, suc, ◌+◌, ◌==◌, Bool, true, false, ◌||◌, if◌then◌else◌, List, [], ◌∷◌, ◌++◌, length, filter, refl, ap, sym, ◌∙◌, nat_eq, arith, cond}
+use Rattle.std.specs.Prelude.{Vec, Option, unwrap_or, flat_map}
 use Rattle.std.specs.Map.{keys_of}
 use Rattle.std.specs.List.{list_any, IsDistinct, AllByRecursion}
 use Rattle.std.proofs.lemmas.List.Folds.{list_any-append}
@@ -15,7 +15,7 @@ use Rattle.dom_model.proofs.PlainLists.Numbers.{Same, same_or, same, apart}
 use Rattle.dom_model.proofs.PlainLists.Searches.{alike}
 use Rattle.dom_observe.specs.declared.registration.Registration as held
 use Rattle.dom_observe.specs.Once.{once}
-use Rattle.dom_observe.specs.Watchers.{on}
+use Rattle.dom_observe.specs.Watchers.{on, records_at}
 use Rattle.dom_observe.specs.Kept.{registered_nodes}
 use Rattle.dom_observe.proofs.Once.{any-once}
 
@@ -85,15 +85,15 @@ module _ (p : Registration → Bool) where
       (λ none. none_under p es u (λ n. ap (list_any p) (has n) ∙ any-once p (registered_on n rs) ∙ fewer p (λ (r : Registration). r.node == n) rs none))
 
 -- the records that wait are those of the queues
-pub queues-waiting : (x : Observing) (places : List ℕ) (qs : List (List Record)) (o : ℕ) → length places ≡ length qs
-    → ((i : ℕ) → i < length qs → slice_index_or qs i [] ≡ queue_of (i + o) x) → queues_from o places x ≡ flat_map (λ q. q) qs
+pub queues-waiting : (x : Observing) (places : List (Option ℕ)) (qs : List (Option (List Record))) (o : ℕ) → length places ≡ length qs
+    → ((i : ℕ) → records_at qs i ≡ queue_of (i + o) x) → queues_from o places x ≡ flat_map (λ (q : Option (List Record)). unwrap_or q []) qs
 queues-waiting x [] [] o e h = refl
 queues-waiting x [] (q ∷ qs) o e h = absurd (omega (arith, e))
 queues-waiting x (place ∷ places) [] o e h = absurd (omega (arith, e))
 queues-waiting x (place ∷ places) (q ∷ qs) o e h =
     let zero_on : 0 + o ≡ o = omega arith in
-    let first : q ≡ queue_of o x = h 0 (omega arith) ∙ ap (λ k. queue_of k x) zero_on in
-    let rest = queues-waiting x places qs (suc o) (omega (arith, e)) (λ i lt. h (suc i) (omega (arith, lt)) ∙ ap (λ k. queue_of k x) (later i)) in
+    let first : unwrap_or q [] ≡ queue_of o x = h 0 ∙ ap (λ k. queue_of k x) zero_on in
+    let rest = queues-waiting x places qs (suc o) (omega (arith, e)) (λ i. h (suc i) ∙ ap (λ k. queue_of k x) (later i)) in
     (λ i. sym first i ++ rest i)
   where
     later : (i : ℕ) → suc i + o ≡ i + suc o

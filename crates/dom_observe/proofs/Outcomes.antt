@@ -1,19 +1,31 @@
 -- Facts of one outcome of a call.
 use Rattle.std.proofs.Common.{◌≡◌, Bool, Option, Some, None, ◌∙◌}
-use Rattle.std.specs.Prelude.{Result, Ok, Err, OnOk, OnErr, IfSome}
+use Rattle.std.specs.Prelude.{Result, Ok, Err, IfOk, OnOk, OnErr, IfSome}
 use Rattle.std.specs.Option.{MatchOption}
 
 pub on_ok : {A E : Type 0} (r : Result A E) {P Q : Type 0} → OnOk r P → (P → Q) → OnOk r Q
 on_ok (Ok x) h f = f h
 on_ok (Err e) h f = h
 
+pub both_ok : {A E : Type 0} (r : Result A E) {P Q : A → Type 0} {O : Type 0} → IfOk r P → OnOk r O → ((x : A) → P x → O → Q x) → IfOk r Q
+both_ok (Ok x) h o f = f x h o
+both_ok (Err e) h o f = h
+
 pub on_err : {A E : Type 0} (r : Result A E) {P Q : Type 0} → OnErr r P → (P → Q) → OnErr r Q
 on_err (Ok x) h f = h
 on_err (Err e) h f = f h
 
+pub by_errors : {A E : Type 0} (r : Result A E) {P O B Q : Type 0} → OnErr r P → OnErr r O → OnErr r B → (P → O → B → Q) → OnErr r Q
+by_errors (Ok x) h o b f = h
+by_errors (Err e) h o b f = f h o b
+
 pub by_one : {A E : Type 0} (r : Result A E) {P B Q : Type 0} → OnOk r P → OnErr r B → (P → Q) → (B → Q) → Q
 by_one (Ok x) h b f g = f h
 by_one (Err e) h b f g = g b
+
+pub by_both : {A E : Type 0} (r : Result A E) {P O B Q : Type 0} → OnOk r P → OnOk r O → OnErr r B → (P → O → Q) → (B → Q) → Q
+by_both (Ok x) h o b f g = f h o
+by_both (Err e) h o b f g = g b
 
 pub by_outcome : {A E : Type 0} (r : Result A E) {P B C Q : Type 0} → OnOk r P → OnErr r B → OnErr r C → (P → Q) → (B → C → Q) → Q
 by_outcome (Ok x) h b c f g = f h

@@ -1,6 +1,7 @@
 -- The keys that observers have, as registrations come in and end.
 use Rattle.std.proofs.Common.{◌≡◌, ◌≢◌, ℕ, ◌<◌, ◌==◌, Bool, true, false, not, ◌&&◌, if◌then◌else◌, List, [], ◌∷◌, ◌++◌, length, filter, Option, None, Some, option_map, refl, ap, sym, ◌∙◌, append-nil, ◌⊎◌, inl, inr}
 use Rattle.std.specs.Prelude.{is_none, is_some, slice_index_or, slice_set}
+use Rattle.std.specs.Option.{option_map_or}
 use Rattle.std.proofs.lemmas.Bool.{true≢false}
 use Rattle.std.proofs.lemmas.List.{get_or-set_same, get_or-set_other}
 use Rattle.dom_model.specs.PlainLists.Lists.{among, is_number}
@@ -217,6 +218,23 @@ left-of i (Some r) m n first second = by ((r.observer == i) && is_none r.source)
         let gone = lost (r.observer == i) r.source e in
         second ∙ ap (λ p. if passes_for i p then left_by (Of i) p else p) (f ∙ gone) ∙ sym gone
     by false e f = second ∙ ap (λ p. if passes_for i p then left_by (Of i) p else p) f ∙ own (r.observer == i) r.source e
+
+-- all that are an observer's go
+pub none-left_of : (i : ℕ) (t : Registration → Bool) (o : Option Registration) → option_map_or (λ (r : Registration). (r.observer == i) && t r) o false ≡ true → left_by (Of i) o ≡ None
+none-left_of i t None h = refl
+none-left_of i t (Some r) h = go (r.observer == i) h
+  where
+    go : (b : Bool) → (b && t r) ≡ true → (if not b then Some r else None) ≡ None
+    go true g = refl
+    go false g = absurd (true≢false (sym g))
+
+-- those that last go first, and the transient ones are still there
+pub passing-left_of : (i : ℕ) (o m : Option Registration) → m ≡ (if lasts_for i o then left_by (Of i) o else o) → passes_for i m ≡ passes_for i o
+passing-left_of i o m first = go (lasts_for i o) refl first
+  where
+    go : (b : Bool) → lasts_for i o ≡ b → m ≡ (if b then left_by (Of i) o else o) → passes_for i m ≡ passes_for i o
+    go true e f = ap (passes_for i) (f ∙ none-left_of i (λ (r : Registration). is_none r.source) o e) ∙ sym (not_both i i o e)
+    go false e f = ap (passes_for i) f
 
 pub left-from : (i n : ℕ) (o : Option Registration) → (if passes_for i o then left_by (From i n) o else o) ≡ left_by (From i n) o
 left-from i n None = refl

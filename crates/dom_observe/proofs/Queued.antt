@@ -1,6 +1,6 @@
 -- What is told of a mutation that is queued, by the registrations that stand on the ancestors of its target.
-use Rattle.std.proofs.Common.{◌≡◌, ℕ, ◌<◌, ◌==◌, Bool, true, false, ◌&&◌, ◌||◌, if◌then◌else◌, cond, List, [], ◌∷◌, ◌++◌, length, map, filter, Option, None, Some, refl, ap, sym, ◌∙◌, subst, arith}
-use Rattle.std.specs.Prelude.{filter_map, flat_map, option_to_list, slice_index_or, Vec}
+use Rattle.std.proofs.Common.{◌≡◌, ℕ, ◌==◌, Bool, true, false, ◌&&◌, ◌||◌, if◌then◌else◌, cond, List, [], ◌∷◌, ◌++◌, map, filter, Option, None, Some, refl, ap, sym, ◌∙◌, subst}
+use Rattle.std.specs.Prelude.{filter_map, flat_map, option_to_list, Vec}
 use Rattle.std.specs.List.{AllByRecursion, list_any}
 use Rattle.std.specs.Map.{keys_of}
 use Rattle.std.proofs.lemmas.Bool.{true≢false}
@@ -13,22 +13,23 @@ use Rattle.dom_model.specs.MutationObservers.Records.{interests, observers_of, a
 use Rattle.dom_model.specs.PlainLists.LastOnce.{with_last, with_all_last}
 use Rattle.dom_observe.specs.declared.registration.Registration as held
 use Rattle.dom_observe.specs.Once.{once}
-use Rattle.dom_observe.specs.Watchers.{on}
+use Rattle.dom_observe.specs.Watchers.{on, records_at}
 use Rattle.dom_observe.specs.Registrations.{at, listed, Stands, AllStand}
-use Rattle.dom_observe.specs.Kept.{IsKept}
+use Rattle.dom_observe.specs.Kept.{has_queue, AllThere, IsKept}
 use Rattle.dom_observe.specs.Telling.{listeners, asked_by, flag_of, delivered}
-use Rattle.dom_observe.proofs.Keeping.{stand_grown, all_flat, stands_of, found_standing}
+use Rattle.dom_observe.proofs.Keeping.{stand-alike, all_flat, stands_of, found_standing}
 use Rattle.dom_observe.proofs.Hearing.{listeners-interested, told-flag, keys-pairs, delivered-standing, all_last-there, flag-none, last-there, stay-last}
 use Rattle.dom_observe.proofs.Once.{walk, walk-standing, any-standing}
+use Rattle.dom_observe.proofs.Tables.{all_imply}
 
 pub standing_on-none : (ns : List ℕ) → standing_on ns [] ≡ []
 standing_on-none [] = refl
 standing_on-none (n ∷ ns) = standing_on-none ns
 
 -- the keys of the ancestors have registrations
-pub standing_stands : (u : ℕ → Option Registration) (made : ℕ) (lists : List (ℕ × List ℕ)) (ns keys : List ℕ) → AllStand u made lists → keys ≡ flat_map (λ n. on n lists) ns → AllByRecursion (Stands u made) keys
-standing_stands u made lists ns keys all is =
-    subst (AllByRecursion (Stands u made)) (sym is) (all_flat (Stands u made) lists (λ n. stands_of u made n (on n lists) (all n)) ns)
+pub standing_stands : (u : ℕ → Option Registration) (there : ℕ → Bool) (lists : List (ℕ × List ℕ)) (ns keys : List ℕ) → AllStand u there lists → keys ≡ flat_map (λ n. on n lists) ns → AllByRecursion (Stands u there) keys
+standing_stands u there lists ns keys all is =
+    subst (AllByRecursion (Stands u there)) (sym is) (all_flat (Stands u there) lists (λ n. stands_of u there n (on n lists) (all n)) ns)
 
 -- of two facts of a number on the pending list
 pub not_before : (p : ℕ) (old new : List ℕ) → (among p old ≡ true → among p new ≡ true) → among p new ≡ false → among p old ≡ false
@@ -46,16 +47,16 @@ unheard p ls old new pended off = flag-none p ls (go (among p (keys_of ls)) refl
     go true e = absurd (true≢false (sym (subst (λ ns. among p ns ≡ true) (sym pended) (all_last-there p old (keys_of ls) e)) ∙ off))
     go false e = refl
 
-module _ {A : Type 0} (table : Slab held.Registration) (entries : List (ℕ × Vec ℕ A)) (queues : List (List Record)) (pending : List ℕ)
-    (kept : IsKept table entries queues pending) (queues' : List (List Record)) (pending' : List ℕ) (same_length : length queues' ≡ length queues)
-    (stay : (p : ℕ) → among p pending ≡ true → among p pending' ≡ true) (made : AllByRecursion (λ o. o < length queues) pending')
-    (others : (p : ℕ) → among p pending' ≡ false → slice_index_or queues' p [] ≡ slice_index_or queues p []) where
+module _ {A : Type 0} (table : Slab held.Registration) (entries : List (ℕ × Vec ℕ A)) (queues : List (Option (List Record))) (pending : List ℕ)
+    (kept : IsKept table entries queues pending) (queues' : List (Option (List Record))) (pending' : List ℕ) (same : (o : ℕ) → has_queue queues' o ≡ has_queue queues o)
+    (stay : (p : ℕ) → among p pending ≡ true → among p pending' ≡ true) (there : AllThere (has_queue queues) pending')
+    (others : (p : ℕ) → among p pending' ≡ false → records_at queues' p ≡ records_at queues p) where
   pub kept-queued : IsKept table entries queues' pending'
   kept-queued = record {
     unique = kept.unique;
-    stand = stand_grown (at table) (length queues) (length queues') (listed entries) (omega (arith, same_length)) kept.stand;
+    stand = stand-alike (at table) (has_queue queues) (has_queue queues') (listed entries) (λ o held_there. same o ∙ held_there) kept.stand;
     full = kept.full;
-    made = subst (λ l. AllByRecursion (λ o. o < l) pending') (sym same_length) made;
+    there = all_imply (λ o. has_queue queues o ≡ true) (λ o. has_queue queues' o ≡ true) (λ o held_there. same o ∙ held_there) pending' there;
     waiting = λ p off. others p off ∙ kept.waiting p (not_before p pending pending' (stay p) off);
   }
 

@@ -1,9 +1,9 @@
 -- What the code keeps, as it is seen.
-use Rattle.std.proofs.Common.{◌≡◌, ◌≢◌, ℕ, Bool, true, false, ◌&&◌, ◌||◌, List, [], ◌∷◌, length, filter_map, Option, option_map, None, Some, refl, ap, sym, ◌∙◌, subst, nat_eq, ◌==◌}
+use Rattle.std.proofs.Common.{◌≡◌, ◌≢◌, ℕ, Bool, true, false, ◌&&◌, ◌||◌, List, [], ◌∷◌, filter_map, Option, option_map, None, Some, refl, ap, sym, ◌∙◌, subst, nat_eq, ◌==◌}
 use Rattle.std.specs.Prelude.{Vec, unwrap_or}
 use Rattle.std.specs.Option.{option_map_or}
 use Rattle.std.specs.List.{AllByRecursion, IsDistinct, list_any, cons_option}
-use Rattle.std.specs.Map.{keys_of, lookup}
+use Rattle.std.specs.Map.{lookup}
 use Rattle.std.proofs.lemmas.Bool.{true≢false}
 use Rattle.std.proofs.lemmas.Map.Made.{keys_of-map_values, lookup-map_values}
 use Rattle.slab.specs.Slab.{Slab}
@@ -15,9 +15,9 @@ use Rattle.dom_model.proofs.PlainLists.Numbers.{Same, same_or, same, apart}
 use Rattle.dom_observe.specs.declared.registration.Registration as held
 use Rattle.dom_observe.specs.Once.{same_options}
 use Rattle.dom_observe.specs.Watchers.{Watchers, on}
-use Rattle.dom_observe.specs.Registrations.{at, found, listed, own_at, origin, is_on, StandsOn, Placed, HaveKeys, HaveSources, Agree}
-use Rattle.dom_observe.specs.Kept.{registered_nodes, IsKept}
-use Rattle.dom_observe.specs.Sound.{IsMade, HasSource, IsSound}
+use Rattle.dom_observe.specs.Registrations.{at, found, listed, origin, is_on, StandsOn, Placed, HaveSources, Agree}
+use Rattle.dom_observe.specs.Kept.{registered_nodes, has_queue, IsKept}
+use Rattle.dom_observe.specs.Sound.{IsThere, HasSource, IsSound}
 use Rattle.dom_observe.proofs.Keeping.{on-registered_nodes}
 use Rattle.dom_observe.proofs.Keys.{keys_in, on-looked}
 use Rattle.dom_observe.proofs.Once.{options-itself}
@@ -49,15 +49,15 @@ any_found u p key s is on (k ∷ keys) there = go (same_or k key) (u k) refl (an
 itself : (m : ℕ) → (m == m) ≡ true
 itself m = elim (same_or m m) [ same e t ↦ t | apart ne t ↦ absurd (ne refl) ]
 
-module _ {A : Type 0} (table : Slab held.Registration) (entries : List (ℕ × Vec ℕ A)) (queues : List (List Record)) (pending : List ℕ)
+module _ {A : Type 0} (table : Slab held.Registration) (entries : List (ℕ × Vec ℕ A)) (queues : List (Option (List Record))) (pending : List ℕ)
     (kept : IsKept table entries queues pending) (placed : Placed (at table) (listed entries)) (have : HaveSources (at table)) (agree : Agree (at table)) where
   abbrev seen : Watchers
   seen = record { nodes = registered_nodes table entries; queues = queues; pending = pending }
 
-  all_on : (n : ℕ) (P : Registration → Type 0) → ((k : ℕ) (r : Registration) → StandsOn (at table) (length queues) n k → at table k ≡ Some r → P r) → AllByRecursion P (on n (registered_nodes table entries))
-  all_on n P each = subst (AllByRecursion P) (sym (on-registered_nodes table n entries)) (all_found (at table) P (StandsOn (at table) (length queues) n) each (on n (listed entries)) (kept.stand n))
+  all_on : (n : ℕ) (P : Registration → Type 0) → ((k : ℕ) (r : Registration) → StandsOn (at table) (has_queue queues) n k → at table k ≡ Some r → P r) → AllByRecursion P (on n (registered_nodes table entries))
+  all_on n P each = subst (AllByRecursion P) (sym (on-registered_nodes table n entries)) (all_found (at table) P (StandsOn (at table) (has_queue queues) n) each (on n (listed entries)) (kept.stand n))
 
-  its_own : (n k : ℕ) (r : Registration) → (s : StandsOn (at table) (length queues) n k) → at table k ≡ Some r → s.registration ≡ r
+  its_own : (n k : ℕ) (r : Registration) → (s : StandsOn (at table) (has_queue queues) n k) → at table k ≡ Some r → s.registration ≡ r
   its_own n k r s is = let d : Some s.registration ≡ Some r = sym s.is ∙ is in cc d
 
   has_source : (k : ℕ) (r : Registration) → at table k ≡ Some r → HasSource seen r
@@ -79,9 +79,9 @@ module _ {A : Type 0} (table : Slab held.Registration) (entries : List (ℕ × V
     where
       go : (p : Option (List ℕ)) → lookup (nat_eq n) (listed entries) ≡ p → option_map (found table) p ≡ Some [] → ⊥
       go None e f = cc f
-      go (Some keys) e f = by keys e (kept.full n keys e) (subst (AllByRecursion (StandsOn (at table) (length queues) n)) (on-looked n (listed entries) ∙ ap keys_in e) (kept.stand n)) (let d : found table keys ≡ [] = cc f in d)
+      go (Some keys) e f = by keys e (kept.full n keys e) (subst (AllByRecursion (StandsOn (at table) (has_queue queues) n)) (on-looked n (listed entries) ∙ ap keys_in e) (kept.stand n)) (let d : found table keys ≡ [] = cc f in d)
         where
-          by : (ks : List ℕ) → lookup (nat_eq n) (listed entries) ≡ Some ks → ks ≢ [] → AllByRecursion (StandsOn (at table) (length queues) n) ks → filter_map (at table) ks ≡ [] → ⊥
+          by : (ks : List ℕ) → lookup (nat_eq n) (listed entries) ≡ Some ks → ks ≢ [] → AllByRecursion (StandsOn (at table) (has_queue queues) n) ks → filter_map (at table) ks ≡ [] → ⊥
           by [] e some all none = some refl
           by (k ∷ ks) e some all none = let d : all.0.registration ∷ filter_map (at table) ks ≡ [] = ap (λ o. cons_option o (filter_map (at table) ks)) (sym all.0.is) ∙ none in cc d
 
@@ -90,8 +90,8 @@ module _ {A : Type 0} (table : Slab held.Registration) (entries : List (ℕ × V
     listed = subst (IsDistinct nat_eq) (sym (keys_of-map_values (found table) (listed entries) ∙ keys_of-map_values (λ (l : Vec ℕ A). l.items) entries)) kept.unique;
     filled = is_filled;
     here = λ n. all_on n (λ r. r.node ≡ n) (λ k r s is. subst (λ (t : Registration). t.node ≡ n) (its_own n k r s is) s.node);
-    observers = λ n. all_on n (IsMade seen) (λ k r s is. subst (IsMade seen) (its_own n k r s is) s.observer);
+    observers = λ n. all_on n (IsThere seen) (λ k r s is. subst (IsThere seen) (its_own n k r s is) s.observer);
     sources = λ n. all_on n (HasSource seen) (λ k r s is. has_source k r is);
-    pending = kept.made;
+    pending = kept.there;
     waiting = kept.waiting;
   }

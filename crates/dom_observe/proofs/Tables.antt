@@ -80,8 +80,8 @@ found_more {B} u keys i d lt =
     one None = refl
     one (Some r) = refl
 
-pub live_of_stands : (u : ℕ → Option Registration) (made : ℕ) (n : ℕ) (keys : List ℕ) → AllByRecursion (StandsOn u made n) keys → AllLive u keys
-live_of_stands u made n keys h = all_imply (StandsOn u made n) (λ k. is_live u k ≡ true) (λ k s. ap is_some s.is) keys h
+pub live_of_stands : (u : ℕ → Option Registration) (there : ℕ → Bool) (n : ℕ) (keys : List ℕ) → AllByRecursion (StandsOn u there n) keys → AllLive u keys
+live_of_stands u there n keys h = all_imply (StandsOn u there n) (λ k. is_live u k ≡ true) (λ k s. ap is_some s.is) keys h
 
 -- a registration is added
 module _ (u : ℕ → Option Registration) (lists : List (ℕ × List ℕ)) (r : Registration) (v : ℕ → Option Registration) (lists' : List (ℕ × List ℕ)) (a : Added u lists r v lists') where
@@ -116,14 +116,14 @@ module _ (u : ℕ → Option Registration) (lists : List (ℕ × List ℕ)) (r :
         | apart ne t ↦ let s : (r.node == n) ≡ false = elim (same_or r.node n) [ same e w ↦ absurd (ne (sym e)) | apart _ w ↦ w ] in rw (t, s) refl
       ]
 
-  pub stands-added : (made : ℕ) → AllStand u made lists → r.observer < made → AllStand v made lists'
-  stands-added made all lt n =
-      subst (AllByRecursion (StandsOn v made n)) (sym (a.keys n))
-      (all_append (StandsOn v made n) (on n lists) (if n == r.node then a.key ∷ [] else [])
-      (all_imply (StandsOn u made n) (StandsOn v made n)
+  pub stands-added : (there : ℕ → Bool) → AllStand u there lists → there r.observer ≡ true → AllStand v there lists'
+  stands-added there all held_there n =
+      subst (AllByRecursion (StandsOn v there n)) (sym (a.keys n))
+      (all_append (StandsOn v there n) (on n lists) (if n == r.node then a.key ∷ [] else [])
+      (all_imply (StandsOn u there n) (StandsOn v there n)
       (λ k s. record { registration = s.registration; is = same_under k (ap is_some s.is) ∙ s.is; observer = s.observer; node = s.node }) (on n lists) (all n))
       (elim (same_or n r.node) [
-        | same e t ↦ rw t (record { registration = r; is = a.here; observer = lt; node = sym e }, tt)
+        | same e t ↦ rw t (record { registration = r; is = a.here; observer = held_there; node = sym e }, tt)
         | apart ne t ↦ rw t tt
       ]))
 
@@ -181,14 +181,14 @@ module _ (u0 u : ℕ → Option Registration) (lists0 lists : List (ℕ × List 
         both [] h l = tt
         both (k ∷ keys) h l = (same_under u lists r v lists' a k (ap is_some h.0 ∙ l.0) ∙ h.0, both keys h.1 l.1)
 
-    pub turn-stands : (made : ℕ) → AllByRecursion (Stands u0 made) standing → AllStand u made lists → AllStand v made lists'
-    turn-stands made bounded all =
-        let at_key = all_at (Stands u0 made) standing i d bounded lt in
+    pub turn-stands : (there : ℕ → Bool) → AllByRecursion (Stands u0 there) standing → AllStand u there lists → AllStand v there lists'
+    turn-stands there bounded all =
+        let at_key = all_at (Stands u0 there) standing i d bounded lt in
         let s = transient_shape u (on node lists) node (u (slice_index_or standing i d)) r some in
         let same : Some s.0 ≡ Some at_key.registration = sym s.1 ∙ all_at (λ k. u k ≡ u0 k) standing i d alike lt ∙ at_key.is in
         let origin : s.0 ≡ at_key.registration = cc same in
-        let lt_made : r.observer < made = subst (λ o. o < made) (ap (λ (t : Registration). t.observer) (sym origin) ∙ ap (λ (t : Registration). t.observer) s.2) at_key.observer in
-        stands-added u lists r v lists' a made all lt_made
+        let held_there : there r.observer ≡ true = subst (λ o. there o ≡ true) (ap (λ (t : Registration). t.observer) (sym origin) ∙ ap (λ (t : Registration). t.observer) s.2) at_key.observer in
+        stands-added u lists r v lists' a there all held_there
 
 pub alike_self : (u : ℕ → Option Registration) (keys : List ℕ) → AllByRecursion (λ k. u k ≡ u k) keys
 alike_self u [] = tt

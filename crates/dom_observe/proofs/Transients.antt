@@ -164,12 +164,12 @@ anyhow : (keys : List ℕ) → AllByRecursion (λ (k : ℕ). k ≡ k) keys
 anyhow [] = tt
 anyhow (k ∷ keys) = (refl, anyhow keys)
 
-module _ (u : ℕ → Option Registration) (lists : List (ℕ × List ℕ)) (made : ℕ) (agree : Agree u) (stand : AllStand u made lists) (rs : List Registration)
+module _ (u : ℕ → Option Registration) (lists : List (ℕ × List ℕ)) (there : ℕ → Bool) (agree : Agree u) (stand : AllStand u there lists) (rs : List Registration)
     (has : (n : ℕ) → filter_map u (on n lists) ≡ once (registered_on n rs)) (node : ℕ) (above keys : List ℕ) (is : keys ≡ flat_map (λ n. filter (deep_at u) (on n lists)) above) where
   here : with_transients_of node (filter_map u (on node lists)) (filter_map u keys) ≡ once (registered_on node rs ++ map (transient_of node) (filter (λ (r : Registration). r.options.subtree) (standing_on above rs)))
   here =
       both_walks node agree.options (filter_map u (on node lists)) (filter_map u keys)
-      (all_found u (λ t. (t.options ≡ agree.options t.observer (origin t)) × (t.node ≡ node)) (StandsOn u made node)
+      (all_found u (λ t. (t.options ≡ agree.options t.observer (origin t)) × (t.node ≡ node)) (StandsOn u there node)
       (λ k r e s. (agree.alike k r e, (let d : s.registration ≡ r = (let f : Some s.registration ≡ Some r = sym s.is ∙ e in cc f) in ap (λ (t : Registration). t.node) (sym d) ∙ s.node)))
       (on node lists) (stand node))
       (all_found u (λ t. t.options ≡ agree.options t.observer (origin t)) (λ k. k ≡ k) (λ k r e _. agree.alike k r e) keys (anyhow keys))

@@ -1,22 +1,28 @@
 -- The observing part that observers stand for goes with them, step by step.
-use Rattle.std.proofs.Common.{◌≡◌, ℕ, zero, suc, ◌-◌, ◌<◌, ◌≤◌, ◌==◌, Bool, true, false, not, ◌&&◌, if◌then◌else◌, cond, List, [], ◌∷◌, ◌++◌, length, map, filter, refl, ap, sym, ◌∙◌, subst, arith, length-append, append-nil, ◌⊎◌, inl, inr}
-use Rattle.std.specs.Prelude.{slice_index_or, slice_set, is_none, option_to_list}
+use Rattle.std.proofs.Common.{◌≡◌, ℕ, zero, suc, ◌-◌, ◌<◌, ◌≤◌, ◌==◌, Bool, true, false, not, ◌&&◌, if◌then◌else◌, cond, List, [], ◌∷◌, ◌++◌, length, map, filter, Option, None, Some, is_some, option_map, refl, ap, sym, ◌∙◌, subst, arith, length-append, append-nil, ◌⊎◌, inl, inr}
+use Rattle.std.specs.Prelude.{slice_index_or, slice_set, is_none, filter_map, option_to_list}
 use Rattle.std.specs.List.{list_any, AllByRecursion}
-use Rattle.std.proofs.lemmas.List.{get_or_append_left, get_or-append_right, get_or_past, get_or-set_same, get_or-set_other, get_or-map, length-set, length-map}
-use Rattle.std.proofs.Math.Seq.{get_or-append_seam}
+use Rattle.std.proofs.lemmas.List.{get_or_append_left, get_or-append_right, get_or_past, length-set, length-map}
+use Rattle.std.proofs.lemmas.List.Elements.{All-from_recursion}
+use Rattle.std.proofs.Math.Seq.{drop-length}
 use Rattle.std.proofs.lemmas.Bool.{true≢false, or_parts, cases_lt}
 use Rattle.dom_model.specs.Worlds.World.{Options, Registration, Mutation, Observing}
 use Rattle.dom_model.specs.MutationObservers.Record.{Record}
 use Rattle.dom_model.specs.MutationObservers.Observing.{registered_on, standing_on, transient_of, with_transients, noted}
-use Rattle.dom_model.specs.MutationObservers.Records.{is_registered, is_transient_from, new_registration, with_options, registered, observed, queue_of, with_observer, records_taken, record_by, record_for, interested, observers_of, after_notify}
+use Rattle.dom_model.specs.MutationObservers.Records.{is_registered, is_transient_from, new_registration, with_options, registered, observed, taken_up_to, has_observer, records_past, queue_of, with_observer, records_taken, released_observer, record_by, record_for, interested, observers_of, after_notify}
+use Rattle.dom_model.specs.PlainLists.Lists.{among, left_out}
 use Rattle.dom_model.specs.PlainLists.LastOnce.{with_all_last}
 use Rattle.dom_model.proofs.PlainLists.Numbers.{Same, same_or, same, apart}
-use Rattle.dom_model.proofs.MutationObservers.Queues.{IsTimely, queue-with_observer, queue-made, queue-taken, queue-kept, timely-taken, timely-noted, queue-noted, pending-noted, queue-notified, pending-notified}
+use Rattle.dom_model.proofs.MutationObservers.Queues.{IsTimely, observer-made, there-taken, place-released, place-released_other, place-notified, queue-with_observer, queue-taken, queue-kept, queue-released, queue-released_other, timely-taken, timely-released, timely-notified, timely-with_observer, timely-noted, queue-noted, pending-noted_there, pending-taken, pending-released, pending-with_observer, queue-notified, pending-notified, interested_made-taken, interested_made-released, interested_made-with_observer, interested_made-noted, interested_made-notified}
 use Rattle.dom_model.proofs.MutationObservers.NodeRegistrations.{registered_on-filter, registered-there, registrations-observed, registrations-observed_again, registrations-transients}
 use Rattle.dom_observe.specs.Once.{same_registration, once}
-use Rattle.dom_observe.specs.Watchers.{Watchers, Watches, on}
+use Rattle.dom_observe.specs.Watchers.{Watchers, Watches, records_at, on}
+use Rattle.dom_observe.specs.Kept.{has_queue, AllThere}
 use Rattle.dom_observe.proofs.Counting.{tally, count-append, count-filter, count-map, count-none, count-fails, any-from_count}
 use Rattle.dom_observe.proofs.Named.{fewer}
+use Rattle.dom_observe.proofs.QueueLists.{has-set, has-gone, records-none, records-set, records-gone, records-stay, records-more}
+use Rattle.dom_observe.proofs.Releasing.{there-each}
+use Rattle.dom_observe.proofs.Tables.{all_imply}
 use Rattle.dom_observe.proofs.Once.{not-same, apart_from, filter-once, any-once, once-new, apart-map}
 
 -- options put in place leave a registration the observer's or not
@@ -69,58 +75,100 @@ map-with_options o n options (r ∷ rs) h =
     each true e l = without (once rs) (any-once (is_registered o n) rs ∙ any-from_count (is_registered o n) rs (omega (arith, l))) e
     each false e l = any_of (once rs) e
 
-at_most : (l k : ℕ) → slice_index_or (l ∷ []) k 0 ≤ l
-at_most l zero = omega arith
-at_most l (suc k) = omega arith
+-- one queue more, and one place more
+new_there : (q : List Record) (l k : ℕ) → is_some (slice_index_or (Some q ∷ []) k None) ≡ is_some (slice_index_or (Some l ∷ []) k None)
+new_there q l zero = refl
+new_there q l (suc k) = refl
+
+module _ (x : Observing) where
+  -- one that is not there has no queue
+  pub no_records : (i : ℕ) → has_observer x i ≡ false → queue_of i x ≡ []
+  no_records i gone = go (taken_up_to i x) gone
+    where
+      go : (place : Option ℕ) → is_some place ≡ false → records_past i x.mutations place ≡ []
+      go None h = refl
+      go (Some k) h = absurd (true≢false h)
+
+  -- one more observer: the queues stay, and nothing waits for it
+  pub queue-more : (i : ℕ) → queue_of i (with_observer x) ≡ queue_of i x
+  queue-more i = go (cases_lt i (length x.places))
+    where
+      new : (k : ℕ) → records_past i x.mutations (slice_index_or (Some (length x.mutations) ∷ []) k None) ≡ []
+      new zero = ap (filter_map (record_for i)) (drop-length x.mutations)
+      new (suc k) = refl
+
+      go : ((i < length x.places) ⊎ (length x.places ≤ i)) → queue_of i (with_observer x) ≡ queue_of i x
+      go (inl lt) = queue-with_observer i x lt
+      go (inr le) =
+          ap (records_past i x.mutations) (get_or-append_right x.places (Some (length x.mutations) ∷ []) (length x.places) i None refl le)
+          ∙ new (i - length x.places)
+          ∙ sym (ap (records_past i x.mutations) (get_or_past x.places i None le))
 
 module _ (o : Watchers) (x : Observing) (w : Watches o x) where
   pub timely : IsTimely x
   timely = record { places = w.places; last = w.notified }
 
-  pub watches-made : Watches (record o { queues = o.queues ++ [] ∷ [] }) (with_observer x)
+  there_of : (i : ℕ) → has_queue o.queues i ≡ true → has_observer x i ≡ true
+  there_of i held_there = sym (w.there i) ∙ held_there
+
+  pub watches-made : Watches (record o { queues = o.queues ++ Some [] ∷ [] }) (with_observer x)
   watches-made = record {
     registrations = w.registrations;
-    made = omega (arith, length-append x.places (length x.mutations ∷ []), length-append o.queues ([] ∷ []), w.made);
-    queues = λ i lt. queue i (cases_lt i (length o.queues)) lt;
-    pending = w.pending;
-    places = λ i. place i (cases_lt i (length x.places));
+    made = omega (arith, length-append x.places (Some (length x.mutations) ∷ []), length-append o.queues (Some [] ∷ []), w.made);
+    there = λ i. there i (cases_lt i (length x.places));
+    queues = λ i. records-more o.queues i ∙ w.queues i ∙ sym (queue-more x i);
+    pending = w.pending ∙ sym (pending-with_observer x w.interested);
+    places = (timely-with_observer x timely).places;
     notified = w.notified;
+    interested = interested_made-with_observer x w.interested;
     once = w.once;
   }
     where
-      place : (i : ℕ) → ((i < length x.places) ⊎ (length x.places ≤ i)) → slice_index_or (x.places ++ length x.mutations ∷ []) i 0 ≤ length x.mutations
-      place i (inl lt) = rw (get_or_append_left x.places (length x.mutations ∷ []) 0 i lt) (w.places i)
-      place i (inr le) = rw (get_or-append_right x.places (length x.mutations ∷ []) (length x.places) i 0 refl le) (at_most (length x.mutations) (i - length x.places))
+      there : (i : ℕ) → ((i < length x.places) ⊎ (length x.places ≤ i)) → has_queue (o.queues ++ Some [] ∷ []) i ≡ has_observer (with_observer x) i
+      there i (inl lt) = ap is_some (get_or_append_left o.queues (Some [] ∷ []) None i (omega (arith, lt, w.made))) ∙ w.there i ∙ sym (ap is_some (get_or_append_left x.places (Some (length x.mutations) ∷ []) None i lt))
+      there i (inr le) =
+          ap is_some (get_or-append_right o.queues (Some [] ∷ []) (length x.places) i None (sym w.made) le)
+          ∙ new_there [] (length x.mutations) (i - length x.places)
+          ∙ sym (ap is_some (get_or-append_right x.places (Some (length x.mutations) ∷ []) (length x.places) i None refl le))
 
-      queue : (i : ℕ) → ((i < length o.queues) ⊎ (length o.queues ≤ i)) → i < length (o.queues ++ [] ∷ []) → slice_index_or (o.queues ++ [] ∷ []) i [] ≡ queue_of i (with_observer x)
-      queue i (inl lt) more = get_or_append_left o.queues ([] ∷ []) [] i lt ∙ w.queues i lt ∙ sym (queue-with_observer i x (omega (arith, w.made)))
-      queue i (inr le) more =
-          let here : i ≡ length x.places = omega (arith, w.made, length-append o.queues ([] ∷ [])) in
-          let last : i ≡ length o.queues = omega (arith, w.made, here) in
-          ap (λ j. slice_index_or (o.queues ++ [] ∷ []) j []) last
-          ∙ get_or-append_seam o.queues [] [] []
-          ∙ sym (ap (λ j. queue_of j (with_observer x)) here ∙ queue-made x)
-
-  pub watches-taken : (i : ℕ) → i < length o.queues → Watches (record o { queues = slice_set o.queues i [] }) (records_taken i x)
-  watches-taken i within = record {
+  pub watches-taken : (i : ℕ) → has_queue o.queues i ≡ true → Watches (record o { queues = slice_set o.queues i (Some []) }) (records_taken i x)
+  watches-taken i held_there = record {
     registrations = w.registrations;
-    made = length-set x.places i (length x.mutations) ∙ w.made ∙ sym (length-set o.queues i []);
-    queues = λ j lt. queue j (same_or j i) lt;
-    pending = w.pending;
+    made = length-set x.places i (Some (length x.mutations)) ∙ w.made ∙ sym (length-set o.queues i (Some []));
+    there = λ j. has-set o.queues i held_there [] j ∙ w.there j ∙ sym (there-taken i x (there_of i held_there) j);
+    queues = λ j. records-set o.queues i held_there [] j ∙ queue j (same_or i j);
+    pending = w.pending ∙ sym (pending-taken i x (there_of i held_there));
     places = (timely-taken i x timely).places;
     notified = w.notified;
+    interested = interested_made-taken i x w.interested;
     once = w.once;
   }
     where
-      queue : (j : ℕ) → Same j i → j < length (slice_set o.queues i []) → slice_index_or (slice_set o.queues i []) j [] ≡ queue_of j (records_taken i x)
-      queue j (same e t) lt =
-          ap (λ k. slice_index_or (slice_set o.queues i []) k []) e
-          ∙ get_or-set_same o.queues i [] [] within
-          ∙ sym (ap (λ k. queue_of k (records_taken i x)) e ∙ queue-taken i x (omega (arith, w.made)))
-      queue j (apart ne t) lt =
-          get_or-set_other o.queues i j [] [] ne
-          ∙ w.queues j (omega (arith, length-set o.queues i []))
-          ∙ sym (queue-kept i j x ne)
+      queue : (j : ℕ) → Same i j → (if i == j then [] else records_at o.queues j) ≡ queue_of j (records_taken i x)
+      queue j (same e t) = rw t (sym (ap (λ k. queue_of k (records_taken i x)) (sym e) ∙ queue-taken i x (observer-made x i (there_of i held_there))))
+      queue j (apart ne t) = rw t (w.queues j ∙ sym (queue-kept i j x (λ e. ne (sym e))))
+
+  -- the observer has no place any more
+  pub watches-released : (i : ℕ) → Watches (record o { queues = slice_set o.queues i None; pending = left_out i o.pending }) (record x { places = slice_set x.places i None })
+  watches-released i = record {
+    registrations = w.registrations;
+    made = length-set x.places i None ∙ w.made ∙ sym (length-set o.queues i None);
+    there = λ j. has-gone o.queues i j ∙ ap (λ b. if j == i then false else b) (w.there j) ∙ sym (there j (same_or j i));
+    queues = λ j. queue j (same_or j i);
+    pending = ap (left_out i) w.pending ∙ sym (pending-released i x);
+    places = (timely-released i x timely).places;
+    notified = w.notified;
+    interested = interested_made-released i x w.interested;
+    once = w.once;
+  }
+    where
+      there : (j : ℕ) → Same j i → has_observer (released_observer i x) j ≡ (if j == i then false else has_observer x j)
+      there j (same e t) = rw t (ap (has_observer (released_observer i x)) e ∙ ap is_some (place-released i x))
+      there j (apart ne t) = rw t (ap is_some (place-released_other i j x ne))
+
+      queue : (j : ℕ) → Same j i → records_at (slice_set o.queues i None) j ≡ queue_of j (released_observer i x)
+      queue j (same e t) = ap (records_at (slice_set o.queues i None)) e ∙ records-gone o.queues i ∙ sym (ap (λ k. queue_of k (released_observer i x)) e ∙ queue-released i x)
+      queue j (apart ne t) = records-stay o.queues i j ne ∙ w.queues j ∙ sym (queue-released_other i j x ne)
 
   -- nodes and registrations change, and nothing else
   pub watches-registered : (nodes : List (ℕ × List Registration)) (rs : List Registration) → ((n : ℕ) → on n nodes ≡ once (registered_on n rs))
@@ -128,10 +176,12 @@ module _ (o : Watchers) (x : Observing) (w : Watches o x) where
   watches-registered nodes rs by_node once = record {
     registrations = by_node;
     made = w.made;
+    there = w.there;
     queues = w.queues;
     pending = w.pending;
     places = w.places;
     notified = w.notified;
+    interested = w.interested;
     once = once;
   }
 
@@ -222,25 +272,39 @@ module _ (o : Watchers) (x : Observing) (w : Watches o x) where
 
 module _ (o : Watchers) (x : Observing) (w : Watches o x) (m : Mutation) where
   -- its records are in the queues, and whom it interests is pending
-  pub watches-noted : (queues : List (List Record)) (pending : List ℕ) → length queues ≡ length o.queues
-      → ((i : ℕ) → slice_index_or queues i [] ≡ slice_index_or o.queues i [] ++ option_to_list (record_for i m))
+  pub watches-noted : (queues : List (Option (List Record))) (pending : List ℕ) → length queues ≡ length o.queues
+      → ((i : ℕ) → has_queue queues i ≡ has_queue o.queues i)
+      → ((i : ℕ) → records_at queues i ≡ records_at o.queues i ++ option_to_list (record_for i m))
       → pending ≡ with_all_last o.pending (observers_of m)
+      → ((i : ℕ) → among i (observers_of m) ≡ true → has_queue o.queues i ≡ true)
       → Watches (record o { queues = queues; pending = pending }) (noted m x)
-  watches-noted queues pending same_length told pended = record {
+  watches-noted queues pending same_length same_there told pended known = record {
     registrations = w.registrations;
     made = w.made ∙ sym same_length;
-    queues = λ i lt. told i ∙ ap (λ rs. rs ++ option_to_list (record_for i m)) (w.queues i (omega (arith, same_length))) ∙ sym (queue-noted i m x (w.places i));
-    pending = pended ∙ ap (λ ps. with_all_last ps (observers_of m)) w.pending ∙ sym (pending-noted m x w.notified);
+    there = λ i. same_there i ∙ w.there i;
+    queues = λ i. queue i (has_observer x i) refl;
+    pending =
+        pended ∙ ap (λ ps. with_all_last ps (observers_of m)) w.pending
+        ∙ sym (pending-noted_there m x w.notified (All-from_recursion (λ i. has_observer x i ≡ true) (observers_of m) all_there));
     places = (timely-noted m x (timely o x w)).places;
     notified = (timely-noted m x (timely o x w)).last;
+    interested = interested_made-noted m x w.notified (All-from_recursion (λ i. i < length x.places) (observers_of m) (all_imply (λ i. has_observer x i ≡ true) (λ i. i < length x.places) (observer-made x) (observers_of m) all_there)) w.interested;
     once = w.once;
   }
+    where
+      queue : (i : ℕ) (b : Bool) → has_observer x i ≡ b → records_at queues i ≡ queue_of i (noted m x)
+      queue i true e = told i ∙ ap (λ rs. rs ++ option_to_list (record_for i m)) (w.queues i) ∙ sym (queue-noted i m x e (w.places i))
+      queue i false e = records-none queues i (same_there i ∙ w.there i ∙ e) ∙ sym (no_records (noted m x) i e)
+
+      all_there : AllThere (has_observer x) (observers_of m)
+      all_there = there-each (has_observer x) (observers_of m) (λ i there. there_of o x w i (known i there))
 
   -- a mutation that interests nobody changes no queue, and not the pending list
   pub watches-unheard : interested m ≡ [] → Watches o (noted m x)
-  watches-unheard nobody = watches-noted o.queues o.pending refl
-      (λ i. sym (ap (λ rs. slice_index_or o.queues i [] ++ option_to_list (record_by m (filter (λ (r : Registration). r.observer == i) rs))) nobody ∙ append-nil (slice_index_or o.queues i [])))
+  watches-unheard nobody = watches-noted o.queues o.pending refl (λ i. refl)
+      (λ i. sym (ap (λ rs. records_at o.queues i ++ option_to_list (record_by m (filter (λ (r : Registration). r.observer == i) rs))) nobody ∙ append-nil (records_at o.queues i)))
       (sym (ap (λ rs. with_all_last o.pending (map (λ (r : Registration). r.observer) rs)) nobody))
+      (λ i there. absurd (true≢false (sym there ∙ ap (λ rs. among i (map (λ (r : Registration). r.observer) rs)) nobody)))
 
   -- where nothing stands on the ancestors, no registration is left behind
   pub watches-unstood : (node : ℕ) (above : List ℕ) → standing_on above x.registrations ≡ [] → Watches o (with_transients node above x)
@@ -251,20 +315,22 @@ module _ (o : Watchers) (x : Observing) (w : Watches o x) (m : Mutation) where
 
 -- Everybody is notified.
 module _ (o : Watchers) (x : Observing) (w : Watches o x) where
-  pub watches-notified : (nodes : List (ℕ × List Registration)) (queues : List (List Record)) (pending : List ℕ)
+  pub watches-notified : (nodes : List (ℕ × List Registration)) (queues : List (Option (List Record))) (pending : List ℕ)
       → ((n : ℕ) → on n nodes ≡ filter (λ (r : Registration). is_none r.source) (on n o.nodes))
-      → length queues ≡ length o.queues → ((i : ℕ) → slice_index_or queues i [] ≡ []) → pending ≡ []
+      → length queues ≡ length o.queues → ((i : ℕ) → has_queue queues i ≡ has_queue o.queues i) → ((i : ℕ) → records_at queues i ≡ []) → pending ≡ []
       → Watches (record { nodes = nodes; queues = queues; pending = pending }) (after_notify x)
-  watches-notified nodes queues pending kept same_length empty none = record {
+  watches-notified nodes queues pending kept same_length same_there empty none = record {
     registrations = λ n. kept n ∙ ap (filter (λ (r : Registration). is_none r.source)) (w.registrations n) ∙ filter-once (λ (r : Registration). is_none r.source) (registered_on n x.registrations) ∙ ap once (sym (registered_on-filter n (λ (r : Registration). is_none r.source) x.registrations));
-    made = length-map x.places (λ _. length x.mutations) ∙ w.made ∙ sym same_length;
-    queues = λ i lt. empty i ∙ sym (queue-notified i x (omega (arith, w.made, same_length)));
+    made = length-map x.places (option_map (λ _. length x.mutations)) ∙ w.made ∙ sym same_length;
+    there = λ i. same_there i ∙ w.there i ∙ there i (taken_up_to i x) (place-notified i x);
+    queues = λ i. empty i ∙ sym (queue-notified i x);
     pending = none ∙ sym (pending-notified x);
-    places = λ i. place i (cases_lt i (length x.places));
+    places = (timely-notified x).places;
     notified = omega arith;
+    interested = interested_made-notified x;
     once = λ i n. let c = count-filter (is_registered i n) (λ (r : Registration). is_none r.source) x.registrations in let k = w.once i n in omega arith;
   }
     where
-      place : (i : ℕ) → ((i < length x.places) ⊎ (length x.places ≤ i)) → slice_index_or (map (λ _. length x.mutations) x.places) i 0 ≤ length x.mutations
-      place i (inl lt) = rw (get_or-map (λ _. length x.mutations) x.places i 0 0 lt) (omega arith)
-      place i (inr le) = rw (get_or_past (map (λ _. length x.mutations) x.places) i 0 (omega (arith, length-map x.places (λ _. length x.mutations)))) (omega arith)
+      there : (i : ℕ) (p : Option ℕ) → taken_up_to i (after_notify x) ≡ option_map (λ _. length x.mutations) p → is_some p ≡ has_observer (after_notify x) i
+      there i None e = sym (ap is_some e)
+      there i (Some k) e = sym (ap is_some e)

@@ -1,11 +1,13 @@
 pub mod Held
 pub mod Kept
+pub mod Lending
 pub mod Names
 pub mod Naming
 pub mod Notifying
 pub mod Once
 pub mod Origins
 pub mod Registrations
+pub mod Roster
 pub mod Sound
 pub mod Telling
 pub mod Watchers

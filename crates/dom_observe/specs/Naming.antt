@@ -1,5 +1,5 @@
 -- The nodes that observers name: those of their registrations, and those of the records that wait.
-use Rattle.std.specs.Prelude.{◌≡◌, ℕ, Bool, false, List, [], Option, slice_index_or, flat_map, nat_eq}
+use Rattle.std.specs.Prelude.{◌≡◌, ℕ, Bool, false, List, Option, flat_map, nat_eq}
 use Rattle.std.specs.Option.{option_map_or}
 use Rattle.std.specs.List.{list_any, AllByRecursion}
 use Rattle.indexmap.specs.IndexSet.{IndexSet, contains}
@@ -7,7 +7,7 @@ use Rattle.dom_model.specs.PlainLists.Lists.{among}
 use Rattle.dom_model.specs.Worlds.World.{Registration}
 use Rattle.dom_model.specs.MutationObservers.Record.{Record}
 use Rattle.dom_model.specs.MutationAlgorithms.Discarding.{nodes_of_registration, nodes_of_record}
-use Rattle.dom_observe.specs.Watchers.{on}
+use Rattle.dom_observe.specs.Watchers.{on, records_at}
 
 -- what stands under a key names a node that passes
 abbrev pub names_one : (ℕ → Bool) → Option Registration → Bool
@@ -18,8 +18,12 @@ abbrev pub NamesNone : (ℕ → Bool) → (ℕ → Option Registration) → List
 NamesNone p under lists = (n : ℕ) → AllByRecursion (λ key. names_one p (under key) ≡ false) (on n lists)
 
 -- nor does a record that waits
-abbrev pub TellsNone : (ℕ → Bool) → List (List Record) → Type 0
-TellsNone p queues = (o : ℕ) → list_any (λ r. list_any p (nodes_of_record r)) (slice_index_or queues o []) ≡ false
+abbrev pub TellsNone : (ℕ → Bool) → List (Option (List Record)) → Type 0
+TellsNone p queues = (o : ℕ) → list_any (λ r. list_any p (nodes_of_record r)) (records_at queues o) ≡ false
+
+-- after a step the records that wait name no nodes but those that they named, and these
+abbrev pub TellsOnly : List ℕ → List (Option (List Record)) → List (Option (List Record)) → Type 0
+TellsOnly these old new = (p : ℕ → Bool) → list_any p these ≡ false → TellsNone p old → TellsNone p new
 
 -- a set has the numbers of the nodes that records name, and no others
 abbrev pub NamesNodes : {S : Type 0} → List Record → IndexSet ℕ S → Type 0

@@ -1,5 +1,5 @@
 -- The registrations in the code's table, as those of the definitions.
-use Rattle.std.specs.Prelude.{◌≡◌, ◌≢◌, ◌<◌, [], ◌∷◌, ◌++◌, ℕ, ◌==◌, Bool, not, ◌&&◌, ◌||◌, List, map, filter_map, Option, option_map, None, Some, is_none, is_some, slice_index_or, unwrap_or, nat_eq, Vec, if◌then◌else◌, false, true}
+use Rattle.std.specs.Prelude.{◌≡◌, ◌≢◌, [], ◌∷◌, ◌++◌, ℕ, ◌==◌, Bool, not, ◌&&◌, ◌||◌, List, map, filter_map, Option, option_map, None, Some, is_none, is_some, slice_index_or, unwrap_or, nat_eq, Vec, if◌then◌else◌, false, true}
 use Rattle.std.specs.Option.{option_map_or}
 use Rattle.std.specs.List.{AllByRecursion, list_any}
 use Rattle.std.specs.Map.{lookup}
@@ -63,22 +63,22 @@ own_at under o n key = option_map_or (is_registered o n) (under key) false
 abbrev pub with_new_options : model.Options → model.Registration → model.Registration
 with_new_options options r = record r { options = options }
 
--- a registration of one of the first observers stands under the key
-pub record Stands (under : ℕ → Option model.Registration) (made key : ℕ) : Type 0 where
+-- a registration of an observer that is there, by a test, stands under the key
+pub record Stands (under : ℕ → Option model.Registration) (there : ℕ → Bool) (key : ℕ) : Type 0 where
   pub registration : model.Registration
   pub is : under key ≡ Some registration
-  pub observer : registration.observer < made
+  pub observer : there registration.observer ≡ true
 
 -- and it is on the node
-pub record StandsOn (under : ℕ → Option model.Registration) (made : ℕ) (n key : ℕ) : Type 0 where
+pub record StandsOn (under : ℕ → Option model.Registration) (there : ℕ → Bool) (n key : ℕ) : Type 0 where
   pub registration : model.Registration
   pub is : under key ≡ Some registration
-  pub observer : registration.observer < made
+  pub observer : there registration.observer ≡ true
   pub node : registration.node ≡ n
 
 -- so does each key that a node has
-abbrev pub AllStand : (ℕ → Option model.Registration) → ℕ → List (ℕ × List ℕ) → Type 0
-AllStand under made lists = (n : ℕ) → AllByRecursion (StandsOn under made n) (on n lists)
+abbrev pub AllStand : (ℕ → Option model.Registration) → (ℕ → Bool) → List (ℕ × List ℕ) → Type 0
+AllStand under there lists = (n : ℕ) → AllByRecursion (StandsOn under there n) (on n lists)
 
 -- each node that is listed has a key
 abbrev pub HaveKeys : List (ℕ × List ℕ) → Type 0

@@ -1,11 +1,12 @@
 //! Registrations that are added, and those that stand on the ancestors of a node.
 
-ghost use Rattle.std.specs.Prelude.{◌≡◌, ◌++◌, ℕ, Bool, List, length, OnOk, OnErr, IfOk, nat_eq, filter, flat_map, option_map, true, false};
+ghost use Rattle.std.specs.Prelude.{◌≡◌, ◌++◌, ℕ, Bool, List, OnOk, OnErr, IfOk, nat_eq, filter, flat_map, option_map, true, false};
 ghost use Rattle.std.specs.List.{AllByRecursion};
 ghost use Rattle.indexmap.specs.IndexMap.{IsUnique};
 ghost use Rattle.dom_model.specs.Forests.Forest.{HasNode, ancestors};
 ghost use Rattle.dom_observe.specs.Watchers.{on};
-ghost use Rattle.dom_observe.specs.Kept.{keys_by, IsIndexed};
+ghost use Rattle.dom_observe.specs.Kept.{IsIndexed};
+ghost use Rattle.dom_observe.specs.Roster.{lasting_by, passing_by, queues_by, is_there};
 ghost use Rattle.dom_observe.specs.Registrations.{plain, at, found, listed, Added, NewKey, AllLive, Stands, AllStand, HaveKeys, HaveSources, Agree, deep_at, gives, transient_under, with_added_transients};
 ghost use Rattle.dom_observe.specs.Naming.{names_one, NamesNone};
 ghost use Rattle.dom_observe.specs.Origins.{NotesIfAny};
@@ -13,6 +14,7 @@ ghost use Rattle.dom_observe.specs.Origins.{NotesIfAny};
 use crate::observer_id::ObserverId;
 use crate::origins::Origins;
 use crate::registration::Registration;
+use crate::roster::Roster;
 use crate::table::{keys_on, put_key};
 use crate::telling::pend;
 use dom_tree::{NodeId, Tree};
@@ -85,7 +87,7 @@ fn transient_of(
 pub(crate) fn add_transients(
     table: &mut Slab<Registration>,
     nodes: &mut IndexMap<u32, Vec<usize>>,
-    passing: &mut Vec<Vec<usize>>,
+    roster: &mut Roster,
     fleeting: &mut IndexSet<ObserverId>,
     standing: &[usize],
     node: NodeId,
@@ -94,15 +96,16 @@ pub(crate) fn add_transients(
     requires unique { IsUnique nat_eq nodes.old }
     requires live { (n : ℕ) → AllLive (at table.old) (on n (listed nodes.old.entries)) }
     requires standing { AllLive (at table.old) standing.now }
-    requires made { AllByRecursion (Stands (at table.old) (length passing.old.items)) standing.now }
+    requires there { AllByRecursion (Stands (at table.old) (is_there roster.old)) standing.now }
     ensures ok { OnOk result ((n : ℕ) → found table.new (on n (listed nodes.new.entries)) ≡ with_added_transients node (found table.old standing.now) n (found table.old (on n (listed nodes.old.entries)))) }
-    ensures all_stand { (made : ℕ) → AllByRecursion (Stands (at table.old) made) standing.now → AllStand (at table.old) made (listed nodes.old.entries) → AllStand (at table.new) made (listed nodes.new.entries) }
+    ensures all_stand { (p : ℕ → Bool) → AllByRecursion (Stands (at table.old) p) standing.now → AllStand (at table.old) p (listed nodes.old.entries) → AllStand (at table.new) p (listed nodes.new.entries) }
     ensures names { (p : ℕ → Bool) → p node ≡ false → AllByRecursion (λ key. names_one p (at table.old key) ≡ false) standing.now → NamesNone p (at table.old) (listed nodes.old.entries) → NamesNone p (at table.new) (listed nodes.new.entries) }
     ensures full { HaveKeys (listed nodes.old.entries) → HaveKeys (listed nodes.new.entries) }
-    ensures indexed { (lasts : List (List ℕ)) (made : ℕ) → AllByRecursion (Stands (at table.old) made) standing.now → IsIndexed (at table.old) (listed nodes.old.entries) lasts (keys_by passing.old.items) fleeting.old.keys made → IsIndexed (at table.new) (listed nodes.new.entries) lasts (keys_by passing.new.items) fleeting.new.keys made }
+    ensures indexed { (lasts : List (List ℕ)) (p : ℕ → Bool) → AllByRecursion (Stands (at table.old) p) standing.now → IsIndexed (at table.old) (listed nodes.old.entries) lasts (passing_by roster.old) fleeting.old.keys p → IsIndexed (at table.new) (listed nodes.new.entries) lasts (passing_by roster.new) fleeting.new.keys p }
     ensures sources { HaveSources (at table.old) → HaveSources (at table.new) }
     ensures agree { Agree (at table.old) → Agree (at table.new) }
-    ensures len { length passing.new.items ≡ length passing.old.items }
+    ensures lasting { lasting_by roster.new ≡ lasting_by roster.old }
+    ensures queues { queues_by roster.new ≡ queues_by roster.old }
     ensures unique { IsUnique nat_eq nodes.new }
 {
     let mut origins = Origins::new(table, keys_on(nodes, node), standing.len(), alloc)?;
@@ -111,8 +114,8 @@ pub(crate) fn add_transients(
             let observer = made.observer;
             origins.note(observer, made.origin())?;
             pend(fleeting, observer)?;
-            let keys = &mut passing[observer.number() as usize];
-            add(table, nodes, keys, made, alloc)?;
+            let kept = roster.get_mut(observer);
+            add(table, nodes, &mut kept.passing, made, alloc)?;
         }
     }
     Ok(())

@@ -1,16 +1,17 @@
 //! Registrations that end, each with its key among those of its node.
 
-ghost use Rattle.std.specs.Prelude.{◌≡◌, ◌≢◌, ℕ, ◌==◌, ◌<◌, Bool, not, [], List, length, filter, Some, nat_eq, if◌then◌else◌, true, false, slice_index_or, slice_set};
-ghost use Rattle.std.specs.List.{AllByRecursion};
+ghost use Rattle.std.specs.Prelude.{◌≡◌, ◌≢◌, ℕ, ◌==◌, Bool, not, [], List, length, filter, Some, nat_eq, if◌then◌else◌, true, false, slice_index_or, slice_set};
 ghost use Rattle.std.specs.Map.{lookup};
 ghost use Rattle.indexmap.specs.IndexMap.{IsUnique};
 ghost use Rattle.dom_model.specs.PlainLists.Lists.{among};
 ghost use Rattle.dom_observe.specs.Watchers.{on};
-ghost use Rattle.dom_observe.specs.Registrations.{at, listed, is_live, left_by, left_after, of_kind, ending_node, passes_for, Placed, Owned, HaveKeys};
-ghost use Rattle.dom_observe.specs.Kept.{keys_by, HaveNone};
+ghost use Rattle.dom_observe.specs.Registrations.{at, listed, is_live, left_by, left_after, of_kind, ending_node, lasts_for, passes_for, Placed, Owned, HaveKeys};
+ghost use Rattle.dom_observe.specs.Kept.{AllThere, HaveNone};
+ghost use Rattle.dom_observe.specs.Roster.{lasting_by, passing_by, queues_by, is_there, passing_at};
 
 use crate::observer_id::ObserverId;
 use crate::registration::{Ended, Ending, Lifetime, Registration};
+use crate::roster::{Observer, Roster};
 use crate::table::prune;
 use dom_tree::NodeId;
 use indexmap::{IndexMap, IndexSet};
@@ -121,54 +122,111 @@ fn end_among(
 pub(crate) fn end_own(
     table: &mut Slab<Registration>,
     nodes: &mut IndexMap<u32, Vec<usize>>,
-    lists: &mut Vec<Vec<usize>>,
+    keys: &mut Vec<usize>,
     ending: &Ending,
 )
     requires unique { IsUnique nat_eq nodes.old }
     requires placed { Placed (at table.old) (listed nodes.old.entries) }
-    requires made { ending.now.observer < length lists.old.items }
-    requires owned { (k : ℕ) → among k (slice_index_or (keys_by lists.old.items) ending.now.observer []) ≡ of_kind ending.now.lifetime ending.now.observer (at table.old k) }
-    ensures left { (k : ℕ) → at table.new k ≡ (if among k (slice_index_or (keys_by lists.old.items) ending.now.observer []) then left_by ending.now.ended (at table.old k) else at table.old k) }
+    requires owned { (k : ℕ) → among k keys.old.items ≡ of_kind ending.now.lifetime ending.now.observer (at table.old k) }
+    ensures left { (k : ℕ) → at table.new k ≡ (if among k keys.old.items then left_by ending.now.ended (at table.old k) else at table.old k) }
     ensures swept { (n : ℕ) → on n (listed nodes.new.entries) ≡ filter (is_live (at table.new)) (on n (listed nodes.old.entries)) }
-    ensures keys { keys_by lists.new.items ≡ slice_set (keys_by lists.old.items) ending.now.observer (filter (is_live (at table.new)) (slice_index_or (keys_by lists.old.items) ending.now.observer [])) }
+    ensures keys { keys.new.items ≡ filter (is_live (at table.new)) keys.old.items }
     ensures placed { Placed (at table.new) (listed nodes.new.entries) }
     ensures full { HaveKeys (listed nodes.old.entries) → HaveKeys (listed nodes.new.entries) }
     ensures unique { IsUnique nat_eq nodes.new }
 {
-    let keys = &mut lists[ending.observer.number() as usize];
     end_among(table, nodes, keys.as_slice(), ending);
     prune(table, keys);
+}
+
+// Ends all registrations of an observer: those that last, and then its transient ones.
+pub(crate) fn end_all(
+    table: &mut Slab<Registration>,
+    nodes: &mut IndexMap<u32, Vec<usize>>,
+    kept: &mut Observer,
+    observer: ObserverId,
+)
+    requires unique { IsUnique nat_eq nodes.old }
+    requires placed { Placed (at table.old) (listed nodes.old.entries) }
+    requires lasting { (k : ℕ) → among k kept.old.lasting.items ≡ lasts_for observer (at table.old k) }
+    requires passing { (k : ℕ) → among k kept.old.passing.items ≡ passes_for observer (at table.old k) }
+    ensures left { (k : ℕ) → at table.new k ≡ left_by (Ended.Of observer) (at table.old k) }
+    ensures swept { (n : ℕ) → on n (listed nodes.new.entries) ≡ filter (is_live (at table.new)) (on n (listed nodes.old.entries)) }
+    ensures lasting { kept.new.lasting.items ≡ [] }
+    ensures passing { kept.new.passing.items ≡ [] }
+    ensures queue { kept.new.queue ≡ kept.old.queue }
+    ensures placed { Placed (at table.new) (listed nodes.new.entries) }
+    ensures full { HaveKeys (listed nodes.old.entries) → HaveKeys (listed nodes.new.entries) }
+    ensures unique { IsUnique nat_eq nodes.new }
+{
+    let lasting = Ending {
+        observer,
+        lifetime: Lifetime::Lasting,
+        ended: Ended::Of(observer),
+    };
+    end_own(table, nodes, &mut kept.lasting, &lasting);
+    let passing = Ending {
+        observer,
+        lifetime: Lifetime::Passing,
+        ended: Ended::Of(observer),
+    };
+    end_own(table, nodes, &mut kept.passing, &passing);
+}
+
+// Ends the transient registrations of an observer.
+fn end_passing(
+    table: &mut Slab<Registration>,
+    nodes: &mut IndexMap<u32, Vec<usize>>,
+    roster: &mut Roster,
+    observer: ObserverId,
+)
+    requires unique { IsUnique nat_eq nodes.old }
+    requires placed { Placed (at table.old) (listed nodes.old.entries) }
+    requires there { is_there roster.old observer ≡ true }
+    requires owned { Owned passes_for (at table.old) (passing_by roster.old) }
+    ensures left { (k : ℕ) → at table.new k ≡ (if among k (passing_at roster.old observer) then left_by Ended.Transient (at table.old k) else at table.old k) }
+    ensures swept { (n : ℕ) → on n (listed nodes.new.entries) ≡ filter (is_live (at table.new)) (on n (listed nodes.old.entries)) }
+    ensures keys { passing_by roster.new ≡ slice_set (passing_by roster.old) observer (filter (is_live (at table.new)) (passing_at roster.old observer)) }
+    ensures lasting { lasting_by roster.new ≡ lasting_by roster.old }
+    ensures queues { queues_by roster.new ≡ queues_by roster.old }
+    ensures placed { Placed (at table.new) (listed nodes.new.entries) }
+    ensures full { HaveKeys (listed nodes.old.entries) → HaveKeys (listed nodes.new.entries) }
+    ensures unique { IsUnique nat_eq nodes.new }
+{
+    let ending = Ending {
+        observer,
+        lifetime: Lifetime::Passing,
+        ended: Ended::Transient,
+    };
+    let kept = roster.get_mut(observer);
+    end_own(table, nodes, &mut kept.passing, &ending);
 }
 
 // Ends the transient registrations of several observers.
 pub(crate) fn end_transients(
     table: &mut Slab<Registration>,
     nodes: &mut IndexMap<u32, Vec<usize>>,
-    passing: &mut Vec<Vec<usize>>,
+    roster: &mut Roster,
     fleeting: &IndexSet<ObserverId>,
 )
     requires unique { IsUnique nat_eq nodes.old }
     requires placed { Placed (at table.old) (listed nodes.old.entries) }
-    requires made { AllByRecursion (λ o. o < length passing.old.items) fleeting.now.keys }
-    requires owned { Owned passes_for (at table.old) (keys_by passing.old.items) }
-    requires all { HaveNone fleeting.now.keys (keys_by passing.old.items) }
+    requires there { AllThere (is_there roster.old) fleeting.now.keys }
+    requires owned { Owned passes_for (at table.old) (passing_by roster.old) }
+    requires all { HaveNone fleeting.now.keys (passing_by roster.old) }
     ensures left { (k : ℕ) → at table.new k ≡ left_by Ended.Transient (at table.old k) }
     ensures swept { (n : ℕ) → on n (listed nodes.new.entries) ≡ filter (is_live (at table.new)) (on n (listed nodes.old.entries)) }
-    ensures none { (o : ℕ) → slice_index_or (keys_by passing.new.items) o [] ≡ [] }
-    ensures len { length passing.new.items ≡ length passing.old.items }
-    ensures owned { Owned passes_for (at table.new) (keys_by passing.new.items) }
+    ensures none { (o : ℕ) → passing_at roster.new o ≡ [] }
+    ensures owned { Owned passes_for (at table.new) (passing_by roster.new) }
+    ensures lasting { lasting_by roster.new ≡ lasting_by roster.old }
+    ensures queues { queues_by roster.new ≡ queues_by roster.old }
     ensures placed { Placed (at table.new) (listed nodes.new.entries) }
     ensures full { HaveKeys (listed nodes.old.entries) → HaveKeys (listed nodes.new.entries) }
     ensures unique { IsUnique nat_eq nodes.new }
 {
     for index in 0..fleeting.len() {
         if let Some(observer) = fleeting.get_index(index) {
-            let ending = Ending {
-                observer: *observer,
-                lifetime: Lifetime::Passing,
-                ended: Ended::Transient,
-            };
-            end_own(table, nodes, passing, &ending);
+            end_passing(table, nodes, roster, *observer);
         }
     }
 }

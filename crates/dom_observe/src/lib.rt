@@ -13,6 +13,7 @@ mod queue;
 mod queues;
 mod record;
 mod registration;
+mod roster;
 mod table;
 mod telling;
 

@@ -1,14 +1,16 @@
 //! Which nodes the registrations and the records that wait name.
 
-ghost use Rattle.std.specs.Prelude.{◌≡◌, ◌<◌, [], length, flat_map, slice_index_or};
-ghost use Rattle.std.specs.List.{list_any, AllByRecursion};
+ghost use Rattle.std.specs.Prelude.{◌≡◌, flat_map};
+ghost use Rattle.std.specs.List.{list_any};
 ghost use Rattle.std.specs.Map.{keys_of};
 ghost use Rattle.dom_model.specs.PlainLists.Lists.{among};
 ghost use Rattle.dom_model.specs.Forests.Forest.{HasNode, inclusive_descendants};
 ghost use Rattle.dom_model.specs.MutationAlgorithms.Discarding.{nodes_of_record};
+ghost use Rattle.dom_observe.specs.Kept.{AllThere};
+ghost use Rattle.dom_observe.specs.Roster.{is_there, records_of};
 
 use crate::observer_id::ObserverId;
-use crate::queue::Queue;
+use crate::roster::Roster;
 use dom_tree::{NodeId, Tree};
 use indexmap::{IndexMap, IndexSet};
 
@@ -50,15 +52,15 @@ pub(crate) fn is_named<X>(tree: &Tree<X>, top: NodeId, nodes: &IndexMap<u32, Vec
 pub(crate) fn is_told<X>(
     tree: &Tree<X>,
     top: NodeId,
-    queues: &[Queue],
+    roster: &Roster,
     pending: &IndexSet<ObserverId>,
 ) -> bool
     requires held { HasNode tree.now.forest top }
-    requires made { AllByRecursion (λ o. o < length queues.now) pending.now.keys }
-    ensures { result ≡ list_any (λ o. list_any (λ m. among m (inclusive_descendants tree.now.forest top)) (flat_map nodes_of_record (slice_index_or queues.now o []))) pending.now.keys }
+    requires there { AllThere (is_there roster.now) pending.now.keys }
+    ensures { result ≡ list_any (λ o. list_any (λ m. among m (inclusive_descendants tree.now.forest top)) (flat_map nodes_of_record (records_of roster.now o))) pending.now.keys }
 {
     for observer in pending.as_slice() {
-        if queues[observer.number() as usize].names_inside(tree, top) {
+        if roster.get(*observer).queue.names_inside(tree, top) {
             return true;
         }
     }

@@ -1,29 +1,29 @@
 //! The observers of a tree: their registrations, their queues and the pending list.
 
-ghost use Rattle.std.specs.Prelude.{◌≡◌, ℕ, ◌+◌, ◌<◌, [], ◌∷◌, length, slice_get, IfOk, OnOk, OnErr, nat_lt, true};
+ghost use Rattle.std.specs.Prelude.{◌≡◌, ℕ, ◌<◌, [], ◌∷◌, ◌++◌, length, slice_get, slice_set, Some, None, IsSome, is_some, IfOk, OnOk, OnErr, true};
 ghost use Rattle.dom_model.specs.Forests.Forest.{HasNode, ancestors, inclusive_descendants};
 ghost use Rattle.dom_model.specs.PlainLists.Lists.{among};
 ghost use Rattle.dom_model.specs.MutationAlgorithms.Discarding.{observed_nodes};
 ghost use Rattle.dom_model.specs.Worlds.World.{Observing};
 ghost use Rattle.dom_model.specs.MutationObservers.Observing.{standing_on, noted, with_transients};
-ghost use Rattle.dom_model.specs.MutationObservers.Records.{queue_of, observed, with_observer, records_taken, disconnected, told, after_notify};
-ghost use Rattle.dom_observe.specs.Held.{named, nodes_of_mutation, NamesOnly};
+ghost use Rattle.dom_model.specs.MutationObservers.Records.{queue_of, observed, with_observer, records_taken, disconnected, released_observer, told, after_notify};
+ghost use Rattle.dom_observe.specs.Held.{named, nodes_of_mutation, NamesOnly, SameObservers};
 ghost use Rattle.std.specs.List.{list_any};
 ghost use Rattle.dom_observe.specs.Notifying.{told_of};
 ghost use Rattle.dom_observe.specs.Sound.{IsSound};
-ghost use Rattle.dom_observe.specs.Watchers.{Watches};
+ghost use Rattle.dom_observe.specs.Watchers.{queue_in, Watches};
 
 use crate::adding::{add, add_transients, standing, standing_deep};
-use crate::ending::{end_own, end_transients};
+use crate::ending::{end_all, end_own, end_transients};
 use crate::naming::{is_named, is_told};
 use crate::notifying::gather;
 use crate::observer_id::ObserverId;
 use crate::options::Options;
-use crate::queue::Queue;
 use crate::queues::take_from;
 use crate::record::{Mutation, Record};
 use crate::registration::{Ended, Ending, Lifetime, Registration};
-use crate::table::{keys_on, own_key, seat, set_options};
+use crate::roster::Roster;
+use crate::table::{keys_on, own_key, set_options};
 use crate::telling::{listen, tell};
 use dom_tree::{NodeId, Tree};
 use indexmap::{IndexMap, IndexSet};
@@ -34,18 +34,17 @@ use std::rc::Rc;
 
 /// Observers, who is registered on which node, and the records that wait for them.
 ///
-/// It takes memory for each registration, for each record and the nodes that it names, and none for a node that nobody observes.
+/// It takes memory for each registration, for each record and the nodes that it names, and none for a node that nobody observes, nor for an
+/// observer that was released.
 #[derive(Drop)]
 pub struct Observers {
     table: Slab<Registration>,
     // the keys of the registrations on a node; no entry where there is none
     nodes: IndexMap<u32, Vec<usize>>,
-    // the keys of the registrations of an observer that last, and of its transient ones
-    lasting: Vec<Vec<usize>>,
-    passing: Vec<Vec<usize>>,
-    // the observers that may have transient ones
+    // what is kept of each observer
+    roster: Roster,
+    // the observers that may have transient registrations
     fleeting: IndexSet<ObserverId>,
-    queues: Vec<Queue>,
     pending: IndexSet<ObserverId>,
     alloc: Global,
 }
@@ -55,17 +54,17 @@ impl Model for Observers {
 
     ghost Value = { Watchers };
 
-    ghost use Rattle.std.specs.Prelude.{length};
     ghost use Rattle.dom_observe.specs.Registrations.{at, listed, HaveSources, Agree};
-    ghost use Rattle.dom_observe.specs.Kept.{registered_nodes, keys_by, IsKept, IsIndexed};
+    ghost use Rattle.dom_observe.specs.Kept.{registered_nodes, has_queue, IsKept, IsIndexed};
+    ghost use Rattle.dom_observe.specs.Roster.{lasting_by, passing_by, queues_by};
 
     ghost view = { λ o. record {
       nodes = registered_nodes o.table o.nodes.entries;
-      queues = o.queues.items;
+      queues = queues_by o.roster;
       pending = o.pending.keys;
     } };
 
-    ghost invariant = { λ o. IsKept o.table o.nodes.entries o.queues.items o.pending.keys × IsIndexed (at o.table) (listed o.nodes.entries) (keys_by o.lasting.items) (keys_by o.passing.items) o.fleeting.keys (length o.queues.items) × HaveSources (at o.table) × Agree (at o.table) };
+    ghost invariant = { λ o. IsKept o.table o.nodes.entries (queues_by o.roster) o.pending.keys × IsIndexed (at o.table) (listed o.nodes.entries) (lasting_by o.roster) (passing_by o.roster) o.fleeting.keys (has_queue (queues_by o.roster)) × HaveSources (at o.table) × Agree (at o.table) };
 }
 
 impl Observers {
@@ -76,10 +75,8 @@ impl Observers {
         Observers {
             table: Slab::new(alloc),
             nodes: IndexMap::new(alloc),
-            lasting: Vec::new(alloc),
-            passing: Vec::new(alloc),
+            roster: Roster::new(alloc),
             fleeting: IndexSet::new(alloc),
-            queues: Vec::new(alloc),
             pending: IndexSet::new(alloc),
             alloc,
         }
@@ -89,17 +86,13 @@ impl Observers {
     pub fn make(&mut self) -> Result<ObserverId, AllocError>
         requires room { length self.old.queues < 4294967295 }
         ensures number { IfOk result (λ id. id ≡ length self.old.queues) }
-        ensures held { OnOk result (length self.new.queues ≡ length self.old.queues + 1) }
+        ensures held { IfOk result (λ id. IsSome (queue_in self.new id)) }
+        ensures made { OnOk result (self.new.queues ≡ self.old.queues ++ Some [] ∷ []) }
         ensures ok { OnOk result ((x : Observing) → Watches self.old x → Watches self.new (with_observer x)) }
         ensures err { OnErr result (self.new ≡ self.old) }
         ensures names { NamesOnly [] self.old self.new }
     {
-        let made = self.queues.len();
-        seat(&mut self.lasting, made, self.alloc)?;
-        seat(&mut self.passing, made, self.alloc)?;
-        let id = ObserverId::new(made as u32);
-        self.queues.push(Queue::new(self.alloc))?;
-        Ok(id)
+        self.roster.make(self.alloc)
     }
 
     /// A law: what observers keep at all times.
@@ -111,18 +104,18 @@ impl Observers {
         let _ = &self.table;
     }
 
-    /// How many observers were made.
+    /// How many observers were made, with those that were released.
     pub fn made(&self) -> usize
         ensures { result ≡ length self.now.queues }
     {
-        self.queues.len()
+        self.roster.made()
     }
 
-    /// Whether there is such an observer.
+    /// Whether there is such an observer: it was made, and not released.
     pub fn holds(&self, observer: ObserverId) -> bool
-        ensures { result ≡ nat_lt observer (length self.now.queues) }
+        ensures { result ≡ is_some (queue_in self.now observer) }
     {
-        (observer.number() as usize) < self.queues.len()
+        self.roster.holds(observer)
     }
 
     /// Whether nothing is observed.
@@ -147,11 +140,11 @@ impl Observers {
         node: NodeId,
         options: Options,
     ) -> Result<(), AllocError>
-        requires held { observer < length self.old.queues }
+        requires held { IsSome (queue_in self.old observer) }
         ensures ok { OnOk result ((x : Observing) → Watches self.old x → Watches self.new (observed observer node options x)) }
         ensures err { OnErr result (self.new ≡ self.old) }
         ensures names { NamesOnly (node ∷ []) self.old self.new }
-        ensures made { length self.new.queues ≡ length self.old.queues }
+        ensures made { SameObservers self.old self.new }
     {
         let shared = Rc::new(self.alloc, options)?;
         self.register(observer, node, shared)
@@ -164,31 +157,28 @@ impl Observers {
         node: NodeId,
         options: Rc<Options>,
     ) -> Result<(), AllocError>
-        requires held { observer < length self.old.queues }
+        requires held { IsSome (queue_in self.old observer) }
         ensures ok { OnOk result ((x : Observing) → Watches self.old x → Watches self.new (observed observer node options.value x)) }
         ensures err { OnErr result (self.new ≡ self.old) }
         ensures names { NamesOnly (node ∷ []) self.old self.new }
-        ensures made { length self.new.queues ≡ length self.old.queues }
+        ensures made { SameObservers self.old self.new }
     {
         let own = own_key(
             &self.table,
             keys_on(&self.nodes, node),
-            self.lasting[observer.number() as usize].as_slice(),
+            self.roster.get(observer).lasting.as_slice(),
             observer,
             node,
         );
         match own {
             Some(key) => {
-                end_own(
-                    &mut self.table,
-                    &mut self.nodes,
-                    &mut self.passing,
-                    &Ending {
-                        observer,
-                        lifetime: Lifetime::Passing,
-                        ended: Ended::From(observer, node),
-                    },
-                );
+                let ending = Ending {
+                    observer,
+                    lifetime: Lifetime::Passing,
+                    ended: Ended::From(observer, node),
+                };
+                let kept = self.roster.get_mut(observer);
+                end_own(&mut self.table, &mut self.nodes, &mut kept.passing, &ending);
                 set_options(&mut self.table, key, options);
                 Ok(())
             }
@@ -199,11 +189,11 @@ impl Observers {
                     options,
                     source: None,
                 };
-                let keys = &mut self.lasting[observer.number() as usize];
+                let kept = self.roster.get_mut(observer);
                 add(
                     &mut self.table,
                     &mut self.nodes,
-                    keys,
+                    &mut kept.lasting,
                     registration,
                     self.alloc,
                 )
@@ -213,43 +203,39 @@ impl Observers {
 
     /// Ends all that the observer observes, and empties its queue ("disconnect").
     pub fn disconnect(&mut self, observer: ObserverId)
-        requires held { observer < length self.old.queues }
+        requires held { IsSome (queue_in self.old observer) }
         ensures ended { (x : Observing) → Watches self.old x → Watches self.new (disconnected observer x) }
         ensures names { NamesOnly [] self.old self.new }
-        ensures made { length self.new.queues ≡ length self.old.queues }
+        ensures made { SameObservers self.old self.new }
     {
-        end_own(
-            &mut self.table,
-            &mut self.nodes,
-            &mut self.lasting,
-            &Ending {
-                observer,
-                lifetime: Lifetime::Lasting,
-                ended: Ended::Of(observer),
-            },
-        );
-        end_own(
-            &mut self.table,
-            &mut self.nodes,
-            &mut self.passing,
-            &Ending {
-                observer,
-                lifetime: Lifetime::Passing,
-                ended: Ended::Of(observer),
-            },
-        );
-        let _ = take_from(&mut self.queues, observer, self.alloc);
+        let kept = self.roster.get_mut(observer);
+        end_all(&mut self.table, &mut self.nodes, kept, observer);
+        let _ = kept.queue.take(self.alloc);
+    }
+
+    /// Lets an observer go: ends all that it observes, and leaves nothing of it but its number, which is not given out again.
+    pub fn release(&mut self, observer: ObserverId)
+        requires held { IsSome (queue_in self.old observer) }
+        ensures released { (x : Observing) → Watches self.old x → Watches self.new (released_observer observer x) }
+        ensures names { NamesOnly [] self.old self.new }
+        ensures made { self.new.queues ≡ slice_set self.old.queues observer None }
+    {
+        let kept = self.roster.get_mut(observer);
+        end_all(&mut self.table, &mut self.nodes, kept, observer);
+        self.pending.shift_remove(&observer);
+        self.fleeting.swap_remove(&observer);
+        self.roster.release(observer);
     }
 
     /// Takes the records of an observer out of its queue ("takeRecords").
     pub fn take(&mut self, observer: ObserverId) -> Vec<Record>
-        requires held { observer < length self.old.queues }
+        requires held { IsSome (queue_in self.old observer) }
         ensures records { (x : Observing) → Watches self.old x → result.items ≡ queue_of observer x }
         ensures taken { (x : Observing) → Watches self.old x → Watches self.new (records_taken observer x) }
         ensures names { NamesOnly [] self.old self.new }
-        ensures made { length self.new.queues ≡ length self.old.queues }
+        ensures made { SameObservers self.old self.new }
     {
-        take_from(&mut self.queues, observer, self.alloc)
+        take_from(&mut self.roster, observer, self.alloc)
     }
 
     /// Leaves transient registrations on a node that is taken from its parent, of those with subtree on the parent's inclusive
@@ -265,7 +251,7 @@ impl Observers {
         requires { HasNode tree.now.forest parent }
         ensures left { OnOk result ((x : Observing) → Watches self.old x → Watches self.new (with_transients node (ancestors parent tree.now.forest) x)) }
         ensures names { NamesOnly (node ∷ []) self.old self.new }
-        ensures made { length self.new.queues ≡ length self.old.queues }
+        ensures made { SameObservers self.old self.new }
     {
         let standing = standing_deep(&self.table, &self.nodes, tree, parent, self.alloc)?;
         if standing.is_empty() {
@@ -274,7 +260,7 @@ impl Observers {
         add_transients(
             &mut self.table,
             &mut self.nodes,
-            &mut self.passing,
+            &mut self.roster,
             &mut self.fleeting,
             standing.as_slice(),
             node,
@@ -290,7 +276,7 @@ impl Observers {
         requires { HasNode tree.now.forest mutation.now.target }
         ensures queued { OnOk result ((x : Observing) → Watches self.old x → Watches self.new (noted (record (mutation.now) { standing = standing_on (ancestors mutation.now.target tree.now.forest) x.registrations }) x)) }
         ensures names { NamesOnly (nodes_of_mutation mutation.now) self.old self.new }
-        ensures made { length self.new.queues ≡ length self.old.queues }
+        ensures made { SameObservers self.old self.new }
     {
         if self.nodes.is_empty() {
             return Ok(());
@@ -304,7 +290,7 @@ impl Observers {
             &mut self.pending,
             self.alloc,
         )?;
-        tell(&mut self.queues, &heard, mutation, self.alloc)
+        tell(&mut self.roster, &heard, mutation, self.alloc)
     }
 
     /// Tells the pending observers their records, and ends every transient registration ("notify mutation observers").
@@ -314,14 +300,14 @@ impl Observers {
         ensures told { IfOk result (λ all. (x : Observing) → Watches self.old x → told_of all.items ≡ told x) }
         ensures after { OnOk result ((x : Observing) → Watches self.old x → Watches self.new (after_notify x)) }
         ensures names { NamesOnly [] self.old self.new }
-        ensures made { length self.new.queues ≡ length self.old.queues }
+        ensures made { SameObservers self.old self.new }
     {
-        let told = gather(&self.pending, &mut self.queues, self.alloc)?;
+        let told = gather(&self.pending, &mut self.roster, self.alloc)?;
         self.pending.clear();
         end_transients(
             &mut self.table,
             &mut self.nodes,
-            &mut self.passing,
+            &mut self.roster,
             &self.fleeting,
         );
         self.fleeting.clear();
@@ -338,7 +324,6 @@ impl Observers {
         ensures observed { (x : Observing) → Watches self.now x → result ≡ list_any (λ m. among m (inclusive_descendants tree.now.forest top)) (observed_nodes x) }
         ensures named { result ≡ list_any (λ m. among m (inclusive_descendants tree.now.forest top)) (named self.now) }
     {
-        is_named(tree, top, &self.nodes)
-            || is_told(tree, top, self.queues.as_slice(), &self.pending)
+        is_named(tree, top, &self.nodes) || is_told(tree, top, &self.roster, &self.pending)
     }
 }

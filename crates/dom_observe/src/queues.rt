@@ -1,17 +1,20 @@
 //! The queues of records that wait for their observers.
 
-ghost use Rattle.std.specs.Prelude.{◌≡◌, ◌<◌, [], length, slice_index_or, slice_set};
+ghost use Rattle.std.specs.Prelude.{◌≡◌, [], Some, slice_set, true};
+ghost use Rattle.dom_observe.specs.Roster.{keys_by, queues_by, is_there, records_of};
 
 use crate::observer_id::ObserverId;
-use crate::queue::Queue;
 use crate::record::Record;
+use crate::roster::Roster;
 use std::alloc::Global;
 
 // Takes the records out of an observer's queue.
-pub(crate) fn take_from(queues: &mut Vec<Queue>, observer: ObserverId, alloc: Global) -> Vec<Record>
-    requires { observer < length queues.old.items }
-    ensures records { result.items ≡ slice_index_or queues.old.items observer [] }
-    ensures emptied { queues.new.items ≡ slice_set queues.old.items observer [] }
+pub(crate) fn take_from(roster: &mut Roster, observer: ObserverId, alloc: Global) -> Vec<Record>
+    requires { is_there roster.old observer ≡ true }
+    ensures records { result.items ≡ records_of roster.old observer }
+    ensures emptied { queues_by roster.new ≡ slice_set (queues_by roster.old) observer (Some []) }
+    ensures keys { keys_by roster.new ≡ keys_by roster.old }
 {
-    queues[observer.number() as usize].take(alloc)
+    let kept = roster.get_mut(observer);
+    kept.queue.take(alloc)
 }

@@ -1,12 +1,11 @@
 //! The table of registrations, and the keys that each node has in it.
 
-ghost use Rattle.std.specs.Prelude.{◌≡◌, ◌≢◌, ◌≤◌, ◌<◌, ℕ, ◌==◌, ◌++◌, slice_index_or, [], ◌∷◌, not, length, filter, find, IfOk, OnOk, OnErr, is_some, option_map, nat_eq, if◌then◌else◌, false, true};
+ghost use Rattle.std.specs.Prelude.{◌≡◌, ◌≢◌, ℕ, ◌==◌, ◌++◌, [], ◌∷◌, not, filter, find, IfOk, OnOk, OnErr, is_some, option_map, nat_eq, if◌then◌else◌, false, true};
 ghost use Rattle.indexmap.specs.IndexMap.{IsUnique};
 ghost use Rattle.dom_model.specs.PlainLists.Lists.{among};
 ghost use Rattle.slab.specs.Slab.{get};
 ghost use Rattle.dom_observe.specs.Watchers.{on};
 ghost use Rattle.dom_observe.specs.Registrations.{plain, spares, at, found, listed, AllStand, HaveKeys, is_live, left_by, own_at, from_at, with_new_options};
-ghost use Rattle.dom_observe.specs.Kept.{keys_by};
 
 use crate::observer_id::ObserverId;
 use crate::options::Options;
@@ -134,21 +133,4 @@ pub(crate) fn set_options(table: &mut Slab<Registration>, key: usize, options: R
     if let Some(registration) = table.get_mut(key) {
         registration.options = options;
     }
-}
-
-// Makes room for the keys of one more observer than were made.
-pub(crate) fn seat(
-    lists: &mut Vec<Vec<usize>>,
-    made: usize,
-    alloc: Global,
-) -> Result<(), AllocError>
-    requires { made ≤ length lists.old.items }
-    ensures room { OnOk result (made < length lists.new.items) }
-    ensures same { (i : ℕ) → slice_index_or (keys_by lists.new.items) i [] ≡ slice_index_or (keys_by lists.old.items) i [] }
-    ensures len { length lists.old.items ≤ length lists.new.items }
-{
-    if lists.len() == made {
-        lists.push(Vec::new(alloc))?;
-    }
-    Ok(())
 }

@@ -1,14 +1,13 @@
 -- Ends asked one by one whether they stand inside a node.
-use Rattle.std.proofs.Common.{◌≡◌, ℕ, ◌+◌, ◌<◌, ◌≤◌, ◌==◌, true, false, nat_eq, Bool, if◌then◌else◌, List, [], ◌∷◌, ◌++◌, length, map, set, Option, Some, None, option_map, refl, sym, ap, ◌∙◌, ⊎_elim, arith}
+use Rattle.std.proofs.Common.{◌≡◌, ℕ, ◌+◌, ◌<◌, ◌≤◌, ◌==◌, true, false, Bool, List, [], ◌∷◌, length, map, set, Option, Some, None, option_map, refl, sym, ap, ◌∙◌, ⊎_elim, arith}
 use Rattle.std.specs.List.{list_any, flat_map}
-use Rattle.std.proofs.lemmas.Bool.{cases_Bool, cases_eq, false≢true}
+use Rattle.std.proofs.lemmas.Bool.{cases_eq, false≢true}
 use Rattle.dom_model.specs.PlainLists.Lists.{among}
-use Rattle.dom_model.specs.Worlds.World.{Point, Range}
-use Rattle.dom_model.specs.MutationAlgorithms.Discarding.{nodes_of_live, nodes_of_range}
-use Rattle.indexmap.specs.IndexSet.{IndexSet, contains}
+use Rattle.dom_model.specs.Worlds.World.{Point}
+use Rattle.dom_model.specs.MutationAlgorithms.Discarding.{nodes_of_range, nodes_unless_released}
 use Rattle.dom_ranges.specs.declared.chains.End.{End}
 use Rattle.dom_ranges.specs.Chained.{Heads, point_at, points_of, cover_of, HasChains, Rechains, moved_from}
-use Rattle.dom_ranges.specs.Tables.{RangeTable, live_nodes, paired, IsPaired, by_slot, moved_in, nodes_at, stands_among, NamesNodes, IsInOrder}
+use Rattle.dom_ranges.specs.Tables.{RangeTable, live_nodes, paired, IsPaired, by_slot, moved_in, nodes_at, stands_among, IsInOrder}
 use Rattle.dom_ranges.proofs.Steps.{points-moved, same-length, point-written, point-kept, has-after}
 use Rattle.dom_ranges.proofs.Slots.{slots-any}
 use Rattle.dom_ranges.proofs.Pairs.{ranges-are}
@@ -16,7 +15,7 @@ use Rattle.dom_model.proofs.RangesAndContents.RangesElsewhere.{among-any}
 use Rattle.dom_ranges.proofs.Making.{many}
 
 -- the nodes of the ends are those of the live ranges
-pub nodes-paired : (ps : List (Option Point)) → IsPaired ps → nodes_at ps ≡ flat_map nodes_of_live (paired ps)
+pub nodes-paired : (ps : List (Option Point)) → IsPaired ps → nodes_at ps ≡ flat_map (nodes_unless_released nodes_of_range) (paired ps)
 nodes-paired [] k = refl
 nodes-paired (s ∷ []) k = absurd k
 nodes-paired (None ∷ None ∷ rest) k = nodes-paired rest k.1
@@ -29,7 +28,7 @@ pub referred : (t : List End) (heads : Heads) (slots : List (Option ℕ)) (numbe
 referred t heads slots numbers k v view p =
     ap (list_any p) (nodes-paired (points_of t) k.pairs)
     ∙ sym (slots-any p (paired (points_of t)) slots numbers k.numbered (many t heads slots numbers k))
-    ∙ ap (λ rs. list_any p (flat_map nodes_of_live rs)) (sym (ranges-are t heads slots numbers k v view))
+    ∙ ap (λ rs. list_any p (flat_map (nodes_unless_released nodes_of_range) rs)) (sym (ranges-are t heads slots numbers k v view))
 
 -- whether an end stands in a node, told of the ranges by number
 pub stands-told : (t : List End) (heads : Heads) (slots : List (Option ℕ)) (numbers : List ℕ) → IsInOrder t heads slots numbers → (v : RangeTable)
@@ -83,31 +82,3 @@ module _ (move : Point → Point) (t0 : List End) (heads0 : Heads) (t : List End
 
   pub all-asked : length t0 ≤ index → points_of t ≡ map (λ (o : Option Point). option_map move o) (points_of t0)
   all-asked past = points-moved move t t0 are.long (λ e l. are.asked e (omega (arith, are.long)))
-
--- the nodes of static ranges, once there is one more
-pub named-more : (rs : List Range) (p q : Point) (n : ℕ) → among n (flat_map nodes_of_range (rs ++ record { start = p; end = q } ∷ [])) ≡ (if q.node == n then true else (if p.node == n then true else among n (flat_map nodes_of_range rs)))
-named-more [] p q n =
-    ⊎_elim (λ (a : (p.node == n) ≡ true). rw a (one (q.node == n))) (λ (a : (p.node == n) ≡ false). rw a refl) (cases_Bool (p.node == n))
-  where
-    one : (b : Bool) → true ≡ (if b then true else true)
-    one true = refl
-    one false = refl
-named-more (r ∷ rs) p q n =
-    ⊎_elim (λ (a : (r.start.node == n) ≡ true). rw a (either (q.node == n) (p.node == n)))
-    (λ (a : (r.start.node == n) ≡ false).
-    ⊎_elim (λ (b : (r.end.node == n) ≡ true). rw (a, b) (either (q.node == n) (p.node == n))) (λ (b : (r.end.node == n) ≡ false). rw (a, b) (named-more rs p q n)) (cases_Bool (r.end.node == n))) (cases_Bool (r.start.node == n))
-  where
-    either : (a b : Bool) → true ≡ (if a then true else (if b then true else true))
-    either true b = refl
-    either false true = refl
-    either false false = refl
-
--- the same of a set that had the nodes of the ranges before, and two more were put in
-pub names-more : {S : Type 0} (rs rs' : List Range) (s s0 s1 s2 : IndexSet ℕ S) (p q : Point) (i j : ℕ) → NamesNodes rs s → s0.keys ≡ s.keys → i ≡ p.node → j ≡ q.node → rs' ≡ rs ++ record { start = p; end = q } ∷ []
-    → ((n : ℕ) → contains nat_eq s1 n ≡ (if i == n then true else contains nat_eq s0 n)) → ((n : ℕ) → contains nat_eq s2 n ≡ (if j == n then true else contains nat_eq s1 n)) → NamesNodes rs' s2
-names-more rs rs' s s0 s1 s2 p q i j named same first second pushed one two n =
-    two n
-    ∙ ap (λ b. if j == n then true else b) (one n ∙ ap (λ b. if i == n then true else b) (ap (list_any (nat_eq n)) same ∙ named n))
-    ∙ ap (λ m. if m == n then true else (if i == n then true else among n (flat_map nodes_of_range rs))) second
-    ∙ ap (λ m. if q.node == n then true else (if m == n then true else among n (flat_map nodes_of_range rs))) first
-    ∙ sym (ap (λ xs. among n (flat_map nodes_of_range xs)) pushed ∙ named-more rs p q n)

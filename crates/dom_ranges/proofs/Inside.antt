@@ -8,7 +8,7 @@ use Rattle.dom_model.specs.PlainLists.Lists.{hits, among, after, from_first}
 use Rattle.dom_model.specs.Forests.Forest.{Grove, HasNode, inclusive_descendants, IsForest}
 use Rattle.dom_model.specs.Worlds.World.{Point, Range}
 use Rattle.dom_model.specs.BoundaryPoints.Points.{after_splice, after_removal, moved_range, map_ranges}
-use Rattle.dom_model.specs.MutationAlgorithms.Discarding.{nodes_of_live}
+use Rattle.dom_model.specs.MutationAlgorithms.Discarding.{nodes_of_range, nodes_unless_released}
 use Rattle.dom_model.proofs.PlainLists.Numbers.{same_or, same, apart}
 use Rattle.dom_model.proofs.PlainLists.Heads.{hits-first, among-first, among-rest}
 use Rattle.dom_model.proofs.PlainLists.Searches.{passes_not, any-either}
@@ -26,7 +26,7 @@ pub ranges-twice : (g h k : Point → Point) → ((p : Point) → h (g p) ≡ k 
 ranges-twice g h k e rs = map_ranges-twice h g rs ∙ ap (λ (move : Point → Point). map_ranges move rs) (fun_ext e)
 
 -- ranges moved alike, where the moves agree at the nodes that live ranges name
-pub ranges-alike : (g h : Point → Point) (p : ℕ → Bool) → ((q : Point) → p q.node ≡ false → g q ≡ h q) → (rs : List (Option Range)) → list_any p (flat_map nodes_of_live rs) ≡ false → map_ranges g rs ≡ map_ranges h rs
+pub ranges-alike : (g h : Point → Point) (p : ℕ → Bool) → ((q : Point) → p q.node ≡ false → g q ≡ h q) → (rs : List (Option Range)) → list_any p (flat_map (nodes_unless_released nodes_of_range) rs) ≡ false → map_ranges g rs ≡ map_ranges h rs
 ranges-alike g h p e [] n = refl
 ranges-alike g h p e (None ∷ rs) n = ap (λ xs. None ∷ xs) (ranges-alike g h p e rs n)
 ranges-alike g h p e (Some r ∷ rs) n =
@@ -34,7 +34,7 @@ ranges-alike g h p e (Some r ∷ rs) n =
     (λ (a : p r.start.node ≡ false).
     ⊎_elim (λ (b : p r.end.node ≡ true). let z : true ≡ false = rw (a, b) at n in absurd (false≢true (sym z)))
     (λ (b : p r.end.node ≡ false).
-    let rest : list_any p (flat_map nodes_of_live rs) ≡ false = rw (a, b) at n in
+    let rest : list_any p (flat_map (nodes_unless_released nodes_of_range) rs) ≡ false = rw (a, b) at n in
     let x = e r.start a in
     let y = e r.end b in
     let w : moved_range g r ≡ moved_range h r = rw (x, y) refl in
@@ -62,7 +62,7 @@ module _ {X : Type 0} (g : Grove X) (s : IsForest g) (top : ℕ) where
 
   pub forgetting-empty : (start v : RangeTable) (here : ℕ) → IsForgetting start v here → list_any (λ m. among m (inclusive_descendants g.forest top)) (live_nodes start) ≡ false → among here (live_nodes v) ≡ false
   forgetting-empty start v here c n =
-      let same : live_nodes v ≡ live_nodes start = ap (flat_map nodes_of_live) c.ranges in
+      let same : live_nodes v ≡ live_nodes start = ap (flat_map (nodes_unless_released nodes_of_range)) c.ranges in
       let nodes = live_nodes start in
       let all = inclusive_descendants g.forest top in
       ap (among here) same ∙ passes_not (λ m. among m nodes) all here (any-either nodes all ∙ n) (hits-among here all (here-inside g s top here c.at))

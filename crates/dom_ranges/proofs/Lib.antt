@@ -2,6 +2,7 @@ pub mod Chained
 pub mod Covers
 pub mod Ends
 pub mod EndsAsked
+pub mod EndsCounted
 pub mod Inside
 pub mod Making
 pub mod Marking

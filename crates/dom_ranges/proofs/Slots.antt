@@ -5,7 +5,7 @@ use Rattle.std.proofs.lemmas.Bool.{cases_Bool, cases_eq, cases_lt, false≢true}
 use Rattle.std.proofs.lemmas.List.{map-append, get_or_past, get_or-take, get_or_append_left, ext_get_or, length-map, length-take}
 use Rattle.dom_model.specs.Worlds.World.{Point, Range}
 use Rattle.dom_model.specs.BoundaryPoints.Points.{moved_range, map_ranges}
-use Rattle.dom_model.specs.MutationAlgorithms.Discarding.{nodes_of_live}
+use Rattle.dom_model.specs.MutationAlgorithms.Discarding.{nodes_of_range, nodes_unless_released}
 use Rattle.dom_ranges.specs.Tables.{in_slot, by_slot, slot_at, range_in_slot, live_count, HaveSlots}
 
 pub by_slot-at : (pairs : List (Option Range)) (slots : List (Option ℕ)) (r : ℕ) → get_or (by_slot pairs slots) r None ≡ in_slot pairs (get_or slots r None)
@@ -272,12 +272,12 @@ module _ (pairs : List (Option Range)) (slots : List (Option ℕ)) (numbers : Li
                 (λ (n : q ≡ m → ⊥). ap (in_slot pairs_left) (stays q d n) ∙ other d n (slot_at slots q) refl) (cases_eq q m)
 
 -- the nodes of live ranges are those of the ranges in slots
-any-set : (p : ℕ → Bool) (rs : List (Option Range)) (r : ℕ) (x : Range) → get_or rs r None ≡ Some x → list_any p (nodes_of_live (Some x)) ≡ true → list_any p (flat_map nodes_of_live rs) ≡ true
+any-set : (p : ℕ → Bool) (rs : List (Option Range)) (r : ℕ) (x : Range) → get_or rs r None ≡ Some x → list_any p (nodes_unless_released nodes_of_range (Some x)) ≡ true → list_any p (flat_map (nodes_unless_released nodes_of_range) rs) ≡ true
 any-set p [] r x h y = absurd (cc h)
 any-set p (None ∷ rs) zero x h y = absurd (cc h)
-any-set p (Some z ∷ rs) zero x h y = let e : z ≡ x = cc in either (p z.start.node) (p z.end.node) refl refl (subst (λ w. list_any p (nodes_of_live (Some w)) ≡ true) (sym e) y)
+any-set p (Some z ∷ rs) zero x h y = let e : z ≡ x = cc in either (p z.start.node) (p z.end.node) refl refl (subst (λ w. list_any p (nodes_unless_released nodes_of_range (Some w)) ≡ true) (sym e) y)
   where
-    either : (a b : Bool) → p z.start.node ≡ a → p z.end.node ≡ b → list_any p (nodes_of_live (Some z)) ≡ true → list_any p (flat_map nodes_of_live (Some z ∷ rs)) ≡ true
+    either : (a b : Bool) → p z.start.node ≡ a → p z.end.node ≡ b → list_any p (nodes_unless_released nodes_of_range (Some z)) ≡ true → list_any p (flat_map (nodes_unless_released nodes_of_range) (Some z ∷ rs)) ≡ true
     either true b q w t = rw q refl
     either false true q w t = rw (q, w) refl
     either false false q w t = let f : false ≡ true = rw (q, w) at t in absurd (false≢true f)
@@ -287,7 +287,7 @@ any-set p (Some z ∷ rs) (suc r) x h y =
     ⊎_elim (λ (a : p z.start.node ≡ true). rw a refl)
     (λ (a : p z.start.node ≡ false). ⊎_elim (λ (b : p z.end.node ≡ true). rw (a, b) refl) (λ (b : p z.end.node ≡ false). rw (a, b) w) (cases_Bool (p z.end.node))) (cases_Bool (p z.start.node))
 
-any-none : (p : ℕ → Bool) (rs : List (Option Range)) → ((r : ℕ) (x : Range) → get_or rs r None ≡ Some x → list_any p (nodes_of_live (Some x)) ≡ false) → list_any p (flat_map nodes_of_live rs) ≡ false
+any-none : (p : ℕ → Bool) (rs : List (Option Range)) → ((r : ℕ) (x : Range) → get_or rs r None ≡ Some x → list_any p (nodes_unless_released nodes_of_range (Some x)) ≡ false) → list_any p (flat_map (nodes_unless_released nodes_of_range) rs) ≡ false
 any-none p [] h = refl
 any-none p (None ∷ rs) h = any-none p rs (λ r. h (suc r))
 any-none p (Some x ∷ rs) h =
@@ -298,17 +298,17 @@ any-none p (Some x ∷ rs) h =
     ⊎_elim (λ (b : p x.end.node ≡ true). let f : true ≡ false = rw (a, b) at y in absurd (false≢true (sym f))) (λ (b : p x.end.node ≡ false). rw (a, b) w) (cases_Bool (p x.end.node))) (cases_Bool (p x.start.node))
 
 -- whatever is told of one of them is told of one of the others
-pub slots-any : (p : ℕ → Bool) (pairs : List (Option Range)) (slots : List (Option ℕ)) (numbers : List ℕ) → HaveSlots pairs slots numbers → length pairs ≡ length numbers → list_any p (flat_map nodes_of_live (by_slot pairs slots)) ≡ list_any p (flat_map nodes_of_live pairs)
+pub slots-any : (p : ℕ → Bool) (pairs : List (Option Range)) (slots : List (Option ℕ)) (numbers : List ℕ) → HaveSlots pairs slots numbers → length pairs ≡ length numbers → list_any p (flat_map (nodes_unless_released nodes_of_range) (by_slot pairs slots)) ≡ list_any p (flat_map (nodes_unless_released nodes_of_range) pairs)
 slots-any p pairs slots numbers h same =
-    ⊎_elim (λ (t : list_any p (flat_map nodes_of_live (by_slot pairs slots)) ≡ true). t ∙ sym (up t)) (λ (f : list_any p (flat_map nodes_of_live (by_slot pairs slots)) ≡ false). f ∙ sym (down f))
-    (cases_Bool (list_any p (flat_map nodes_of_live (by_slot pairs slots))))
+    ⊎_elim (λ (t : list_any p (flat_map (nodes_unless_released nodes_of_range) (by_slot pairs slots)) ≡ true). t ∙ sym (up t)) (λ (f : list_any p (flat_map (nodes_unless_released nodes_of_range) (by_slot pairs slots)) ≡ false). f ∙ sym (down f))
+    (cases_Bool (list_any p (flat_map (nodes_unless_released nodes_of_range) (by_slot pairs slots))))
   where
     -- where none of the second are told of, none of the first are
-    from-none : (rs bs : List (Option Range)) → ((r : ℕ) (x : Range) → get_or rs r None ≡ Some x → (q : ℕ) × (get_or bs q None ≡ Some x)) → list_any p (flat_map nodes_of_live bs) ≡ false → list_any p (flat_map nodes_of_live rs) ≡ false
+    from-none : (rs bs : List (Option Range)) → ((r : ℕ) (x : Range) → get_or rs r None ≡ Some x → (q : ℕ) × (get_or bs q None ≡ Some x)) → list_any p (flat_map (nodes_unless_released nodes_of_range) bs) ≡ false → list_any p (flat_map (nodes_unless_released nodes_of_range) rs) ≡ false
     from-none rs bs to none =
         any-none p rs (λ r x e.
-        ⊎_elim (λ (t : list_any p (nodes_of_live (Some x)) ≡ true). let w = to r x e in absurd (false≢true (sym none ∙ any-set p bs w.0 x w.1 t)))
-        (λ (f : list_any p (nodes_of_live (Some x)) ≡ false). f) (cases_Bool (list_any p (nodes_of_live (Some x)))))
+        ⊎_elim (λ (t : list_any p (nodes_unless_released nodes_of_range (Some x)) ≡ true). let w = to r x e in absurd (false≢true (sym none ∙ any-set p bs w.0 x w.1 t)))
+        (λ (f : list_any p (nodes_unless_released nodes_of_range (Some x)) ≡ false). f) (cases_Bool (list_any p (nodes_unless_released nodes_of_range (Some x)))))
 
     into : (r : ℕ) (x : Range) → get_or (by_slot pairs slots) r None ≡ Some x → (q : ℕ) × (get_or pairs q None ≡ Some x)
     into r x e = go (get_or slots r None) (sym (by_slot-at pairs slots r) ∙ e)
@@ -322,16 +322,16 @@ slots-any p pairs slots numbers h same =
         let w : s < length numbers = omega (arith, same, some-within pairs s (ap is_some e)) in
         (range_in_slot numbers s, by_slot-at pairs slots (range_in_slot numbers s) ∙ ap (in_slot pairs) (h.held s w) ∙ e)
 
-    up : list_any p (flat_map nodes_of_live (by_slot pairs slots)) ≡ true → list_any p (flat_map nodes_of_live pairs) ≡ true
+    up : list_any p (flat_map (nodes_unless_released nodes_of_range) (by_slot pairs slots)) ≡ true → list_any p (flat_map (nodes_unless_released nodes_of_range) pairs) ≡ true
     up t =
-        ⊎_elim (λ (y : list_any p (flat_map nodes_of_live pairs) ≡ true). y)
-        (λ (n : list_any p (flat_map nodes_of_live pairs) ≡ false). absurd (false≢true (sym (from-none (by_slot pairs slots) pairs into n) ∙ t))) (cases_Bool (list_any p (flat_map nodes_of_live pairs)))
+        ⊎_elim (λ (y : list_any p (flat_map (nodes_unless_released nodes_of_range) pairs) ≡ true). y)
+        (λ (n : list_any p (flat_map (nodes_unless_released nodes_of_range) pairs) ≡ false). absurd (false≢true (sym (from-none (by_slot pairs slots) pairs into n) ∙ t))) (cases_Bool (list_any p (flat_map (nodes_unless_released nodes_of_range) pairs)))
 
-    down : list_any p (flat_map nodes_of_live (by_slot pairs slots)) ≡ false → list_any p (flat_map nodes_of_live pairs) ≡ false
+    down : list_any p (flat_map (nodes_unless_released nodes_of_range) (by_slot pairs slots)) ≡ false → list_any p (flat_map (nodes_unless_released nodes_of_range) pairs) ≡ false
     down f = from-none pairs (by_slot pairs slots) onto f
 
 -- no live ranges have no nodes
-pub idle-none : (rs : List (Option Range)) → live_count rs ≡ 0 → flat_map nodes_of_live rs ≡ []
+pub idle-none : (rs : List (Option Range)) → live_count rs ≡ 0 → flat_map (nodes_unless_released nodes_of_range) rs ≡ []
 idle-none [] h = refl
 idle-none (None ∷ rs) h = idle-none rs (omega arith)
 idle-none (Some r ∷ rs) h = absurd (omega arith)

@@ -1,5 +1,5 @@
 -- The table of live ranges, and what it is to be in order. DOM Standard, "Live ranges".
-use Rattle.std.specs.Prelude.{◌≡◌, ℕ, ◌+◌, ◌^◌, ◌<◌, ◌≤◌, nat_eq, Bool, true, false, if◌then◌else◌, List, [], ◌∷◌, length, map, take, slice_index_or, slice_set, Option, Some, None, IfSome, IsSome, is_some}
+use Rattle.std.specs.Prelude.{◌≡◌, ℕ, ◌+◌, ◌^◌, ◌<◌, ◌≤◌, Bool, true, false, if◌then◌else◌, List, [], ◌∷◌, length, map, take, slice_index_or, slice_set, Option, Some, None, IfSome, IsSome, is_some}
 use Rattle.std.specs.List.{All, flat_map}
 use Rattle.std.specs.declared.cmp.Ordering.TheVariants.{Greater}
 use Rattle.dom_model.specs.declared.Kind.TheVariants.{DocumentType}
@@ -9,8 +9,7 @@ use Rattle.dom_model.specs.Forests.Forest.{Forest, HasNode, root_of}
 use Rattle.dom_model.specs.BoundaryPoints.Points.{order_of}
 use Rattle.dom_model.specs.Forests.Nodes.{is_of_kind}
 use Rattle.dom_model.specs.Worlds.Lengths.{node_length}
-use Rattle.dom_model.specs.MutationAlgorithms.Discarding.{nodes_of_live, nodes_of_range}
-use Rattle.indexmap.specs.IndexSet.{IndexSet, contains}
+use Rattle.dom_model.specs.MutationAlgorithms.Discarding.{nodes_of_range, nodes_unless_released}
 pub use Rattle.dom_point.specs.Refusals.{refused}
 use Rattle.dom_ranges.specs.declared.chains.End.{End}
 use Rattle.dom_ranges.specs.Chained.{Heads, covers, points_of, HasChains}
@@ -30,7 +29,7 @@ range_in t r = slice_index_or t.ranges r None
 
 -- the nodes in which ends of live ranges stand
 abbrev pub live_nodes : RangeTable → List ℕ
-live_nodes t = flat_map nodes_of_live t.ranges
+live_nodes t = flat_map (nodes_unless_released nodes_of_range) t.ranges
 
 -- each node in which an end of a live range stands is covered
 abbrev pub AreCovered : RangeTable → Type 0
@@ -79,10 +78,6 @@ module _ {X : Type 0} where
     pub start : HasNode f r.start.node
     pub end : HasNode f r.end.node
     pub one_root : root_of f r.start.node ≡ root_of f r.end.node
-
--- a set has the nodes of static ranges and no others
-abbrev pub NamesNodes : {S : Type 0} → List Range → IndexSet ℕ S → Type 0
-NamesNodes ranges nodes = (n : ℕ) → contains nat_eq nodes n ≡ among n (flat_map nodes_of_range ranges)
 
 -- the range from one end to another, where both stand somewhere
 abbrev pub both : Option Point → Option Point → Option Range

@@ -4,6 +4,7 @@
 mod adjusting;
 mod asking;
 mod chains;
+mod counts;
 pub mod laws;
 mod numbers;
 mod ranges;

@@ -1,25 +1,26 @@
 //! Static ranges (DOM Standard, "Interface StaticRange").
 
-ghost use Rattle.std.specs.Prelude.{◌≡◌, ℕ, ◌+◌, ◌<◌, ◌≤◌, ◌==◌, nat_eq, nat_le, if◌then◌else◌, true, [], ◌∷◌, ◌++◌, length, slice_get, Some, IsSome, is_some, IfSome, IfOk, OnOk, OnErr};
-ghost use Rattle.std.specs.List.{list_any, flat_map};
+ghost use Rattle.std.specs.Prelude.{◌≡◌, ◌<◌, nat_le, [], ◌∷◌, ◌++◌, length, flat_map, slice_set, Some, None, IsSome, is_some, IfSome, IfOk, OnOk, OnErr};
+ghost use Rattle.std.specs.List.{list_any};
 ghost use Rattle.std.specs.Option.{ForSome};
 ghost use Rattle.dom_model.specs.PlainLists.Lists.{among};
 ghost use Rattle.dom_model.specs.Forests.Forest.{HasNode, inclusive_descendants};
 ghost use Rattle.dom_model.specs.Worlds.World.{Range};
 ghost use Rattle.dom_model.specs.RangesAndContents.StaticRanges.{check_static, is_valid_static};
-ghost use Rattle.dom_model.specs.MutationAlgorithms.Discarding.{nodes_of_range};
+ghost use Rattle.dom_model.specs.MutationAlgorithms.Discarding.{nodes_of_range, nodes_unless_released};
 ghost use Rattle.dom_model.specs.Worlds.Lengths.{node_length};
+ghost use Rattle.dom_pages.specs.Numbered.{item_at};
 ghost use Rattle.dom_ranges.specs.Tables.{refused};
-ghost use Rattle.indexmap.specs.IndexSet.{contains, spare};
 
+use crate::counts::EndCounts;
 use dom_kinds::{DomError, Kind};
 use dom_point::{Point, found_before, same_root};
+use dom_slots::Slots;
 use dom_tree::{Body, NodeId, Tree};
-use indexmap::IndexSet;
 use std::alloc::{AllocError, Global};
 use std::marker::Model;
 
-/// The number by which callers name a static range: the first that is made has 0.
+/// The number by which callers name a static range: the first that is made has 0, and no number is used again.
 #[derive(Clone, Copy, Debug, PartialEq, Eq)]
 pub struct StaticId {
     number: u32,
@@ -70,25 +71,30 @@ impl Model for StaticRange {
     ghost inverse = { λ r. record { start = r.start; end = r.end } };
 }
 
-/// The static ranges of a session. None of them is ever taken away.
+/// The static ranges of a session.
+///
+/// A number leads to a slot, which has the range, until it is released: then the range in the last slot comes into its slot. So the slots have
+/// the ranges that were not released and no others.
 #[derive(Drop)]
 pub struct Statics {
+    slots: Slots,
+    // the ranges by slot
     table: Vec<StaticRange>,
-    // the numbers of the nodes in which their ends stand
-    nodes: IndexSet<u32>,
+    // how many of their ends stand in each node
+    counts: EndCounts,
 }
 
 impl Model for Statics {
-    ghost use Rattle.std.specs.Prelude.{List};
+    ghost use Rattle.std.specs.Prelude.{List, Option};
     ghost use Rattle.dom_model.specs.Worlds.World.{Range};
+    ghost use Rattle.dom_slots.specs.Slotted.{by_slot};
+    ghost use Rattle.dom_ranges.specs.StaticEnds.{AreKept};
 
-    ghost Value = { List Range };
+    ghost Value = { List (Option Range) };
 
-    ghost view = { λ a. a.table.items };
+    ghost view = { λ a. by_slot a.slots.slots a.table.items };
 
-    ghost use Rattle.dom_ranges.specs.Tables.{NamesNodes};
-
-    ghost invariant = { λ a. NamesNodes a.table.items a.nodes };
+    ghost invariant = { λ a. AreKept a.slots.numbers a.table.items a.counts.counts };
 }
 
 impl Statics {
@@ -97,8 +103,9 @@ impl Statics {
         ensures { result ≡ [] }
     {
         Statics {
+            slots: Slots::new(alloc),
             table: Vec::new(alloc),
-            nodes: IndexSet::new(alloc),
+            counts: EndCounts::new(alloc),
         }
     }
 
@@ -118,47 +125,68 @@ impl Statics {
     pub fn make(&mut self, start: Point, end: Point) -> Result<StaticId, AllocError>
         requires { length self.old < 4294967295 }
         ensures number { IfOk result (λ u. u ≡ length self.old) }
-        ensures made { OnOk result (self.new ≡ self.old ++ record { start = start; end = end } ∷ []) }
+        ensures made { OnOk result (self.new ≡ self.old ++ Some (record { start = start; end = end }) ∷ []) }
         ensures unchanged { OnErr result (self.new ≡ self.old) }
     {
+        self.slots.sound();
+        self.slots.reserve(1)?;
         self.table.reserve(1)?;
-        self.nodes.reserve(2)?;
-        name(&mut self.nodes, start.node);
-        name(&mut self.nodes, end.node);
-        let u = StaticId::new(self.table.len() as u32);
+        self.counts.reserve(2)?;
+        self.counts.add(start.node);
+        self.counts.add(end.node);
         self.table.push_reserved(StaticRange { start, end });
-        Ok(u)
+        Ok(StaticId::new(self.slots.push_reserved()))
     }
 
-    /// How many were made.
+    /// How many were ever made.
     pub fn made(&self) -> u64
         ensures { result ≡ length self.now }
     {
-        self.table.len() as u64
+        self.slots.made()
     }
 
-    /// Whether there is such a static range.
-    pub fn holds(&self, u: StaticId) -> bool
-        ensures { result ≡ is_some (slice_get self.now u) }
+    // The range of a number; none where it was released, or was never given out.
+    fn range(&self, u: StaticId) -> Option<StaticRange>
+        ensures { result ≡ item_at self.now u }
     {
-        (u.number() as usize) < self.table.len()
+        let slot = self.slots.slot(u.number())?;
+        self.table.get(slot).copied()
+    }
+
+    /// Whether there is such a static range, and it was not released.
+    pub fn holds(&self, u: StaticId) -> bool
+        ensures { result ≡ is_some (item_at self.now u) }
+    {
+        self.range(u).is_some()
     }
 
     /// Where a static range starts, and where it ends.
     pub fn ends(&self, u: StaticId) -> (Point, Point)
-        requires { IsSome (slice_get self.now u) }
-        ensures { slice_get self.now u ≡ Some (record { start = result.0; end = result.1 }) }
+        requires { IsSome (item_at self.now u) }
+        ensures { item_at self.now u ≡ Some (record { start = result.0; end = result.1 }) }
     {
-        let StaticRange { start, end } = self.table[u.number() as usize];
+        let StaticRange { start, end } = self.range(u).unwrap();
         (start, end)
+    }
+
+    /// Releases a static range: its number is not used again. It takes no memory.
+    pub fn release(&mut self, u: StaticId)
+        requires { IsSome (item_at self.old u) }
+        ensures { self.new ≡ slice_set self.old u None }
+    {
+        self.slots.sound();
+        let slot = self.slots.release(u.number());
+        let StaticRange { start, end } = self.table.swap_remove(slot);
+        self.counts.take(start.node);
+        self.counts.take(end.node);
     }
 
     /// Whether the range is valid as the tree stands. Both its nodes are held. An index that this asks for is known when it is asked for again.
     pub fn is_valid<X: Body>(&self, tree: &mut Tree<X>, u: StaticId) -> bool
-        requires made { IsSome (slice_get self.now u) }
-        requires start_held { ForSome (slice_get self.now u) (λ r. HasNode tree.old.forest r.start.node) }
-        requires end_held { ForSome (slice_get self.now u) (λ r. HasNode tree.old.forest r.end.node) }
-        ensures valid { IfSome (slice_get self.now u) (λ r. result ≡ is_valid_static X.length tree.old.forest r) }
+        requires held { IsSome (item_at self.now u) }
+        requires start_held { ForSome (item_at self.now u) (λ r. HasNode tree.old.forest r.start.node) }
+        requires end_held { ForSome (item_at self.now u) (λ r. HasNode tree.old.forest r.end.node) }
+        ensures valid { IfSome (item_at self.now u) (λ r. result ≡ is_valid_static X.length tree.old.forest r) }
         ensures unchanged { tree.new ≡ tree.old }
     {
         let (start, end) = self.ends(u);
@@ -170,16 +198,17 @@ impl Statics {
     /// It walks the nodes inside, or climbs from each end where that takes fewer steps.
     pub fn refers<X>(&self, tree: &Tree<X>, top: NodeId) -> bool
         requires { HasNode tree.now.forest top }
-        ensures { result ≡ list_any (λ m. among m (inclusive_descendants tree.now.forest top)) (flat_map nodes_of_range self.now) }
+        ensures { result ≡ list_any (λ m. among m (inclusive_descendants tree.now.forest top)) (flat_map (nodes_unless_released nodes_of_range) self.now) }
     {
+        self.slots.sound();
         let steps = tree.steps_inside(top, |index| self.node(index));
         match tree.any_inside(top, steps, |node| self.names(node)) {
             Some(answer) => answer,
-            None => self.refer(tree, top),
+            None => refer(&self.table, tree, top),
         }
     }
 
-    // The node of an end, of the two of each range; none past the last.
+    // The node of an end, of the two of the range in each slot; none past the last.
     fn node(&self, index: usize) -> Option<NodeId> {
         let range = self.table.get(index / 2)?;
         if index % 2 == 0 {
@@ -191,31 +220,23 @@ impl Statics {
 
     // Whether an end stands in a node.
     fn names(&self, node: NodeId) -> bool
-        ensures { result ≡ among node (flat_map nodes_of_range self.now) }
+        ensures { result ≡ among node (flat_map (nodes_unless_released nodes_of_range) self.now) }
     {
-        self.nodes.contains(&node.number())
-    }
-
-    // Whether an end stands inside a node. It asks each static range.
-    fn refer<X>(&self, tree: &Tree<X>, top: NodeId) -> bool
-        ensures { result ≡ list_any (λ m. among m (inclusive_descendants tree.now.forest top)) (flat_map nodes_of_range self.now) }
-    {
-        for range in &self.table {
-            if tree.is_inside(top, range.start.node) || tree.is_inside(top, range.end.node) {
-                return true;
-            }
-        }
-        false
+        self.slots.sound();
+        self.counts.stands_in(node)
     }
 }
 
-// Puts a node among those that static ranges name, for which there is room.
-fn name(nodes: &mut IndexSet<u32>, node: NodeId)
-    requires { 0 < spare nodes.old }
-    ensures named { (n : ℕ) → contains nat_eq nodes.new n ≡ (if node == n then true else contains nat_eq nodes.old n) }
-    ensures room { spare nodes.old ≤ spare nodes.new + 1 }
+// Whether an end of one of these ranges stands inside a node. It asks each range.
+fn refer<X>(ranges: &[StaticRange], tree: &Tree<X>, top: NodeId) -> bool
+    ensures { result ≡ list_any (λ m. among m (inclusive_descendants tree.now.forest top)) (flat_map nodes_of_range ranges.now) }
 {
-    nodes.insert(node.number()).unwrap();
+    for range in ranges {
+        if tree.is_inside(top, range.start.node) || tree.is_inside(top, range.end.node) {
+            return true;
+        }
+    }
+    false
 }
 
 // Whether an offset is within the length of a node.

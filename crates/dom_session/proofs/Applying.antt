@@ -18,11 +18,11 @@ use Rattle.dom_session.specs.declared.command.Setting.TheVariants.{SetStart, Set
 use Rattle.dom_session.specs.declared.command.Comparing.{Comparing}
 use Rattle.dom_session.specs.declared.command.Comparing.TheVariants.{CompareBoundaryPoints, ComparePoint, IsPointInRange, IntersectsNode, CommonAncestor}
 use Rattle.dom_session.specs.declared.command.StaticRanging.{StaticRanging}
-use Rattle.dom_session.specs.declared.command.StaticRanging.TheVariants.{CreateStaticRange, DescribeStaticRange}
+use Rattle.dom_session.specs.declared.command.StaticRanging.TheVariants.{CreateStaticRange, DescribeStaticRange, ReleaseStaticRange}
 use Rattle.dom_session.specs.declared.command.Traversing.{Traversing}
-use Rattle.dom_session.specs.declared.command.Traversing.TheVariants.{CreateIterator, CreateWalker, DescribeIterator, NextNode, PreviousNode, DescribeWalker, SetCurrent, Walk}
+use Rattle.dom_session.specs.declared.command.Traversing.TheVariants.{CreateIterator, CreateWalker, DescribeIterator, NextNode, PreviousNode, DescribeWalker, SetCurrent, Walk, ReleaseIterator, ReleaseWalker}
 use Rattle.dom_session.specs.declared.command.Observing.{Observing}
-use Rattle.dom_session.specs.declared.command.Observing.TheVariants.{CreateObserver, Observe, Disconnect, TakeRecords, Notify, Pending}
+use Rattle.dom_session.specs.declared.command.Observing.TheVariants.{CreateObserver, Observe, Disconnect, TakeRecords, Notify, Pending, ReleaseObserver}
 use Rattle.dom_session.specs.declared.command.Texts.{Texts}
 use Rattle.dom_session.specs.declared.command.Texts.TheVariants.{Normalize, TextContent, SetTextContent, GetData, SetData, AppendData, InsertData, DeleteData, ReplaceData, SubstringData, SplitText}
 use Rattle.dom_session.specs.declared.command.Attributes.{Attributes}
@@ -93,6 +93,7 @@ same_comparing b w (CommonAncestor range) = refl
 same_static_ranging : (b : Bounds) (w : World) (c : StaticRanging) → answer (numbered b.numbers) w (static_ranging_view c) ≡ answer b w (static_ranging_view c)
 same_static_ranging b w (CreateStaticRange start end) = refl
 same_static_ranging b w (DescribeStaticRange range) = refl
+same_static_ranging b w (ReleaseStaticRange range) = refl
 
 same_traversing : (b : Bounds) (w : World) (c : Traversing) → answer (numbered b.numbers) w (traversing_view c) ≡ answer b w (traversing_view c)
 same_traversing b w (CreateIterator root filter) = refl
@@ -103,6 +104,8 @@ same_traversing b w (PreviousNode iterator) = refl
 same_traversing b w (DescribeWalker walker) = refl
 same_traversing b w (SetCurrent walker node) = refl
 same_traversing b w (Walk walker move) = refl
+same_traversing b w (ReleaseIterator iterator) = refl
+same_traversing b w (ReleaseWalker walker) = refl
 
 same_observing : (b : Bounds) (w : World) (c : Observing) → answer (numbered b.numbers) w (observing_view c) ≡ answer b w (observing_view c)
 same_observing b w CreateObserver = refl
@@ -111,6 +114,7 @@ same_observing b w (Disconnect observer) = refl
 same_observing b w (TakeRecords observer) = refl
 same_observing b w Notify = refl
 same_observing b w Pending = refl
+same_observing b w (ReleaseObserver observer) = refl
 
 same_texts : (b : Bounds) (w : World) (c : Texts) → answer (numbered b.numbers) w (texts_view c) ≡ answer b w (texts_view c)
 same_texts b w (Normalize node) = refl

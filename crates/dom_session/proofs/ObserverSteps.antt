@@ -1,21 +1,21 @@
 -- The steps that change the observers and nothing else, from a world that is shown.
-use Rattle.std.proofs.Common.{◌≡◌, ℕ, ◌+◌, nat_lt, true, false, List, [], ◌∷◌, length, subst, Option, Some, None, Ok, Err, refl, ap}
+use Rattle.std.proofs.Common.{◌≡◌, ℕ, ◌+◌, nat_lt, true, false, List, [], ◌∷◌, length, subst, Option, Some, None, Ok, Err, refl, sym, ap, ◌∙◌}
 use Rattle.std.specs.Prelude.{is_some}
 use Rattle.dom_model.specs.declared.DomError.{DomError}
 use Rattle.dom_model.specs.Forests.Forest.{HasNode, entry_in}
 use Rattle.dom_model.specs.Worlds.World.{Observing, Options}
 use Rattle.dom_model.specs.Worlds.World as model
-use Rattle.dom_model.specs.Commands.Command.{Command, CreateObserver, Observe, Disconnect, TakeRecords, Notify}
+use Rattle.dom_model.specs.Commands.Command.{Command, CreateObserver, Observe, Disconnect, TakeRecords, Notify, ReleaseObserver}
 use Rattle.dom_model.specs.MutationObservers.GivenOptions.{GivenOptions}
 use Rattle.dom_model.specs.Commands.Reply as model_reply
 use Rattle.dom_model.specs.Commands.Reply.{is_refusal}
 use Rattle.dom_model.specs.Commands.Answer.{Bounds, answer}
 use Rattle.dom_model.specs.Commands.AnswerObserving.{with_observing}
-use Rattle.dom_model.specs.MutationObservers.Records.{options_refusal, options_of, settled, settled_unless, with_observer, observed, disconnected, queue_of, records_taken, told, after_notify}
+use Rattle.dom_model.specs.MutationObservers.Records.{options_refusal, options_of, settled, settled_unless, has_observer, with_observer, observed, disconnected, released_observer, queue_of, records_taken, told, after_notify}
 use Rattle.dom_model.specs.MutationObservers.Record.{Record, Told}
 use Rattle.dom_model.proofs.PlainLists.Numbers.{same_or, same, apart}
 use Rattle.dom_observe.specs.Held.{NamesHeld, NamesOnly}
-use Rattle.dom_observe.specs.Watchers.{Watchers, Watches}
+use Rattle.dom_observe.specs.Watchers.{Watchers, Watches, queue_in}
 use Rattle.dom_observe.proofs.HeldNames.{held-after}
 use Rattle.dom_edit.specs.declared.world.World.{World}
 use Rattle.dom_edit.specs.Whole.{IsWhole, Shows}
@@ -42,32 +42,40 @@ module _ (v : World) (whole : IsWhole v) where
   pub names-none : (o : Watchers) → NamesOnly [] v.observers o → NamesHeld v.tree.forest o
   names-none o only = held-after v.tree.forest [] v.observers o only (λ n e. absurd (cc e)) whole.observers
 
-  pub step-observe : (b : Bounds) (i n : ℕ) (given : GivenOptions) (o : Watchers) (reply : Reply) → nat_lt i (length v.observers.queues) ≡ true → is_some (entry_in v.tree.forest n) ≡ true → options_refusal given ≡ None → reply_view reply ≡ model_reply.Done model_reply.Nothing → ((x : Observing) → Watches v.observers x → Watches o (observed i n (options_of given) x)) → NamesOnly (n ∷ []) v.observers o → IsStep v (record v { observers = o }) b (Observe i n given) reply
-  step-observe b i n given o reply made there allowed said watched only =
-      step-observers b (Observe i n given) reply o (observed i n (options_of given)) (ap is_refusal said)
-      (λ w s. rw (said, s.watched.made, made, s.keeps.forest, not-none (entry_in v.tree.forest n) there, allowed) refl) watched
-      (held-after v.tree.forest (n ∷ []) v.observers o only (λ m e. elim (same_or n m) [ same d t ↦ subst (λ k. HasNode v.tree.forest k) d there | apart ne t ↦ absurd (let k = rw t at e in cc k) ]) whole.observers)
+  -- an observer that is there is there in each world that is shown
+  is-there : (i : ℕ) → is_some (queue_in v.observers i) ≡ true → (w : model.World) → Shows v w → has_observer w.observing i ≡ true
+  is-there i there w s = sym (s.watched.there i) ∙ there
 
-  pub step-disconnect : (b : Bounds) (i : ℕ) (o : Watchers) (reply : Reply) → nat_lt i (length v.observers.queues) ≡ true → reply_view reply ≡ model_reply.Done model_reply.Nothing → ((x : Observing) → Watches v.observers x → Watches o (disconnected i x)) → NamesOnly [] v.observers o → IsStep v (record v { observers = o }) b (Disconnect i) reply
-  step-disconnect b i o reply made said watched only =
-      step-observers b (Disconnect i) reply o (disconnected i) (ap is_refusal said) (λ w s. rw (said, s.watched.made, made) refl) watched (names-none o only)
+  pub step-observe : (b : Bounds) (i n : ℕ) (given : GivenOptions) (o : Watchers) (reply : Reply) → is_some (queue_in v.observers i) ≡ true → is_some (entry_in v.tree.forest n) ≡ true → options_refusal given ≡ None → reply_view reply ≡ model_reply.Done model_reply.Nothing → ((x : Observing) → Watches v.observers x → Watches o (observed i n (options_of given) x)) → NamesOnly (n ∷ []) v.observers o → IsStep v (record v { observers = o }) b (Observe i n given) reply
+  step-observe b i n given o reply there held allowed said watched only =
+      step-observers b (Observe i n given) reply o (observed i n (options_of given)) (ap is_refusal said)
+      (λ w s. rw (said, is-there i there w s, s.keeps.forest, not-none (entry_in v.tree.forest n) held, allowed) refl) watched
+      (held-after v.tree.forest (n ∷ []) v.observers o only (λ m e. elim (same_or n m) [ same d t ↦ subst (λ k. HasNode v.tree.forest k) d held | apart ne t ↦ absurd (let k = rw t at e in cc k) ]) whole.observers)
+
+  pub step-disconnect : (b : Bounds) (i : ℕ) (o : Watchers) (reply : Reply) → is_some (queue_in v.observers i) ≡ true → reply_view reply ≡ model_reply.Done model_reply.Nothing → ((x : Observing) → Watches v.observers x → Watches o (disconnected i x)) → NamesOnly [] v.observers o → IsStep v (record v { observers = o }) b (Disconnect i) reply
+  step-disconnect b i o reply there said watched only =
+      step-observers b (Disconnect i) reply o (disconnected i) (ap is_refusal said) (λ w s. rw (said, is-there i there w s) refl) watched (names-none o only)
+
+  pub step-release_observer : (b : Bounds) (i : ℕ) (o : Watchers) (reply : Reply) → is_some (queue_in v.observers i) ≡ true → reply_view reply ≡ model_reply.Done model_reply.Nothing → ((x : Observing) → Watches v.observers x → Watches o (released_observer i x)) → NamesOnly [] v.observers o → IsStep v (record v { observers = o }) b (ReleaseObserver i) reply
+  step-release_observer b i o reply there said watched only =
+      step-observers b (ReleaseObserver i) reply o (released_observer i) (ap is_refusal said) (λ w s. rw (said, is-there i there w s) refl) watched (names-none o only)
 
   pub step-create : (b : Bounds) (o : Watchers) (reply : Reply) → nat_lt b.numbers (length v.observers.queues + 1) ≡ false → reply_view reply ≡ model_reply.Done (model_reply.Number (length v.observers.queues)) → ((x : Observing) → Watches v.observers x → Watches o (with_observer x)) → NamesOnly [] v.observers o → IsStep v (record v { observers = o }) b CreateObserver reply
   step-create b o reply room said watched only =
       step-observers b CreateObserver reply o with_observer (ap is_refusal said) (λ w s. rw (said, s.watched.made, room) refl) watched (names-none o only)
 
-  pub step-take : (b : Bounds) (i : ℕ) (records : List Record) (o : Watchers) (reply : Reply) → nat_lt i (length v.observers.queues) ≡ true → reply_view reply ≡ model_reply.Done (model_reply.Records records) → ((x : Observing) → Watches v.observers x → records ≡ queue_of i x) → ((x : Observing) → Watches v.observers x → Watches o (records_taken i x)) → NamesOnly [] v.observers o → IsStep v (record v { observers = o }) b (TakeRecords i) reply
-  step-take b i records o reply made said are watched only =
-      step-observers b (TakeRecords i) reply o (records_taken i) (ap is_refusal said) (λ w s. rw (said, s.watched.made, made, are w.observing s.watched) refl) watched (names-none o only)
+  pub step-take : (b : Bounds) (i : ℕ) (records : List Record) (o : Watchers) (reply : Reply) → is_some (queue_in v.observers i) ≡ true → reply_view reply ≡ model_reply.Done (model_reply.Records records) → ((x : Observing) → Watches v.observers x → records ≡ queue_of i x) → ((x : Observing) → Watches v.observers x → Watches o (records_taken i x)) → NamesOnly [] v.observers o → IsStep v (record v { observers = o }) b (TakeRecords i) reply
+  step-take b i records o reply there said are watched only =
+      step-observers b (TakeRecords i) reply o (records_taken i) (ap is_refusal said) (λ w s. rw (said, is-there i there w s, are w.observing s.watched) refl) watched (names-none o only)
 
   pub step-notify : (b : Bounds) (all : List Told) (o : Watchers) (reply : Reply) → reply_view reply ≡ model_reply.Done (model_reply.Notified all) → ((x : Observing) → Watches v.observers x → all ≡ told x) → ((x : Observing) → Watches v.observers x → Watches o (after_notify x)) → NamesOnly [] v.observers o → IsStep v (record v { observers = o }) b Notify reply
   step-notify b all o reply said are watched only =
       step-observers b Notify reply o after_notify (ap is_refusal said) (λ w s. rw (said, are w.observing s.watched) refl) watched (names-none o only)
 
   -- options that are refused
-  pub step-not_observed : (b : Bounds) (i n : ℕ) (given : GivenOptions) (error : DomError) (reply : Reply) → nat_lt i (length v.observers.queues) ≡ true → is_some (entry_in v.tree.forest n) ≡ true → options_refusal given ≡ Some error → reply_view reply ≡ model_reply.Dom error → IsStep v v b (Observe i n given) reply
-  step-not_observed b i n given error reply made there not_allowed said =
-      step-stays b (Observe i n given) reply v (λ w s. rw (said, s.watched.made, made, s.keeps.forest, not-none (entry_in v.tree.forest n) there, not_allowed) refl)
+  pub step-not_observed : (b : Bounds) (i n : ℕ) (given : GivenOptions) (error : DomError) (reply : Reply) → is_some (queue_in v.observers i) ≡ true → is_some (entry_in v.tree.forest n) ≡ true → options_refusal given ≡ Some error → reply_view reply ≡ model_reply.Dom error → IsStep v v b (Observe i n given) reply
+  step-not_observed b i n given error reply there held not_allowed said =
+      step-stays b (Observe i n given) reply v (λ w s. rw (said, is-there i there w s, s.keeps.forest, not-none (entry_in v.tree.forest n) held, not_allowed) refl)
 
 -- the options that are settled are those of the definitions, and nothing stands in their way
 pub settled-ok : (given : GivenOptions) (options : Options) → settled given ≡ Ok options → (options_refusal given ≡ None) × (options ≡ options_of given)

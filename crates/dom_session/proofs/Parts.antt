@@ -24,7 +24,7 @@ follows-ranges v t rs is = record {
   watches = λ w k o. o;
 }
 
-pub follows-statics : (v : World) (t ss : List Range) → t ≡ ss → Follows v (record v { statics = t }) (λ w. record w { static_ranges = ss })
+pub follows-statics : (v : World) (t ss : List (Option Range)) → t ≡ ss → Follows v (record v { statics = t }) (λ w. record w { static_ranges = ss })
 follows-statics v t ss is = record {
   keeps = λ w k. record { forest = k.forest; made = k.made; ranges = k.ranges; static_ranges = sym is; iterators = k.iterators; walkers = k.walkers };
   watches = λ w k o. o;
@@ -60,12 +60,12 @@ module _ (b : Bounds) (c : Command) (reply : Reply) where
       subst P (sym is) (step-stays b c reply v e)
 
   -- a command that puts other static ranges in the place of the old
-  pub step-statics : (v : World) (t ss : List Range) → is_refusal (reply_view reply) ≡ false → IsShown v → t ≡ ss → All (AreHeld v.tree.forest) ss → ((w : model.World) → Shows v w → answer b w c ≡ record { reply = reply_view reply; world = record w { static_ranges = ss } }) → IsStep v (record v { statics = t }) b c reply
+  pub step-statics : (v : World) (t ss : List (Option Range)) → is_refusal (reply_view reply) ≡ false → IsShown v → t ≡ ss → All (λ (o : Option Range). IfSome o (AreHeld v.tree.forest)) ss → ((w : model.World) → Shows v w → answer b w c ≡ record { reply = reply_view reply; world = record w { static_ranges = ss } }) → IsStep v (record v { statics = t }) b c reply
   step-statics v t ss done s is held e =
       let u = s.stands_for in
       let next : model.World = record u { static_ranges = ss } in
       let f = follows-statics v t ss is in
-      let kept : All (AreHeld v.tree.forest) t = subst (λ xs. All (AreHeld v.tree.forest) xs) (sym is) held in
+      let kept : All (λ (o : Option Range). IfSome o (AreHeld v.tree.forest)) t = subst (λ xs. All (λ (o : Option Range). IfSome o (AreHeld v.tree.forest)) xs) (sym is) held in
       let whole : IsWhole (record v { statics = t }) =
       whole-sound (record v { statics = t }) next (f.keeps u s.shows.keeps) (sound-next v s next (e u s.shows)) s.shows.whole.documents s.shows.whole.owners s.shows.whole.covered kept s.shows.whole.observers in
       step-follows b c reply v (record v { statics = t }) (λ w. record w { static_ranges = ss }) done e f whole

@@ -113,7 +113,7 @@ module _ (v : World) (b : Bounds) (w : model.World) (shown : Shows v w) where
     answer-set_end_after is = ap (λ p. sets_end r n p w) (ap (λ f. point_after f n) shown.keeps.forest ∙ sym is)
 
   module _ (start end : Point) (first : is_some (entry_in v.tree.forest start.node) ≡ true) (last : is_some (entry_in v.tree.forest end.node) ≡ true) (room : nat_lt b.numbers (length v.statics + 1) ≡ false) where
-    pub answer-create_static_range : check_static v.tree.forest start.node end.node ≡ None → answer b w (CreateStaticRange start end) ≡ record { reply = model_reply.Done (model_reply.Number (length v.statics)); world = record w { static_ranges = v.statics ++ record { start = start; end = end } ∷ [] } }
+    pub answer-create_static_range : check_static v.tree.forest start.node end.node ≡ None → answer b w (CreateStaticRange start end) ≡ record { reply = model_reply.Done (model_reply.Number (length v.statics)); world = record w { static_ranges = v.statics ++ Some (record { start = start; end = end }) ∷ [] } }
     answer-create_static_range check = rw (shown.keeps.forest, shown.keeps.static_ranges, not-none (entry_in v.tree.forest start.node) first, not-none (entry_in v.tree.forest end.node) last, room, check) refl
 
     pub refusal-create_static_range : (e : DomError) → check_static v.tree.forest start.node end.node ≡ Some e → answer b w (CreateStaticRange start end) ≡ record { reply = model_reply.Dom e; world = w }

@@ -15,11 +15,11 @@ use Rattle.dom_session.specs.declared.command.Setting.TheVariants.{SetStart, Set
 use Rattle.dom_session.specs.declared.command.Comparing.{Comparing}
 use Rattle.dom_session.specs.declared.command.Comparing.TheVariants.{CompareBoundaryPoints, ComparePoint, IsPointInRange, IntersectsNode, CommonAncestor}
 use Rattle.dom_session.specs.declared.command.StaticRanging.{StaticRanging}
-use Rattle.dom_session.specs.declared.command.StaticRanging.TheVariants.{CreateStaticRange, DescribeStaticRange}
+use Rattle.dom_session.specs.declared.command.StaticRanging.TheVariants.{CreateStaticRange, DescribeStaticRange, ReleaseStaticRange}
 use Rattle.dom_session.specs.declared.command.Traversing.{Traversing}
-use Rattle.dom_session.specs.declared.command.Traversing.TheVariants.{CreateIterator, CreateWalker, DescribeIterator, NextNode, PreviousNode, DescribeWalker, SetCurrent, Walk}
+use Rattle.dom_session.specs.declared.command.Traversing.TheVariants.{CreateIterator, CreateWalker, DescribeIterator, NextNode, PreviousNode, DescribeWalker, SetCurrent, Walk, ReleaseIterator, ReleaseWalker}
 use Rattle.dom_session.specs.declared.command.Observing.{Observing}
-use Rattle.dom_session.specs.declared.command.Observing.TheVariants.{CreateObserver, Observe, Disconnect, TakeRecords, Notify, Pending}
+use Rattle.dom_session.specs.declared.command.Observing.TheVariants.{CreateObserver, Observe, Disconnect, TakeRecords, Notify, Pending, ReleaseObserver}
 use Rattle.dom_session.specs.declared.command.Texts.{Texts}
 use Rattle.dom_session.specs.declared.command.Texts.TheVariants.{Normalize, TextContent, SetTextContent, GetData, SetData, AppendData, InsertData, DeleteData, ReplaceData, SubstringData, SplitText}
 use Rattle.dom_session.specs.declared.command.Attributes.{Attributes}
@@ -89,6 +89,7 @@ comparing_view (CommonAncestor range) = model_command.CommonAncestor range
 abbrev pub static_ranging_view : StaticRanging → model_command.Command
 static_ranging_view (CreateStaticRange start end) = model_command.CreateStaticRange start end
 static_ranging_view (DescribeStaticRange range) = model_command.DescribeStaticRange range
+static_ranging_view (ReleaseStaticRange range) = model_command.ReleaseStaticRange range
 
 abbrev pub traversing_view : Traversing → model_command.Command
 traversing_view (CreateIterator root filter) = model_command.CreateIterator root filter
@@ -99,6 +100,8 @@ traversing_view (PreviousNode iterator) = model_command.PreviousNode iterator
 traversing_view (DescribeWalker walker) = model_command.DescribeWalker walker
 traversing_view (SetCurrent walker node) = model_command.SetCurrent walker node
 traversing_view (Walk walker move) = model_command.Walk walker move
+traversing_view (ReleaseIterator iterator) = model_command.ReleaseIterator iterator
+traversing_view (ReleaseWalker walker) = model_command.ReleaseWalker walker
 
 abbrev pub observing_view : Observing → model_command.Command
 observing_view CreateObserver = model_command.CreateObserver
@@ -107,6 +110,7 @@ observing_view (Disconnect observer) = model_command.Disconnect observer
 observing_view (TakeRecords observer) = model_command.TakeRecords observer
 observing_view Notify = model_command.Notify
 observing_view Pending = model_command.Pending
+observing_view (ReleaseObserver observer) = model_command.ReleaseObserver observer
 
 abbrev pub texts_view : Texts → model_command.Command
 texts_view (Normalize node) = model_command.Normalize node

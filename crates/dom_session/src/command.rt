@@ -1,4 +1,4 @@
-//! The commands that a session takes, one for each name of the table, in groups.
+//! The commands that a session takes, in groups: one for each name of the table, and four that no line has, by which what was made is released.
 
 use dom_model::Move;
 use dom_observe::{ObserverId, RawOptions};
@@ -116,13 +116,15 @@ pub enum Comparing {
     CommonAncestor(RangeId),
 }
 
-/// A command on a static range.
+/// A command that makes, tells or releases a static range.
 #[derive(Drop)]
 pub enum StaticRanging {
     /// Makes a static range.
     CreateStaticRange(Point, Point),
     /// The ends of a static range, and whether it is valid.
     DescribeStaticRange(StaticId),
+    /// Lets a static range go.
+    ReleaseStaticRange(StaticId),
 }
 
 /// A command on an iterator or a walker.
@@ -144,6 +146,10 @@ pub enum Traversing {
     SetCurrent(WalkerId, NodeId),
     /// Moves a walker.
     Walk(WalkerId, Move),
+    /// Lets an iterator go.
+    ReleaseIterator(IteratorId),
+    /// Lets a walker go.
+    ReleaseWalker(WalkerId),
 }
 
 /// A command on an observer.
@@ -161,6 +167,8 @@ pub enum Observing {
     Notify,
     /// The observers that wait to be told.
     Pending,
+    /// Lets an observer go, with all that it observes and the records that wait for it.
+    ReleaseObserver(ObserverId),
 }
 
 /// A command on data or text.
@@ -254,9 +262,9 @@ pub enum Command {
     Setting(Setting),
     /// Asks about a live range.
     Comparing(Comparing),
-    /// Makes or tells a static range.
+    /// Makes, tells or releases a static range.
     StaticRanging(StaticRanging),
-    /// Makes, tells or moves an iterator or a walker.
+    /// Makes, tells, moves or releases an iterator or a walker.
     Traversing(Traversing),
     /// Acts on observers.
     Observing(Observing),

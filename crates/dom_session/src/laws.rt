@@ -1,14 +1,17 @@
 //! Laws of whole lists of commands. They follow from the definitions that `Session::apply` meets one command at a time; nothing here runs.
 
-ghost use Rattle.std.specs.Prelude.{◌≡◌, ℕ, ◌<◌, ◌≤◌, Bool, true, List, [], ◌∷◌, ◌++◌, map, length, remove, Some, None, option_map};
+ghost use Rattle.std.specs.Prelude.{◌≡◌, ℕ, ◌<◌, ◌≤◌, Bool, true, false, List, [], ◌∷◌, ◌++◌, map, length, remove, Some, None, option_map};
 ghost use Rattle.dom_model.specs.Forests.Forest.{HasNode, root_of};
 ghost use Rattle.dom_model.specs.Worlds.World.{Range, World, first_world};
 ghost use Rattle.dom_model.specs.Commands.Command.{Command, RangeText};
 ghost use Rattle.dom_model.specs.Commands.Reply.{Number, Units, Done, is_refusal};
 ghost use Rattle.dom_model.specs.Commands.Guards.{Bounds};
 ghost use Rattle.dom_model.specs.Commands.Answer.{answer};
+ghost use Rattle.dom_model.specs.Commands.AnswerTraversal.{iterator_at, walker_at};
+ghost use Rattle.dom_model.specs.MutationObservers.Records.{has_observer};
 ghost use Rattle.dom_model.specs.RangesAndContents.Ranges.{end_of, range_at};
 ghost use Rattle.dom_model.specs.RangesAndContents.Contents.{range_text};
+ghost use Rattle.dom_model.specs.RangesAndContents.StaticRanges.{static_at};
 ghost use Rattle.dom_model.specs.TokenText.Gaps.{text_among};
 ghost use Rattle.dom_model.specs.TokenText.Between.{text_of_range};
 ghost use Rattle.dom_model.specs.TokenText.Tokens.{texts_of, unmarked, tokens_among, gap_among};
@@ -22,9 +25,9 @@ ghost use Rattle.dom_model.specs.Soundness.Sound.{IsSound};
 ghost use Rattle.dom_model.specs.Erasure.DiscardsAlike.{replies_to_discards};
 ghost use Rattle.dom_model.specs.Erasure.Erasing.{replies_to, makes_no_discard, without_observers, replies_without_observers, makes_no_edit_by_range, without_watchers, replies_without_watchers};
 
-/// A law: observers do not feel one another. Without what some of them observe, disconnect and take, every other reply stays as it
-/// is, and of the replies to `notify` and `pending` the parts of the others stay. A `discard` may feel an observer: the list has none, or
-/// each is answered alike in both lists (DOM Standard, "Mutation observers").
+/// A law: observers do not feel one another. Without what some of them observe, disconnect and take, and without the release of these,
+/// every other reply stays as it is, and of the replies to `notify` and `pending` the parts of the others stay. A `discard` may feel an
+/// observer: the list has none, or each is answered alike in both lists (DOM Standard, "Mutation observers").
 pub fn observers_apart()
     ensures without_discard { (erased : ℕ → Bool) → (b : Bounds) → (cs : List Command) → makes_no_discard cs ≡ true →
         replies_to b first_world (without_observers erased cs) ≡ replies_without_observers erased cs (replies_to b first_world cs) }
@@ -91,8 +94,8 @@ pub fn numbers_only_rise()
 {}
 
 /// A law: what is gone stays gone, whatever the world and the commands. A node whose number was given out and that is not there is never
-/// there again, so that a node which was not there before has a number that was not given out before; and a live range that was released
-/// stays released (ours; a node is gone once its tree is discarded).
+/// there again, so that a node which was not there before has a number that was not given out before; and a live range, an iterator, a
+/// walker, a static range or an observer that was released stays released (ours; a node is gone once its tree is discarded).
 pub fn what_is_gone_stays_gone()
     ensures nodes { (b : Bounds) → (w : World) → (cs : List Command) → (n : ℕ) → n < w.made → (HasNode w.forest n → ⊥) →
         HasNode (world_past b w cs).forest n → ⊥ }
@@ -100,6 +103,14 @@ pub fn what_is_gone_stays_gone()
         HasNode (world_past b w cs).forest n → w.made ≤ n }
     ensures ranges { (b : Bounds) → (w : World) → (cs : List Command) → (r : ℕ) → r < length w.ranges → range_at w r ≡ None →
         range_at (world_past b w cs) r ≡ None }
+    ensures iterators { (b : Bounds) → (w : World) → (cs : List Command) → (i : ℕ) → i < length w.iterators → iterator_at i w ≡ None →
+        iterator_at i (world_past b w cs) ≡ None }
+    ensures walkers { (b : Bounds) → (w : World) → (cs : List Command) → (k : ℕ) → k < length w.walkers → walker_at k w ≡ None →
+        walker_at k (world_past b w cs) ≡ None }
+    ensures static_ranges { (b : Bounds) → (w : World) → (cs : List Command) → (u : ℕ) → u < length w.static_ranges → static_at w u ≡ None →
+        static_at (world_past b w cs) u ≡ None }
+    ensures observers { (b : Bounds) → (w : World) → (cs : List Command) → (o : ℕ) → o < length w.observing.places →
+        has_observer w.observing o ≡ false → has_observer (world_past b w cs).observing o ≡ false }
 {}
 
 /// A law: no number is given out twice, whatever the world. A number that a command answers as new is the next of its kind: as many were

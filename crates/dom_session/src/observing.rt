@@ -1,7 +1,7 @@
 //! The commands on mutation observers (DOM Standard, "Mutation observers").
 
 ghost use Rattle.std.specs.Prelude.{◌≡◌, ◌≤◌, IfOk};
-ghost use Rattle.dom_model.specs.Commands.Command.{CreateObserver, Observe, Disconnect, TakeRecords, Notify, Pending};
+ghost use Rattle.dom_model.specs.Commands.Command.{CreateObserver, Observe, Disconnect, TakeRecords, Notify, Pending, ReleaseObserver};
 ghost use Rattle.dom_model.specs.Commands.Guards.{Bounds};
 ghost use Rattle.dom_observe.specs.Notifying.{told_of};
 ghost use Rattle.dom_edit.specs.Whole.{IsShown};
@@ -61,6 +61,18 @@ pub(crate) fn disconnect(world: &mut World, observer: ObserverId) -> Reply
         return Reply::Own(OwnError::NoSuchObject);
     }
     world.observers.disconnect(observer);
+    Reply::Done(Answer::Nothing)
+}
+
+/// Lets an observer go: it watches nothing more, is pending no more, and its number is not used again.
+pub(crate) fn release_observer(world: &mut World, observer: ObserverId) -> Reply
+    requires shown { IsShown world.old }
+    ensures step { (b : Bounds) → IsStep world.old world.new b (ReleaseObserver observer) result }
+{
+    if !world.observers.holds(observer) {
+        return Reply::Own(OwnError::NoSuchObject);
+    }
+    world.observers.release(observer);
     Reply::Done(Answer::Nothing)
 }
 
@@ -132,5 +144,6 @@ pub(crate) fn watch(
         Observing::TakeRecords(observer) => Ok(take_records(world, observer)),
         Observing::Notify => notify(world, alloc),
         Observing::Pending => pending(world, alloc),
+        Observing::ReleaseObserver(observer) => Ok(release_observer(world, observer)),
     }
 }

@@ -1,7 +1,7 @@
 //! The commands on static ranges (DOM Standard, "Interface StaticRange").
 
 ghost use Rattle.std.specs.Prelude.{◌≤◌, IfOk};
-ghost use Rattle.dom_model.specs.Commands.Command.{CreateStaticRange, DescribeStaticRange};
+ghost use Rattle.dom_model.specs.Commands.Command.{CreateStaticRange, DescribeStaticRange, ReleaseStaticRange};
 ghost use Rattle.dom_model.specs.Commands.Guards.{Bounds};
 ghost use Rattle.dom_edit.specs.Whole.{IsShown};
 ghost use Rattle.dom_session.specs.Views.{static_ranging_view};
@@ -55,6 +55,18 @@ pub(crate) fn describe_static_range(world: &mut World, range: StaticId) -> Reply
     Reply::Done(Answer::StaticEnds(start, end, is_valid))
 }
 
+/// Lets a static range go: it keeps no tree from being discarded, and its number is not used again.
+pub(crate) fn release_static_range(world: &mut World, range: StaticId) -> Reply
+    requires shown { IsShown world.old }
+    ensures step { (b : Bounds) → IsStep world.old world.new b (ReleaseStaticRange range) result }
+{
+    if !world.statics.holds(range) {
+        return Reply::Own(OwnError::NoSuchObject);
+    }
+    world.statics.release(range);
+    Reply::Done(Answer::Nothing)
+}
+
 /// Answers the commands on static ranges.
 pub(crate) fn act_on_statics(
     world: &mut World,
@@ -70,5 +82,6 @@ pub(crate) fn act_on_statics(
             world, numbers, start, end,
         ),
         StaticRanging::DescribeStaticRange(range) => Ok(describe_static_range(world, range)),
+        StaticRanging::ReleaseStaticRange(range) => Ok(release_static_range(world, range)),
     }
 }

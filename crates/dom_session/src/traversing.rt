@@ -1,7 +1,7 @@
 //! The commands on iterators and walkers (DOM Standard, "Traversal").
 
 ghost use Rattle.std.specs.Prelude.{◌≡◌, ◌≤◌, IfOk};
-ghost use Rattle.dom_model.specs.Commands.Command.{CreateIterator, CreateWalker, DescribeIterator, NextNode, PreviousNode, DescribeWalker, SetCurrent, Walk};
+ghost use Rattle.dom_model.specs.Commands.Command.{CreateIterator, CreateWalker, DescribeIterator, NextNode, PreviousNode, DescribeWalker, SetCurrent, Walk, ReleaseIterator, ReleaseWalker};
 ghost use Rattle.dom_model.specs.Commands.Guards.{Bounds};
 ghost use Rattle.dom_model.specs.Commands.Reply.{Done, MaybeNumber};
 ghost use Rattle.dom_edit.specs.Whole.{IsShown};
@@ -139,6 +139,30 @@ pub(crate) fn walk(world: &mut World, walker: WalkerId, direction: Move) -> Repl
     reply_found(found)
 }
 
+/// Lets an iterator go: no removal moves it, it keeps no tree from being discarded, and its number is not used again.
+pub(crate) fn release_iterator(world: &mut World, iterator: IteratorId) -> Reply
+    requires shown { IsShown world.old }
+    ensures step { (b : Bounds) → IsStep world.old world.new b (ReleaseIterator iterator) result }
+{
+    if !world.iterators.holds(iterator) {
+        return Reply::Own(OwnError::NoSuchObject);
+    }
+    world.iterators.release(iterator);
+    Reply::Done(Answer::Nothing)
+}
+
+/// Lets a walker go: it keeps no tree from being discarded, and its number is not used again.
+pub(crate) fn release_walker(world: &mut World, walker: WalkerId) -> Reply
+    requires shown { IsShown world.old }
+    ensures step { (b : Bounds) → IsStep world.old world.new b (ReleaseWalker walker) result }
+{
+    if !world.walkers.holds(walker) {
+        return Reply::Own(OwnError::NoSuchObject);
+    }
+    world.walkers.release(walker);
+    Reply::Done(Answer::Nothing)
+}
+
 /// Answers the commands on iterators and walkers.
 pub(crate) fn traverse(
     world: &mut World,
@@ -158,5 +182,7 @@ pub(crate) fn traverse(
         Traversing::DescribeWalker(walker) => Ok(describe_walker(world, walker)),
         Traversing::SetCurrent(walker, node) => Ok(set_current(world, walker, node)),
         Traversing::Walk(walker, direction) => Ok(walk(world, walker, direction)),
+        Traversing::ReleaseIterator(iterator) => Ok(release_iterator(world, iterator)),
+        Traversing::ReleaseWalker(walker) => Ok(release_walker(world, walker)),
     }
 }

@@ -1,24 +1,34 @@
 -- Items that are found by their roots and by where they stand.
-use Rattle.std.proofs.Common.{◌≡◌, ℕ, suc, ◌<◌, ◌==◌, nat_eq, Bool, true, false, ◌||◌, if◌then◌else◌, List, [], ◌∷◌, ◌++◌, length, map, get_or, set, Option, Some, None, ◌⊎◌, inl, inr, refl, sym, ap, ◌∙◌, ⊎_elim, arith, length-set, length-append}
+use Rattle.std.proofs.Common.{◌≡◌, ℕ, zero, suc, ◌+◌, ◌-◌, ◌<◌, ◌≤◌, ◌==◌, nat_eq, Bool, true, false, ◌||◌, if◌then◌else◌, List, [], ◌∷◌, ◌++◌, length, map, get_or, set, swap_remove, Option, Some, None, is_some, ◌⊎◌, inl, inr, refl, sym, ap, ◌∙◌, ⊎_elim, arith, length-set, length-append}
 use Rattle.std.specs.List.{list_any, flat_map}
-use Rattle.std.proofs.lemmas.Bool.{cases_Bool, or_right}
-use Rattle.std.proofs.lemmas.List.{map-set, map-append, set-get_or, get_or-map}
-use Rattle.dom_model.specs.PlainLists.Lists.{among, is_number}
+use Rattle.std.specs.Option.{unwrap_or}
+use Rattle.std.specs.Map.{lookup}
+use Rattle.std.proofs.lemmas.Bool.{cases_Bool, cases_eq, eq-eqb, ne_eqb, or_right}
+use Rattle.std.proofs.lemmas.List.{map-set, map-append, set-get_or, get_or-map, length-map}
+use Rattle.dom_model.specs.PlainLists.Lists.{hits, among, is_number}
 use Rattle.dom_model.specs.Worlds.World.{Iterator, Walker}
 use Rattle.dom_model.specs.Traversal.Iterators.{iterator_moved}
 use Rattle.dom_model.specs.Traversal.Walks.{walker_moved}
-use Rattle.indexmap.specs.IndexSet.{IndexSet, contains}
-use Rattle.dom_traverse.specs.Naming.{AreNames, AreFound, IteratorsFound}
+use Rattle.dom_model.proofs.Forests.Climbing.{hits-append, among-hits, not_among-hits}
+use Rattle.dom_slots.proofs.Places.{length-swap_remove}
+use Rattle.indexmap.specs.IndexMap.{IndexMap, get}
+use Rattle.dom_traverse.specs.Naming.{if_counted, count_at, Recounts, AreNames, AreFound, IteratorsFound}
 use Rattle.dom_traverse.specs.GivingWay.{references_of, GaveWay}
+use Rattle.dom_traverse.proofs.Swapped.{map-swap_remove, hits-le-length, hits-swap_remove}
 
-among-last : (n r : ℕ) (ns : List ℕ) → among n (ns ++ r ∷ []) ≡ (if r == n then true else among n ns)
-among-last n r [] = refl
-among-last n r (m ∷ ns) =
-    ⊎_elim (λ (a : (m == n) ≡ true). rw a (either (r == n))) (λ (a : (m == n) ≡ false). rw a (among-last n r ns)) (cases_Bool (m == n))
-  where
-    either : (b : Bool) → true ≡ (if b then true else true)
-    either true = refl
-    either false = refl
+-- what a count that is kept tells
+counted-number : (k : ℕ) → unwrap_or (if_counted k) 0 ≡ k
+counted-number zero = refl
+counted-number (suc k) = refl
+
+counted-some : (k : ℕ) → 0 < k → is_some (if_counted k) ≡ true
+counted-some zero h = absurd (omega (arith, h))
+counted-some (suc k) h = refl
+
+counted-among : (n : ℕ) (ns : List ℕ) → is_some (if_counted (hits n ns)) ≡ among n ns
+counted-among n ns =
+    ⊎_elim (λ (a : among n ns ≡ true). counted-some (hits n ns) (among-hits n ns a) ∙ sym a)
+    (λ (a : among n ns ≡ false). ap (λ k. is_some (if_counted k)) (not_among-hits n ns a) ∙ sym a) (cases_Bool (among n ns))
 
 module _ {A : Type 0} (root at : A → ℕ) where
   nodes-named : (xs : List A) (n : ℕ) → among n (flat_map (λ x. root x ∷ at x ∷ []) xs) ≡ (among n (map root xs) || list_any (λ o. is_number o n) (map (λ x. Some (at x)) xs))
@@ -28,9 +38,18 @@ module _ {A : Type 0} (root at : A → ℕ) where
       (λ (a : (root x == n) ≡ false).
       ⊎_elim (λ (b : (at x == n) ≡ true). rw (a, b) (sym (or_right (among n (map root xs)) true refl))) (λ (b : (at x == n) ≡ false). rw (a, b) (nodes-named xs n)) (cases_Bool (at x == n))) (cases_Bool (root x == n))
 
-  module _ {S : Type 0} (xs : List A) (roots : IndexSet ℕ S) (standing : List (Option ℕ)) (are : AreFound root at xs roots standing) where
+  module _ {S : Type 0} (xs : List A) (roots : IndexMap ℕ ℕ S) (standing : List (Option ℕ)) (are : AreFound root at xs roots standing) where
     pub found-names : AreNames roots standing (flat_map (λ x. root x ∷ at x ∷ []) xs)
-    found-names n = nodes-named xs n ∙ ap (λ b. b || list_any (λ o. is_number o n) (map (λ x. Some (at x)) xs)) (sym (are.named n)) ∙ ap (λ ns. contains nat_eq roots n || list_any (λ o. is_number o n) ns) (sym are.stand)
+    found-names n =
+        nodes-named xs n ∙ ap (λ b. b || list_any (λ o. is_number o n) (map (λ x. Some (at x)) xs)) (sym (ap is_some (are.counted n) ∙ counted-among n (map root xs)))
+        ∙ ap (λ ns. is_some (get nat_eq roots n) || list_any (λ o. is_number o n) ns) (sym are.stand)
+
+    -- how many items have a root
+    pub found-count : (n : ℕ) → count_at roots n ≡ hits n (map root xs)
+    found-count n = ap (λ o. unwrap_or o 0) (are.counted n) ∙ counted-number (hits n (map root xs))
+
+    pub found-few : (roots0 : IndexMap ℕ ℕ S) (n : ℕ) → roots0.entries ≡ roots.entries → count_at roots0 n ≤ length xs
+    found-few roots0 n same = omega (arith, ap (λ es. unwrap_or (lookup (nat_eq n) es) 0) same, found-count n, hits-le-length n (map root xs), length-map xs root)
 
     -- an item has moved
     pub found-written : (standing' : List (Option ℕ)) (id e r : ℕ) (x y : A) → e ≡ id → id < length xs → x ≡ get_or xs id x → root y ≡ root x → r ≡ at y → standing' ≡ set standing e (Some r) → AreFound root at (set xs id y) roots standing'
@@ -38,7 +57,7 @@ module _ {A : Type 0} (root at : A → ℕ) where
       stand =
           h ∙ ap (λ n. set standing e (Some n)) p ∙ ap (λ k. set standing k (Some (at y))) q ∙ ap (λ ns. set ns id (Some (at y))) are.stand
           ∙ sym (map-set (λ x. Some (at x)) xs id y);
-      named = λ n. are.named n ∙ ap (among n) (sym roots-same);
+      counted = λ n. are.counted n ∙ ap (λ ns. if_counted (hits n ns)) (sym roots-same);
       few = omega (arith, are.few, length-set xs id y);
     }
       where
@@ -48,18 +67,71 @@ module _ {A : Type 0} (root at : A → ℕ) where
             ∙ ap (set (map root xs) id) (same ∙ ap root is ∙ sym (get_or-map root xs id x 0 within))
             ∙ set-get_or (map root xs) id 0
 
+    -- the counts of roots, where a node has one more or one fewer
+    recounted : (roots0 roots1 : IndexMap ℕ ℕ S) (r count : ℕ) (ns : List ℕ) → roots0.entries ≡ roots.entries → Recounts roots0 roots1 r count → count ≡ hits r ns → ((n : ℕ) → (r ≡ n → ⊥) → hits n (map root xs) ≡ hits n ns)
+        → (n : ℕ) → get nat_eq roots1 n ≡ if_counted (hits n ns)
+    recounted roots0 roots1 r count ns same told here elsewhere n =
+        told n
+        ∙ ⊎_elim (λ (q : r ≡ n). rw (eq-eqb r n q) (ap if_counted (here ∙ ap (λ m. hits m ns) q)))
+        (λ (ne : r ≡ n → ⊥). rw (ne_eqb r n ne) (ap (lookup (nat_eq n)) same ∙ are.counted n ∙ ap if_counted (elsewhere n ne))) (cases_eq r n)
+
     -- one more item
-    pub found-more : (xs' : List A) (roots0 roots1 : IndexSet ℕ S) (standing' : List (Option ℕ)) (x : A) (r : ℕ) → length xs < 4294967295 → roots0.keys ≡ roots.keys → root x ≡ r → at x ≡ r
-        → ((n : ℕ) → contains nat_eq roots1 n ≡ (if r == n then true else contains nat_eq roots0 n)) → standing' ≡ standing ++ Some r ∷ [] → xs' ≡ xs ++ x ∷ [] → AreFound root at xs' roots1 standing'
-    found-more xs' roots0 roots1 standing' x r room same p q more h pushed = record {
+    pub found-more : (xs' : List A) (roots0 roots1 : IndexMap ℕ ℕ S) (standing' : List (Option ℕ)) (x : A) (r : ℕ) → length xs < 4294967295 → roots0.entries ≡ roots.entries → root x ≡ r → at x ≡ r
+        → Recounts roots0 roots1 r (count_at roots0 r + 1) → standing' ≡ standing ++ Some r ∷ [] → xs' ≡ xs ++ x ∷ [] → AreFound root at xs' roots1 standing'
+    found-more xs' roots0 roots1 standing' x r room same p q told h pushed = record {
       stand =
           h ∙ ap (λ ns. ns ++ Some r ∷ []) are.stand ∙ ap (λ n. map (λ x. Some (at x)) xs ++ Some n ∷ []) (sym q) ∙ sym (map-append (λ x. Some (at x)) xs (x ∷ []))
           ∙ ap (map (λ x. Some (at x))) (sym pushed);
-      named = λ n.
-          more n ∙ ap (λ b. if r == n then true else b) (ap (list_any (nat_eq n)) same ∙ are.named n) ∙ sym (among-last n r (map root xs))
-          ∙ ap (λ m. among n (map root xs ++ m ∷ [])) (sym p) ∙ ap (among n) (sym (map-append root xs (x ∷ [])) ∙ ap (map root) (sym pushed));
+      counted = λ n. recounted roots0 roots1 r (count_at roots0 r + 1) (map root xs ++ r ∷ []) same told here elsewhere n ∙ ap (λ ns. if_counted (hits n ns)) with-root;
       few = omega (arith, room, ap length pushed, length-append xs (x ∷ []));
     }
+      where
+        with-root : map root xs ++ r ∷ [] ≡ map root xs'
+        with-root = ap (λ m. map root xs ++ m ∷ []) (sym p) ∙ sym (map-append root xs (x ∷ [])) ∙ ap (map root) (sym pushed)
+
+        here : count_at roots0 r + 1 ≡ hits r (map root xs ++ r ∷ [])
+        here =
+            let one : hits r (r ∷ []) ≡ 1 = rw (eq-eqb r r refl) refl in
+            omega (arith, ap (λ es. unwrap_or (lookup (nat_eq r) es) 0) same, found-count r, hits-append r (map root xs) (r ∷ []), one)
+
+        elsewhere : (n : ℕ) → (r ≡ n → ⊥) → hits n (map root xs) ≡ hits n (map root xs ++ r ∷ [])
+        elsewhere n ne =
+            let none : hits n (r ∷ []) ≡ 0 = rw (ne_eqb r n ne) refl in
+            omega (arith, hits-append n (map root xs) (r ∷ []), none)
+
+    -- an item taken out; the last came into its place
+    module _ (k : ℕ) (x : A) (within : k < length xs) (is : x ≡ get_or xs k x) where
+      root-left : (n : ℕ) → hits n (map root (swap_remove xs k x)) + (if root x == n then 1 else 0) ≡ hits n (map root xs)
+      root-left n =
+          ap (λ ns. hits n ns + (if root x == n then 1 else 0)) (map-swap_remove root xs k x (root x) within)
+          ∙ ap (λ m. hits n (swap_remove (map root xs) k (root x)) + (if m == n then 1 else 0)) (ap root is ∙ sym (get_or-map root xs k x (root x) within))
+          ∙ hits-swap_remove n (map root xs) k (root x) (omega (arith, length-map xs root, within))
+
+      here-left : hits (root x) (map root (swap_remove xs k x)) + 1 ≡ hits (root x) (map root xs)
+      here-left = ap (λ b. hits (root x) (map root (swap_remove xs k x)) + (if b then 1 else 0)) (sym (eq-eqb (root x) (root x) refl)) ∙ root-left (root x)
+
+      module _ (r : ℕ) (its : r ≡ root x) where
+        pub root-counted : 0 < count_at roots r
+        root-counted = omega (arith, ap (count_at roots) its, found-count (root x), here-left)
+
+        pub found-fewer : (xs' : List A) (roots1 : IndexMap ℕ ℕ S) (standing' : List (Option ℕ)) → Recounts roots roots1 r (count_at roots r - 1) → standing' ≡ swap_remove standing k None → xs' ≡ swap_remove xs k x
+            → AreFound root at xs' roots1 standing'
+        found-fewer xs' roots1 standing' told h removed = record {
+          stand =
+              h ∙ ap (λ ns. swap_remove ns k None) are.stand ∙ sym (map-swap_remove (λ x. Some (at x)) xs k x None within) ∙ ap (map (λ x. Some (at x))) (sym removed);
+          counted = λ n.
+              recounted roots roots1 r (count_at roots r - 1) (map root (swap_remove xs k x)) refl told here elsewhere n
+              ∙ ap (λ ys. if_counted (hits n (map root ys))) (sym removed);
+          few = omega (arith, are.few, ap length removed, length-swap_remove xs (length xs - 1) (omega (arith, within)) k x);
+        }
+          where
+            here : count_at roots r - 1 ≡ hits r (map root (swap_remove xs k x))
+            here = omega (arith, ap (count_at roots) its, found-count (root x), here-left, ap (λ m. hits m (map root (swap_remove xs k x))) its)
+
+            elsewhere : (n : ℕ) → (r ≡ n → ⊥) → hits n (map root xs) ≡ hits n (map root (swap_remove xs k x))
+            elsewhere n ne =
+                let other : (root x == n) ≡ false = ne_eqb (root x) n (λ q. ne (its ∙ q)) in
+                omega (arith, root-left n, ap (λ b. hits n (map root (swap_remove xs k x)) + (if b then 1 else 0)) other)
 
 -- iterators that gave way have their roots
 roots-kept : (step : Iterator → Iterator) → ((i : Iterator) → (step i).root ≡ i.root) → (old new : List Iterator) → length new ≡ length old
@@ -75,11 +147,11 @@ roots-kept step keeps (x ∷ old) (y ∷ new) l h =
     one (inl e) = ap (λ (i : Iterator). i.root) e ∙ keeps x
     one (inr e) = ap (λ (i : Iterator). i.root) e
 
-pub found-gave : {S : Type 0} (step : Iterator → Iterator) (here : ℕ) (old new : List Iterator) (roots : IndexSet ℕ S) (standing standing' : List (Option ℕ)) → ((i : Iterator) → (step i).root ≡ i.root) → IteratorsFound old roots standing → GaveWay step here old new
+pub found-gave : {S : Type 0} (step : Iterator → Iterator) (here : ℕ) (old new : List Iterator) (roots : IndexMap ℕ ℕ S) (standing standing' : List (Option ℕ)) → ((i : Iterator) → (step i).root ≡ i.root) → IteratorsFound old roots standing → GaveWay step here old new
     → standing' ≡ references_of new → IteratorsFound new roots standing'
 found-gave step here old new roots standing standing' keeps are gave h = record {
   stand = h;
-  named = λ n. are.named n ∙ ap (among n) (sym (roots-kept step keeps old new gave.long (λ k i w. kind (gave.each k i w))));
+  counted = λ n. are.counted n ∙ ap (λ ns. if_counted (hits n ns)) (sym (roots-kept step keeps old new gave.long (λ k i w. kind (gave.each k i w))));
   few = omega (arith, are.few, gave.long);
 }
   where

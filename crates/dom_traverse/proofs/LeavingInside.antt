@@ -4,7 +4,7 @@ use Rattle.std.proofs.lemmas.Bool.{cases_Bool, false≢true}
 use Rattle.dom_model.specs.PlainLists.Lists.{among, after, from_first}
 use Rattle.dom_model.specs.Forests.Forest.{Grove, HasNode, inclusive_descendants, IsForest}
 use Rattle.dom_model.specs.Worlds.World.{Iterator}
-use Rattle.dom_model.specs.MutationAlgorithms.PreRemoval.{pre_removed, pre_removed_all}
+use Rattle.dom_model.specs.MutationAlgorithms.PreRemoval.{pre_removed}
 use Rattle.dom_model.proofs.PlainLists.Heads.{among-rest}
 use Rattle.dom_model.proofs.Forests.TreeOrder.InsideWalks.{IsAt, at-top, at-next, from-top, rest-next, rest-end}
 use Rattle.dom_traverse.specs.GivingWay.{GaveWay}
@@ -56,7 +56,7 @@ module _ {X : Type 0} (g : Grove X) (s : IsForest g) (top : ℕ) where
     each = leaving-on old new next here (from_first m inside) are (rest-next g s top here m e) gave;
   }
 
-  pub leaving-end : (old new next : List Iterator) (here : ℕ) → IsLeaving old new here → after here (inclusive_descendants g.forest top) ≡ None → GaveWay (pre_removed g.forest top) here new next → next ≡ pre_removed_all g.forest top old
+  pub leaving-end : (old new next : List Iterator) (here : ℕ) → IsLeaving old new here → after here (inclusive_descendants g.forest top) ≡ None → GaveWay (pre_removed g.forest top) here new next → next ≡ map (pre_removed g.forest top) old
   leaving-end old new next here are e gave = all next old (gave.long ∙ are.long) (leaving-on old new next here [] are (rest-end g s top here are.at e) gave)
     where
       stepped : (a b : Iterator) → Steps step [] a b → b ≡ step a

@@ -1,4 +1,5 @@
 pub mod Asking
+pub mod BySlot
 pub mod Chained
 pub mod CourseSteps
 pub mod Descendants
@@ -13,7 +14,9 @@ pub mod Neighbors
 pub mod PassedTrees
 pub mod Referring
 pub mod SeatSteps
+pub mod SeatsFreed
 pub mod Spreading
 pub mod Stances
 pub mod StepsOff
+pub mod Swapped
 pub mod WalkSteps

@@ -1,9 +1,11 @@
 -- Items that are spread over places.
-use Rattle.std.proofs.Common.{◌≡◌, ℕ, zero, suc, ◌<◌, List, [], ◌∷◌, length, set, Option, Some, None, IfNone, length-set, refl, sym, ap, ◌∙◌, arith}
+use Rattle.std.proofs.Common.{◌≡◌, ℕ, zero, suc, ◌-◌, ◌<◌, List, [], ◌∷◌, length, set, swap_remove, Option, Some, None, IfNone, length-set, refl, sym, ap, ◌∙◌, arith}
 use Rattle.std.specs.Option.{IsSome}
-use Rattle.std.proofs.lemmas.List.{map-set}
+use Rattle.std.proofs.lemmas.List.{map-set, length-map}
+use Rattle.dom_slots.proofs.Places.{length-swap_remove}
 use Rattle.dom_traverse.specs.Placing.{Placing, place_of_item}
 use Rattle.dom_traverse.specs.Whereabouts.{node_in, place_of, spread_over, AreSpread}
+use Rattle.dom_traverse.proofs.Swapped.{map-swap_remove}
 
 -- an item at a node is at the node's place, and one that waits at the first
 spread-at : (count n e : ℕ) (nodes : List (Option ℕ)) → node_in nodes e ≡ Some n → place_of_item (spread_over count nodes) e ≡ Some (place_of count (Some n))
@@ -46,4 +48,22 @@ module _ (nodes : List (Option ℕ)) (p : Placing) (are : AreSpread nodes p) (e 
         ∙ sym (map-set (λ (x : Option ℕ). Some (place_of p.count x)) nodes e o)
         ∙ ap (λ (x : Placing). spread_over x.count (set nodes e o)) (sym h);
     few = omega (arith, are.few, length-set nodes e o, ap (λ (x : Placing). x.count) h);
+  }
+
+-- an item is taken out
+module _ (nodes : List (Option ℕ)) (p : Placing) (are : AreSpread nodes p) where
+  pub last-stands : 0 < length nodes → IsSome (place_of_item p.items (length p.items - 1))
+  last-stands some = stands-there nodes p are (length p.items - 1) (omega (arith, some, ap length are.placed, length-map nodes (λ (o : Option ℕ). Some (place_of p.count o))))
+
+  pub as-many : length p.items ≡ length nodes
+  as-many = ap length are.placed ∙ length-map nodes (λ (o : Option ℕ). Some (place_of p.count o))
+
+  pub spread-fewer : (e : ℕ) (d : Option ℕ) (nodes' : List (Option ℕ)) (p' : Placing) → e < length nodes → nodes' ≡ swap_remove nodes e d → p' ≡ record p { items = swap_remove p.items e None } → AreSpread nodes' p'
+  spread-fewer e d nodes' p' within left h = record {
+    placed =
+        ap (λ (x : Placing). x.items) h ∙ ap (λ ps. swap_remove ps e None) are.placed
+        ∙ sym (map-swap_remove (λ (o : Option ℕ). Some (place_of p.count o)) nodes e d None within)
+        ∙ ap (spread_over p.count) (sym left)
+        ∙ ap (λ (x : Placing). spread_over x.count nodes') (sym h);
+    few = omega (arith, are.few, ap length left, length-swap_remove nodes (length nodes - 1) (omega (arith, within)) e d, ap (λ (x : Placing). x.count) h);
   }

@@ -1,27 +1,40 @@
 -- Items that name two nodes each: a root, which stays, and the node at which they stand.
-use Rattle.std.specs.Prelude.{◌≡◌, ℕ, ◌≤◌, nat_eq, Bool, ◌||◌, List, length, map, Option, Some}
+use Rattle.std.specs.Prelude.{◌≡◌, ℕ, zero, suc, ◌≤◌, ◌==◌, nat_eq, Bool, ◌||◌, if◌then◌else◌, List, length, map, Option, Some, None, is_some, unwrap_or}
 use Rattle.std.specs.List.{list_any}
-use Rattle.dom_model.specs.PlainLists.Lists.{among, is_number}
+use Rattle.dom_model.specs.PlainLists.Lists.{hits, among, is_number}
 use Rattle.dom_model.specs.Worlds.World.{Iterator, Walker}
-use Rattle.indexmap.specs.IndexSet.{IndexSet, contains}
+use Rattle.indexmap.specs.IndexMap.{IndexMap, get}
+
+-- a count that is kept; none where there is nothing to count
+abbrev pub if_counted : ℕ → Option ℕ
+if_counted zero = None
+if_counted (suc k) = Some (suc k)
 
 module _ {S : Type 0} where
-  -- whether a node is among the roots, or an item stands there
-  abbrev pub is_named : IndexSet ℕ S → List (Option ℕ) → ℕ → Bool
-  is_named roots standing n = contains nat_eq roots n || list_any (λ o. is_number o n) standing
+  -- how many items have a node as their root
+  abbrev pub count_at : IndexMap ℕ ℕ S → ℕ → ℕ
+  count_at roots n = unwrap_or (get nat_eq roots n) 0
+
+  -- so many items have it from then on
+  abbrev pub Recounts : IndexMap ℕ ℕ S → IndexMap ℕ ℕ S → ℕ → ℕ → Type 0
+  Recounts old new node count = (n : ℕ) → get nat_eq new n ≡ (if node == n then if_counted count else get nat_eq old n)
+
+  -- whether a node is the root of an item, or an item stands there
+  abbrev pub is_named : IndexMap ℕ ℕ S → List (Option ℕ) → ℕ → Bool
+  is_named roots standing n = is_some (get nat_eq roots n) || list_any (λ o. is_number o n) standing
 
   -- these nodes are the ones that are named, and no others are
-  abbrev pub AreNames : IndexSet ℕ S → List (Option ℕ) → List ℕ → Type 0
+  abbrev pub AreNames : IndexMap ℕ ℕ S → List (Option ℕ) → List ℕ → Type 0
   AreNames roots standing ns = (n : ℕ) → among n ns ≡ is_named roots standing n
 
   -- the roots and the nodes of items, of which there are no more than numbers tell apart
-  pub record AreFound {A : Type 0} (root at : A → ℕ) (xs : List A) (roots : IndexSet ℕ S) (standing : List (Option ℕ)) : Type 0 where
+  pub record AreFound {A : Type 0} (root at : A → ℕ) (xs : List A) (roots : IndexMap ℕ ℕ S) (standing : List (Option ℕ)) : Type 0 where
     pub stand : standing ≡ map (λ x. Some (at x)) xs
-    pub named : (n : ℕ) → contains nat_eq roots n ≡ among n (map root xs)
+    pub counted : (n : ℕ) → get nat_eq roots n ≡ if_counted (hits n (map root xs))
     pub few : length xs ≤ 4294967295
 
-  abbrev pub IteratorsFound : List Iterator → IndexSet ℕ S → List (Option ℕ) → Type 0
+  abbrev pub IteratorsFound : List Iterator → IndexMap ℕ ℕ S → List (Option ℕ) → Type 0
   IteratorsFound is roots standing = AreFound (λ (i : Iterator). i.root) (λ (i : Iterator). i.reference) is roots standing
 
-  abbrev pub WalkersFound : List Walker → IndexSet ℕ S → List (Option ℕ) → Type 0
+  abbrev pub WalkersFound : List Walker → IndexMap ℕ ℕ S → List (Option ℕ) → Type 0
   WalkersFound ks roots standing = AreFound (λ (k : Walker). k.root) (λ (k : Walker). k.current) ks roots standing

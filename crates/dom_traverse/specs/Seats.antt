@@ -1,5 +1,5 @@
 -- The chains that seats spell: for each place the items that stand there, each once.
-use Rattle.std.specs.Prelude.{◌≡◌, ℕ, ◌<◌, ◌==◌, if◌then◌else◌, List, map, slice_index_or, slice_set, Option, Some, None}
+use Rattle.std.specs.Prelude.{◌≡◌, ℕ, ◌-◌, ◌<◌, ◌==◌, if◌then◌else◌, List, length, map, slice_index_or, slice_set, Option, Some, None}
 use Rattle.dom_model.specs.PlainLists.Lists.{hits, head_of, after, before}
 use Rattle.dom_traverse.specs.declared.seats.Seat.{Seat}
 
@@ -73,3 +73,7 @@ seats_with e p heads t = slice_set (led_back (head_at heads p) (Some e) t) e (re
 
 abbrev pub heads_with : ℕ → ℕ → Heads → Heads
 heads_with e p heads = slice_set heads p (Some e)
+
+-- where the items stand, once one has the place of the last, which stands nowhere then
+abbrev pub last_freed : ℕ → List (Option ℕ) → List (Option ℕ)
+last_freed e places = slice_set (slice_set places e (slice_index_or places (length places - 1) None)) (length places - 1) None

@@ -1,31 +1,24 @@
 //! The node iterators of a session, by number (DOM Standard, "Interface NodeIterator").
 
-ghost use Rattle.std.specs.Prelude.{◌≡◌, ℕ, ◌<◌, [], ◌∷◌, ◌++◌, length, slice_get, slice_set, IfSome, IfOk, OnOk, OnErr, IsTrue, ◌↔◌, true};
+ghost use Rattle.std.specs.Prelude.{◌≡◌, ℕ, ◌<◌, [], ◌∷◌, ◌++◌, length, slice_set, Some, None, IsSome, is_some, IfSome, IfOk, OnOk, OnErr};
 ghost use Rattle.std.specs.List.{list_any, flat_map};
 ghost use Rattle.std.specs.Option.{ForSome};
 ghost use Rattle.dom_model.specs.PlainLists.Lists.{among};
 ghost use Rattle.dom_model.specs.Forests.Forest.{HasNode, inclusive_descendants};
 ghost use Rattle.dom_model.specs.Traversal.Iterators.{new_iterator, next_found, previous_found, moved_to_next, moved_to_previous};
-ghost use Rattle.dom_model.specs.MutationAlgorithms.PreRemoval.{pre_removed, pre_removed_all};
-ghost use Rattle.dom_model.specs.MutationAlgorithms.Discarding.{nodes_of_iterator};
-ghost use Rattle.dom_traverse.specs.Exits.{IsExit};
-ghost use Rattle.dom_traverse.specs.GivingWay.{GaveWay};
-ghost use Rattle.dom_traverse.specs.Standing.{StandsInside};
+ghost use Rattle.dom_model.specs.MutationAlgorithms.PreRemoval.{pre_removed_all};
+ghost use Rattle.dom_model.specs.MutationAlgorithms.Discarding.{nodes_unless_released, nodes_of_iterator};
+ghost use Rattle.dom_traverse.specs.Standing.{iterator_in, StandsInside};
 
-use crate::exit::Exit;
 use crate::filter::Filter;
-use crate::giving_way::{give_way, settle};
-use crate::inside::has_few_inside;
-use crate::iterator::NodeIterator;
-use crate::judge::Judge;
-use crate::naming::{name, names_inside};
-use crate::whereabouts::Whereabouts;
+use crate::iterators_by_slot::IteratorsBySlot;
+use crate::live::slot_of;
+use dom_slots::Slots;
 use dom_tree::{NodeId, Tree};
-use indexmap::IndexSet;
 use std::alloc::{AllocError, Global};
 use std::marker::Model;
 
-/// The number by which callers name an iterator: the first that is made has 0.
+/// The number by which callers name an iterator: the first that is made has 0, and no number is used again.
 #[derive(Clone, Copy, Debug, PartialEq, Eq)]
 pub struct IteratorId {
     number: u32,
@@ -60,26 +53,25 @@ impl IteratorId {
 }
 
 /// Node iterators, each over the inclusive descendants of its root.
+///
+/// A number leads to a slot for as long as its iterator is not released. Where one is released the iterator in the last slot comes into its
+/// slot, so memory is kept for no more iterators than were there at once.
 #[derive(Drop)]
 pub struct NodeIterators {
-    iterators: Vec<NodeIterator>,
-    // where each stands: at its reference
-    references: Whereabouts,
-    // the numbers of their roots
-    roots: IndexSet<u32>,
+    slots: Slots,
+    iterators: IteratorsBySlot,
 }
 
 impl Model for NodeIterators {
-    ghost use Rattle.std.specs.Prelude.{List};
+    ghost use Rattle.std.specs.Prelude.{◌≡◌, List, length, Option};
     ghost use Rattle.dom_model.specs.Worlds.World.{Iterator};
+    ghost use Rattle.dom_slots.specs.Slotted.{by_slot};
 
-    ghost Value = { List Iterator };
+    ghost Value = { List (Option Iterator) };
 
-    ghost view = { λ i. i.iterators.items };
+    ghost view = { λ i. by_slot i.slots.slots i.iterators };
 
-    ghost use Rattle.dom_traverse.specs.Naming.{IteratorsFound};
-
-    ghost invariant = { λ i. IteratorsFound i.iterators.items i.roots i.references };
+    ghost invariant = { λ i. length i.iterators ≡ length i.slots.numbers };
 }
 
 impl NodeIterators {
@@ -88,9 +80,8 @@ impl NodeIterators {
         ensures { result ≡ [] }
     {
         NodeIterators {
-            iterators: Vec::new(alloc),
-            references: Whereabouts::new(alloc),
-            roots: IndexSet::new(alloc),
+            slots: Slots::new(alloc),
+            iterators: IteratorsBySlot::new(alloc),
         }
     }
 
@@ -98,71 +89,69 @@ impl NodeIterators {
     pub fn make(&mut self, root: NodeId, filter: Filter) -> Result<IteratorId, AllocError>
         requires room { length self.old < 4294967295 }
         ensures number { IfOk result (λ id. id ≡ length self.old) }
-        ensures made { OnOk result (self.new ≡ self.old ++ new_iterator root filter ∷ []) }
+        ensures made { OnOk result (self.new ≡ self.old ++ Some (new_iterator root filter) ∷ []) }
         ensures unchanged { OnErr result (self.new ≡ self.old) }
     {
-        let id = IteratorId::new(self.iterators.len() as u32);
-        let filter = Judge::new(*self.iterators.allocator(), filter)?;
-        self.iterators.reserve(1)?;
-        self.roots.reserve(1)?;
-        self.references.add(root)?;
-        name(&mut self.roots, root);
-        self.iterators.push_reserved(NodeIterator {
-            root,
-            reference: root,
-            before: true,
-            filter,
-        });
-        Ok(id)
+        self.slots.sound();
+        self.slots.reserve(1)?;
+        self.iterators.make(root, filter)?;
+        Ok(IteratorId::new(self.slots.push_reserved()))
     }
 
     /// How many iterators were ever made.
     pub fn made(&self) -> u64
         ensures { result ≡ length self.now }
     {
-        self.iterators.len() as u64
+        self.slots.made()
     }
 
-    /// Whether there is such an iterator.
+    /// Whether there is such an iterator, and it was not released.
     pub fn holds(&self, id: IteratorId) -> bool
-        ensures { IsTrue result ↔ (id < length self.now) }
+        ensures { result ≡ is_some (iterator_in self.now id) }
     {
-        (id.number() as usize) < self.iterators.len()
+        self.slots.sound();
+        self.slots.slot(id.number()).is_some()
     }
 
     /// `root`, `referenceNode` and `pointerBeforeReferenceNode`.
     pub fn state(&self, id: IteratorId) -> (NodeId, NodeId, bool)
-        requires { id < length self.now }
-        ensures { IfSome (slice_get self.now id) (λ i. result ≡ (i.root, i.reference, i.before)) }
+        requires { IsSome (iterator_in self.now id) }
+        ensures { IfSome (iterator_in self.now id) (λ i. result ≡ (i.root, i.reference, i.before)) }
     {
-        let iterator = &self.iterators[id.number() as usize];
-        (iterator.root, iterator.reference, iterator.before)
+        let slot = slot_of(&self.slots, id.number());
+        self.iterators.state(slot)
     }
 
     /// `nextNode()`.
     pub fn next<X>(&mut self, tree: &Tree<X>, id: IteratorId) -> Option<NodeId>
-        requires held { id < length self.old }
-        requires inside { ForSome (slice_get self.old id) (StandsInside tree.now.forest) }
-        ensures found { IfSome (slice_get self.old id) (λ i. result ≡ next_found tree.now.forest i) }
-        ensures moved { IfSome (slice_get self.old id) (λ i. self.new ≡ slice_set self.old id (moved_to_next tree.now.forest i)) }
+        requires held { IsSome (iterator_in self.old id) }
+        requires inside { ForSome (iterator_in self.old id) (StandsInside tree.now.forest) }
+        ensures found { IfSome (iterator_in self.old id) (λ i. result ≡ next_found tree.now.forest i) }
+        ensures moved { IfSome (iterator_in self.old id) (λ i. self.new ≡ slice_set self.old id (Some (moved_to_next tree.now.forest i))) }
     {
-        let iterator = &mut self.iterators[id.number() as usize];
-        let found = iterator.next(tree);
-        self.references.set(id.number(), iterator.reference);
-        found
+        let slot = slot_of(&self.slots, id.number());
+        self.iterators.next(tree, slot)
     }
 
     /// `previousNode()`.
     pub fn previous<X>(&mut self, tree: &Tree<X>, id: IteratorId) -> Option<NodeId>
-        requires held { id < length self.old }
-        requires inside { ForSome (slice_get self.old id) (StandsInside tree.now.forest) }
-        ensures found { IfSome (slice_get self.old id) (λ i. result ≡ previous_found tree.now.forest i) }
-        ensures moved { IfSome (slice_get self.old id) (λ i. self.new ≡ slice_set self.old id (moved_to_previous tree.now.forest i)) }
+        requires held { IsSome (iterator_in self.old id) }
+        requires inside { ForSome (iterator_in self.old id) (StandsInside tree.now.forest) }
+        ensures found { IfSome (iterator_in self.old id) (λ i. result ≡ previous_found tree.now.forest i) }
+        ensures moved { IfSome (iterator_in self.old id) (λ i. self.new ≡ slice_set self.old id (Some (moved_to_previous tree.now.forest i))) }
     {
-        let iterator = &mut self.iterators[id.number() as usize];
-        let found = iterator.previous(tree);
-        self.references.set(id.number(), iterator.reference);
-        found
+        let slot = slot_of(&self.slots, id.number());
+        self.iterators.previous(tree, slot)
+    }
+
+    /// Releases an iterator: no removal moves it any more, and it names no node. It takes no memory.
+    pub fn release(&mut self, id: IteratorId)
+        requires { IsSome (iterator_in self.old id) }
+        ensures { self.new ≡ slice_set self.old id None }
+    {
+        self.slots.sound();
+        let slot = self.slots.release(id.number());
+        self.iterators.swap_remove(slot);
     }
 
     /// The pre-removing steps of every iterator, before a node is taken from its parent.
@@ -172,103 +161,7 @@ impl NodeIterators {
         requires { HasNode tree.now.forest node }
         ensures { self.new ≡ pre_removed_all tree.now.forest node self.old }
     {
-        let steps = tree.steps_inside(node, |index| self.reference(index));
-        if has_few_inside(tree, node, steps) {
-            self.removing_inside(tree, node);
-        } else {
-            self.removing_each(tree, node);
-        }
-    }
-
-    // The reference of an iterator; none past the last.
-    fn reference(&self, index: usize) -> Option<NodeId> {
-        let iterator = self.iterators.get(index)?;
-        Some(iterator.reference)
-    }
-
-    // The same, by the iterators at each node inside.
-    fn removing_inside<X>(&mut self, tree: &Tree<X>, node: NodeId)
-        requires { HasNode tree.now.forest node }
-        ensures { self.new ≡ pre_removed_all tree.now.forest node self.old }
-    {
-        tree.sound();
-        let mut here = node;
-        let mut last = None;
-        loop {
-            last = self.give_way(tree, node, here, last);
-            let Some(next) = tree.next_inside(node, here) else {
-                return;
-            };
-            here = next;
-        }
-    }
-
-    // The same, by each iterator there is.
-    fn removing_each<X>(&mut self, tree: &Tree<X>, node: NodeId)
-        requires { HasNode tree.now.forest node }
-        ensures { self.new ≡ pre_removed_all tree.now.forest node self.old }
-    {
-        let mut last = None;
-        for index in 0..self.iterators.len() {
-            last = self.step_off(tree, node, index as u32, last);
-        }
-    }
-
-    // The pre-removing steps of the iterators whose reference is `here`, inside the node, and of others that are found with them.
-    fn give_way<X>(
-        &mut self,
-        tree: &Tree<X>,
-        node: NodeId,
-        here: NodeId,
-        last: Option<Exit>,
-    ) -> Option<Exit>
-        requires held { HasNode tree.now.forest node }
-        requires inside { among here (inclusive_descendants tree.now.forest node) ≡ true }
-        requires found { ForSome last (IsExit tree.now.forest node) }
-        ensures gave { GaveWay (pre_removed tree.now.forest node) here self.old self.new }
-        ensures found { ForSome result (IsExit tree.now.forest node) }
-    {
-        let last = give_way(
-            &mut self.iterators,
-            &mut self.references,
-            tree,
-            node,
-            here,
-            last,
-        );
-        settle(&self.iterators, &mut self.references);
-        last
-    }
-
-    // The pre-removing steps of one iterator.
-    fn step_off<X>(
-        &mut self,
-        tree: &Tree<X>,
-        node: NodeId,
-        id: u32,
-        last: Option<Exit>,
-    ) -> Option<Exit>
-        requires held { HasNode tree.now.forest node }
-        requires there { id < length self.old }
-        requires found { ForSome last (IsExit tree.now.forest node) }
-        ensures stepped { IfSome (slice_get self.old id) (λ i. self.new ≡ slice_set self.old id (pre_removed tree.now.forest node i)) }
-        ensures found { ForSome result (IsExit tree.now.forest node) }
-    {
-        tree.sound();
-        let iterator = &mut self.iterators[id as usize];
-        let last = iterator.removing(tree, node, last);
-        self.references.set(id, iterator.reference);
-        last
-    }
-
-    // The root or the reference of an item, one after the other of each; none past the last.
-    fn node(&self, index: usize) -> Option<NodeId> {
-        let iterator = self.iterators.get(index / 2)?;
-        if index % 2 == 0 {
-            Some(iterator.root)
-        } else {
-            Some(iterator.reference)
-        }
+        self.iterators.removing(tree, node);
     }
 
     /// Whether some iterator has its root or its reference among the inclusive descendants of a node.
@@ -276,25 +169,9 @@ impl NodeIterators {
     /// It walks the nodes inside, or climbs from each iterator where that takes fewer steps.
     pub fn refers<X>(&self, tree: &Tree<X>, top: NodeId) -> bool
         requires { HasNode tree.now.forest top }
-        ensures { result ≡ list_any (λ m. among m (inclusive_descendants tree.now.forest top)) (flat_map nodes_of_iterator self.now) }
+        ensures { result ≡ list_any (λ m. among m (inclusive_descendants tree.now.forest top)) (flat_map (nodes_unless_released nodes_of_iterator) self.now) }
     {
-        let steps = tree.steps_inside(top, |index| self.node(index));
-        match names_inside(&self.roots, &self.references, tree, top, steps) {
-            Some(answer) => answer,
-            None => self.refer(tree, top),
-        }
-    }
-
-    // The same, by each iterator there is.
-    fn refer<X>(&self, tree: &Tree<X>, top: NodeId) -> bool
-        requires { HasNode tree.now.forest top }
-        ensures { result ≡ list_any (λ m. among m (inclusive_descendants tree.now.forest top)) (flat_map nodes_of_iterator self.now) }
-    {
-        for iterator in &self.iterators {
-            if iterator.stands_in(tree, top) {
-                return true;
-            }
-        }
-        false
+        self.slots.sound();
+        self.iterators.refers(tree, top)
     }
 }

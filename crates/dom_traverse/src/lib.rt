@@ -8,12 +8,15 @@ mod giving_way;
 mod inside;
 mod iterator;
 mod iterators;
+mod iterators_by_slot;
 mod judge;
+mod live;
 mod naming;
 mod places;
 mod seats;
 mod walker;
 mod walkers;
+mod walkers_by_slot;
 mod walks;
 mod whereabouts;
 

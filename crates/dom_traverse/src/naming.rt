@@ -1,34 +1,51 @@
 //! Whether items name a node inside another: the one at which they stand, or a root, which none of them ever changes.
 
-ghost use Rattle.std.specs.Prelude.{◌≡◌, ℕ, List, ◌<◌, ◌==◌, nat_eq, true, if◌then◌else◌, IfSome};
+ghost use Rattle.std.specs.Prelude.{◌≡◌, ℕ, List, ◌+◌, ◌-◌, ◌<◌, IfSome};
 ghost use Rattle.std.specs.List.{list_any};
 ghost use Rattle.dom_model.specs.PlainLists.Lists.{among};
 ghost use Rattle.dom_model.specs.Forests.Forest.{HasNode, inclusive_descendants};
-ghost use Rattle.dom_traverse.specs.Naming.{AreNames, is_named};
-ghost use Rattle.indexmap.specs.IndexSet.{contains, spare};
+ghost use Rattle.dom_traverse.specs.Naming.{AreNames, count_at, is_named, Recounts};
+ghost use Rattle.indexmap.specs.IndexMap.{spare};
 
 use crate::whereabouts::Whereabouts;
 use dom_tree::{NodeId, Tree};
-use indexmap::IndexSet;
+use indexmap::IndexMap;
 
-// Puts a node among the roots, for which there is room.
-pub(crate) fn name(roots: &mut IndexSet<u32>, node: NodeId)
-    requires { 0 < spare roots.old }
-    ensures { (n : ℕ) → contains nat_eq roots.new n ≡ (if node == n then true else contains nat_eq roots.old n) }
+// One item more has a node as its root. There is room for another root.
+pub(crate) fn name(roots: &mut IndexMap<u32, u32>, node: NodeId)
+    requires room { 0 < spare roots.old }
+    requires few { count_at roots.old node < 4294967295 }
+    ensures { Recounts roots.old roots.new node (count_at roots.old node + 1) }
 {
-    roots.insert(node.number()).unwrap();
+    let number = node.number();
+    let count = roots.get(&number).copied().unwrap_or(0);
+    roots.insert(number, count + 1).unwrap();
+}
+
+// One item fewer has it.
+pub(crate) fn unname(roots: &mut IndexMap<u32, u32>, node: NodeId)
+    requires { 0 < count_at roots.old node }
+    ensures { Recounts roots.old roots.new node (count_at roots.old node - 1) }
+{
+    let number = node.number();
+    let count = roots.get(&number).copied().unwrap();
+    if count > 1 {
+        roots.insert(number, count - 1).unwrap();
+    } else {
+        roots.swap_remove(&number);
+    }
 }
 
 // Whether an item names a node.
-fn names(roots: &IndexSet<u32>, standing: &Whereabouts, node: NodeId) -> bool
+fn names(roots: &IndexMap<u32, u32>, standing: &Whereabouts, node: NodeId) -> bool
     ensures { result ≡ is_named roots.now standing.now node }
 {
-    roots.contains(&node.number()) || standing.names(node)
+    roots.contains_key(&node.number()) || standing.names(node)
 }
 
 // Whether an item names a node inside `top`: it asks so many nodes there, and has no answer where there are more.
 pub(crate) fn names_inside<X>(
-    roots: &IndexSet<u32>,
+    roots: &IndexMap<u32, u32>,
     standing: &Whereabouts,
     tree: &Tree<X>,
     top: NodeId,

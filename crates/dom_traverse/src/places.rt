@@ -1,11 +1,11 @@
-//! Items by number, found by the place where each stands.
+//! Items by number, found by the place where each stands. The numbers lie without gaps.
 
-ghost use Rattle.std.specs.Prelude.{◌≡◌, ℕ, ◌<◌, ◌^◌, [], ◌∷◌, ◌++◌, length, slice_index_or, slice_set, Some, None, IsSome, IfSome, IfNone, IfOk, OnOk, OnErr};
+ghost use Rattle.std.specs.Prelude.{◌≡◌, ℕ, ◌-◌, ◌<◌, ◌≤◌, ◌^◌, [], ◌∷◌, ◌++◌, length, slice_index_or, slice_set, swap_remove, Some, None, IsSome, IfSome, IfNone, IfOk, OnOk, OnErr};
 ghost use Rattle.std.specs.List.{list_any};
 ghost use Rattle.dom_model.specs.PlainLists.Lists.{is_number};
 ghost use Rattle.dom_traverse.specs.Placing.{place_of_item};
 
-use crate::seats::{Seat, has_mark, move_to, put_first};
+use crate::seats::{Seat, free_last, has_mark, move_to, put_first};
 use std::alloc::{AllocError, Global};
 use std::marker::Model;
 
@@ -100,5 +100,17 @@ impl Places {
         ensures { self.new ≡ record self.old { items = slice_set self.old.items id (Some place) } }
     {
         move_to(&mut self.seats, &mut self.heads, id, place);
+    }
+
+    // Takes an item out of its place for good. The last item gets its number.
+    pub(crate) fn swap_remove(&mut self, id: u32)
+        requires stands { IsSome (place_of_item self.old.items id) }
+        requires last { IsSome (place_of_item self.old.items (length self.old.items - 1)) }
+        requires few { length self.old.items ≤ 2 ^ 32 }
+        ensures { self.new ≡ record self.old { items = swap_remove self.old.items id None } }
+    {
+        let last = self.seats.len() - 1;
+        free_last(&mut self.seats, &mut self.heads, id);
+        self.seats.truncate(last);
     }
 }

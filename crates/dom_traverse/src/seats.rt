@@ -3,10 +3,10 @@
 //! A place knows the first item of its chain, a seat the ones on both sides of its own. So to take an item out or to put it elsewhere takes
 //! the same time however many there are, and no memory.
 
-ghost use Rattle.std.specs.Prelude.{◌≡◌, ℕ, ◌<◌, length, slice_index_or, slice_set, Some, None, IsSome};
+ghost use Rattle.std.specs.Prelude.{◌≡◌, ℕ, ◌-◌, ◌^◌, ◌<◌, ◌≤◌, length, slice_index_or, slice_set, Some, None, IsSome};
 ghost use Rattle.std.specs.List.{list_any};
 ghost use Rattle.dom_model.specs.PlainLists.Lists.{is_number};
-ghost use Rattle.dom_traverse.specs.Seats.{place_at, places_of, ForLink, led_on, led_back, heads_led, HasChains};
+ghost use Rattle.dom_traverse.specs.Seats.{place_at, places_of, ForLink, led_on, led_back, heads_led, last_freed, HasChains};
 
 // The place where an item stands, none while it is between two, and the items before and after it in the chain of the place.
 #[derive(Clone, Copy, Drop)]
@@ -96,6 +96,21 @@ pub(crate) fn move_to(seats: &mut [Seat], heads: &mut [Option<u32>], id: u32, pl
 {
     take_out(seats, heads, id);
     put_first(seats, heads, id, place);
+}
+
+// Takes an item out of its place for good. The last item comes to its seat, so the last seat is free from then on.
+pub(crate) fn free_last(seats: &mut [Seat], heads: &mut [Option<u32>], id: u32)
+    requires stands { IsSome (place_at seats.old id) }
+    requires last { IsSome (place_at seats.old (length seats.old - 1)) }
+    requires few { length seats.old ≤ 2 ^ 32 }
+    requires chains { HasChains seats.old heads.old }
+    ensures places { places_of seats.new ≡ last_freed id (places_of seats.old) }
+    ensures chains { HasChains seats.new heads.new }
+{
+    let last = seats.len() - 1;
+    let place = seats[last].place.unwrap();
+    move_to(seats, heads, id, place);
+    take_out(seats, heads, last as u32);
 }
 
 // Whether an item has a mark, where all that have it stand at a place. It walks the chain of that place and no other.

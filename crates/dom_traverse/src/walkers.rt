@@ -1,26 +1,24 @@
 //! The tree walkers of a session, by number (DOM Standard, "Interface TreeWalker").
 
-ghost use Rattle.std.specs.Prelude.{◌≡◌, ℕ, ◌<◌, [], ◌∷◌, ◌++◌, length, slice_get, slice_set, IfSome, IfOk, OnOk, OnErr, IsTrue, ◌↔◌};
+ghost use Rattle.std.specs.Prelude.{◌≡◌, ℕ, ◌<◌, [], ◌∷◌, ◌++◌, length, slice_set, Some, None, IsSome, is_some, IfSome, IfOk, OnOk, OnErr};
 ghost use Rattle.std.specs.List.{list_any, flat_map};
 ghost use Rattle.std.specs.Option.{ForSome};
 ghost use Rattle.dom_model.specs.PlainLists.Lists.{among};
 ghost use Rattle.dom_model.specs.Forests.Forest.{HasNode, inclusive_descendants};
 ghost use Rattle.dom_model.specs.Traversal.Walks.{new_walker, walk_found, walker_moved};
-ghost use Rattle.dom_model.specs.MutationAlgorithms.Discarding.{nodes_of_walker};
-ghost use Rattle.dom_traverse.specs.Standing.{StandsThere};
+ghost use Rattle.dom_model.specs.MutationAlgorithms.Discarding.{nodes_unless_released, nodes_of_walker};
+ghost use Rattle.dom_traverse.specs.Standing.{walker_in, StandsThere};
 
 use crate::filter::Filter;
-use crate::judge::Judge;
-use crate::naming::{name, names_inside};
-use crate::walker::TreeWalker;
-use crate::whereabouts::Whereabouts;
+use crate::live::slot_of;
+use crate::walkers_by_slot::WalkersBySlot;
 use dom_model::Move;
+use dom_slots::Slots;
 use dom_tree::{NodeId, Tree};
-use indexmap::IndexSet;
 use std::alloc::{AllocError, Global};
 use std::marker::Model;
 
-/// The number by which callers name a walker: the first that is made has 0.
+/// The number by which callers name a walker: the first that is made has 0, and no number is used again.
 #[derive(Clone, Copy, Debug, PartialEq, Eq)]
 pub struct WalkerId {
     number: u32,
@@ -55,26 +53,25 @@ impl WalkerId {
 }
 
 /// Tree walkers. Removing a node does not adjust them.
+///
+/// A number leads to a slot for as long as its walker is not released. Where one is released the walker in the last slot comes into its slot,
+/// so memory is kept for no more walkers than were there at once.
 #[derive(Drop)]
 pub struct Walkers {
-    walkers: Vec<TreeWalker>,
-    // where each stands: at its current node
-    currents: Whereabouts,
-    // the numbers of their roots
-    roots: IndexSet<u32>,
+    slots: Slots,
+    walkers: WalkersBySlot,
 }
 
 impl Model for Walkers {
-    ghost use Rattle.std.specs.Prelude.{List};
+    ghost use Rattle.std.specs.Prelude.{◌≡◌, List, length, Option};
     ghost use Rattle.dom_model.specs.Worlds.World.{Walker};
+    ghost use Rattle.dom_slots.specs.Slotted.{by_slot};
 
-    ghost Value = { List Walker };
+    ghost Value = { List (Option Walker) };
 
-    ghost view = { λ w. w.walkers.items };
+    ghost view = { λ w. by_slot w.slots.slots w.walkers };
 
-    ghost use Rattle.dom_traverse.specs.Naming.{WalkersFound};
-
-    ghost invariant = { λ w. WalkersFound w.walkers.items w.roots w.currents };
+    ghost invariant = { λ w. length w.walkers ≡ length w.slots.numbers };
 }
 
 impl Walkers {
@@ -83,9 +80,8 @@ impl Walkers {
         ensures { result ≡ [] }
     {
         Walkers {
-            walkers: Vec::new(alloc),
-            currents: Whereabouts::new(alloc),
-            roots: IndexSet::new(alloc),
+            slots: Slots::new(alloc),
+            walkers: WalkersBySlot::new(alloc),
         }
     }
 
@@ -93,76 +89,67 @@ impl Walkers {
     pub fn make(&mut self, root: NodeId, filter: Filter) -> Result<WalkerId, AllocError>
         requires room { length self.old < 4294967295 }
         ensures number { IfOk result (λ id. id ≡ length self.old) }
-        ensures made { OnOk result (self.new ≡ self.old ++ new_walker root filter ∷ []) }
+        ensures made { OnOk result (self.new ≡ self.old ++ Some (new_walker root filter) ∷ []) }
         ensures unchanged { OnErr result (self.new ≡ self.old) }
     {
-        let id = WalkerId::new(self.walkers.len() as u32);
-        let filter = Judge::new(*self.walkers.allocator(), filter)?;
-        self.walkers.reserve(1)?;
-        self.roots.reserve(1)?;
-        self.currents.add(root)?;
-        name(&mut self.roots, root);
-        self.walkers.push_reserved(TreeWalker {
-            root,
-            current: root,
-            filter,
-        });
-        Ok(id)
+        self.slots.sound();
+        self.slots.reserve(1)?;
+        self.walkers.make(root, filter)?;
+        Ok(WalkerId::new(self.slots.push_reserved()))
     }
 
     /// How many walkers were ever made.
     pub fn made(&self) -> u64
         ensures { result ≡ length self.now }
     {
-        self.walkers.len() as u64
+        self.slots.made()
     }
 
-    /// Whether there is such a walker.
+    /// Whether there is such a walker, and it was not released.
     pub fn holds(&self, id: WalkerId) -> bool
-        ensures { IsTrue result ↔ (id < length self.now) }
+        ensures { result ≡ is_some (walker_in self.now id) }
     {
-        (id.number() as usize) < self.walkers.len()
+        self.slots.sound();
+        self.slots.slot(id.number()).is_some()
     }
 
     /// `root` and `currentNode`.
     pub fn state(&self, id: WalkerId) -> (NodeId, NodeId)
-        requires { id < length self.now }
-        ensures { IfSome (slice_get self.now id) (λ w. result ≡ (w.root, w.current)) }
+        requires { IsSome (walker_in self.now id) }
+        ensures { IfSome (walker_in self.now id) (λ w. result ≡ (w.root, w.current)) }
     {
-        let walker = &self.walkers[id.number() as usize];
-        (walker.root, walker.current)
+        let slot = slot_of(&self.slots, id.number());
+        self.walkers.state(slot)
     }
 
     /// Sets `currentNode`; it may stand outside the root.
     pub fn set_current(&mut self, id: WalkerId, node: NodeId)
-        requires { id < length self.old }
-        ensures { IfSome (slice_get self.old id) (λ w. self.new ≡ slice_set self.old id (record w { current = node })) }
+        requires { IsSome (walker_in self.old id) }
+        ensures { IfSome (walker_in self.old id) (λ w. self.new ≡ slice_set self.old id (Some (record w { current = node }))) }
     {
-        self.walkers[id.number() as usize].current = node;
-        self.currents.set(id.number(), node);
+        let slot = slot_of(&self.slots, id.number());
+        self.walkers.set_current(slot, node);
     }
 
     /// Makes one of the seven moves: to the node that it finds, where there is one.
-    pub fn step<X>(&mut self, tree: &Tree<X>, id: WalkerId, direction: Move) -> Option<NodeId>
-        requires held { id < length self.old }
-        requires there { ForSome (slice_get self.old id) (StandsThere tree.now.forest) }
-        ensures found { IfSome (slice_get self.old id) (λ w. result ≡ walk_found direction tree.now.forest w) }
-        ensures moved { IfSome (slice_get self.old id) (λ w. self.new ≡ slice_set self.old id (walker_moved (walk_found direction tree.now.forest w) w)) }
+    pub fn step<X>(&mut self, tree: &Tree<X>, id: WalkerId, way: Move) -> Option<NodeId>
+        requires held { IsSome (walker_in self.old id) }
+        requires there { ForSome (walker_in self.old id) (StandsThere tree.now.forest) }
+        ensures found { IfSome (walker_in self.old id) (λ w. result ≡ walk_found way tree.now.forest w) }
+        ensures moved { IfSome (walker_in self.old id) (λ w. self.new ≡ slice_set self.old id (Some (walker_moved (walk_found way tree.now.forest w) w))) }
     {
-        let walker = &mut self.walkers[id.number() as usize];
-        let found = walker.step(tree, direction);
-        self.currents.set(id.number(), walker.current);
-        found
+        let slot = slot_of(&self.slots, id.number());
+        self.walkers.step(tree, slot, way)
     }
 
-    // The root or the current node of an item, one after the other of each; none past the last.
-    fn node(&self, index: usize) -> Option<NodeId> {
-        let walker = self.walkers.get(index / 2)?;
-        if index % 2 == 0 {
-            Some(walker.root)
-        } else {
-            Some(walker.current)
-        }
+    /// Releases a walker: it names no node any more. It takes no memory.
+    pub fn release(&mut self, id: WalkerId)
+        requires { IsSome (walker_in self.old id) }
+        ensures { self.new ≡ slice_set self.old id None }
+    {
+        self.slots.sound();
+        let slot = self.slots.release(id.number());
+        self.walkers.swap_remove(slot);
     }
 
     /// Whether some walker has its root or its current node among the inclusive descendants of a node.
@@ -170,25 +157,9 @@ impl Walkers {
     /// It walks the nodes inside, or climbs from each walker where that takes fewer steps.
     pub fn refers<X>(&self, tree: &Tree<X>, top: NodeId) -> bool
         requires { HasNode tree.now.forest top }
-        ensures { result ≡ list_any (λ m. among m (inclusive_descendants tree.now.forest top)) (flat_map nodes_of_walker self.now) }
+        ensures { result ≡ list_any (λ m. among m (inclusive_descendants tree.now.forest top)) (flat_map (nodes_unless_released nodes_of_walker) self.now) }
     {
-        let steps = tree.steps_inside(top, |index| self.node(index));
-        match names_inside(&self.roots, &self.currents, tree, top, steps) {
-            Some(answer) => answer,
-            None => self.refer(tree, top),
-        }
-    }
-
-    // The same, by each walker there is.
-    fn refer<X>(&self, tree: &Tree<X>, top: NodeId) -> bool
-        requires { HasNode tree.now.forest top }
-        ensures { result ≡ list_any (λ m. among m (inclusive_descendants tree.now.forest top)) (flat_map nodes_of_walker self.now) }
-    {
-        for walker in &self.walkers {
-            if walker.stands_in(tree, top) {
-                return true;
-            }
-        }
-        false
+        self.slots.sound();
+        self.walkers.refers(tree, top)
     }
 }

@@ -1,6 +1,6 @@
-//! Items by number, found by the node at which each stands.
+//! Items by number, found by the node at which each stands. The numbers lie without gaps.
 
-ghost use Rattle.std.specs.Prelude.{◌≡◌, ℕ, ◌+◌, ◌<◌, ◌≤◌, [], ◌∷◌, ◌++◌, length, slice_set, Some, None, IsSome, IfSome, IfNone, IfOk, OnOk, OnErr};
+ghost use Rattle.std.specs.Prelude.{◌≡◌, ℕ, ◌+◌, ◌<◌, ◌≤◌, [], ◌∷◌, ◌++◌, ◌^◌, length, slice_set, swap_remove, Some, None, IsSome, IfSome, IfNone, IfOk, OnOk, OnErr};
 ghost use Rattle.std.specs.List.{list_any};
 ghost use Rattle.dom_model.specs.PlainLists.Lists.{is_number};
 ghost use Rattle.dom_traverse.specs.Whereabouts.{node_in, place_of, spread_over};
@@ -115,6 +115,16 @@ impl Whereabouts {
         ensures { self.new ≡ slice_set self.old id None }
     {
         self.write(id, None);
+    }
+
+    // Takes an item out. The last item gets its number.
+    pub(crate) fn swap_remove(&mut self, id: u32)
+        requires within { id < length self.old }
+        requires few { length self.old ≤ 2 ^ 32 }
+        ensures { self.new ≡ swap_remove self.old id None }
+    {
+        self.places.swap_remove(id);
+        self.nodes.swap_remove(id as usize);
     }
 
     // Adds an item, which gets the next number.

@@ -23,7 +23,13 @@ mod range_scenes;
 #[cfg(test)]
 mod ranges;
 #[cfg(test)]
+mod releases;
+#[cfg(test)]
 mod slots;
+#[cfg(test)]
+mod slotted;
+#[cfg(test)]
+mod statics;
 #[cfg(test)]
 mod traversal;
 #[cfg(test)]

@@ -8,7 +8,7 @@ use super::range_scenes::{
     with_texts,
 };
 use dom_point::Point;
-use dom_ranges::{RangeId, Ranges, StaticId, Statics};
+use dom_ranges::{RangeId, Ranges};
 use dom_tree::{NodeId, Tree};
 use std::alloc::{AllocError, Global};
 use std::process::Abort;
@@ -50,24 +50,6 @@ fn refused_room(rt: HostRuntime) -> Result<(), Fail> {
     let mut ranges = Ranges::new(rt.alloc());
     cover_at_last(&mut ranges)?;
     has_room(&rt, &ranges);
-    Ok(())
-}
-
-// A static range is made, and stays where it was put.
-fn keep_static(rt: &impl Abort, statics: &mut Statics) -> Result<(), AllocError> {
-    assert_eq!(rt; statics.made(), 0);
-    let u = statics.make(at(3, 4), at(5, 6))?;
-    assert_eq!(rt; statics.made(), 1);
-    assert!(rt; statics.holds(u));
-    assert!(rt; !statics.holds(StaticId::new(1)));
-    assert!(rt; statics.ends(u) == (at(3, 4), at(5, 6)));
-    Ok(())
-}
-
-#[test]
-fn static_ranges(rt: HostRuntime) -> Result<(), Fail> {
-    let mut statics = Statics::new(rt.alloc());
-    keep_static(&rt, &mut statics)?;
     Ok(())
 }
 

@@ -1,8 +1,8 @@
 //! Worked examples on small trees of elements.
 
-ghost use Rattle.std.specs.Prelude.{◌<◌, length, slice_get};
+ghost use Rattle.std.specs.Prelude.{IsSome};
 ghost use Rattle.std.specs.Option.{ForSome};
-ghost use Rattle.dom_traverse.specs.Standing.{StandsInside};
+ghost use Rattle.dom_traverse.specs.Standing.{iterator_in, StandsInside};
 
 use super::nodes::{made, named, put};
 use dom_kinds::Kind;
@@ -39,7 +39,12 @@ fn append(rt: &impl Abort, tree: &mut Tree<()>, parent: u32, child: u32) {
 }
 
 // Takes a node from its parent, after the pre-removing steps.
-fn remove(rt: &impl Abort, iterators: &mut NodeIterators, tree: &mut Tree<()>, node: u32) {
+pub(crate) fn remove(
+    rt: &impl Abort,
+    iterators: &mut NodeIterators,
+    tree: &mut Tree<()>,
+    node: u32,
+) {
     let node = NodeId::new(node);
     assert!(rt; tree.holds(node));
     assert!(rt; tree.parent(node).is_some());
@@ -47,7 +52,7 @@ fn remove(rt: &impl Abort, iterators: &mut NodeIterators, tree: &mut Tree<()>, n
     tree.cut(node);
 }
 
-fn filter(alloc: Global, rules: &[(&str, Verdict)]) -> Result<Filter, AllocError> {
+pub(crate) fn filter(alloc: Global, rules: &[(&str, Verdict)]) -> Result<Filter, AllocError> {
     let mut all = Vec::new(alloc);
     for (name, verdict) in rules {
         all.push(Rule {
@@ -61,7 +66,7 @@ fn filter(alloc: Global, rules: &[(&str, Verdict)]) -> Result<Filter, AllocError
     })
 }
 
-fn new_iterator(
+pub(crate) fn new_iterator(
     iterators: &mut NodeIterators,
     root: u32,
     filter: Filter,
@@ -72,14 +77,22 @@ fn new_iterator(
     iterators.make(NodeId::new(root), filter)
 }
 
-fn new_walker(walkers: &mut Walkers, root: u32, filter: Filter) -> Result<WalkerId, AllocError> {
+pub(crate) fn new_walker(
+    walkers: &mut Walkers,
+    root: u32,
+    filter: Filter,
+) -> Result<WalkerId, AllocError> {
     if walkers.made() >= 4294967295 {
         return Err(AllocError);
     }
     walkers.make(NodeId::new(root), filter)
 }
 
-fn iterator(rt: &impl Abort, iterators: &NodeIterators, id: IteratorId) -> (u32, u32, bool) {
+pub(crate) fn iterator(
+    rt: &impl Abort,
+    iterators: &NodeIterators,
+    id: IteratorId,
+) -> (u32, u32, bool) {
     assert!(rt; iterators.holds(id));
     let (root, reference, before) = iterators.state(id);
     (root.number(), reference.number(), before)
@@ -87,8 +100,8 @@ fn iterator(rt: &impl Abort, iterators: &NodeIterators, id: IteratorId) -> (u32,
 
 // That an iterator is there, and stands in the tree.
 fn stands(rt: &impl Abort, iterators: &NodeIterators, tree: &Tree<()>, id: IteratorId)
-    ensures held { id < length iterators.now }
-    ensures inside { ForSome (slice_get iterators.now id) (StandsInside tree.now.forest) }
+    ensures held { IsSome (iterator_in iterators.now id) }
+    ensures inside { ForSome (iterator_in iterators.now id) (StandsInside tree.now.forest) }
 {
     assert!(rt; iterators.holds(id));
     let state = iterators.state(id);
@@ -98,7 +111,7 @@ fn stands(rt: &impl Abort, iterators: &NodeIterators, tree: &Tree<()>, id: Itera
     tree.sound();
 }
 
-fn next(
+pub(crate) fn next(
     rt: &impl Abort,
     iterators: &mut NodeIterators,
     tree: &Tree<()>,
@@ -120,7 +133,7 @@ fn previous(
     Some(found.number())
 }
 
-fn walk(
+pub(crate) fn walk(
     rt: &impl Abort,
     walkers: &mut Walkers,
     tree: &Tree<()>,
@@ -135,13 +148,13 @@ fn walk(
     Some(found.number())
 }
 
-fn walker(rt: &impl Abort, walkers: &Walkers, id: WalkerId) -> (u32, u32) {
+pub(crate) fn walker(rt: &impl Abort, walkers: &Walkers, id: WalkerId) -> (u32, u32) {
     assert!(rt; walkers.holds(id));
     let (root, current) = walkers.state(id);
     (root.number(), current.number())
 }
 
-fn set_current(rt: &impl Abort, walkers: &mut Walkers, id: WalkerId, node: u32) {
+pub(crate) fn set_current(rt: &impl Abort, walkers: &mut Walkers, id: WalkerId, node: u32) {
     assert!(rt; walkers.holds(id));
     walkers.set_current(id, NodeId::new(node));
 }
@@ -159,7 +172,7 @@ fn walk_all(
 }
 
 // r [ a [ b ] c ], and two more elements, 5 and 6, which are roots
-fn small(rt: &impl Abort, alloc: Global) -> Result<Tree<()>, AllocError> {
+pub(crate) fn small(rt: &impl Abort, alloc: Global) -> Result<Tree<()>, AllocError> {
     let mut tree = elements(rt, alloc, &["r", "a", "b", "c", "s", "t"])?;
     append(rt, &mut tree, 1, 2);
     append(rt, &mut tree, 2, 3);
@@ -278,7 +291,7 @@ fn three_children(rt: &impl Abort, alloc: Global) -> Result<Tree<()>, AllocError
     Ok(tree)
 }
 
-fn refers(rt: &impl Abort, walkers: &Walkers, tree: &Tree<()>, node: u32) -> bool {
+pub(crate) fn refers(rt: &impl Abort, walkers: &Walkers, tree: &Tree<()>, node: u32) -> bool {
     let node = NodeId::new(node);
     assert!(rt; tree.holds(node));
     walkers.refers(tree, node)

@@ -389,3 +389,152 @@ fn a_node_leaves_many(rt: HostRuntime) -> Result<(), Fail> {
     played::<ANodeLeavesMany>(&rt, rt.alloc())?;
     Ok(())
 }
+
+// Makes one more observer, where numbers are left. A refused call gives no number.
+fn make_next(rt: &impl Abort, observers: &mut Observers) -> Result<ObserverId, AllocError> {
+    let made = observers.made();
+    assert!(rt; made < 10_000);
+    match observers.make() {
+        Ok(observer) => Ok(observer),
+        Err(_) => {
+            assert_eq!(rt; observers.made(), made);
+            observers.make()
+        }
+    }
+}
+
+// Lets an observer go: there is none of its number any more.
+fn release(rt: &impl Abort, observers: &mut Observers, observer: ObserverId) {
+    assert!(rt; observers.holds(observer));
+    let made = observers.made();
+    observers.release(observer);
+    assert!(rt; !observers.holds(observer));
+    assert_eq!(rt; observers.made(), made);
+}
+
+// Each of so many observers is made, asked for, and released; then two are made, of which the second goes into the place of the first.
+fn make_and_release(rt: &impl Abort, observers: &mut Observers) -> Result<(), AllocError> {
+    for _ in 0..2_000 {
+        let observer = make_next(rt, observers)?;
+        release(rt, observers, observer);
+    }
+    assert_eq!(rt; observers.made(), 2_000);
+    let first = make_next(rt, observers)?;
+    let second = make_next(rt, observers)?;
+    assert!(rt; first.number() == 2_000 && second.number() == 2_001);
+    release(rt, observers, first);
+    assert!(rt; observers.holds(second));
+    assert!(rt; !observers.holds(ObserverId::new(2_002)));
+    Ok(())
+}
+
+// Observers come and go, and no number is given out twice.
+struct NumbersAreNotUsedAgain;
+
+impl Scene for NumbersAreNotUsedAgain {
+    fn play(
+        rt: &impl Abort,
+        observers: &mut Observers,
+        _: &Tree<u8>,
+        _: Global,
+    ) -> Result<(), AllocError> {
+        make_and_release(rt, observers)
+    }
+}
+
+#[test]
+fn numbers_are_not_used_again(rt: HostRuntime) -> Result<(), Fail> {
+    played::<NumbersAreNotUsedAgain>(&rt, rt.alloc())?;
+    Ok(())
+}
+
+// Observer 0 is released while it watches, has a transient registration and a record, and is pending: nothing is left of it.
+struct AReleasedOneIsToldNothing;
+
+impl Scene for AReleasedOneIsToldNothing {
+    fn play(
+        rt: &impl Abort,
+        observers: &mut Observers,
+        tree: &Tree<u8>,
+        alloc: Global,
+    ) -> Result<(), AllocError> {
+        let (top, node) = (NodeId::new(0), NodeId::new(1));
+        begin(rt, observers)?;
+        leave(rt, observers, tree)?;
+        changed(rt, observers, tree, alloc, node)?;
+        assert!(rt; is_named(rt, observers, tree, top) && is_named(rt, observers, tree, node));
+        release(rt, observers, ObserverId::new(0));
+        assert!(rt; observers.is_idle() && observers.pending(0).is_none());
+        assert!(rt; !is_named(rt, observers, tree, top) && !is_named(rt, observers, tree, node));
+        if change(rt, observers, tree, alloc, node, "c").is_err() {
+            change(rt, observers, tree, alloc, node, "c")?;
+        }
+        assert!(rt; observers.pending(0).is_none());
+        assert_eq!(rt; told(observers)?, 0);
+        Ok(())
+    }
+}
+
+#[test]
+fn a_released_one_is_told_nothing(rt: HostRuntime) -> Result<(), Fail> {
+    played::<AReleasedOneIsToldNothing>(&rt, rt.alloc())?;
+    Ok(())
+}
+
+// The number of the observer in a place of the pending list.
+fn pending_number(observers: &Observers, index: usize) -> Option<u32> {
+    let observer = observers.pending(index)?;
+    Some(observer.number())
+}
+
+// Of many pending observers one is released: the others are told in the order in which they became pending, each one record.
+struct TheOthersAreToldInOrder;
+
+impl Scene for TheOthersAreToldInOrder {
+    fn play(
+        rt: &impl Abort,
+        observers: &mut Observers,
+        tree: &Tree<u8>,
+        alloc: Global,
+    ) -> Result<(), AllocError> {
+        begin_many(rt, observers)?;
+        changed_for_many_below(rt, observers, tree, alloc)?;
+        release(rt, observers, ObserverId::new(3));
+        assert_eq!(rt; pending_number(observers, 2), Some(2));
+        assert_eq!(rt; pending_number(observers, 3), Some(4));
+        assert_eq!(rt; pending_number(observers, 7), Some(8));
+        assert!(rt; pending_number(observers, 8).is_none());
+        tell_eight(rt, observers)
+    }
+}
+
+// The data of node 0 changes. Where the record is refused, some of them may have it all the same.
+fn changed_for_many_below(
+    rt: &impl Abort,
+    observers: &mut Observers,
+    tree: &Tree<u8>,
+    alloc: Global,
+) -> Result<(), AllocError> {
+    let node = NodeId::new(0);
+    if change(rt, observers, tree, alloc, node, "c").is_err() {
+        take_all(rt, observers);
+        change(rt, observers, tree, alloc, node, "c")?;
+    }
+    Ok(())
+}
+
+// The eight that are left are told their records. Where that is refused, some records may be lost.
+fn tell_eight(rt: &impl Abort, observers: &mut Observers) -> Result<(), AllocError> {
+    match told(observers) {
+        Ok(count) => assert_eq!(rt; count, 8),
+        Err(_) => assert!(rt; told(observers)? < 9),
+    }
+    assert!(rt; observers.pending(0).is_none());
+    Ok(())
+}
+
+#[test]
+fn the_others_are_told_in_order(rt: HostRuntime) -> Result<(), Fail> {
+    played::<TheOthersAreToldInOrder>(&rt, rt.alloc())?;
+    Ok(())
+}

@@ -1,8 +1,8 @@
 //! A session at work, with ample memory.
 
 use dom_session::{
-    Answer, Asking, Command, DomError, Editing, Limits, Making, NodeId, OwnError, Reply, Session,
-    Units,
+    Answer, Asking, Command, DomError, Editing, Filter, IteratorId, Limits, Making, NodeId,
+    OwnError, Reply, Session, Traversing, Units, WalkerId,
 };
 use std::alloc::{AllocError, Global};
 use std::process::Abort;
@@ -136,5 +136,51 @@ impl Scene for RefusalsSpendNoNumber {
 #[test]
 fn refusals_spend_no_number(rt: HostRuntime) -> Result<(), Fail> {
     played::<RefusalsSpendNoNumber>(&rt, rt.alloc())?;
+    Ok(())
+}
+
+// Whether a command is done, and has no other answer.
+fn does(session: &mut Session, command: Command) -> Result<bool, AllocError> {
+    match replied(session, command)? {
+        Reply::Done(Answer::Nothing) => Ok(true),
+        _ => Ok(false),
+    }
+}
+
+// The filter that shows all nodes.
+fn all(alloc: Global) -> Filter {
+    Filter {
+        show: 4294967295,
+        rules: Vec::new(alloc),
+    }
+}
+
+struct WhatIsReleasedKeepsNoTree;
+
+impl Scene for WhatIsReleasedKeepsNoTree {
+    fn play(rt: &impl Abort, alloc: Global, session: &mut Session) -> Result<(), AllocError> {
+        let node = NodeId::new(1);
+        assert!(rt; gives(session, element(alloc, "p")?, 1)?);
+        let made = Traversing::CreateIterator(node, all(alloc));
+        assert!(rt; gives(session, Command::Traversing(made), 0)?);
+        let made = Traversing::CreateWalker(node, all(alloc));
+        assert!(rt; gives(session, Command::Traversing(made), 0)?);
+        let released = Traversing::ReleaseIterator(IteratorId::new(0));
+        assert!(rt; does(session, Command::Traversing(released))?);
+        let asked = Traversing::DescribeIterator(IteratorId::new(0));
+        assert!(rt; has_own(session, Command::Traversing(asked), OwnError::NoSuchObject)?);
+        let gone = Command::Editing(Editing::Discard(node));
+        assert!(rt; has_own(session, gone, OwnError::InUse)?);
+        let released = Traversing::ReleaseWalker(WalkerId::new(0));
+        assert!(rt; does(session, Command::Traversing(released))?);
+        let gone = Command::Editing(Editing::Discard(node));
+        assert!(rt; does(session, gone)?);
+        Ok(())
+    }
+}
+
+#[test]
+fn what_is_released_keeps_no_tree(rt: HostRuntime) -> Result<(), Fail> {
+    played::<WhatIsReleasedKeepsNoTree>(&rt, rt.alloc())?;
     Ok(())
 }

@@ -1,11 +1,11 @@
 //! Calls of `dom_observe`.
 
-ghost use Rattle.std.specs.Prelude.{◌≡◌, ◌<◌, length, IfOk};
+ghost use Rattle.std.specs.Prelude.{◌≡◌, ◌<◌, length, IfOk, IsSome};
 ghost use Rattle.dom_model.specs.Forests.Forest.{HasNode, ancestors};
 ghost use Rattle.dom_model.specs.Worlds.World.{Observing};
 ghost use Rattle.dom_model.specs.MutationObservers.Observing.{standing_on, noted};
 ghost use Rattle.dom_model.specs.MutationObservers.Records.{with_observer, observed, queue_of};
-ghost use Rattle.dom_observe.specs.Watchers.{Watches};
+ghost use Rattle.dom_observe.specs.Watchers.{queue_in, Watches};
 ghost use Rattle.uses.specs.Watching.{children_below};
 
 use dom_observe::{Mutation, ObserverId, Observers, Options, Record};
@@ -38,7 +38,7 @@ pub fn tell_and_take<X>(
     change: &Mutation<'_>,
     observer: ObserverId,
 ) -> Result<Vec<Record>, AllocError>
-    requires held { observer < length observers.old.queues }
+    requires held { IsSome (queue_in observers.old observer) }
     requires target { HasNode tree.now.forest change.now.target }
     ensures records { IfOk result (λ records. (x : Observing) → Watches observers.old x → records.items ≡ queue_of observer (noted (record (change.now) { standing = standing_on (ancestors change.now.target tree.now.forest) x.registrations }) x)) }
 {

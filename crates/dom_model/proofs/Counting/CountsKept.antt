@@ -3,13 +3,31 @@ use Rattle.std.proofs.Common.{◌≡◌, ℕ, ◌+◌, ◌<◌, ◌≤◌, Bool,
 use Rattle.std.proofs.lemmas.List.{length-map}
 use Rattle.std.specs.Prelude.{option_map}
 use Rattle.dom_model.specs.Forests.Forest.{Forest, occurs, parent_of, children_of}
-use Rattle.dom_model.specs.Worlds.World.{Content, Point, Range, Observing, World}
+use Rattle.dom_model.specs.Worlds.World.{Content, Point, Range, Iterator, Observing, World}
 use Rattle.dom_model.specs.BoundaryPoints.Points.{map_ranges, moved_range}
 use Rattle.dom_model.specs.MutationAlgorithms.PreRemoval.{pre_removed}
 use Rattle.dom_model.specs.MutationAlgorithms.Editing.{tree_record_unless, taken_out, transients_made, removed_from, remove, remove_all, freed, emptied_fragment, is_fragment, put_in, put_all, gap_before, insert_all, insert_nodes, insert, pre_insert, append, replace, insert_if_any, replaced_record, replace_all, adopt, nodes_of, node_document, reference_child, added_by}
-use Rattle.dom_model.proofs.Counting.NumbersGone.{NoneComes, none-cut, none-placed, none-adopted, AreLiveAlike, live-map}
+use Rattle.dom_model.proofs.Counting.NumbersGone.{NoneComes, none-cut, none-placed, none-adopted, AreLiveAlike, live-mapped, live-map}
 
--- v has at most `more` node numbers more than w, and as many of every other kind; a node that is gone stays so, and the same ranges are live
+-- of each kind but nodes, the same ones are there
+pub record AreThereAlike (w v : World) : Type 0 where
+  pub ranges : AreLiveAlike w.ranges v.ranges
+  pub iterators : AreLiveAlike w.iterators v.iterators
+  pub walkers : AreLiveAlike w.walkers v.walkers
+  pub observers : AreLiveAlike w.observing.places v.observing.places
+  pub static_ranges : AreLiveAlike w.static_ranges v.static_ranges
+
+pub there-then : {u v w : World} → AreThereAlike u v → AreThereAlike v w → AreThereAlike u w
+there-then g h = record {
+  ranges = λ r. h.ranges r ∙ g.ranges r;
+  iterators = λ r. h.iterators r ∙ g.iterators r;
+  walkers = λ r. h.walkers r ∙ g.walkers r;
+  observers = λ r. h.observers r ∙ g.observers r;
+  static_ranges = λ r. h.static_ranges r ∙ g.static_ranges r;
+}
+
+-- v has at most `more` node numbers more than w, and as many of every other kind; a node that is gone stays so, and of every other kind
+-- the same ones are there
 pub record IsGrown (more : ℕ) (w v : World) : Type 0 where
   pub least : w.made ≤ v.made
   pub most : v.made ≤ w.made + more
@@ -19,7 +37,7 @@ pub record IsGrown (more : ℕ) (w v : World) : Type 0 where
   pub observers : length v.observing.places ≡ length w.observing.places
   pub static_ranges : length v.static_ranges ≡ length w.static_ranges
   pub gone : (n : ℕ) → n < w.made → occurs n w.forest ≡ 0 → occurs n v.forest ≡ 0
-  pub live : AreLiveAlike w.ranges v.ranges
+  pub live : AreThereAlike w v
 
 pub grown-then : {u v w : World} (j k : ℕ) → IsGrown j u v → IsGrown k v w → IsGrown (j + k) u w
 grown-then j k g h = record {
@@ -31,7 +49,7 @@ grown-then j k g h = record {
   observers = h.observers ∙ g.observers;
   static_ranges = h.static_ranges ∙ g.static_ranges;
   gone = λ n l e. h.gone n (omega (arith, l, g.least)) (g.gone n l e);
-  live = λ r. h.live r ∙ g.live r;
+  live = there-then g.live h.live;
 }
 
 pub grown-more : {u v : World} (j k : ℕ) → j ≤ k → IsGrown j u v → IsGrown k u v
@@ -51,7 +69,7 @@ pub kept-then : {u v w : World} → IsGrown 0 u v → IsGrown 0 v w → IsGrown 
 kept-then g h = grown-then 0 0 g h
 
 pub kept-same : (w : World) → IsGrown 0 w w
-kept-same w = record { least = omega arith; most = omega arith; ranges = refl; iterators = refl; walkers = refl; observers = refl; static_ranges = refl; gone = λ n l e. e; live = λ r. refl }
+kept-same w = record { least = omega arith; most = omega arith; ranges = refl; iterators = refl; walkers = refl; observers = refl; static_ranges = refl; gone = λ n l e. e; live = record { ranges = λ r. refl; iterators = λ r. refl; walkers = λ r. refl; observers = λ r. refl; static_ranges = λ r. refl } }
 
 pub length-map_ranges : (move : Point → Point) (rs : List (Option Range)) → length (map_ranges move rs) ≡ length rs
 length-map_ranges move rs = length-map rs (λ (r : Option Range). option_map (moved_range move) r)
@@ -65,40 +83,40 @@ kept-if b w u v g h = grown-if 0 b w u v g h
 
 -- DOM Standard, "Mutation algorithms".
 
--- another observing part with as many observers
-pub observing-kept : (w : World) (x : Observing) → length x.places ≡ length w.observing.places → IsGrown 0 w (record w { observing = x })
-observing-kept w x e = record { least = omega arith; most = omega arith; ranges = refl; iterators = refl; walkers = refl; observers = e; static_ranges = refl; gone = λ n l d. d; live = λ r. refl }
+-- another observing part with as many observers, of which the same ones are there
+pub observing-kept : (w : World) (x : Observing) → length x.places ≡ length w.observing.places → AreLiveAlike w.observing.places x.places → IsGrown 0 w (record w { observing = x })
+observing-kept w x e live = record { least = omega arith; most = omega arith; ranges = refl; iterators = refl; walkers = refl; observers = e; static_ranges = refl; gone = λ n l d. d; live = record { ranges = λ r. refl; iterators = λ r. refl; walkers = λ r. refl; observers = live; static_ranges = λ r. refl } }
 
 -- a forest without further numbers
 pub forest-kept : (w : World) (f : Forest Content) → NoneComes w.forest f → IsGrown 0 w (record w { forest = f })
-forest-kept w f none = record { least = omega arith; most = omega arith; ranges = refl; iterators = refl; walkers = refl; observers = refl; static_ranges = refl; gone = λ n l e. none n e; live = λ r. refl }
+forest-kept w f none = record { least = omega arith; most = omega arith; ranges = refl; iterators = refl; walkers = refl; observers = refl; static_ranges = refl; gone = λ n l e. none n e; live = record { ranges = λ r. refl; iterators = λ r. refl; walkers = λ r. refl; observers = λ r. refl; static_ranges = λ r. refl } }
 
 -- as many ranges, and the same ones live
 pub ranges-kept : (w : World) (rs : List (Option Range)) → length rs ≡ length w.ranges → AreLiveAlike w.ranges rs → IsGrown 0 w (record w { ranges = rs })
-ranges-kept w rs e live = record { least = omega arith; most = omega arith; ranges = e; iterators = refl; walkers = refl; observers = refl; static_ranges = refl; gone = λ n l d. d; live = live }
+ranges-kept w rs e live = record { least = omega arith; most = omega arith; ranges = e; iterators = refl; walkers = refl; observers = refl; static_ranges = refl; gone = λ n l d. d; live = record { ranges = live; iterators = λ r. refl; walkers = λ r. refl; observers = λ r. refl; static_ranges = λ r. refl } }
 
 pub moved-kept : (w : World) (move : Point → Point) → IsGrown 0 w (record w { ranges = map_ranges move w.ranges })
 moved-kept w move = ranges-kept w _ (length-map_ranges move w.ranges) (live-map move w.ranges)
 
 tree_record-kept : (b : Bool) (n : ℕ) (xs ys : List ℕ) (p q : Option ℕ) (w : World) → IsGrown 0 w (tree_record_unless b n xs ys p q w)
 tree_record-kept true n xs ys p q w = kept-same w
-tree_record-kept false n xs ys p q w = observing-kept w _ refl
+tree_record-kept false n xs ys p q w = observing-kept w _ refl (λ r. refl)
 
 taken_out-kept : (n parent : ℕ) (w : World) → IsGrown 0 w (taken_out n parent w)
 taken_out-kept n parent w = record {
   least = omega arith;
   most = omega arith;
   ranges = length-map_ranges _ w.ranges;
-  iterators = length-map w.iterators (pre_removed w.forest n);
+  iterators = length-map w.iterators (λ (i : Option Iterator). option_map (pre_removed w.forest n) i);
   walkers = refl;
   observers = refl;
   static_ranges = refl;
   gone = λ m l e. none-cut n w.forest m e;
-  live = live-map _ w.ranges;
+  live = record { ranges = live-map _ w.ranges; iterators = live-mapped (pre_removed w.forest n) w.iterators; walkers = λ r. refl; observers = λ r. refl; static_ranges = λ r. refl };
 }
 
 transients-kept : (n parent : ℕ) (w : World) → IsGrown 0 w (transients_made n parent w)
-transients-kept n parent w = observing-kept w _ refl
+transients-kept n parent w = observing-kept w _ refl (λ r. refl)
 
 removed_from-kept : (b : Bool) (n : ℕ) (p : Option ℕ) (w : World) → IsGrown 0 w (removed_from b n p w)
 removed_from-kept b n None w = kept-same w
@@ -116,7 +134,7 @@ remove_all-kept (n ∷ ns) w = kept-then (remove-kept true n w) (remove_all-kept
 freed-kept : (n : ℕ) (nodes : List ℕ) (w : World) → IsGrown 0 w (freed n nodes w)
 freed-kept n nodes w =
     kept-if (is_fragment w n) w (emptied_fragment n nodes w) (remove false n w)
-    (kept-then (remove_all-kept nodes w) (observing-kept (remove_all nodes w) _ refl))
+    (kept-then (remove_all-kept nodes w) (observing-kept (remove_all nodes w) _ refl (λ r. refl)))
     (remove-kept false n w)
 
 put_in-kept : (parent : ℕ) (child : Option ℕ) (n : ℕ) (w : World) → IsGrown 0 w (put_in parent child n w)
@@ -153,7 +171,7 @@ append-kept n parent w = pre_insert-kept n parent None w
 pub replace-kept : (child n parent : ℕ) (w : World) → IsGrown 0 w (replace child n parent w)
 replace-kept child n parent w =
     let out = remove true child w in
-    kept-then (remove-kept true child w) (kept-then (insert-kept true n parent _ out) (observing-kept _ _ refl))
+    kept-then (remove-kept true child w) (kept-then (insert-kept true n parent _ out) (observing-kept _ _ refl (λ r. refl)))
 
 insert_if_any-kept : (n : Option ℕ) (parent : ℕ) (w : World) → IsGrown 0 w (insert_if_any n parent w)
 insert_if_any-kept None parent w = kept-same w
@@ -161,8 +179,8 @@ insert_if_any-kept (Some n) parent w = insert-kept true n parent None w
 
 replaced_record-kept : (parent : ℕ) (added removed : List ℕ) (w : World) → IsGrown 0 w (replaced_record parent added removed w)
 replaced_record-kept parent [] [] w = kept-same w
-replaced_record-kept parent [] (r ∷ rs) w = observing-kept w _ refl
-replaced_record-kept parent (a ∷ others) removed w = observing-kept w _ refl
+replaced_record-kept parent [] (r ∷ rs) w = observing-kept w _ refl (λ r. refl)
+replaced_record-kept parent (a ∷ others) removed w = observing-kept w _ refl (λ r. refl)
 
 pub replace_all-kept : (n : Option ℕ) (parent : ℕ) (w : World) → IsGrown 0 w (replace_all n parent w)
 replace_all-kept n parent w =

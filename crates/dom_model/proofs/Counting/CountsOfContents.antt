@@ -28,7 +28,7 @@ with_copies-grown document copied w = record {
   observers = refl;
   static_ranges = refl;
   gone = none-beside w.made w.forest (renumbered document w.made copied) (λ n l. (once-renumbered document w.made copied n).1 l);
-  live = λ r. refl;
+  live = record { ranges = λ r. refl; iterators = λ r. refl; walkers = λ r. refl; observers = λ r. refl; static_ranges = λ r. refl };
 }
 
 module _ {X : Type 0} where
@@ -71,7 +71,7 @@ with_range-kept r range w live = ranges-kept w _ (length-set w.ranges r (Some ra
 
 -- it stays one
 pub live-then : {w v : World} (more r : ℕ) → IsGrown more w v → IsLiveAt w.ranges r → IsLiveAt v.ranges r
-live-then more r g live = g.live r ∙ live
+live-then more r g live = g.live.ranges r ∙ live
 
 cut_from-kept : (n offset : ℕ) (w : World) → IsGrown 0 w (cut_from n offset w)
 cut_from-kept n offset w = kept-if (kind_passes is_character_data w.forest n) w _ w (replace_data-kept n offset (length (data_of w n) - offset) [] w) (kept-same w)

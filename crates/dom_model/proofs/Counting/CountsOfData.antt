@@ -17,7 +17,7 @@ use Rattle.dom_model.proofs.Counting.NumbersGone.{none-alike, none-beside}
 use Rattle.dom_model.proofs.Counting.CountsKept.{IsGrown, grown-then, grown-more, kept-then, kept-same, kept-if, observing-kept, forest-kept, moved-kept, remove-kept, insert-kept, replace_all-kept}
 
 pub made_node-grown : (document : ℕ) (label : Label) (body : Content) (w : World) → IsGrown 1 w (made_node document label body w)
-made_node-grown document label body w = record { least = omega arith; most = omega arith; ranges = refl; iterators = refl; walkers = refl; observers = refl; static_ranges = refl; gone = none-beside w.made w.forest new later; live = λ r. refl }
+made_node-grown document label body w = record { least = omega arith; most = omega arith; ranges = refl; iterators = refl; walkers = refl; observers = refl; static_ranges = refl; gone = none-beside w.made w.forest new later; live = record { ranges = λ r. refl; iterators = λ r. refl; walkers = λ r. refl; observers = λ r. refl; static_ranges = λ r. refl } }
   where
     new : Forest Content
     new = node (record { number = w.made; document = document; label = label; body = body }) empty empty
@@ -34,7 +34,7 @@ replace_units-kept n offset count added w =
     kept-then (moved-kept w (after_splice n offset count (length added))) (changed-kept _ (λ x. refl) n (record w { ranges = map_ranges (after_splice n offset count (length added)) w.ranges }))
 
 pub replace_data-kept : (n offset count : ℕ) (added : List ℕ) (w : World) → IsGrown 0 w (replace_data n offset count added w)
-replace_data-kept n offset count added w = kept-then (observing-kept w _ refl) (replace_units-kept n offset _ added (data_record n w))
+replace_data-kept n offset count added w = kept-then (observing-kept w _ refl (λ r. refl)) (replace_units-kept n offset _ added (data_record n w))
 
 pub set_data-kept : (n : ℕ) (text : List ℕ) (w : World) → IsGrown 0 w (set_data n text w)
 set_data-kept n text w = replace_data-kept n 0 (length (data_of w n)) text w
@@ -113,11 +113,11 @@ set_text_content-grown n text w = go (entry_in w.forest n)
     go (Some e) = set_text_content_by-grown e.value.label.kind n text w
 
 pub set_attribute-kept : (n : ℕ) (name value : List ℕ) (w : World) → IsGrown 0 w (set_attribute n name value w)
-set_attribute-kept n name value w = kept-then (observing-kept w _ refl) (changed-kept _ (λ x. refl) n (attribute_record n name w))
+set_attribute-kept n name value w = kept-then (observing-kept w _ refl (λ r. refl)) (changed-kept _ (λ x. refl) n (attribute_record n name w))
 
 remove_attribute_if-kept : (b : Bool) (n : ℕ) (name : List ℕ) (w : World) → IsGrown 0 w (remove_attribute_if b n name w)
 remove_attribute_if-kept false n name w = kept-same w
-remove_attribute_if-kept true n name w = kept-then (observing-kept w _ refl) (changed-kept _ (λ x. refl) n (attribute_record n name w))
+remove_attribute_if-kept true n name w = kept-then (observing-kept w _ refl (λ r. refl)) (changed-kept _ (λ x. refl) n (attribute_record n name w))
 
 pub remove_attribute-kept : (n : ℕ) (name : List ℕ) (w : World) → IsGrown 0 w (remove_attribute n name w)
 remove_attribute-kept n name w = remove_attribute_if-kept (has_attribute w n name) n name w

@@ -131,8 +131,8 @@ answer-next b w (ExtractContents r) = next-guarded Nodes (no_range r w ∷ no_ro
 answer-next b w (CloneContents r) = next-guarded Nodes (no_range r w ∷ no_room_for_copies b w ∷ []) w _ (refl, (refl, tt)) (λ h. next-checked Nodes (check_extract r w) w _ (a_node b w _ (clone_contents-later r w h.0)))
 answer-next b w (CreateRange d) = next-guarded Ranges (no_node d w ∷ wrong_kind (is_kind Document) d w ∷ no_room b (length w.ranges) 1 ∷ []) w _ (refl, (refl, (refl, tt))) (λ h. a_range b w _)
 answer-next b w (CloneRange r) = next-guarded Ranges (no_range r w ∷ no_room b (length w.ranges) 1 ∷ []) w _ (refl, (refl, tt)) (λ h. next-on_range Ranges (range_at w r) w _ (λ range. a_range b w range))
-answer-next b w (CreateIterator root filter) = next-guarded Iterators (no_node root w ∷ no_room b (length w.iterators) 1 ∷ []) w _ (refl, (refl, tt)) (λ h. next-step Iterators (length w.iterators) w _ refl (omega (arith, length-append w.iterators (new_iterator root filter ∷ []))))
-answer-next b w (CreateWalker root filter) = next-guarded Walkers (no_node root w ∷ no_room b (length w.walkers) 1 ∷ []) w _ (refl, (refl, tt)) (λ h. next-step Walkers (length w.walkers) w _ refl (omega (arith, length-append w.walkers (new_walker root filter ∷ []))))
-answer-next b w CreateObserver = next-guarded Observers (no_room b (observers_made w) 1 ∷ []) w _ (refl, tt) (λ h. next-step Observers (observers_made w) w _ refl (omega (arith, length-append w.observing.places (length w.observing.mutations ∷ []))))
-answer-next b w (CreateStaticRange start end) = next-guarded StaticRanges (no_node start.node w ∷ no_node end.node w ∷ no_room b (length w.static_ranges) 1 ∷ []) w _ (refl, (refl, (refl, tt))) (λ h. next-checked StaticRanges (check_static w.forest start.node end.node) w _ (next-step StaticRanges (length w.static_ranges) w _ refl (omega (arith, length-append w.static_ranges (record { start = start; end = end } ∷ [])))))
+answer-next b w (CreateIterator root filter) = next-guarded Iterators (no_node root w ∷ no_room b (length w.iterators) 1 ∷ []) w _ (refl, (refl, tt)) (λ h. next-step Iterators (length w.iterators) w _ refl (omega (arith, length-append w.iterators (Some (new_iterator root filter) ∷ []))))
+answer-next b w (CreateWalker root filter) = next-guarded Walkers (no_node root w ∷ no_room b (length w.walkers) 1 ∷ []) w _ (refl, (refl, tt)) (λ h. next-step Walkers (length w.walkers) w _ refl (omega (arith, length-append w.walkers (Some (new_walker root filter) ∷ []))))
+answer-next b w CreateObserver = next-guarded Observers (no_room b (observers_made w) 1 ∷ []) w _ (refl, tt) (λ h. next-step Observers (observers_made w) w _ refl (omega (arith, length-append w.observing.places (Some (length w.observing.mutations) ∷ []))))
+answer-next b w (CreateStaticRange start end) = next-guarded StaticRanges (no_node start.node w ∷ no_node end.node w ∷ no_room b (length w.static_ranges) 1 ∷ []) w _ (refl, (refl, (refl, tt))) (λ h. next-checked StaticRanges (check_static w.forest start.node end.node) w _ (next-step StaticRanges (length w.static_ranges) w _ refl (omega (arith, length-append w.static_ranges (Some (record { start = start; end = end }) ∷ [])))))
 answer-next b w c = tt

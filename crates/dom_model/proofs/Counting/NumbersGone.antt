@@ -1,9 +1,9 @@
--- A number that stands nowhere in a forest comes into none as trees are cut, put, changed or taken away; and a live range that is moved or
--- set stays one, as a released one stays released.
-use Rattle.std.proofs.Common.{◌≡◌, ℕ, ◌<◌, ◌≤◌, true, false, List, length, Option, Some, None, is_none, option_map, slice_index_or, slice_set, refl, ap, sym, ◌∙◌, subst, arith, ⊎_elim}
+-- A number that stands nowhere in a forest comes into none as trees are cut, put, changed or taken away; and a live range, an iterator, a walker
+-- or an observer that is moved or set stays there, as a released one stays released.
+use Rattle.std.proofs.Common.{◌≡◌, ℕ, ◌<◌, ◌≤◌, true, false, List, ◌++◌, length, map, Option, Some, None, is_none, option_map, slice_index_or, slice_set, refl, ap, sym, ◌∙◌, subst, arith, ⊎_elim}
 use Rattle.std.proofs.Math.ListN.{get_or-map}
 use Rattle.std.proofs.lemmas.Bool.{cases_lt, false≢true}
-use Rattle.std.proofs.lemmas.List.{length-set, get_or-set_same, get_or-set_other, get_or_past}
+use Rattle.std.proofs.lemmas.List.{length-set, get_or-set_same, get_or-set_other, get_or_past, get_or_append_left}
 use Rattle.dom_model.specs.Forests.Forest.{Forest, occurs, one_at, beside, tree_at, without, cut, put, adopted, in_document}
 use Rattle.dom_model.specs.Worlds.World.{Content, Point, Range}
 use Rattle.dom_model.specs.BoundaryPoints.Points.{moved_range, map_ranges}
@@ -41,48 +41,62 @@ none-placed parent c document before f n e = none-adopted c document (put parent
 pub none-beside : (made : ℕ) (f g : Forest Content) → ((n : ℕ) → n < made → occurs n g ≡ 0) → (n : ℕ) → n < made → occurs n f ≡ 0 → occurs n (beside f g) ≡ 0
 none-beside made f g later n l e = let t = total-beside (one_at n) f g in let z = later n l in omega arith
 
--- Live ranges.
+-- Live ranges, iterators, walkers, observers and static ranges: those that were released are None.
 
--- the same numbers are those of live ranges
-abbrev pub AreLiveAlike : List (Option Range) → List (Option Range) → Type 0
+-- the same numbers are those of what is there
+abbrev pub AreLiveAlike : {A : Type 0} → List (Option A) → List (Option A) → Type 0
 AreLiveAlike rs ss = (r : ℕ) → is_none (slice_index_or ss r None) ≡ is_none (slice_index_or rs r None)
 
--- a number is that of a live range
-abbrev pub IsLiveAt : List (Option Range) → ℕ → Type 0
+-- a number is that of something that is there
+abbrev pub IsLiveAt : {A : Type 0} → List (Option A) → ℕ → Type 0
 IsLiveAt rs r = is_none (slice_index_or rs r None) ≡ false
 
-pub none-of : (o : Option Range) → is_none o ≡ true → o ≡ None
-none-of None h = refl
-none-of (Some range) h = absurd (false≢true h)
+-- of the numbers given out, those of what was released stay so
+abbrev pub StaysReleased : {A : Type 0} → List (Option A) → List (Option A) → Type 0
+StaysReleased rs ss = (r : ℕ) → r < length rs → slice_index_or rs r None ≡ None → slice_index_or ss r None ≡ None
 
-pub live-of : (o : Option Range) (range : Range) → o ≡ Some range → is_none o ≡ false
-live-of o range e = rw e refl
+pub none-of : {A : Type 0} (o : Option A) → is_none o ≡ true → o ≡ None
+none-of None h = refl
+none-of (Some a) h = absurd (false≢true h)
+
+pub live-of : {A : Type 0} (o : Option A) (a : A) → o ≡ Some a → is_none o ≡ false
+live-of o a e = rw e refl
+
+pub live-mapped : {A : Type 0} (change : A → A) (rs : List (Option A)) → AreLiveAlike rs (map (λ (o : Option A). option_map change o) rs)
+live-mapped {A} change rs r = ap (λ (o : Option A). is_none o) (get_or-map (λ (o : Option A). option_map change o) rs r None) ∙ go (slice_index_or rs r None)
+  where
+    go : (o : Option A) → is_none (option_map change o) ≡ is_none o
+    go None = refl
+    go (Some a) = refl
 
 pub live-map : (move : Point → Point) (rs : List (Option Range)) → AreLiveAlike rs (map_ranges move rs)
-live-map move rs r = ap (λ (o : Option Range). is_none o) (get_or-map (λ (o : Option Range). option_map (moved_range move) o) rs r None) ∙ go (slice_index_or rs r None)
-  where
-    go : (o : Option Range) → is_none (option_map (moved_range move) o) ≡ is_none o
-    go None = refl
-    go (Some range) = refl
+live-map move rs = live-mapped (moved_range move) rs
 
-given : (rs : List (Option Range)) (r : ℕ) → IsLiveAt rs r → r < length rs
-given rs r live =
+pub given : {A : Type 0} (rs : List (Option A)) (r : ℕ) → IsLiveAt rs r → r < length rs
+given {A} rs r live =
     ⊎_elim
     (λ (lt : r < length rs). lt)
-    (λ (le : length rs ≤ r). absurd (false≢true (sym live ∙ ap (λ (o : Option Range). is_none o) (get_or_past rs r None le))))
+    (λ (le : length rs ≤ r). absurd (false≢true (sym live ∙ ap (λ (o : Option A). is_none o) (get_or_past rs r None le))))
     (cases_lt r (length rs))
 
-pub live-set : (rs : List (Option Range)) (r : ℕ) (range : Range) → IsLiveAt rs r → AreLiveAlike rs (slice_set rs r (Some range))
-live-set rs r range live q =
+pub live-set : {A : Type 0} (rs : List (Option A)) (r : ℕ) (a : A) → IsLiveAt rs r → AreLiveAlike rs (slice_set rs r (Some a))
+live-set {A} rs r a live q =
     elim (same_or q r) [
       | same e t ↦
-          subst (λ k. is_none (slice_index_or (slice_set rs r (Some range)) k None) ≡ is_none (slice_index_or rs k None)) (sym e)
-          (ap (λ (o : Option Range). is_none o) (get_or-set_same rs r (Some range) None (given rs r live)) ∙ sym live)
-      | apart ne t ↦ ap (λ (o : Option Range). is_none o) (get_or-set_other rs r q (Some range) None ne)
+          subst (λ k. is_none (slice_index_or (slice_set rs r (Some a)) k None) ≡ is_none (slice_index_or rs k None)) (sym e)
+          (ap (λ (o : Option A). is_none o) (get_or-set_same rs r (Some a) None (given rs r live)) ∙ sym live)
+      | apart ne t ↦ ap (λ (o : Option A). is_none o) (get_or-set_other rs r q (Some a) None ne)
     ]
 
--- a range that is released, and every other one that was
-pub none-set : (rs : List (Option Range)) (r q : ℕ) → slice_index_or rs q None ≡ None → slice_index_or (slice_set rs r None) q None ≡ None
+pub alike-released : {A : Type 0} (rs ss : List (Option A)) → AreLiveAlike rs ss → StaysReleased rs ss
+alike-released {A} rs ss alike r l e = none-of (slice_index_or ss r None) (alike r ∙ ap (λ (o : Option A). is_none o) e)
+
+-- one more is made
+pub pushed-released : {A : Type 0} (rs more : List (Option A)) → StaysReleased rs (rs ++ more)
+pushed-released rs more r l e = get_or_append_left rs more None r l ∙ e
+
+-- one is released, and every other one that was stays so
+pub none-set : {A : Type 0} (rs : List (Option A)) (r q : ℕ) → slice_index_or rs q None ≡ None → slice_index_or (slice_set rs r None) q None ≡ None
 none-set rs r q h =
     elim (same_or q r) [
       | same e t ↦

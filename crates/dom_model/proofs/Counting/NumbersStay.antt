@@ -4,6 +4,9 @@ use Rattle.std.proofs.lemmas.Bool.{cases_lt}
 use Rattle.dom_model.specs.Forests.Forest.{Forest, occurs, HasNode}
 use Rattle.dom_model.specs.Worlds.World.{Content, World}
 use Rattle.dom_model.specs.RangesAndContents.Ranges.{range_at}
+use Rattle.dom_model.specs.RangesAndContents.StaticRanges.{static_at}
+use Rattle.dom_model.specs.MutationObservers.Records.{taken_up_to}
+use Rattle.dom_model.specs.Commands.AnswerTraversal.{iterator_at, walker_at}
 use Rattle.dom_model.specs.Commands.Command.{Command}
 use Rattle.dom_model.specs.Commands.Reply.{Number, Done}
 use Rattle.dom_model.specs.Commands.Guards.{Bounds}
@@ -57,6 +60,35 @@ range-stays_released b w (c ∷ cs) r l e =
     let k = counts-never_fall b w c in
     let g = gone-once b w c in
     range-stays_released b (answer b w c).world cs r (omega (arith, l, k.ranges)) (g.ranges r l e)
+
+-- so does an iterator, a walker, a static range and an observer
+pub iterator-stays_released : (b : Bounds) (w : World) (cs : List Command) (i : ℕ) → i < length w.iterators → iterator_at i w ≡ None → iterator_at i (world_past b w cs) ≡ None
+iterator-stays_released b w [] i l e = e
+iterator-stays_released b w (c ∷ cs) i l e =
+    let k = counts-never_fall b w c in
+    let g = gone-once b w c in
+    iterator-stays_released b (answer b w c).world cs i (omega (arith, l, k.iterators)) (g.iterators i l e)
+
+pub walker-stays_released : (b : Bounds) (w : World) (cs : List Command) (k : ℕ) → k < length w.walkers → walker_at k w ≡ None → walker_at k (world_past b w cs) ≡ None
+walker-stays_released b w [] k l e = e
+walker-stays_released b w (c ∷ cs) k l e =
+    let h = counts-never_fall b w c in
+    let g = gone-once b w c in
+    walker-stays_released b (answer b w c).world cs k (omega (arith, l, h.walkers)) (g.walkers k l e)
+
+pub static_range-stays_released : (b : Bounds) (w : World) (cs : List Command) (u : ℕ) → u < length w.static_ranges → static_at w u ≡ None → static_at (world_past b w cs) u ≡ None
+static_range-stays_released b w [] u l e = e
+static_range-stays_released b w (c ∷ cs) u l e =
+    let k = counts-never_fall b w c in
+    let g = gone-once b w c in
+    static_range-stays_released b (answer b w c).world cs u (omega (arith, l, k.static_ranges)) (g.static_ranges u l e)
+
+pub observer-stays_released : (b : Bounds) (w : World) (cs : List Command) (o : ℕ) → o < length w.observing.places → taken_up_to o w.observing ≡ None → taken_up_to o (world_past b w cs).observing ≡ None
+observer-stays_released b w [] o l e = e
+observer-stays_released b w (c ∷ cs) o l e =
+    let k = counts-never_fall b w c in
+    let g = gone-once b w c in
+    observer-stays_released b (answer b w c).world cs o (omega (arith, l, k.observers)) (g.observers o l e)
 
 -- What is given out.
 

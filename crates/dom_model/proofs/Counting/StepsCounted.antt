@@ -1,5 +1,5 @@
 -- A step that is refused leaves the world; any other takes no more numbers than are asked for, and where they are left, and brings none back.
-use Rattle.std.proofs.Common.{◌≡◌, ℕ, ◌+◌, ◌<◌, ◌≤◌, nat_lt, Bool, true, false, if◌then◌else◌, List, [], ◌∷◌, length, Option, Some, None, is_none, refl, ap, sym, ◌∙◌, subst, arith}
+use Rattle.std.proofs.Common.{◌≡◌, ℕ, ◌+◌, ◌<◌, ◌≤◌, nat_lt, Bool, true, false, if◌then◌else◌, List, [], ◌∷◌, Option, Some, None, refl, sym, ◌∙◌, subst, arith}
 use Rattle.std.specs.Prelude.{Ok, Err}
 use Rattle.std.proofs.lemmas.Bool.{false≢true, ltb-false}
 use Rattle.dom_model.specs.declared.DomError.{DomError}
@@ -8,22 +8,39 @@ use Rattle.dom_model.specs.Worlds.World.{Point, Range, World}
 use Rattle.dom_model.specs.Commands.Reply.{Answer, Reply, Done, is_refusal}
 use Rattle.dom_model.specs.Commands.Counts.{Counts, counts_of, no_numbers, node_numbers, plus, of_each, AreAtMost}
 use Rattle.dom_model.specs.Commands.Guards.{Bounds, Step, refused, guarded, checked}
-use Rattle.dom_model.specs.RangesAndContents.Ranges.{range_at}
 use Rattle.dom_model.specs.RangesAndContents.Wrapping.{Outcome}
 use Rattle.dom_model.specs.Commands.AnswerRanges.{on_range, at_point, at_ends, done_or_refused}
 use Rattle.dom_model.specs.Commands.AnswerTraversal.{with_object}
-use Rattle.dom_model.proofs.Counting.NumbersGone.{none-of}
-use Rattle.dom_model.proofs.Counting.CountsKept.{IsGrown}
+use Rattle.dom_model.proofs.Counting.NumbersGone.{StaysReleased, alike-released}
+use Rattle.dom_model.proofs.Counting.CountsKept.{AreThereAlike, IsGrown}
 use Rattle.dom_model.proofs.Counting.CountsOfExtraction.{IsGrownTo}
 
 -- the numbers asked for are left, where no more than the limit were given out before
 abbrev pub HasRoom : Bounds → Counts → World → Type 0
 HasRoom b asked w = AreAtMost (counts_of w) (of_each b.numbers) → AreAtMost (plus (counts_of w) asked) (of_each b.numbers)
 
--- of the numbers given out, a node that is gone and a range that was released stay so
+-- of the numbers given out, a node that is gone stays so, and so does what was released
 pub record StaysGone (w v : World) : Type 0 where
   pub nodes : (n : ℕ) → n < w.made → occurs n w.forest ≡ 0 → occurs n v.forest ≡ 0
-  pub ranges : (r : ℕ) → r < length w.ranges → range_at w r ≡ None → range_at v r ≡ None
+  pub ranges : StaysReleased w.ranges v.ranges
+  pub iterators : StaysReleased w.iterators v.iterators
+  pub walkers : StaysReleased w.walkers v.walkers
+  pub observers : StaysReleased w.observing.places v.observing.places
+  pub static_ranges : StaysReleased w.static_ranges v.static_ranges
+
+-- the kinds but nodes may be told by which of them are there
+pub alike-stays_gone : (w v : World) → ((n : ℕ) → n < w.made → occurs n w.forest ≡ 0 → occurs n v.forest ≡ 0) → AreThereAlike w v → StaysGone w v
+alike-stays_gone w v gone h = record {
+  nodes = gone;
+  ranges = alike-released w.ranges v.ranges h.ranges;
+  iterators = alike-released w.iterators v.iterators h.iterators;
+  walkers = alike-released w.walkers v.walkers h.walkers;
+  observers = alike-released w.observing.places v.observing.places h.observers;
+  static_ranges = alike-released w.static_ranges v.static_ranges h.static_ranges;
+}
+
+same-stays_gone : (w : World) → StaysGone w w
+same-stays_gone w = record { nodes = λ n l e. e; ranges = λ r l e. e; iterators = λ r l e. e; walkers = λ r l e. e; observers = λ r l e. e; static_ranges = λ r l e. e }
 
 pub data IsCounted (b : Bounds) (asked : Counts) (needs : Type 0) (w : World) (s : Step) : Type 0 where
   leaves : s.world ≡ w → IsCounted b asked needs w s
@@ -53,7 +70,7 @@ counted-never_fall (takes n room more most gone) = more
 
 -- what is gone stays so
 pub counted-stays_gone : {b : Bounds} {asked : Counts} {needs : Type 0} {w : World} {s : Step} → IsCounted b asked needs w s → StaysGone w s.world
-counted-stays_gone {b} {asked} {needs} {w} {s} (leaves e) = subst (λ v. StaysGone w v) (sym e) (record { nodes = λ n l d. d; ranges = λ r l d. d })
+counted-stays_gone {b} {asked} {needs} {w} {s} (leaves e) = subst (λ v. StaysGone w v) (sym e) (same-stays_gone w)
 counted-stays_gone (takes n room more most gone) = gone
 
 -- they grow by at most what is asked for
@@ -101,6 +118,11 @@ pub object-counted : {A needs : Type 0} (b : Bounds) (asked : Counts) (o : Optio
 object-counted b asked None w step h = leaves refl
 object-counted b asked (Some x) w step h = h x
 
+-- the same, where the step needs to know that the object is there
+pub object_there-counted : {A needs : Type 0} (b : Bounds) (asked : Counts) (o : Option A) (w : World) (step : A → Step) → ((x : A) → o ≡ Some x → IsCounted b asked needs w (step x)) → IsCounted b asked needs w (with_object o w step)
+object_there-counted b asked None w step h = leaves refl
+object_there-counted b asked (Some x) w step h = h x refl
+
 -- What steps take.
 
 pub never-fall : (more : ℕ) (w v : World) → IsGrown more w v → AreAtMost (counts_of w) (counts_of v)
@@ -114,7 +136,7 @@ never-fall more w v g = record {
 }
 
 pub grown-stays_gone : (more : ℕ) (w v : World) → IsGrown more w v → StaysGone w v
-grown-stays_gone more w v g = record { nodes = g.gone; ranges = λ r l e. none-of (range_at v r) (g.live r ∙ ap (λ (o : Option Range). is_none o) e) }
+grown-stays_gone more w v g = alike-stays_gone w v g.gone g.live
 
 pub grow-at_most : (more asked : ℕ) (w v : World) → more ≤ asked → IsGrown more w v → AreAtMost (counts_of v) (plus (counts_of w) (node_numbers asked))
 grow-at_most more asked w v l g = record {

@@ -1,21 +1,21 @@
 -- Observers do not feel one another: a list of commands without those of some observers is answered as the whole list is, but for their parts.
 -- DOM Standard, "Mutation observers".
-use Rattle.std.proofs.Common.{◌≡◌, ℕ, Bool, true, false, not, nat_lt, ◌||◌, if◌then◌else◌, List, [], ◌∷◌, length, Option, Some, None, refl, ap, sym, ◌∙◌}
+use Rattle.std.proofs.Common.{◌≡◌, ℕ, Bool, true, false, not, ◌||◌, if◌then◌else◌, List, [], ◌∷◌, Option, Some, None, refl, ap, sym, ◌∙◌}
 use Rattle.std.specs.Prelude.{cond, is_none}
 use Rattle.std.specs.List.{list_any}
 use Rattle.dom_model.specs.declared.DomError.{DomError}
 use Rattle.dom_model.specs.declared.OwnError.TheVariants.{NoSuchObject}
 use Rattle.dom_model.specs.Forests.Forest.{entry_in}
 use Rattle.dom_model.specs.Worlds.World.{World, first_world}
-use Rattle.dom_model.specs.Commands.Command.{Command, Observe, Disconnect, TakeRecords, Notify, Pending}
+use Rattle.dom_model.specs.Commands.Command.{Command, Observe, Disconnect, TakeRecords, Notify, Pending, ReleaseObserver}
 use Rattle.dom_model.specs.MutationObservers.GivenOptions.{GivenOptions}
 use Rattle.dom_model.specs.Commands.Reply.{Reply, Own}
-use Rattle.dom_model.specs.MutationObservers.Records.{options_refusal, options_of, observed}
+use Rattle.dom_model.specs.MutationObservers.Records.{options_refusal, options_of, observed, has_observer}
 use Rattle.dom_model.specs.Commands.Guards.{Bounds, Step, refused, checked, does}
 use Rattle.dom_model.specs.Commands.AnswerObserving.{with_observing}
 use Rattle.dom_model.specs.Commands.Answer.{answer}
 use Rattle.dom_model.specs.Erasure.Erasing.{replies_to, is_by_observer, left_by_observers, without_observers, replies_without_observers, discards, makes_no_discard}
-use Rattle.dom_model.proofs.MutationObservers.Apart.{taken-erased, disconnected-erased, observed-erased}
+use Rattle.dom_model.proofs.MutationObservers.Apart.{taken-erased, disconnected-erased, released-erased, observed-erased}
 use Rattle.dom_model.proofs.Erasure.ErasedWorlds.{left_world, Without, without, first-left}
 use Rattle.dom_model.proofs.Erasure.ErasedTreeAnswers.{concerns_watchers}
 use Rattle.dom_model.proofs.Erasure.ErasedWatcherAnswers.{watcher_answer-left}
@@ -24,8 +24,8 @@ use Rattle.dom_model.proofs.Erasure.ErasedObserving.{Follows, command-left}
 module _ (erased : ℕ → Bool) where
   -- The commands of erased observers, which the second world does not meet.
 
-  named-erased : (p : ℕ) (x y : World) → Without erased true x y → (s : Step) → Without erased true s.world y → Without erased true (if not (nat_lt p (length x.observing.places)) then refused (Own NoSuchObject) x else s).world y
-  named-erased p x y h s k = go (nat_lt p (length x.observing.places))
+  named-erased : (p : ℕ) (x y : World) → Without erased true x y → (s : Step) → Without erased true s.world y → Without erased true (if not (has_observer x.observing p) then refused (Own NoSuchObject) x else s).world y
+  named-erased p x y h s k = go (has_observer x.observing p)
     where
       go : (v : Bool) → Without erased true (if not v then refused (Own NoSuchObject) x else s).world y
       go true = k
@@ -50,6 +50,10 @@ module _ (erased : ℕ → Bool) where
   disconnect-erased b p e x _ (without o v h) =
       named-erased p x (left_world true o v x) (without o v h) _ (without o v (disconnected-erased erased x.observing o h p e))
 
+  release-erased : (b : Bounds) (p : ℕ) → erased p ≡ true → (x y : World) → Without erased true x y → Without erased true (answer b x (ReleaseObserver p)).world y
+  release-erased b p e x _ (without o v h) =
+      named-erased p x (left_world true o v x) (without o v h) _ (without o v (released-erased erased x.observing o h p e))
+
   take_records-erased : (b : Bounds) (p : ℕ) → erased p ≡ true → (x y : World) → Without erased true x y → Without erased true (answer b x (TakeRecords p)).world y
   take_records-erased b p e x _ (without o v h) =
       named-erased p x (left_world true o v x) (without o v h) _ (without o v (taken-erased erased x.observing o h p e))
@@ -58,6 +62,7 @@ module _ (erased : ℕ → Bool) where
   command-erased b (Observe p n options) x y h e = observe-erased b p n options e x y h
   command-erased b (Disconnect p) x y h e = disconnect-erased b p e x y h
   command-erased b (TakeRecords p) x y h e = take_records-erased b p e x y h
+  command-erased b (ReleaseObserver p) x y h e = release-erased b p e x y h
   command-erased b c x y h e = absurd (cc e)
 
   -- A list of commands, from any two such worlds on.

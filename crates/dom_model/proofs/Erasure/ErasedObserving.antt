@@ -1,17 +1,17 @@
 -- Worlds without some observers: the commands of the other observers, and what is left of the answers to notify and pending.
 -- DOM Standard, "Interface MutationObserver".
-use Rattle.std.proofs.Common.{◌≡◌, ℕ, ◌<◌, Bool, true, false, not, nat_lt, if◌then◌else◌, [], ◌∷◌, length, refl, ap, sym, subst}
-use Rattle.std.proofs.lemmas.Bool.{ltb-true}
+use Rattle.std.proofs.Common.{◌≡◌, ℕ, ◌<◌, Bool, true, false, not, if◌then◌else◌, [], ◌∷◌, length, refl, ap, sym, subst}
 use Rattle.dom_model.specs.declared.OwnError.TheVariants.{NoSuchObject}
 use Rattle.dom_model.specs.Worlds.World.{World}
-use Rattle.dom_model.specs.Commands.Command.{Command, CreateObserver, Observe, Disconnect, TakeRecords, Notify, Pending, Discard}
+use Rattle.dom_model.specs.Commands.Command.{Command, CreateObserver, Observe, Disconnect, TakeRecords, Notify, Pending, ReleaseObserver, Discard}
 use Rattle.dom_model.specs.MutationObservers.GivenOptions.{GivenOptions}
 use Rattle.dom_model.specs.Commands.Reply.{Number, Numbers, Records, Notified, Done, Own}
-use Rattle.dom_model.specs.MutationObservers.Records.{options_refusal, options_of, observed, with_observer, records_taken, disconnected, after_notify}
+use Rattle.dom_model.specs.MutationObservers.Records.{options_refusal, options_of, observed, has_observer, with_observer, records_taken, disconnected, released_observer, after_notify}
 use Rattle.dom_model.specs.Commands.Guards.{Bounds, Step, refused, guarded, no_node, no_room, answers}
 use Rattle.dom_model.specs.Commands.Answer.{answer}
 use Rattle.dom_model.specs.Erasure.Erasing.{is_by_observer, left_by_observers, discards}
-use Rattle.dom_model.proofs.MutationObservers.Apart.{queue-left, pending-left, told-left, notified-left, taken-left, disconnected-left, observed-left, made-left}
+use Rattle.dom_model.proofs.MutationObservers.Apart.{queue-left, pending-left, told-left, notified-left, taken-left, disconnected-left, released-left, observed-left, made-left, there-left}
+use Rattle.dom_model.proofs.MutationObservers.Queues.{observer-made}
 use Rattle.dom_model.proofs.Erasure.ErasedWorlds.{left_world, Without, without}
 use Rattle.dom_model.proofs.Erasure.ErasedSteps.{Alike, guarded-left, checked-left}
 use Rattle.dom_model.proofs.Erasure.ErasedTreeAnswers.{concerns_watchers, tree_answer-left}
@@ -25,28 +25,36 @@ module _ (erased : ℕ → Bool) (watched : Bool) where
       (record { reply = refl; world = without (with_observer o) v (made-left erased x.observing o h) }))
 
   -- the observer is there in both worlds, or in neither
-  named-left : (p : ℕ) (x y : World) → Without erased watched x y → (s t : Step) → (p < length x.observing.places → Alike erased watched s t) → Alike erased watched (if not (nat_lt p (length x.observing.places)) then refused (Own NoSuchObject) x else s) (if not (nat_lt p (length y.observing.places)) then refused (Own NoSuchObject) y else t)
-  named-left p x _ (without o v h) s t k = rw h.made (go (nat_lt p (length x.observing.places)) refl)
+  named-left : (p : ℕ) → erased p ≡ false → (x y : World) → Without erased watched x y → (s t : Step) → (p < length x.observing.places → Alike erased watched s t) → Alike erased watched (if not (has_observer x.observing p) then refused (Own NoSuchObject) x else s) (if not (has_observer y.observing p) then refused (Own NoSuchObject) y else t)
+  named-left p e x _ (without o v h) s t k =
+      subst (λ u. Alike erased watched (if not (has_observer x.observing p) then refused (Own NoSuchObject) x else s) (if not u then refused (Own NoSuchObject) (left_world watched o v x) else t))
+      (sym (there-left erased x.observing o h p e))
+      (go (has_observer x.observing p) refl)
     where
-      go : (u : Bool) → nat_lt p (length x.observing.places) ≡ u → Alike erased watched (if not u then refused (Own NoSuchObject) x else s) (if not u then refused (Own NoSuchObject) (left_world watched o v x) else t)
-      go true e = k (ltb-true p (length x.observing.places) e)
-      go false e = record { reply = refl; world = without o v h }
+      go : (u : Bool) → has_observer x.observing p ≡ u → Alike erased watched (if not u then refused (Own NoSuchObject) x else s) (if not u then refused (Own NoSuchObject) (left_world watched o v x) else t)
+      go true d = k (observer-made x.observing p d)
+      go false d = record { reply = refl; world = without o v h }
 
   observe-left : (b : Bounds) (p n : ℕ) (options : GivenOptions) → erased p ≡ false → (x y : World) → Without erased watched x y → Alike erased watched (answer b x (Observe p n options)) (answer b y (Observe p n options))
   observe-left b p n options e x _ (without o v h) =
-      named-left p x _ (without o v h) _ _ λ _.
+      named-left p e x _ (without o v h) _ _ λ _.
       guarded-left erased watched (no_node n x ∷ []) {x = x} (without o v h)
       (checked-left erased watched (options_refusal options) {x = x} (without o v h)
       (record { reply = refl; world = without (observed p n (options_of options) o) v (observed-left erased x.observing o h p n (options_of options) e) }))
 
-  disconnect-left : (b : Bounds) (p : ℕ) (x y : World) → Without erased watched x y → Alike erased watched (answer b x (Disconnect p)) (answer b y (Disconnect p))
-  disconnect-left b p x _ (without o v h) =
-      named-left p x _ (without o v h) _ _ λ below.
+  disconnect-left : (b : Bounds) (p : ℕ) → erased p ≡ false → (x y : World) → Without erased watched x y → Alike erased watched (answer b x (Disconnect p)) (answer b y (Disconnect p))
+  disconnect-left b p e x _ (without o v h) =
+      named-left p e x _ (without o v h) _ _ λ below.
       record { reply = refl; world = without (disconnected p o) v (disconnected-left erased x.observing o h p below) }
+
+  release-left : (b : Bounds) (p : ℕ) → erased p ≡ false → (x y : World) → Without erased watched x y → Alike erased watched (answer b x (ReleaseObserver p)) (answer b y (ReleaseObserver p))
+  release-left b p e x _ (without o v h) =
+      named-left p e x _ (without o v h) _ _ λ _.
+      record { reply = refl; world = without (released_observer p o) v (released-left erased x.observing o h p) }
 
   take_records-left : (b : Bounds) (p : ℕ) → erased p ≡ false → (x y : World) → Without erased watched x y → Alike erased watched (answer b x (TakeRecords p)) (answer b y (TakeRecords p))
   take_records-left b p e x _ (without o v h) =
-      named-left p x _ (without o v h) _ _ λ below.
+      named-left p e x _ (without o v h) _ _ λ below.
       record {
         reply = ap (λ rs. Done (Records rs)) (queue-left erased x.observing o h p e);
         world = without (records_taken p o) v (taken-left erased x.observing o h p below);
@@ -61,7 +69,8 @@ module _ (erased : ℕ → Bool) (watched : Bool) where
   pub command-left : (b : Bounds) (c : Command) (x y : World) → Without erased watched x y → discards c ≡ false → is_by_observer erased c ≡ false → concerns_watchers c ≡ false → Follows c (answer b x c) (answer b y c)
   command-left b CreateObserver x y h d e f = let k = create_observer-left b x y h in record { reply = k.reply; world = k.world }
   command-left b (Observe p n options) x y h d e f = let k = observe-left b p n options e x y h in record { reply = k.reply; world = k.world }
-  command-left b (Disconnect p) x y h d e f = let k = disconnect-left b p x y h in record { reply = k.reply; world = k.world }
+  command-left b (Disconnect p) x y h d e f = let k = disconnect-left b p e x y h in record { reply = k.reply; world = k.world }
+  command-left b (ReleaseObserver p) x y h d e f = let k = release-left b p e x y h in record { reply = k.reply; world = k.world }
   command-left b (TakeRecords p) x y h d e f = let k = take_records-left b p e x y h in record { reply = k.reply; world = k.world }
   command-left b Notify x _ (without o v h) d e f = record {
     reply = ap (λ ts. Done (Notified ts)) (told-left erased x.observing o h);

@@ -5,12 +5,12 @@ use Rattle.dom_model.specs.Forests.Arena.{Entry}
 use Rattle.dom_model.specs.Forests.Forest.{Node}
 use Rattle.dom_model.specs.Worlds.World.{Content, Point, Range, Iterator, Walker, World}
 use Rattle.dom_model.specs.Commands.Reply.{Reply}
-use Rattle.dom_model.specs.RangesAndContents.StaticRanges.{made_static}
+use Rattle.dom_model.specs.RangesAndContents.StaticRanges.{made_static, released_static}
 use Rattle.dom_model.specs.RangesAndContents.Ranges.{made_range, released}
 use Rattle.dom_model.specs.Commands.Guards.{Step, guarded, checked}
 use Rattle.dom_model.specs.Commands.AnswerTree.{described}
 use Rattle.dom_model.specs.Commands.AnswerRanges.{on_range, at_point, at_ends, done_or_refused}
-use Rattle.dom_model.specs.Commands.AnswerTraversal.{with_object, with_iterator, with_walker}
+use Rattle.dom_model.specs.Commands.AnswerTraversal.{with_object, with_iterator, with_walker, released_iterator, released_walker}
 use Rattle.dom_model.specs.Commands.AnswerStatic.{static_told}
 use Rattle.dom_model.specs.RangesAndContents.Wrapping.{Outcome}
 use Rattle.dom_model.proofs.Erasure.ErasedWorlds.{Without, without, Keeps}
@@ -83,3 +83,12 @@ module _ (erased : ℕ → Bool) where
 
   pub with_walker-left : (k : ℕ) (walker : Walker) → Keeps erased true (with_walker k walker)
   with_walker-left k walker x _ (without o v h) = without o v h
+
+  pub released_iterator-left : (i : ℕ) → Keeps erased true (released_iterator i)
+  released_iterator-left i x _ (without o v h) = without o v h
+
+  pub released_walker-left : (k : ℕ) → Keeps erased true (released_walker k)
+  released_walker-left k x _ (without o v h) = without o v h
+
+  pub released_static-left : (u : ℕ) → Keeps erased true (released_static u)
+  released_static-left u x _ (without o v h) = without o v h

@@ -7,7 +7,7 @@ use Rattle.dom_model.specs.Commands.Answer.{answer}
 use Rattle.dom_model.proofs.Erasure.ErasedWorlds.{Without, without}
 use Rattle.dom_model.proofs.Erasure.ErasedContents.{with_range-left, delete_contents-left, extract-left, clone_contents-left}
 use Rattle.dom_model.proofs.Erasure.ErasedWrapping.{insert_node-left, surround-left}
-use Rattle.dom_model.proofs.Erasure.ErasedSteps.{Alike, replies-left, guarded-left, checked-left, on_range-left, at_point-left, at_ends-left, with_object-left, static_told-left, done_or_refused-left, made_range-left, released-left, made_static-left, with_iterator-left, with_walker-left}
+use Rattle.dom_model.proofs.Erasure.ErasedSteps.{Alike, replies-left, guarded-left, checked-left, on_range-left, at_point-left, at_ends-left, with_object-left, static_told-left, done_or_refused-left, made_range-left, released-left, made_static-left, with_iterator-left, with_walker-left, released_iterator-left, released_walker-left, released_static-left}
 use Rattle.dom_model.proofs.Erasure.ErasedTreeAnswers.{concerns_watchers}
 
 ruleset steps = (
@@ -32,6 +32,9 @@ ruleset steps = (
   made_static-left,
   with_iterator-left,
   with_walker-left,
+  released_iterator-left,
+  released_walker-left,
+  released_static-left,
 )
 
 module _ (erased : ℕ → Bool) where

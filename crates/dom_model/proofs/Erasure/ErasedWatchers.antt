@@ -7,11 +7,11 @@ use Rattle.dom_model.specs.declared.DomError.{DomError}
 use Rattle.dom_model.specs.Worlds.World.{Point, Range, Iterator, Walker, World, first_world}
 use Rattle.dom_model.specs.Commands.Command.{Command, CreateIterator, CreateWalker, Disconnect, Notify, Pending}
 use Rattle.dom_model.specs.Commands.Reply.{Answer, Reply, Done, Dom, Own, Numbers, Notified}
-use Rattle.dom_model.specs.RangesAndContents.StaticRanges.{made_static}
+use Rattle.dom_model.specs.RangesAndContents.StaticRanges.{made_static, released_static}
 use Rattle.dom_model.specs.RangesAndContents.Ranges.{with_range, made_range, released}
 use Rattle.dom_model.specs.Commands.Guards.{Bounds, Step, guarded, checked, no_node, no_room}
 use Rattle.dom_model.specs.Commands.AnswerRanges.{on_range, at_point, at_ends}
-use Rattle.dom_model.specs.Commands.AnswerTraversal.{with_object, with_iterator, with_walker}
+use Rattle.dom_model.specs.Commands.AnswerTraversal.{with_object, with_iterator, with_walker, released_iterator, released_walker}
 use Rattle.dom_model.specs.Commands.AnswerStatic.{static_told}
 use Rattle.dom_model.specs.Commands.Answer.{answer}
 use Rattle.dom_model.specs.Erasure.Erasing.{replies_to, is_by_observer, parts_left, reply_left, left_by_observers, edits_by_range, only_watches, makes_no_edit_by_range, without_watchers, replies_without_watchers, discards, makes_no_discard}
@@ -75,6 +75,15 @@ with_iterator-alone i it x _ (without o v h) = without o v h
 with_walker-alone : (k : ℕ) (walker : Walker) (x y : World) → Unwatched x y → Unwatched (with_walker k walker x) y
 with_walker-alone k walker x _ (without o v h) = without o v h
 
+released_iterator-alone : (i : ℕ) (x y : World) → Unwatched x y → Unwatched (released_iterator i x) y
+released_iterator-alone i x _ (without o v h) = without o v h
+
+released_walker-alone : (k : ℕ) (x y : World) → Unwatched x y → Unwatched (released_walker k x) y
+released_walker-alone k x _ (without o v h) = without o v h
+
+released_static-alone : (u : ℕ) (x y : World) → Unwatched x y → Unwatched (released_static u x) y
+released_static-alone u x _ (without o v h) = without o v h
+
 -- a case that the test excludes
 impossible : {x y : World} → false ≡ true → Unwatched x y
 impossible e = absurd (cc e)
@@ -93,6 +102,9 @@ ruleset steps = (
   made_static-alone,
   with_iterator-alone,
   with_walker-alone,
+  released_iterator-alone,
+  released_walker-alone,
+  released_static-alone,
   impossible,
 )
 

@@ -14,9 +14,9 @@ use Rattle.dom_model.proofs.MutationObservers.Apart.{IsWithout, left_of, standin
 -- what watches the tree beside observers
 pub record Watchers : Type 0 where
   pub ranges : List (Option Range)
-  pub iterators : List Iterator
-  pub walkers : List Walker
-  pub static_ranges : List Range
+  pub iterators : List (Option Iterator)
+  pub walkers : List (Option Walker)
+  pub static_ranges : List (Option Range)
 
 abbrev pub watchers_of : World → Watchers
 watchers_of w = record { ranges = w.ranges; iterators = w.iterators; walkers = w.walkers; static_ranges = w.static_ranges }
@@ -56,7 +56,7 @@ module _ (erased : ℕ → Bool) where
   moved_ranges-left true move x _ (without o v h) = without o v h
   moved_ranges-left false move x _ (without o v h) = without o (record v { ranges = map_ranges move v.ranges }) h
 
-  moved_iterators-left : (watched : Bool) (move : List Iterator → List Iterator) → Keeps watched (λ w. record w { iterators = move w.iterators })
+  moved_iterators-left : (watched : Bool) (move : List (Option Iterator) → List (Option Iterator)) → Keeps watched (λ w. record w { iterators = move w.iterators })
   moved_iterators-left true move x _ (without o v h) = without o v h
   moved_iterators-left false move x _ (without o v h) = without o (record v { iterators = move v.iterators }) h
 

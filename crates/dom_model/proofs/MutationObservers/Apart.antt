@@ -1,17 +1,17 @@
 -- Observers do not feel one another: the observing part without some observers tells the others the same.
-use Rattle.std.proofs.Common.{◌≡◌, ℕ, zero, suc, ◌+◌, ◌<◌, ◌≤◌, ◌==◌, Bool, true, false, not, ◌||◌, if◌then◌else◌, List, [], ◌∷◌, ◌++◌, map, length, drop, refl, ap, sym, ◌∙◌, subst, arith, append-nil, length-append, ◌-◌, ◌⊎◌, inl, inr}
-use Rattle.std.specs.Prelude.{filter, filter_map, flat_map, cond, is_none, slice_index_or}
+use Rattle.std.proofs.Common.{◌≡◌, ℕ, zero, suc, ◌+◌, ◌<◌, ◌≤◌, ◌==◌, Bool, true, false, not, ◌||◌, if◌then◌else◌, List, [], ◌∷◌, ◌++◌, map, length, drop, Option, Some, None, option_map, refl, ap, sym, ◌∙◌, subst, append-nil, length-append, ◌-◌, ◌⊎◌, inl, inr}
+use Rattle.std.specs.Prelude.{filter, filter_map, flat_map, cond, is_none, is_some, slice_index_or}
 use Rattle.std.specs.List.{cons_option, list_any}
 use Rattle.std.proofs.lemmas.Bool.{false≢true, cases_lt}
 use Rattle.std.proofs.lemmas.List.{map-append, length-map, length-set, get_or-set_same, get_or-set_other, get_or_append_left, get_or-append_right}
 use Rattle.std.proofs.lemmas.List.Elements.{filter-append}
-use Rattle.dom_model.specs.PlainLists.Lists.{left_out}
 use Rattle.dom_model.specs.Worlds.World.{Options, Registration, Mutation, Observing}
 use Rattle.dom_model.specs.MutationObservers.Observing.{registered_on, standing_on, noted, transient_of, with_transients}
 use Rattle.dom_model.specs.MutationObservers.Record.{Told}
-use Rattle.dom_model.specs.MutationObservers.Records.{interests, interested, record_by, record_for, observers_of, each_once, queue_of, pending_of, told_in, has_records, told, after_notify, records_taken, disconnected, is_registered, is_transient_from, new_registration, with_options, registered, observed, with_observer}
+use Rattle.dom_model.specs.MutationObservers.Records.{interests, interested, record_by, record_for, observers_of, each_once, taken_up_to, has_observer, records_past, queue_of, pending_of, told_in, has_records, told, after_notify, records_taken, disconnected, released_observer, is_registered, is_transient_from, new_registration, with_options, registered, observed, with_observer}
 use Rattle.dom_model.proofs.PlainLists.Numbers.{Same, same_or, same, apart}
 use Rattle.dom_model.proofs.MutationObservers.NodeRegistrations.{filter-twice, filter-map_kept, registered_on-filter}
+use Rattle.dom_model.proofs.MutationObservers.Queues.{each_once-filter, place-released, place-released_other, place-notified}
 
 module _ (erased : ℕ → Bool) where
   abbrev pub is_left : Registration → Bool
@@ -25,7 +25,7 @@ module _ (erased : ℕ → Bool) where
   pub record IsWithout (x y : Observing) : Type 0 where
     pub registrations : y.registrations ≡ filter is_left x.registrations
     pub mutations : y.mutations ≡ map left_of x.mutations
-    pub places : (o : ℕ) → erased o ≡ false → slice_index_or y.places o 0 ≡ slice_index_or x.places o 0
+    pub places : (o : ℕ) → erased o ≡ false → taken_up_to o y ≡ taken_up_to o x
     pub made : length y.places ≡ length x.places
     pub last : y.notified ≡ x.notified
 
@@ -58,11 +58,18 @@ module _ (erased : ℕ → Bool) where
 
   -- the others' queues are the same
   pub queue-left : (x y : Observing) → IsWithout x y → (o : ℕ) → erased o ≡ false → queue_of o y ≡ queue_of o x
-  queue-left x y w o h =
-      ap (λ n. filter_map (record_for o) (drop n y.mutations)) (w.places o h)
-      ∙ ap (λ ms. filter_map (record_for o) (drop (slice_index_or x.places o 0) ms)) w.mutations
-      ∙ ap (filter_map (record_for o)) (drop-map (slice_index_or x.places o 0) x.mutations)
-      ∙ filter_map-left o h (drop (slice_index_or x.places o 0) x.mutations)
+  queue-left x y w o h = ap (records_past o y.mutations) (w.places o h) ∙ past (taken_up_to o x)
+    where
+      past : (t : Option ℕ) → records_past o y.mutations t ≡ records_past o x.mutations t
+      past None = refl
+      past (Some place) =
+          ap (λ ms. filter_map (record_for o) (drop place ms)) w.mutations
+          ∙ ap (filter_map (record_for o)) (drop-map place x.mutations)
+          ∙ filter_map-left o h (drop place x.mutations)
+
+  -- the others are there in both, or in neither
+  pub there-left : (x y : Observing) → IsWithout x y → (o : ℕ) → erased o ≡ false → has_observer y o ≡ has_observer x o
+  there-left x y w o h = ap is_some (w.places o h)
 
   -- the pending list is the same but for the erased ones
 
@@ -87,49 +94,32 @@ module _ (erased : ℕ → Bool) where
       ∙ ap (λ os. filter is_other (observers_of m) ++ os) (flat_map-left ms)
       ∙ sym (filter-append is_other (observers_of m) (flat_map observers_of ms))
 
-  filter-left_out : (n : ℕ) (ns : List ℕ) → filter is_other (left_out n ns) ≡ left_out n (filter is_other ns)
-  filter-left_out n [] = refl
-  filter-left_out n (m ∷ ns) = go (filter-left_out n ns) (same_or m n)
+  filter-there : (x y : Observing) → IsWithout x y → (ns : List ℕ) → filter (has_observer y) (filter is_other ns) ≡ filter is_other (filter (has_observer x) ns)
+  filter-there x y w [] = refl
+  filter-there x y w (n ∷ ns) = go (erased n) refl (filter-there x y w ns)
     where
-      keep : (v : Bool) → (m == n) ≡ false → filter is_other (left_out n ns) ≡ left_out n (filter is_other ns) → cond v (m ∷ filter is_other (left_out n ns)) (filter is_other (left_out n ns)) ≡ left_out n (cond v (m ∷ filter is_other ns) (filter is_other ns))
-      keep true t i = rw t (ap (λ os. m ∷ os) i)
-      keep false t i = i
+      gone : (v : Bool) → erased n ≡ true → filter is_other (filter (has_observer x) ns) ≡ filter is_other (cond v (n ∷ filter (has_observer x) ns) (filter (has_observer x) ns))
+      gone true e = rw e refl
+      gone false e = refl
 
-      lose : (v : Bool) → (m == n) ≡ true → filter is_other (left_out n ns) ≡ left_out n (filter is_other ns) → filter is_other (left_out n ns) ≡ left_out n (cond v (m ∷ filter is_other ns) (filter is_other ns))
-      lose true t i = rw t i
-      lose false t i = i
+      other : (v : Bool) → erased n ≡ false → filter (has_observer y) (filter is_other ns) ≡ filter is_other (filter (has_observer x) ns) → cond v (n ∷ filter (has_observer y) (filter is_other ns)) (filter (has_observer y) (filter is_other ns)) ≡ filter is_other (cond v (n ∷ filter (has_observer x) ns) (filter (has_observer x) ns))
+      other true e i = rw e (ap (λ os. n ∷ os) i)
+      other false e i = i
 
-      go : filter is_other (left_out n ns) ≡ left_out n (filter is_other ns) → Same m n → filter is_other (left_out n (m ∷ ns)) ≡ left_out n (filter is_other (m ∷ ns))
-      go i (same e t) = rw t (lose (not (erased m)) t i)
-      go i (apart ne t) = rw t (keep (not (erased m)) t i)
-
-  left_out-erased : (n : ℕ) → erased n ≡ true → (ns : List ℕ) → left_out n (filter is_other ns) ≡ filter is_other ns
-  left_out-erased n h [] = refl
-  left_out-erased n h (m ∷ ns) = go (erased m) refl (left_out-erased n h ns)
-    where
-      go : (v : Bool) → erased m ≡ v → left_out n (filter is_other ns) ≡ filter is_other ns → left_out n (cond (not v) (m ∷ filter is_other ns) (filter is_other ns)) ≡ cond (not v) (m ∷ filter is_other ns) (filter is_other ns)
-      go true e i = i
+      go : (v : Bool) → erased n ≡ v → filter (has_observer y) (filter is_other ns) ≡ filter is_other (filter (has_observer x) ns) → filter (has_observer y) (cond (not v) (n ∷ filter is_other ns) (filter is_other ns)) ≡ filter is_other (filter (has_observer x) (n ∷ ns))
+      go true e i = i ∙ gone (has_observer x n) e
       go false e i =
-          elim (same_or m n) [
-            | same d t ↦ absurd (false≢true (sym e ∙ ap erased d ∙ h))
-            | apart ne t ↦ rw t (ap (λ os. m ∷ os) i)
-          ]
-
-  each_once-left : (ns : List ℕ) → each_once (filter is_other ns) ≡ filter is_other (each_once ns)
-  each_once-left [] = refl
-  each_once-left (n ∷ ns) = go (erased n) refl (each_once-left ns)
-    where
-      go : (v : Bool) → erased n ≡ v → each_once (filter is_other ns) ≡ filter is_other (each_once ns) → each_once (cond (not v) (n ∷ filter is_other ns) (filter is_other ns)) ≡ cond (not v) (n ∷ filter is_other (left_out n (each_once ns))) (filter is_other (left_out n (each_once ns)))
-      go false e i = ap (λ os. n ∷ os) (ap (left_out n) i ∙ sym (filter-left_out n (each_once ns)))
-      go true e i = i ∙ sym (left_out-erased n e (each_once ns)) ∙ sym (filter-left_out n (each_once ns))
+          ap (λ v. cond v (n ∷ filter (has_observer y) (filter is_other ns)) (filter (has_observer y) (filter is_other ns))) (there-left x y w n e)
+          ∙ other (has_observer x n) e i
 
   pub pending-left : (x y : Observing) → IsWithout x y → pending_of y ≡ filter is_other (pending_of x)
   pending-left x y w =
-      ap (λ n. each_once (flat_map observers_of (drop n y.mutations))) w.last
-      ∙ ap (λ ms. each_once (flat_map observers_of (drop x.notified ms))) w.mutations
-      ∙ ap (λ ms. each_once (flat_map observers_of ms)) (drop-map x.notified x.mutations)
-      ∙ ap each_once (flat_map-left (drop x.notified x.mutations))
-      ∙ each_once-left (flat_map observers_of (drop x.notified x.mutations))
+      ap (λ n. filter (has_observer y) (each_once (flat_map observers_of (drop n y.mutations)))) w.last
+      ∙ ap (λ ms. filter (has_observer y) (each_once (flat_map observers_of (drop x.notified ms)))) w.mutations
+      ∙ ap (λ ms. filter (has_observer y) (each_once (flat_map observers_of ms))) (drop-map x.notified x.mutations)
+      ∙ ap (λ os. filter (has_observer y) (each_once os)) (flat_map-left (drop x.notified x.mutations))
+      ∙ ap (filter (has_observer y)) (each_once-filter is_other (flat_map observers_of (drop x.notified x.mutations)))
+      ∙ filter-there x y w (each_once (flat_map observers_of (drop x.notified x.mutations)))
 
   -- what notify tells the others is the same
 
@@ -186,30 +176,25 @@ module _ (erased : ℕ → Bool) where
   notified-left x y w = record {
     registrations = ap (filter (λ (r : Registration). is_none r.source)) w.registrations ∙ filter-twice (λ (r : Registration). is_none r.source) is_left x.registrations;
     mutations = w.mutations;
-    places = λ o h. ap (λ ns. slice_index_or ns o 0) all_same;
-    made = ap length all_same;
+    places = λ o h.
+        place-notified o y
+        ∙ ap (λ place. option_map (λ _. length y.mutations) place) (w.places o h)
+        ∙ ap (λ l. option_map (λ _. l) (taken_up_to o x)) long
+        ∙ sym (place-notified o x);
+    made = length-map y.places _ ∙ w.made ∙ sym (length-map x.places _);
     last = long;
   }
     where
       long : length y.mutations ≡ length x.mutations
       long = ap length w.mutations ∙ length-map x.mutations left_of
 
-      constant : (l : ℕ) (ns ms : List ℕ) → length ns ≡ length ms → map (λ _. l) ns ≡ map (λ _. l) ms
-      constant l [] [] e = refl
-      constant l [] (m ∷ ms) e = absurd (omega arith)
-      constant l (n ∷ ns) [] e = absurd (omega arith)
-      constant l (n ∷ ns) (m ∷ ms) e = ap (λ ks. l ∷ ks) (constant l ns ms (omega arith))
-
-      all_same : map (λ _. length y.mutations) y.places ≡ map (λ _. length x.mutations) x.places
-      all_same = ap (λ l. map (λ _. l) y.places) long ∙ constant (length x.mutations) y.places x.places w.made
-
   -- records of an erased observer are taken in the one alone, those of another in both
   pub taken-erased : (x y : Observing) → IsWithout x y → (o : ℕ) → erased o ≡ true → IsWithout (records_taken o x) y
   taken-erased x y w o h = record {
     registrations = w.registrations;
     mutations = w.mutations;
-    places = λ p k. w.places p k ∙ sym (get_or-set_other x.places o p (length x.mutations) 0 (λ d. false≢true (sym k ∙ ap erased d ∙ h)));
-    made = w.made ∙ sym (length-set x.places o (length x.mutations));
+    places = λ p k. w.places p k ∙ sym (get_or-set_other x.places o p (Some (length x.mutations)) None (λ d. false≢true (sym k ∙ ap erased d ∙ h)));
+    made = w.made ∙ sym (length-set x.places o (Some (length x.mutations)));
     last = w.last;
   }
 
@@ -218,18 +203,18 @@ module _ (erased : ℕ → Bool) where
     registrations = w.registrations;
     mutations = w.mutations;
     places = λ p k. place p k (same_or p o);
-    made = length-set y.places o (length y.mutations) ∙ w.made ∙ sym (length-set x.places o (length x.mutations));
+    made = length-set y.places o (Some (length y.mutations)) ∙ w.made ∙ sym (length-set x.places o (Some (length x.mutations)));
     last = w.last;
   }
     where
       long : length y.mutations ≡ length x.mutations
       long = ap length w.mutations ∙ length-map x.mutations left_of
 
-      place : (p : ℕ) → erased p ≡ false → Same p o → slice_index_or (records_taken o y).places p 0 ≡ slice_index_or (records_taken o x).places p 0
-      place p k (apart ne t) = get_or-set_other y.places o p (length y.mutations) 0 ne ∙ w.places p k ∙ sym (get_or-set_other x.places o p (length x.mutations) 0 ne)
+      place : (p : ℕ) → erased p ≡ false → Same p o → taken_up_to p (records_taken o y) ≡ taken_up_to p (records_taken o x)
+      place p k (apart ne t) = get_or-set_other y.places o p (Some (length y.mutations)) None ne ∙ w.places p k ∙ sym (get_or-set_other x.places o p (Some (length x.mutations)) None ne)
       place p k (same d t) =
-          subst (λ q. slice_index_or (records_taken o y).places q 0 ≡ slice_index_or (records_taken o x).places q 0) (sym d)
-          (get_or-set_same y.places o (length y.mutations) 0 (rw w.made h) ∙ long ∙ sym (get_or-set_same x.places o (length x.mutations) 0 h))
+          subst (λ q. taken_up_to q (records_taken o y) ≡ taken_up_to q (records_taken o x)) (sym d)
+          (get_or-set_same y.places o (Some (length y.mutations)) None (rw w.made h) ∙ ap Some long ∙ sym (get_or-set_same x.places o (Some (length x.mutations)) None h))
 
   -- an erased observer is disconnected in the one alone, another in both
   pub disconnected-erased : (x y : Observing) → IsWithout x y → (o : ℕ) → erased o ≡ true → IsWithout (disconnected o x) y
@@ -261,6 +246,33 @@ module _ (erased : ℕ → Bool) where
         made = t.made;
         last = t.last;
       }
+
+  -- an erased observer is released in the one alone, another in both
+  pub released-erased : (x y : Observing) → IsWithout x y → (o : ℕ) → erased o ≡ true → IsWithout (released_observer o x) y
+  released-erased x y w o h =
+      let d = disconnected-erased x y w o h in
+      record {
+        registrations = d.registrations;
+        mutations = d.mutations;
+        places = λ p k. w.places p k ∙ sym (place-released_other o p x (λ e. false≢true (sym k ∙ ap erased e ∙ h)));
+        made = w.made ∙ sym (length-set x.places o None);
+        last = w.last;
+      }
+
+  pub released-left : (x y : Observing) → IsWithout x y → (o : ℕ) → IsWithout (released_observer o x) (released_observer o y)
+  released-left x y w o = record {
+    registrations = ap (filter (λ (r : Registration). not (r.observer == o))) w.registrations ∙ filter-twice (λ (r : Registration). not (r.observer == o)) is_left x.registrations;
+    mutations = w.mutations;
+    places = λ p k. place p k (same_or p o);
+    made = length-set y.places o None ∙ w.made ∙ sym (length-set x.places o None);
+    last = w.last;
+  }
+    where
+      place : (p : ℕ) → erased p ≡ false → Same p o → taken_up_to p (released_observer o y) ≡ taken_up_to p (released_observer o x)
+      place p k (apart ne t) = place-released_other o p y ne ∙ w.places p k ∙ sym (place-released_other o p x ne)
+      place p k (same d t) =
+          subst (λ q. taken_up_to q (released_observer o y) ≡ taken_up_to q (released_observer o x)) (sym d)
+          (place-released o y ∙ sym (place-released o x))
 
   -- an erased observer observes in the one alone
   pub observed-erased : (x y : Observing) → IsWithout x y → (o n : ℕ) (options : Options) → erased o ≡ true → IsWithout (observed o n options x) y
@@ -336,19 +348,19 @@ module _ (erased : ℕ → Bool) where
     registrations = w.registrations;
     mutations = w.mutations;
     places = λ o h. place o h (cases_lt o (length x.places));
-    made = length-append y.places (length y.mutations ∷ []) ∙ ap (λ l. l + 1) w.made ∙ sym (length-append x.places (length x.mutations ∷ []));
+    made = length-append y.places (Some (length y.mutations) ∷ []) ∙ ap (λ l. l + 1) w.made ∙ sym (length-append x.places (Some (length x.mutations) ∷ []));
     last = w.last;
   }
     where
       long : length y.mutations ≡ length x.mutations
       long = ap length w.mutations ∙ length-map x.mutations left_of
 
-      place : (o : ℕ) → erased o ≡ false → ((o < length x.places) ⊎ (length x.places ≤ o)) → slice_index_or (with_observer y).places o 0 ≡ slice_index_or (with_observer x).places o 0
+      place : (o : ℕ) → erased o ≡ false → ((o < length x.places) ⊎ (length x.places ≤ o)) → taken_up_to o (with_observer y) ≡ taken_up_to o (with_observer x)
       place o h (inl lt) =
-          get_or_append_left y.places (length y.mutations ∷ []) 0 o (rw w.made lt)
+          get_or_append_left y.places (Some (length y.mutations) ∷ []) None o (rw w.made lt)
           ∙ w.places o h
-          ∙ sym (get_or_append_left x.places (length x.mutations ∷ []) 0 o lt)
+          ∙ sym (get_or_append_left x.places (Some (length x.mutations) ∷ []) None o lt)
       place o h (inr le) =
-          get_or-append_right y.places (length y.mutations ∷ []) (length x.places) o 0 w.made le
-          ∙ ap (λ l. slice_index_or (l ∷ []) (o - length x.places) 0) long
-          ∙ sym (get_or-append_right x.places (length x.mutations ∷ []) (length x.places) o 0 refl le)
+          get_or-append_right y.places (Some (length y.mutations) ∷ []) (length x.places) o None w.made le
+          ∙ ap (λ l. slice_index_or (Some l ∷ []) (o - length x.places) None) long
+          ∙ sym (get_or-append_right x.places (Some (length x.mutations) ∷ []) (length x.places) o None refl le)

@@ -1,23 +1,29 @@
 -- What the steps of the observing part do to the queues, the pending list and the registrations of a node.
-use Rattle.std.proofs.Common.{◌≡◌, ℕ, ◌+◌, ◌<◌, ◌≤◌, ◌==◌, Bool, true, false, if◌then◌else◌, List, [], ◌∷◌, ◌++◌, length, drop, Option, Some, None, refl, ap, sym, ◌∙◌, subst, arith, ◌⊎◌, inl, inr, append_assoc, append-nil, length-append}
-use Rattle.std.specs.Prelude.{filter_map, flat_map, option_to_list, slice_set}
+use Rattle.std.proofs.Common.{◌≡◌, ℕ, zero, suc, ◌+◌, ◌-◌, ◌<◌, ◌≤◌, ◌==◌, Bool, true, false, not, if◌then◌else◌, List, [], ◌∷◌, ◌++◌, map, length, drop, Option, Some, None, IfSome, All, option_map, slice_index_or, refl, ap, sym, ◌∙◌, subst, arith, ◌⊎◌, inl, inr, append_assoc, append-nil, length-append}
+use Rattle.std.specs.Prelude.{filter, filter_map, flat_map, cond, is_some, option_to_list, slice_set}
 use Rattle.std.specs.List.{cons_option}
-use Rattle.std.proofs.lemmas.List.{drop-append-le, get_or-set_same, get_or-set_other, get_or_append_left, get_or-map, get_or_past, length-set}
-use Rattle.std.proofs.lemmas.List.Elements.{filter_map-append}
+use Rattle.std.proofs.lemmas.List.{drop-append-le, get_or-set_same, get_or-set_other, get_or_append_left, get_or-append_right, get_or_past, length-set}
+use Rattle.std.proofs.lemmas.List.Elements.{All-append, All-nil, All-weaker, filter-append, filter_map-append}
 use Rattle.std.proofs.lemmas.Grind.{flat_map-append}
+use Rattle.std.proofs.Math.ListN.{get_or-map}
 use Rattle.std.proofs.Math.Seq.{drop-length, get_or-append_seam}
-use Rattle.std.proofs.lemmas.Bool.{cases_lt}
+use Rattle.std.proofs.lemmas.Bool.{false≢true, cases_lt}
 use Rattle.dom_model.specs.PlainLists.Lists.{among, left_out}
 use Rattle.dom_model.specs.Worlds.World.{Options, Mutation, Observing}
 use Rattle.dom_model.specs.MutationObservers.Observing.{noted}
-use Rattle.dom_model.specs.MutationObservers.Record.{Record}
-use Rattle.dom_model.specs.MutationObservers.Records.{observed, record_for, taken_up_to, queue_of, observers_of, each_once, pending_of, with_observer, records_taken, disconnected, after_notify}
+use Rattle.dom_model.specs.MutationObservers.Record.{Record, Told}
+use Rattle.dom_model.specs.MutationObservers.Records.{observed, record_for, taken_up_to, has_observer, records_past, queue_of, observers_of, each_once, pending_of, InterestedAreMade, with_observer, records_taken, disconnected, released_observer, told_in, has_records, told, after_notify}
 use Rattle.dom_model.specs.PlainLists.LastOnce.{with_last, with_all_last}
 use Rattle.dom_model.proofs.PlainLists.Numbers.{Same, same_or, same, apart}
+use Rattle.dom_model.proofs.MutationObservers.NodeRegistrations.{filter-twice}
+
+-- a place that is there is not past the end of a list of mutations
+abbrev pub IsWithin : List Mutation → Option ℕ → Type 0
+IsWithin ms place = IfSome place (λ n. n ≤ length ms)
 
 -- no place is past the end of the list of mutations
 pub record IsTimely (x : Observing) : Type 0 where
-  pub places : (o : ℕ) → taken_up_to o x ≤ length x.mutations
+  pub places : (o : ℕ) → IsWithin x.mutations (taken_up_to o x)
   pub last : x.notified ≤ length x.mutations
 
 -- Each number once.
@@ -84,66 +90,230 @@ each_once-append xs [] = ap each_once (append-nil xs)
 each_once-append xs (y ∷ ys) =
     ap each_once (sym (append_assoc xs (y ∷ []) ys)) ∙ each_once-append (xs ++ y ∷ []) ys ∙ ap (λ ns. with_all_last ns ys) (each_once-last xs y)
 
+-- A test keeps each number once.
+
+module _ (p : ℕ → Bool) where
+  filter-left_out : (n : ℕ) (ns : List ℕ) → filter p (left_out n ns) ≡ left_out n (filter p ns)
+  filter-left_out n [] = refl
+  filter-left_out n (m ∷ ns) = go (filter-left_out n ns) (same_or m n)
+    where
+      keep : (v : Bool) → (m == n) ≡ false → filter p (left_out n ns) ≡ left_out n (filter p ns) → cond v (m ∷ filter p (left_out n ns)) (filter p (left_out n ns)) ≡ left_out n (cond v (m ∷ filter p ns) (filter p ns))
+      keep true t i = rw t (ap (λ os. m ∷ os) i)
+      keep false t i = i
+
+      lose : (v : Bool) → (m == n) ≡ true → filter p (left_out n ns) ≡ left_out n (filter p ns) → filter p (left_out n ns) ≡ left_out n (cond v (m ∷ filter p ns) (filter p ns))
+      lose true t i = rw t i
+      lose false t i = i
+
+      go : filter p (left_out n ns) ≡ left_out n (filter p ns) → Same m n → filter p (left_out n (m ∷ ns)) ≡ left_out n (filter p (m ∷ ns))
+      go i (same e t) = rw t (lose (p m) t i)
+      go i (apart ne t) = rw t (keep (p m) t i)
+
+  left_out-failing : (n : ℕ) → p n ≡ false → (ns : List ℕ) → left_out n (filter p ns) ≡ filter p ns
+  left_out-failing n h [] = refl
+  left_out-failing n h (m ∷ ns) = go (p m) refl (left_out-failing n h ns)
+    where
+      go : (v : Bool) → p m ≡ v → left_out n (filter p ns) ≡ filter p ns → left_out n (cond v (m ∷ filter p ns) (filter p ns)) ≡ cond v (m ∷ filter p ns) (filter p ns)
+      go false e i = i
+      go true e i =
+          elim (same_or m n) [
+            | same d t ↦ absurd (false≢true (sym h ∙ ap p (sym d) ∙ e))
+            | apart ne t ↦ rw t (ap (λ os. m ∷ os) i)
+          ]
+
+  pub each_once-filter : (ns : List ℕ) → each_once (filter p ns) ≡ filter p (each_once ns)
+  each_once-filter [] = refl
+  each_once-filter (n ∷ ns) = go (p n) refl (each_once-filter ns)
+    where
+      go : (v : Bool) → p n ≡ v → each_once (filter p ns) ≡ filter p (each_once ns) → each_once (cond v (n ∷ filter p ns) (filter p ns)) ≡ cond v (n ∷ filter p (left_out n (each_once ns))) (filter p (left_out n (each_once ns)))
+      go true e i = ap (λ os. n ∷ os) (ap (left_out n) i ∙ sym (filter-left_out n (each_once ns)))
+      go false e i = i ∙ sym (left_out-failing n e (each_once ns)) ∙ sym (filter-left_out n (each_once ns))
+
+-- two tests that agree on the numbers of a list
+filter-alike : (p q : ℕ → Bool) (ns : List ℕ) → All (λ n. p n ≡ q n) ns → filter p ns ≡ filter q ns
+filter-alike p q [] h = refl
+filter-alike p q (n ∷ ns) h = rw (h 0 n (omega arith)) (go (q n) (filter-alike p q ns (λ k d l. h (suc k) d (omega (arith, l)))))
+  where
+    go : (v : Bool) → filter p ns ≡ filter q ns → cond v (n ∷ filter p ns) (filter p ns) ≡ cond v (n ∷ filter q ns) (filter q ns)
+    go true i = ap (λ os. n ∷ os) i
+    go false i = i
+
+-- a test that holds of each
+pub filter-each : (p : ℕ → Bool) (ns : List ℕ) → All (λ n. p n ≡ true) ns → filter p ns ≡ ns
+filter-each p [] h = refl
+filter-each p (n ∷ ns) h = rw (h 0 n (omega arith)) (ap (λ os. n ∷ os) (filter-each p ns (λ k d l. h (suc k) d (omega (arith, l)))))
+
+-- The observers that are there.
+
+-- one that is there has a number that was given out
+pub observer-made : (x : Observing) (o : ℕ) → has_observer x o ≡ true → o < length x.places
+observer-made x o h = go (cases_lt o (length x.places))
+  where
+    go : ((o < length x.places) ⊎ (length x.places ≤ o)) → o < length x.places
+    go (inl lt) = lt
+    go (inr le) = absurd (false≢true (sym (ap is_some (get_or_past x.places o None le)) ∙ h))
+
+-- records are taken: the same ones are there
+pub there-taken : (o : ℕ) (x : Observing) → has_observer x o ≡ true → (p : ℕ) → has_observer (records_taken o x) p ≡ has_observer x p
+there-taken o x h p = go (same_or p o)
+  where
+    go : Same p o → has_observer (records_taken o x) p ≡ has_observer x p
+    go (apart ne t) = ap is_some (get_or-set_other x.places o p (Some (length x.mutations)) None ne)
+    go (same e t) =
+        subst (λ k. has_observer (records_taken o x) k ≡ has_observer x k) (sym e)
+        (ap is_some (get_or-set_same x.places o (Some (length x.mutations)) None (observer-made x o h)) ∙ sym h)
+
 -- A mutation is noted.
 
-pub queue-noted : (o : ℕ) (m : Mutation) (x : Observing) → taken_up_to o x ≤ length x.mutations → queue_of o (noted m x) ≡ queue_of o x ++ option_to_list (record_for o m)
-queue-noted o m x h =
-    ap (filter_map (record_for o)) (drop-append-le (taken_up_to o x) x.mutations (m ∷ []) h)
-    ∙ filter_map-append (record_for o) (drop (taken_up_to o x) x.mutations) (m ∷ [])
-    ∙ ap (λ rs. queue_of o x ++ rs) (one (record_for o m))
+pub queue-noted : (o : ℕ) (m : Mutation) (x : Observing) → has_observer x o ≡ true → IsWithin x.mutations (taken_up_to o x) → queue_of o (noted m x) ≡ queue_of o x ++ option_to_list (record_for o m)
+queue-noted o m x there h = go (taken_up_to o x) there h
   where
     one : (r : Option Record) → cons_option r [] ≡ option_to_list r
     one None = refl
     one (Some r) = refl
 
--- the observers that it interests come last on the pending list, in order, where they are not there yet
-pub pending-noted : (m : Mutation) (x : Observing) → x.notified ≤ length x.mutations → pending_of (noted m x) ≡ with_all_last (pending_of x) (observers_of m)
+    go : (t : Option ℕ) → is_some t ≡ true → IsWithin x.mutations t → records_past o (x.mutations ++ m ∷ []) t ≡ records_past o x.mutations t ++ option_to_list (record_for o m)
+    go None e i = absurd (false≢true e)
+    go (Some place) e i =
+        ap (filter_map (record_for o)) (drop-append-le place x.mutations (m ∷ []) i)
+        ∙ filter_map-append (record_for o) (drop place x.mutations) (m ∷ [])
+        ∙ ap (λ rs. filter_map (record_for o) (drop place x.mutations) ++ rs) (one (record_for o m))
+
+-- the observers that it interests, of those that are there, come last on the pending list, in order, where they are not on it yet
+pub pending-noted : (m : Mutation) (x : Observing) → x.notified ≤ length x.mutations → pending_of (noted m x) ≡ with_all_last (pending_of x) (filter (has_observer x) (observers_of m))
 pending-noted m x h =
-    ap (λ ms. each_once (flat_map observers_of ms)) (drop-append-le x.notified x.mutations (m ∷ []) h)
-    ∙ ap each_once (flat_map-append observers_of (drop x.notified x.mutations) (m ∷ []))
-    ∙ ap (λ os. each_once (flat_map observers_of (drop x.notified x.mutations) ++ os)) (append-nil (observers_of m))
-    ∙ each_once-append (flat_map observers_of (drop x.notified x.mutations)) (observers_of m)
+    ap (λ ms. filter (has_observer x) (each_once (flat_map observers_of ms))) (drop-append-le x.notified x.mutations (m ∷ []) h)
+    ∙ ap (λ os. filter (has_observer x) (each_once os)) (flat_map-append observers_of (drop x.notified x.mutations) (m ∷ []))
+    ∙ ap (λ os. filter (has_observer x) (each_once (before ++ os))) (append-nil (observers_of m))
+    ∙ sym (each_once-filter (has_observer x) (before ++ observers_of m))
+    ∙ ap each_once (filter-append (has_observer x) before (observers_of m))
+    ∙ each_once-append (filter (has_observer x) before) (filter (has_observer x) (observers_of m))
+    ∙ ap (λ ns. with_all_last ns (filter (has_observer x) (observers_of m))) (each_once-filter (has_observer x) before)
+  where
+    before : List ℕ
+    before = flat_map observers_of (drop x.notified x.mutations)
+
+-- where all that it interests are there
+pub pending-noted_there : (m : Mutation) (x : Observing) → x.notified ≤ length x.mutations → All (λ o. has_observer x o ≡ true) (observers_of m) → pending_of (noted m x) ≡ with_all_last (pending_of x) (observers_of m)
+pending-noted_there m x h there = pending-noted m x h ∙ ap (with_all_last (pending_of x)) (filter-each (has_observer x) (observers_of m) there)
 
 -- Records are taken.
 
 pub queue-taken : (o : ℕ) (x : Observing) → o < length x.places → queue_of o (records_taken o x) ≡ []
 queue-taken o x h =
-    ap (λ n. filter_map (record_for o) (drop n x.mutations)) (get_or-set_same x.places o (length x.mutations) 0 h)
+    ap (records_past o x.mutations) (get_or-set_same x.places o (Some (length x.mutations)) None h)
     ∙ ap (filter_map (record_for o)) (drop-length x.mutations)
 
 pub queue-kept : (o p : ℕ) (x : Observing) → (p ≡ o → ⊥) → queue_of p (records_taken o x) ≡ queue_of p x
-queue-kept o p x ne = ap (λ n. filter_map (record_for p) (drop n x.mutations)) (get_or-set_other x.places o p (length x.mutations) 0 ne)
+queue-kept o p x ne = ap (records_past p x.mutations) (get_or-set_other x.places o p (Some (length x.mutations)) None ne)
 
-pub pending-taken : (o : ℕ) (x : Observing) → pending_of (records_taken o x) ≡ pending_of x
-pending-taken o x = refl
+pub pending-taken : (o : ℕ) (x : Observing) → has_observer x o ≡ true → pending_of (records_taken o x) ≡ pending_of x
+pending-taken o x h = filter-alike (has_observer (records_taken o x)) (has_observer x) (each_once (flat_map observers_of (drop x.notified x.mutations))) (λ k d l. there-taken o x h _)
 
 -- An observer is disconnected.
 
 pub queue-disconnected : (o p : ℕ) (x : Observing) → queue_of p (disconnected o x) ≡ queue_of p (records_taken o x)
 queue-disconnected o p x = refl
 
-pub pending-disconnected : (o : ℕ) (x : Observing) → pending_of (disconnected o x) ≡ pending_of x
-pending-disconnected o x = refl
+pub pending-disconnected : (o : ℕ) (x : Observing) → has_observer x o ≡ true → pending_of (disconnected o x) ≡ pending_of x
+pending-disconnected o x h = pending-taken o x h
+
+-- An observer is released: it is there no more, has no queue and is not pending; the others are as they were.
+
+pub place-released : (o : ℕ) (x : Observing) → taken_up_to o (released_observer o x) ≡ None
+place-released o x = go (cases_lt o (length x.places))
+  where
+    go : ((o < length x.places) ⊎ (length x.places ≤ o)) → slice_index_or (slice_set x.places o None) o None ≡ None
+    go (inl lt) = get_or-set_same x.places o None None lt
+    go (inr le) = get_or_past (slice_set x.places o None) o None (rw (length-set x.places o None) le)
+
+pub place-released_other : (o p : ℕ) (x : Observing) → (p ≡ o → ⊥) → taken_up_to p (released_observer o x) ≡ taken_up_to p x
+place-released_other o p x ne = get_or-set_other x.places o p None None ne
+
+pub queue-released : (o : ℕ) (x : Observing) → queue_of o (released_observer o x) ≡ []
+queue-released o x = ap (records_past o x.mutations) (place-released o x)
+
+pub queue-released_other : (o p : ℕ) (x : Observing) → (p ≡ o → ⊥) → queue_of p (released_observer o x) ≡ queue_of p x
+queue-released_other o p x ne = ap (records_past p x.mutations) (place-released_other o p x ne)
+
+filter-released : (o : ℕ) (x : Observing) (ns : List ℕ) → filter (has_observer (released_observer o x)) ns ≡ left_out o (filter (has_observer x) ns)
+filter-released o x [] = refl
+filter-released o x (n ∷ ns) = go (same_or n o) (filter-released o x ns)
+  where
+    gone : (v : Bool) → (n == o) ≡ true → left_out o (filter (has_observer x) ns) ≡ left_out o (cond v (n ∷ filter (has_observer x) ns) (filter (has_observer x) ns))
+    gone true t = rw t refl
+    gone false t = refl
+
+    other : (v : Bool) → (n == o) ≡ false → filter (has_observer (released_observer o x)) ns ≡ left_out o (filter (has_observer x) ns) → cond v (n ∷ filter (has_observer (released_observer o x)) ns) (filter (has_observer (released_observer o x)) ns) ≡ left_out o (cond v (n ∷ filter (has_observer x) ns) (filter (has_observer x) ns))
+    other true t i = rw t (ap (λ os. n ∷ os) i)
+    other false t i = i
+
+    go : Same n o → filter (has_observer (released_observer o x)) ns ≡ left_out o (filter (has_observer x) ns) → filter (has_observer (released_observer o x)) (n ∷ ns) ≡ left_out o (filter (has_observer x) (n ∷ ns))
+    go (same e t) i =
+        let off : has_observer (released_observer o x) n ≡ false = ap (λ k. has_observer (released_observer o x) k) e ∙ ap is_some (place-released o x) in
+        ap (λ v. cond v (n ∷ filter (has_observer (released_observer o x)) ns) (filter (has_observer (released_observer o x)) ns)) off
+        ∙ i ∙ gone (has_observer x n) t
+    go (apart ne t) i =
+        let other_place : has_observer (released_observer o x) n ≡ has_observer x n = ap is_some (place-released_other o n x ne) in
+        ap (λ v. cond v (n ∷ filter (has_observer (released_observer o x)) ns) (filter (has_observer (released_observer o x)) ns)) other_place
+        ∙ other (has_observer x n) t i
+
+pub pending-released : (o : ℕ) (x : Observing) → pending_of (released_observer o x) ≡ left_out o (pending_of x)
+pending-released o x = filter-released o x (each_once (flat_map observers_of (drop x.notified x.mutations)))
+
+-- notify tells the others the same
+pub told-released : (o : ℕ) (x : Observing) → told (released_observer o x) ≡ filter (λ (t : Told). not (t.observer == o)) (told x)
+told-released o x =
+    ap (λ os. filter has_records (map (told_in (released_observer o x)) os)) (pending-released o x)
+    ∙ ap (filter has_records) (each (pending_of x))
+    ∙ filter-twice has_records (λ (t : Told). not (t.observer == o)) (map (told_in x) (pending_of x))
+  where
+    each : (os : List ℕ) → map (told_in (released_observer o x)) (left_out o os) ≡ filter (λ (t : Told). not (t.observer == o)) (map (told_in x) os)
+    each [] = refl
+    each (p ∷ os) = go (same_or p o) (each os)
+      where
+        go : Same p o → map (told_in (released_observer o x)) (left_out o os) ≡ filter (λ (t : Told). not (t.observer == o)) (map (told_in x) os) → map (told_in (released_observer o x)) (left_out o (p ∷ os)) ≡ filter (λ (t : Told). not (t.observer == o)) (map (told_in x) (p ∷ os))
+        go (same e t) i = rw t i
+        go (apart ne t) i =
+            rw t (ap (λ rs. record { observer = p; records = rs } ∷ map (told_in (released_observer o x)) (left_out o os)) (queue-released_other o p x ne)
+            ∙ ap (λ (ts : List Told). told_in x p ∷ ts) i)
 
 -- The observers are notified.
 
-pub queue-notified : (o : ℕ) (x : Observing) → o < length x.places → queue_of o (after_notify x) ≡ []
-queue-notified o x h =
-    ap (λ n. filter_map (record_for o) (drop n x.mutations)) (get_or-map (λ _. length x.mutations) x.places o 0 0 h)
-    ∙ ap (filter_map (record_for o)) (drop-length x.mutations)
+pub place-notified : (o : ℕ) (x : Observing) → taken_up_to o (after_notify x) ≡ option_map (λ _. length x.mutations) (taken_up_to o x)
+place-notified o x = get_or-map (λ (place : Option ℕ). option_map (λ _. length x.mutations) place) x.places o None
+
+pub queue-notified : (o : ℕ) (x : Observing) → queue_of o (after_notify x) ≡ []
+queue-notified o x = ap (records_past o x.mutations) (place-notified o x) ∙ go (taken_up_to o x)
+  where
+    go : (t : Option ℕ) → records_past o x.mutations (option_map (λ _. length x.mutations) t) ≡ []
+    go None = refl
+    go (Some place) = ap (filter_map (record_for o)) (drop-length x.mutations)
 
 pub pending-notified : (x : Observing) → pending_of (after_notify x) ≡ []
-pending-notified x = ap (λ ms. each_once (flat_map observers_of ms)) (drop-length x.mutations)
+pending-notified x = ap (λ ms. filter (has_observer (after_notify x)) (each_once (flat_map observers_of ms))) (drop-length x.mutations)
 
 -- An observer is made, or observes.
 
 pub queue-made : (x : Observing) → queue_of (length x.places) (with_observer x) ≡ []
 queue-made x =
-    ap (λ n. filter_map (record_for (length x.places)) (drop n x.mutations)) (get_or-append_seam x.places (length x.mutations) [] 0)
+    ap (records_past (length x.places) x.mutations) (get_or-append_seam x.places (Some (length x.mutations)) [] None)
     ∙ ap (filter_map (record_for (length x.places))) (drop-length x.mutations)
 
 pub queue-with_observer : (o : ℕ) (x : Observing) → o < length x.places → queue_of o (with_observer x) ≡ queue_of o x
-queue-with_observer o x h = ap (λ n. filter_map (record_for o) (drop n x.mutations)) (get_or_append_left x.places (length x.mutations ∷ []) 0 o h)
+queue-with_observer o x h = ap (records_past o x.mutations) (get_or_append_left x.places (Some (length x.mutations) ∷ []) None o h)
+
+pub pending-with_observer : (x : Observing) → InterestedAreMade x → pending_of (with_observer x) ≡ pending_of x
+pending-with_observer x h =
+    sym (each_once-filter (has_observer (with_observer x)) interested_ones)
+    ∙ ap each_once (filter-alike (has_observer (with_observer x)) (has_observer x) interested_ones (λ k d l. others _ (h k d l)))
+    ∙ each_once-filter (has_observer x) interested_ones
+  where
+    interested_ones : List ℕ
+    interested_ones = flat_map observers_of (drop x.notified x.mutations)
+
+    others : (o : ℕ) → o < length x.places → has_observer (with_observer x) o ≡ has_observer x o
+    others o lt = ap is_some (get_or_append_left x.places (Some (length x.mutations) ∷ []) None o lt)
 
 pub queue-observed : (o n p : ℕ) (options : Options) (x : Observing) → queue_of p (observed o n options x) ≡ queue_of p x
 queue-observed o n p options x = refl
@@ -155,22 +325,86 @@ pending-observed o n options x = refl
 
 pub timely-noted : (m : Mutation) (x : Observing) → IsTimely x → IsTimely (noted m x)
 timely-noted m x t = record {
-  places = λ o. let k = t.places o in omega (arith, longer);
+  places = λ o. within (taken_up_to o x) (t.places o);
   last = let k = t.last in omega (arith, longer);
 }
   where
     longer : length (x.mutations ++ m ∷ []) ≡ length x.mutations + 1
     longer = length-append x.mutations (m ∷ [])
 
+    within : (place : Option ℕ) → IsWithin x.mutations place → IsWithin (x.mutations ++ m ∷ []) place
+    within None h = tt
+    within (Some k) h = omega (arith, longer, h)
+
 pub timely-taken : (o : ℕ) (x : Observing) → IsTimely x → IsTimely (records_taken o x)
 timely-taken o x t = record { places = λ p. place p (same_or p o); last = t.last }
   where
-    place : (p : ℕ) → Same p o → taken_up_to p (records_taken o x) ≤ length x.mutations
-    place p (apart ne v) = rw (get_or-set_other x.places o p (length x.mutations) 0 ne) (t.places p)
+    place : (p : ℕ) → Same p o → IsWithin x.mutations (taken_up_to p (records_taken o x))
+    place p (apart ne v) = subst (IsWithin x.mutations) (sym (get_or-set_other x.places o p (Some (length x.mutations)) None ne)) (t.places p)
     place p (same e v) = within (cases_lt p (length x.places))
       where
-        within : ((p < length x.places) ⊎ (length x.places ≤ p)) → taken_up_to p (records_taken o x) ≤ length x.mutations
-        within (inl lt) = rw (e, get_or-set_same x.places o (length x.mutations) 0 (subst (λ k. k < length x.places) e lt)) (omega arith)
+        end : length x.mutations ≤ length x.mutations
+        end = omega arith
+
+        within : ((p < length x.places) ⊎ (length x.places ≤ p)) → IsWithin x.mutations (taken_up_to p (records_taken o x))
+        within (inl lt) =
+            subst (λ q. IsWithin x.mutations (taken_up_to p (records_taken q x))) e
+            (subst (IsWithin x.mutations) (sym (get_or-set_same x.places p (Some (length x.mutations)) None lt)) end)
         within (inr le) =
-            let z : taken_up_to p (records_taken o x) ≡ 0 = get_or_past (slice_set x.places o (length x.mutations)) p 0 (rw (length-set x.places o (length x.mutations)) le) in
-            rw z (omega arith)
+            subst (IsWithin x.mutations) (sym (get_or_past (slice_set x.places o (Some (length x.mutations))) p None (rw (length-set x.places o (Some (length x.mutations))) le))) tt
+
+pub timely-released : (o : ℕ) (x : Observing) → IsTimely x → IsTimely (released_observer o x)
+timely-released o x t = record { places = λ p. place p (same_or p o); last = t.last }
+  where
+    place : (p : ℕ) → Same p o → IsWithin x.mutations (taken_up_to p (released_observer o x))
+    place p (apart ne v) = subst (IsWithin x.mutations) (sym (place-released_other o p x ne)) (t.places p)
+    place p (same e v) = subst (λ q. IsWithin x.mutations (taken_up_to q (released_observer o x))) (sym e) (subst (IsWithin x.mutations) (sym (place-released o x)) tt)
+
+pub timely-notified : (x : Observing) → IsTimely (after_notify x)
+timely-notified x = record { places = λ o. subst (IsWithin x.mutations) (sym (place-notified o x)) (end (taken_up_to o x)); last = omega arith }
+  where
+    end : (place : Option ℕ) → IsWithin x.mutations (option_map (λ _. length x.mutations) place)
+    end None = tt
+    end (Some n) = omega arith
+
+pub timely-with_observer : (x : Observing) → IsTimely x → IsTimely (with_observer x)
+timely-with_observer x t = record { places = λ o. place o (cases_lt o (length x.places)); last = t.last }
+  where
+    new : (k : ℕ) → IsWithin x.mutations (slice_index_or (Some (length x.mutations) ∷ []) k None)
+    new zero = omega arith
+    new (suc k) = tt
+
+    place : (o : ℕ) → ((o < length x.places) ⊎ (length x.places ≤ o)) → IsWithin x.mutations (taken_up_to o (with_observer x))
+    place o (inl lt) = subst (IsWithin x.mutations) (sym (get_or_append_left x.places (Some (length x.mutations) ∷ []) None o lt)) (t.places o)
+    place o (inr le) = subst (IsWithin x.mutations) (sym (get_or-append_right x.places (Some (length x.mutations) ∷ []) (length x.places) o None refl le)) (new (o - length x.places))
+
+-- Each observer that is interested was made.
+
+made-of : (x y : Observing) → y.notified ≡ x.notified → y.mutations ≡ x.mutations → length x.places ≤ length y.places → InterestedAreMade x → InterestedAreMade y
+made-of x y e d more h =
+    rw (e, d) (All-weaker (λ o. o < length x.places) (λ o. o < length y.places) (λ o lt. omega (arith, lt, more)) (flat_map observers_of (drop x.notified x.mutations)) h)
+
+pub interested_made-taken : (o : ℕ) (x : Observing) → InterestedAreMade x → InterestedAreMade (records_taken o x)
+interested_made-taken o x h = made-of x (records_taken o x) refl refl (let l = length-set x.places o (Some (length x.mutations)) in omega (arith, l)) h
+
+pub interested_made-released : (o : ℕ) (x : Observing) → InterestedAreMade x → InterestedAreMade (released_observer o x)
+interested_made-released o x h = made-of x (released_observer o x) refl refl (let l = length-set x.places o None in omega (arith, l)) h
+
+pub interested_made-with_observer : (x : Observing) → InterestedAreMade x → InterestedAreMade (with_observer x)
+interested_made-with_observer x h = made-of x (with_observer x) refl refl (let l = length-append x.places (Some (length x.mutations) ∷ []) in omega (arith, l)) h
+
+pub interested_made-noted : (m : Mutation) (x : Observing) → x.notified ≤ length x.mutations → All (λ o. o < length x.places) (observers_of m) → InterestedAreMade x → InterestedAreMade (noted m x)
+interested_made-noted m x le made h = subst (All (λ o. o < length x.places)) (sym whole) (All-append (λ o. o < length x.places) before (observers_of m) h made)
+  where
+    before : List ℕ
+    before = flat_map observers_of (drop x.notified x.mutations)
+
+    whole : flat_map observers_of (drop x.notified (x.mutations ++ m ∷ [])) ≡ before ++ observers_of m
+    whole =
+        ap (flat_map observers_of) (drop-append-le x.notified x.mutations (m ∷ []) le)
+        ∙ flat_map-append observers_of (drop x.notified x.mutations) (m ∷ [])
+        ∙ ap (λ os. before ++ os) (append-nil (observers_of m))
+
+pub interested_made-notified : (x : Observing) → InterestedAreMade (after_notify x)
+interested_made-notified x =
+    subst (λ ms. All (λ o. o < length (after_notify x).places) (flat_map observers_of ms)) (sym (drop-length x.mutations)) (All-nil (λ o. o < length (after_notify x).places))

@@ -6,12 +6,12 @@ use Rattle.std.specs.List.{list_any}
 use Rattle.dom_model.specs.PlainLists.Lists.{among}
 use Rattle.dom_model.specs.Worlds.World.{Point, Range}
 use Rattle.dom_model.specs.BoundaryPoints.Points.{after_gap, after_removal, map_ranges}
-use Rattle.dom_model.specs.MutationAlgorithms.Discarding.{nodes_of_live}
+use Rattle.dom_model.specs.MutationAlgorithms.Discarding.{nodes_of_range, nodes_unless_released}
 use Rattle.dom_model.proofs.PlainLists.Numbers.{same_or, same, apart}
 
 -- the nodes in which ends of live ranges stand
 abbrev pub ends_of : List (Option Range) → List ℕ
-ends_of rs = flat_map nodes_of_live rs
+ends_of rs = flat_map (nodes_unless_released nodes_of_range) rs
 
 -- a map that leaves each point whose node fails the test
 pub ranges-left : (test : ℕ → Bool) (move : Point → Point) → ((p : Point) → test p.node ≡ false → move p ≡ p) → (rs : List (Option Range)) → list_any test (ends_of rs) ≡ false → map_ranges move rs ≡ rs

@@ -3,7 +3,6 @@ use Rattle.std.proofs.Common.{◌≡◌, ℕ, ◌+◌, ◌≤◌, ◌==◌, Bool
 use Rattle.std.proofs.lemmas.Bool.{false≢true}
 use Rattle.std.proofs.lemmas.Bool.Decides.{nat_tests}
 use Rattle.std.proofs.lemmas.List.{length-take-le}
-use Rattle.std.proofs.lemmas.List.Elements.{All-weaker}
 use Rattle.dom_model.specs.Forests.Arena.{Entry}
 use Rattle.dom_model.specs.Forests.Kinds.{is_character_data}
 use Rattle.dom_model.specs.Forests.Forest.{Node, Forest, with_node, entry_in}
@@ -21,7 +20,7 @@ use Rattle.dom_model.proofs.Worlds.SameShape.{IsAlike, bare_node, with_node-alik
 use Rattle.dom_model.proofs.Soundness.SoundForests.{IsWood-alike}
 use Rattle.dom_model.proofs.Worlds.Measured.{data_kind, entry-with_node}
 use Rattle.dom_model.proofs.RangesAndContents.RangesSpliced.{range-alike, iterator-alike, there-alike, range-splice}
-use Rattle.dom_model.proofs.Soundness.SoundWorlds.{IsLive, ranges-moved, ranges-kept, walkers-kept, registrations-kept, statics-kept}
+use Rattle.dom_model.proofs.Soundness.SoundWorlds.{IsLive, each-kept, ranges-moved, ranges-kept, walkers-kept, registrations-kept, statics-kept}
 
 pub length-spliced : (at count : ℕ) (added units : List ℕ) → at + count ≤ length units → length (spliced at count added units) + count ≡ length units + length added
 length-spliced at count added units h =
@@ -66,7 +65,7 @@ module _ (change : Node Content → Node Content) (keeps : (x : Node Content) �
       record {
         forest = IsWood-alike s.forest alike;
         ranges = h;
-        iterators = All-weaker (IsIterator w.forest) (IsIterator changed) (iterator-alike alike) w.iterators s.iterators;
+        iterators = each-kept (IsIterator w.forest) (IsIterator changed) (iterator-alike alike) w.iterators s.iterators;
         walkers = walkers-kept w.forest changed (there-alike alike) w.walkers s.walkers;
         registrations = registrations-kept w.forest changed (there-alike alike) w.observing.registrations s.registrations;
         statics = statics-kept w.forest changed (there-alike alike) w.static_ranges s.statics;

@@ -1,5 +1,5 @@
 -- A tree that nothing names is discarded: a sound world is left.
-use Rattle.std.proofs.Common.{◌≡◌, ℕ, ◌<◌, Bool, true, false, ◌||◌, List, [], ◌∷◌, ◌++◌, flat_map, Option, Some, None, is_some, IfSome, All, slice_index_or, refl, sym, ◌∙◌, arith}
+use Rattle.std.proofs.Common.{◌≡◌, ℕ, ◌<◌, Bool, false, ◌||◌, List, [], ◌∷◌, ◌++◌, flat_map, Option, Some, None, is_some, IfSome, All, slice_index_or, refl, sym, ◌∙◌, arith}
 use Rattle.std.proofs.lemmas.Bool.{false≢true, or_parts}
 use Rattle.std.proofs.lemmas.List.Elements.{All-nil, All-cons}
 use Rattle.std.specs.List.{list_any}
@@ -8,10 +8,10 @@ use Rattle.dom_model.specs.PlainLists.Lists.{among}
 use Rattle.dom_model.specs.Forests.Forest.{Forest, occurs, one_at, tree_at, without, entry_in, HasNode, parent_of, inclusive_descendants}
 use Rattle.dom_model.specs.Worlds.World.{Content, Range, Iterator, Walker, Registration, World}
 use Rattle.dom_model.specs.Commands.Reply.{Own}
-use Rattle.dom_model.specs.MutationAlgorithms.Discarding.{if_any, documents, nodes_of_range, nodes_of_live, nodes_of_iterator, nodes_of_walker, nodes_of_registration, named_nodes, is_held_outside, is_in_use, discarded}
+use Rattle.dom_model.specs.MutationAlgorithms.Discarding.{if_any, documents, nodes_of_range, nodes_of_iterator, nodes_of_walker, nodes_of_registration, nodes_unless_released, named_nodes, is_held_outside, is_in_use, discarded}
 use Rattle.dom_model.specs.Commands.Guards.{Bounds, no_node, does}
 use Rattle.dom_model.specs.Commands.AnswerDiscard.{answer_discard}
-use Rattle.dom_model.specs.Soundness.Sound.{IsIterator, IsWalker, IsRegistration, AreHeld, IsSound}
+use Rattle.dom_model.specs.Soundness.Sound.{IsRange, IsIterator, IsWalker, IsRegistration, AreHeld, IsSound}
 use Rattle.dom_model.proofs.Forests.Totals.{total-tree_at}
 use Rattle.dom_model.proofs.Forests.Lying.{Lies-without_root}
 use Rattle.dom_model.proofs.Forests.Climbing.{not_among-hits}
@@ -21,7 +21,6 @@ use Rattle.dom_model.proofs.Forests.Changes.{seen, nothing, just}
 use Rattle.dom_model.proofs.Worlds.Parts.{range-to_part, iterator-to_part}
 use Rattle.dom_model.proofs.Soundness.SoundForests.{IsWood, IsWood-without}
 use Rattle.dom_model.proofs.Soundness.SoundMaking.{reference_there}
-use Rattle.dom_model.proofs.Soundness.SoundWorlds.{IsLive}
 use Rattle.dom_model.proofs.Soundness.SoundGuards.{sound-guarded}
 
 -- no number of a list passes a test
@@ -42,6 +41,14 @@ none_of_each p names (x ∷ xs) h =
 all_both : {A : Type 0} (P Q R : A → Type 0) → ((a : A) → P a → Q a → R a) → (xs : List A) → All P xs → All Q xs → All R xs
 all_both P Q R join xs h g k d l = join (slice_index_or xs k d) (h k d l) (g k d l)
 
+-- the same of each that was not released
+both_unless_released : {A : Type 0} (p : ℕ → Bool) (names : A → List ℕ) (P R : A → Type 0) → ((a : A) → P a → list_any p (names a) ≡ false → R a) → (xs : List (Option A)) → All (λ (x : Option A). IfSome x P) xs → list_any p (flat_map (nodes_unless_released names) xs) ≡ false → All (λ (x : Option A). IfSome x R) xs
+both_unless_released {A} p names P R join xs h k = all_both (λ x. IfSome x P) (λ x. list_any p (nodes_unless_released names x) ≡ false) (λ x. IfSome x R) each xs h (none_of_each p (nodes_unless_released names) xs k)
+  where
+    each : (x : Option A) → IfSome x P → list_any p (nodes_unless_released names x) ≡ false → IfSome x R
+    each None i j = tt
+    each (Some a) i j = join a i j
+
 module _ (n : ℕ) (w : World) (s : IsSound w) (free : is_in_use w n ≡ false) where
   abbrev rest : Forest Content
   rest = without n w.forest
@@ -59,12 +66,12 @@ module _ (n : ℕ) (w : World) (s : IsSound w) (free : is_in_use w n ≡ false) 
         | just p e ↦ absurd (let k = (or_parts (is_some (parent_of w.forest n)) (list_any is_inside (documents rest)) parts.0).0 in let j = rw e at k in false≢true (sym j))
       ]
 
-  named : (list_any is_inside (flat_map nodes_of_live w.ranges) ≡ false) × (list_any is_inside (flat_map nodes_of_iterator w.iterators) ≡ false) × (list_any is_inside (flat_map nodes_of_walker w.walkers) ≡ false) × (list_any is_inside (flat_map nodes_of_registration w.observing.registrations) ≡ false) × (list_any is_inside (flat_map nodes_of_range w.static_ranges) ≡ false)
+  named : (list_any is_inside (flat_map (nodes_unless_released nodes_of_range) w.ranges) ≡ false) × (list_any is_inside (flat_map (nodes_unless_released nodes_of_iterator) w.iterators) ≡ false) × (list_any is_inside (flat_map (nodes_unless_released nodes_of_walker) w.walkers) ≡ false) × (list_any is_inside (flat_map nodes_of_registration w.observing.registrations) ≡ false) × (list_any is_inside (flat_map (nodes_unless_released nodes_of_range) w.static_ranges) ≡ false)
   named =
-      let a = none_of is_inside (flat_map nodes_of_live w.ranges) _ parts.1 in
-      let b = none_of is_inside (flat_map nodes_of_range w.static_ranges) _ a.1 in
-      let c = none_of is_inside (flat_map nodes_of_iterator w.iterators) _ b.1 in
-      let d = none_of is_inside (flat_map nodes_of_walker w.walkers) _ c.1 in
+      let a = none_of is_inside (flat_map (nodes_unless_released nodes_of_range) w.ranges) _ parts.1 in
+      let b = none_of is_inside (flat_map (nodes_unless_released nodes_of_range) w.static_ranges) _ a.1 in
+      let c = none_of is_inside (flat_map (nodes_unless_released nodes_of_iterator) w.iterators) _ b.1 in
+      let d = none_of is_inside (flat_map (nodes_unless_released nodes_of_walker) w.walkers) _ c.1 in
       let e = none_of is_inside (flat_map nodes_of_registration w.observing.registrations) _ d.1 in
       (a.0, c.0, d.0, e.0, b.0)
 
@@ -89,9 +96,8 @@ module _ (n : ℕ) (w : World) (s : IsSound w) (free : is_in_use w n ≡ false) 
   stays-node : (m : ℕ) → is_inside m ≡ false → HasNode w.forest m → HasNode rest m
   stays-node m e h = HasNode-occurs rest m (stays m e (occurs-HasNode w.forest m h))
 
-  live : (r : Option Range) → IsLive w.forest r → list_any is_inside (nodes_of_live r) ≡ false → IsLive rest r
-  live None h k = tt
-  live (Some r) h k =
+  live : (r : Range) → IsRange w.forest r → list_any is_inside (nodes_of_range r) ≡ false → IsRange rest r
+  live r h k =
       let a = or_parts (is_inside r.start.node) (is_inside r.end.node || false) k in
       let b = or_parts (is_inside r.end.node) false a.1 in
       range-to_part rest w.forest wood.once s.forest.once entries r (stays r.start.node a.0 (occurs-HasNode w.forest r.start.node h.starts.there)) (stays r.end.node b.0 (occurs-HasNode w.forest r.end.node h.ends.there)) h
@@ -127,11 +133,11 @@ module _ (n : ℕ) (w : World) (s : IsSound w) (free : is_in_use w n ≡ false) 
   sound-without =
       record {
         forest = wood;
-        ranges = all_both (IsLive w.forest) (λ r. list_any is_inside (nodes_of_live r) ≡ false) (IsLive rest) live w.ranges s.ranges (none_of_each is_inside nodes_of_live w.ranges named.0);
-        iterators = all_both (IsIterator w.forest) (λ i. list_any is_inside (nodes_of_iterator i) ≡ false) (IsIterator rest) iterator w.iterators s.iterators (none_of_each is_inside nodes_of_iterator w.iterators named.1);
-        walkers = all_both (IsWalker w.forest) (λ k. list_any is_inside (nodes_of_walker k) ≡ false) (IsWalker rest) walker w.walkers s.walkers (none_of_each is_inside nodes_of_walker w.walkers named.2);
+        ranges = both_unless_released is_inside nodes_of_range (IsRange w.forest) (IsRange rest) live w.ranges s.ranges named.0;
+        iterators = both_unless_released is_inside nodes_of_iterator (IsIterator w.forest) (IsIterator rest) iterator w.iterators s.iterators named.1;
+        walkers = both_unless_released is_inside nodes_of_walker (IsWalker w.forest) (IsWalker rest) walker w.walkers s.walkers named.2;
         registrations = all_both (IsRegistration w.forest) (λ r. list_any is_inside (nodes_of_registration r) ≡ false) (IsRegistration rest) registration w.observing.registrations s.registrations (none_of_each is_inside nodes_of_registration w.observing.registrations named.3);
-        statics = all_both (AreHeld w.forest) (λ r. list_any is_inside (nodes_of_range r) ≡ false) (AreHeld rest) held w.static_ranges s.statics (none_of_each is_inside nodes_of_range w.static_ranges named.4);
+        statics = both_unless_released is_inside nodes_of_range (AreHeld w.forest) (AreHeld rest) held w.static_ranges s.statics named.4;
       }
 
 pub sound-discard : (b : Bounds) (w : World) → IsSound w → (n : ℕ) → IsSound (answer_discard b n w).world

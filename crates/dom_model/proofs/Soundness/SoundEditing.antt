@@ -1,7 +1,6 @@
 -- Pre-insert, append, replace, replace all and adopt leave a sound world. DOM Standard, "Mutation algorithms".
 use Rattle.std.proofs.Common.{◌≡◌, ℕ, ◌+◌, ◌<◌, ◌≤◌, Bool, true, false, not, ◌&&◌, ◌||◌, if◌then◌else◌, List, [], ◌∷◌, ◌++◌, Option, Some, None, IfSome, refl, ap, sym, ◌∙◌, subst, arith}
 use Rattle.std.proofs.lemmas.Bool.{false≢true}
-use Rattle.std.proofs.lemmas.List.Elements.{All-weaker}
 use Rattle.dom_model.specs.declared.Kind.TheVariants.{Text, Document, DocumentType}
 use Rattle.dom_model.specs.declared.DomError.{DomError}
 use Rattle.dom_model.specs.declared.DomError.TheVariants.{HierarchyRequestError}
@@ -25,7 +24,7 @@ use Rattle.dom_model.proofs.Worlds.SameShape.{IsAlike, with_tree-alike}
 use Rattle.dom_model.proofs.Soundness.SoundForests.{IsWood-alike}
 use Rattle.dom_model.proofs.Worlds.Measured.{length-adopted}
 use Rattle.dom_model.proofs.RangesAndContents.RangesSpliced.{range-alike, iterator-alike, there-alike}
-use Rattle.dom_model.proofs.Soundness.SoundWorlds.{ranges-kept, walkers-kept, registrations-kept, statics-kept, child_there, sound-tree_record, sound-remove, sound-remove_all}
+use Rattle.dom_model.proofs.Soundness.SoundWorlds.{each-kept, ranges-kept, walkers-kept, registrations-kept, statics-kept, child_there, sound-tree_record, sound-remove, sound-remove_all}
 use Rattle.dom_model.proofs.MutationAlgorithms.Loosened.{IsLoosened, loosened-remove, parent-remove, loosened-remove_all}
 use Rattle.dom_model.proofs.Soundness.SoundInserting.{sound-insert}
 
@@ -297,7 +296,7 @@ sound-adopted n document w s =
     record {
       forest = IsWood-alike s.forest a;
       ranges = ranges-kept w.forest (adopted n document w.forest) (range-alike a (length-adopted n document w.forest)) w.ranges s.ranges;
-      iterators = All-weaker (IsIterator w.forest) (IsIterator (adopted n document w.forest)) (iterator-alike a) w.iterators s.iterators;
+      iterators = each-kept (IsIterator w.forest) (IsIterator (adopted n document w.forest)) (iterator-alike a) w.iterators s.iterators;
       walkers = walkers-kept w.forest (adopted n document w.forest) there w.walkers s.walkers;
       registrations = registrations-kept w.forest (adopted n document w.forest) there w.observing.registrations s.registrations;
       statics = statics-kept w.forest (adopted n document w.forest) there w.static_ranges s.statics;

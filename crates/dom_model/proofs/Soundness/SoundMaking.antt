@@ -1,7 +1,6 @@
 -- New trees leave a sound world: a node that is made, and the copies of a tree. DOM Standard, "Interface Document", "Interface Node" (clone).
 use Rattle.std.proofs.Common.{◌≡◌, ℕ, suc, ◌+◌, ◌<◌, ◌≤◌, Bool, true, false, Option, Some, None, refl, arith, ⊎_elim}
 use Rattle.std.proofs.lemmas.Bool.{cases_lt}
-use Rattle.std.proofs.lemmas.List.Elements.{All-weaker}
 use Rattle.dom_model.specs.declared.Kind.{Kind}
 use Rattle.dom_model.specs.Forests.Kinds.{Label}
 use Rattle.dom_model.specs.Forests.Forest.{Node, Forest, empty, node, occurs, one_at, size, tops, beside, tree_at, entry_in, HasNode, IsRising, KindsFit}
@@ -17,7 +16,7 @@ use Rattle.dom_model.proofs.Forests.KindsFitting.{KindsFit-root}
 use Rattle.dom_model.proofs.Soundness.SoundForests.{IsWood, IsWood-beside}
 use Rattle.dom_model.proofs.Worlds.Measured.{entry-beside}
 use Rattle.dom_model.proofs.Worlds.Parts.{range-from_part, iterator-from_part}
-use Rattle.dom_model.proofs.Soundness.SoundWorlds.{ranges-kept, walkers-kept, registrations-kept, statics-kept}
+use Rattle.dom_model.proofs.Soundness.SoundWorlds.{each-kept, ranges-kept, walkers-kept, registrations-kept, statics-kept}
 
 -- the reference of an iterator is in the forest
 pub reference_there : (f : Forest Content) (i : Iterator) → IsIterator f i → 0 < occurs i.reference f
@@ -37,7 +36,7 @@ sound-beside g more w s a =
     record {
       forest = wood;
       ranges = ranges-kept f h (range-from_part f h s.forest.once wood.once entries) w.ranges s.ranges;
-      iterators = All-weaker (IsIterator f) (IsIterator h) (λ i k. iterator-from_part f h s.forest.once wood.once entries i (reference_there f i k) k) w.iterators s.iterators;
+      iterators = each-kept (IsIterator f) (IsIterator h) (λ i k. iterator-from_part f h s.forest.once wood.once entries i (reference_there f i k) k) w.iterators s.iterators;
       walkers = walkers-kept f h there w.walkers s.walkers;
       registrations = registrations-kept f h there w.observing.registrations s.registrations;
       statics = statics-kept f h there w.static_ranges s.statics;

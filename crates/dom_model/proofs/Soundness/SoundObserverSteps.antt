@@ -6,9 +6,9 @@ use Rattle.dom_model.specs.Forests.Forest.{Forest, HasNode}
 use Rattle.dom_model.specs.Worlds.World.{Content, Options, Registration, Observing, World}
 use Rattle.dom_model.specs.MutationObservers.GivenOptions.{GivenOptions}
 use Rattle.dom_model.specs.Commands.Reply.{Number, Records}
-use Rattle.dom_model.specs.MutationObservers.Records.{options_refusal, options_of, is_registered, is_transient_from, new_registration, with_options, registered, observed, queue_of, with_observer, records_taken, disconnected, after_notify}
+use Rattle.dom_model.specs.MutationObservers.Records.{options_refusal, options_of, is_registered, is_transient_from, new_registration, with_options, registered, observed, queue_of, with_observer, records_taken, disconnected, released_observer, after_notify}
 use Rattle.dom_model.specs.Commands.Guards.{Bounds, checked, no_node, no_room, answers, does}
-use Rattle.dom_model.specs.Commands.AnswerObserving.{observers_made, no_observer, with_observing, answer_create_observer, answer_observe, answer_disconnect, answer_take_records, answer_notify}
+use Rattle.dom_model.specs.Commands.AnswerObserving.{observers_made, no_observer, with_observing, answer_create_observer, answer_observe, answer_disconnect, answer_take_records, answer_notify, answer_release_observer}
 use Rattle.dom_model.specs.Soundness.Sound.{IsRegistration, IsSound}
 use Rattle.dom_model.proofs.Forests.Entries.{HasNode-occurs}
 use Rattle.dom_model.proofs.Soundness.SoundGuards.{sound-guarded, sound-checked, there_unless}
@@ -52,6 +52,11 @@ module _ (b : Bounds) (w : World) (s : IsSound w) where
   sound-disconnect o =
       sound-guarded (no_observer o w ∷ []) w (does (with_observing (disconnected o w.observing) w)) s
       (λ _. sound-observing (disconnected o w.observing) w s (All-filter (λ (r : Registration). not (r.observer == o)) (IsRegistration w.forest) w.observing.registrations s.registrations))
+
+  pub sound-release_observer : (o : ℕ) → IsSound (answer_release_observer b o w).world
+  sound-release_observer o =
+      sound-guarded (no_observer o w ∷ []) w (does (with_observing (released_observer o w.observing) w)) s
+      (λ _. sound-observing (released_observer o w.observing) w s (All-filter (λ (r : Registration). not (r.observer == o)) (IsRegistration w.forest) w.observing.registrations s.registrations))
 
   pub sound-take_records : (o : ℕ) → IsSound (answer_take_records b o w).world
   sound-take_records o =

@@ -1,7 +1,6 @@
 -- Roots that are put under a node, one after another, leave a sound world. DOM Standard, "Mutation algorithms": insert.
 use Rattle.std.proofs.Common.{◌≡◌, ℕ, suc, ◌+◌, ◌<◌, ◌≤◌, ◌==◌, nat_lt, nat_le, Bool, true, false, ◌&&◌, if◌then◌else◌, List, [], ◌∷◌, length, Option, Some, None, option_map, All, refl, ap, sym, ◌∙◌, subst, arith, append-nil}
 use Rattle.std.proofs.lemmas.Bool.{le-ltb}
-use Rattle.std.proofs.lemmas.List.Elements.{All-weaker}
 use Rattle.std.proofs.lemmas.Bool.Decides.{nat_tests}
 use Rattle.std.proofs.Math.Path.{fun_ext}
 use Rattle.dom_model.specs.declared.Kind.{Kind}
@@ -134,7 +133,7 @@ module _ (parent n : ℕ) (child : Option ℕ) (w : World) (s : IsSound w) (hp :
       record {
         forest = IsWood-alike (IsWood-put s.forest parent n child hp k.there k.root apart_from k.fits) renamed;
         ranges = h;
-        iterators = All-weaker (IsIterator w.forest) (IsIterator after_adoption) (λ i j. iterator-alike renamed i (iterator-put s.forest parent n child hp k.there k.root apart_from passes i j)) w.iterators s.iterators;
+        iterators = each-kept (IsIterator w.forest) (IsIterator after_adoption) (λ i j. iterator-alike renamed i (iterator-put s.forest parent n child hp k.there k.root apart_from passes i j)) w.iterators s.iterators;
         walkers = walkers-kept w.forest after_adoption there_placed w.walkers s.walkers;
         registrations = registrations-kept w.forest after_adoption there_placed w.observing.registrations s.registrations;
         statics = statics-kept w.forest after_adoption there_placed w.static_ranges s.statics;

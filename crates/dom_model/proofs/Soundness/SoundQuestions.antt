@@ -1,6 +1,6 @@
--- The commands that only ask leave the world as it is, or, with a static range, with one range more that is never adjusted.
-use Rattle.std.proofs.Common.{◌≡◌, ℕ, Bool, List, [], ◌∷◌, length, Option, Some, None, refl, sym, subst}
-use Rattle.std.proofs.lemmas.List.Elements.{All-push}
+-- The commands that only ask leave the world as it is, or, with a static range, with one range more that is never adjusted, or without it.
+use Rattle.std.proofs.Common.{◌≡◌, ℕ, Bool, List, [], ◌∷◌, length, Option, Some, None, IfSome, refl, sym, subst}
+use Rattle.std.proofs.lemmas.List.Elements.{All-set, All-push}
 use Rattle.dom_model.specs.declared.Kind.TheVariants.{Element}
 use Rattle.dom_model.specs.Forests.Arena.{Entry}
 use Rattle.dom_model.specs.Forests.Kinds.{is_kind, is_character_data}
@@ -13,13 +13,13 @@ use Rattle.dom_model.specs.Worlds.Lengths.{unit_count, length_at}
 use Rattle.dom_model.specs.DataAndCopies.Clones.{is_equal, position, contains, root_number}
 use Rattle.dom_model.specs.DataAndCopies.Data.{data_of, attributes_of, has_attribute, text_content}
 use Rattle.dom_model.specs.RangesAndContents.Ranges.{check_compare, compared, check_point_against, place_against, check_point_in, is_point_in, intersects, common_ancestor, range_at}
-use Rattle.dom_model.specs.RangesAndContents.StaticRanges.{check_static, static_at, made_static}
+use Rattle.dom_model.specs.RangesAndContents.StaticRanges.{check_static, static_at, made_static, released_static}
 use Rattle.dom_model.specs.RangesAndContents.Contents.{range_text}
-use Rattle.dom_model.specs.Commands.Guards.{Bounds, Step, guarded, checked, no_node, no_node_given, wrong_kind, no_room, answers, tree_rows}
+use Rattle.dom_model.specs.Commands.Guards.{Bounds, Step, guarded, checked, no_node, no_node_given, wrong_kind, no_room, answers, does, tree_rows}
 use Rattle.dom_model.specs.Commands.AnswerTree.{described, answer_node, answer_children, answer_index, answer_length, answer_root, answer_contains, answer_is_equal, answer_compare_position, answer_text_content, answer_tree}
 use Rattle.dom_model.specs.Commands.AnswerData.{answer_data, answer_get_attribute, answer_has_attribute, answer_attribute_names}
 use Rattle.dom_model.specs.Commands.AnswerRanges.{no_range, on_range, answer_range, answer_compare_boundary_points, answer_compare_point, answer_is_point_in_range, answer_intersects_node, answer_common_ancestor, answer_range_text}
-use Rattle.dom_model.specs.Commands.AnswerStatic.{no_static, static_told, answer_create_static_range, answer_static_range}
+use Rattle.dom_model.specs.Commands.AnswerStatic.{no_static, static_told, answer_create_static_range, answer_static_range, answer_release_static_range}
 use Rattle.dom_model.specs.Soundness.Sound.{AreHeld, IsSound}
 use Rattle.dom_model.proofs.Forests.Entries.{HasNode-occurs}
 use Rattle.dom_model.proofs.Soundness.SoundGuards.{sound-guarded, sound-checked, there_unless}
@@ -108,7 +108,7 @@ module _ (b : Bounds) (w : World) (s : IsSound w) where
         iterators = s.iterators;
         walkers = s.walkers;
         registrations = s.registrations;
-        statics = All-push (AreHeld w.forest) w.static_ranges (record { start = start; end = end }) s.statics
+        statics = All-push (λ (x : Option Range). IfSome x (AreHeld w.forest)) w.static_ranges (Some (record { start = start; end = end })) s.statics
             (record { start = HasNode-occurs w.forest start.node (there_unless w.forest start.node h.0); end = HasNode-occurs w.forest end.node (there_unless w.forest end.node h.1.0) });
       }))
 
@@ -118,3 +118,15 @@ module _ (b : Bounds) (w : World) (s : IsSound w) where
       go : (o : Option Range) → IsSound (static_told w o).world
       go None = s
       go (Some range) = s
+
+  pub sound-release_static_range : (u : ℕ) → IsSound (answer_release_static_range b u w).world
+  sound-release_static_range u =
+      sound-guarded (no_static u w ∷ []) w (does (released_static u w)) s
+      (λ _. record {
+        forest = s.forest;
+        ranges = s.ranges;
+        iterators = s.iterators;
+        walkers = s.walkers;
+        registrations = s.registrations;
+        statics = All-set (λ (x : Option Range). IfSome x (AreHeld w.forest)) w.static_ranges u None tt s.statics;
+      })

@@ -1,7 +1,5 @@
 -- The commands that make, set and release live ranges leave a sound world. DOM Standard, "Interface Range".
-use Rattle.std.proofs.Common.{◌≡◌, ℕ, ◌<◌, ◌≤◌, Bool, true, false, [], ◌∷◌, length, Option, Some, None, IfSome, refl, sym, subst, arith, ⊎_elim}
-use Rattle.std.proofs.lemmas.Bool.{cases_lt}
-use Rattle.std.proofs.lemmas.List.{get_or_past}
+use Rattle.std.proofs.Common.{◌≡◌, ℕ, Bool, true, false, [], ◌∷◌, length, Option, Some, None, IfSome, refl, arith}
 use Rattle.std.proofs.lemmas.List.Elements.{All-set, All-push}
 use Rattle.dom_model.specs.declared.Kind.{Kind}
 use Rattle.dom_model.specs.declared.Kind.TheVariants.{Element, Text, ProcessingInstruction, Comment, Document, DocumentType, DocumentFragment}
@@ -18,18 +16,14 @@ use Rattle.dom_model.specs.Commands.Guards.{Bounds, Step, checked, no_node, wron
 use Rattle.dom_model.specs.Commands.AnswerRanges.{no_range, on_range, at_point, at_ends, makes_range, sets_start, sets_end, answer_create_range, answer_clone_range, answer_release_range, answer_set_start, answer_set_end, answer_set_start_before, answer_set_start_after, answer_set_end_before, answer_set_end_after, answer_collapse, answer_select_node, answer_select_node_contents}
 use Rattle.dom_model.specs.Soundness.Sound.{IsBoundary, IsRange, IsSound}
 use Rattle.dom_model.proofs.Forests.Entries.{HasNode-occurs}
-use Rattle.dom_model.proofs.Soundness.SoundWorlds.{IsLive}
+use Rattle.dom_model.proofs.Soundness.SoundWorlds.{IsLive, element}
 use Rattle.dom_model.proofs.Soundness.SoundEditing.{clear}
 use Rattle.dom_model.proofs.Soundness.SoundGuards.{sound-guarded, sound-checked, there_unless, passes_unless}
 use Rattle.dom_model.proofs.RangesAndContents.RangesSet.{range_at_point, range_collapsed, range-start_set, range-end_set, boundary_checked, boundary_before, boundary_after, range_selected, range_of_contents}
 
 -- A live range of a sound world is one of its forest.
 pub live_range : (w : World) → IsSound w → (r : ℕ) → IsLive w.forest (range_at w r)
-live_range w s r =
-    ⊎_elim
-    (λ (lt : r < length w.ranges). s.ranges r None lt)
-    (λ (le : length w.ranges ≤ r). subst (IsLive w.forest) (sym (get_or_past w.ranges r None le)) tt)
-    (cases_lt r (length w.ranges))
+live_range w s r = element (IsRange w.forest) w.ranges r s.ranges
 
 pub sound-with_range : (r : ℕ) (range : Range) (w : World) → IsSound w → IsRange w.forest range → IsSound (with_range r range w)
 sound-with_range r range w s h =

@@ -1,6 +1,5 @@
 -- The commands of iterators and tree walkers leave a sound world. DOM Standard, "Interface NodeIterator", "Interface TreeWalker".
-use Rattle.std.proofs.Common.{◌≡◌, ℕ, ◌<◌, ◌≤◌, Bool, true, false, List, [], ◌∷◌, ◌++◌, find, length, Option, Some, None, IfSome, All, slice_get, slice_index_or, refl, sym, subst, arith, ◌⊎◌, inl, inr}
-use Rattle.std.proofs.lemmas.Option.{slice_get_cases}
+use Rattle.std.proofs.Common.{◌≡◌, ℕ, ◌<◌, ◌≤◌, Bool, true, false, [], ◌∷◌, ◌++◌, find, length, Option, Some, None, IfSome, refl, sym, subst, arith}
 use Rattle.std.proofs.lemmas.List.Elements.{All-set, All-push}
 use Rattle.dom_model.specs.declared.Move.{Move}
 use Rattle.dom_model.specs.Forests.Forest.{Forest, occurs, one_at, tree_at, HasNode}
@@ -10,22 +9,15 @@ use Rattle.dom_model.specs.Traversal.Iterators.{new_iterator, iterator_moved, ne
 use Rattle.dom_model.specs.Traversal.Walks.{new_walker, walk_list, is_inside_root, found_where, walk_found, walker_moved}
 use Rattle.dom_model.specs.Traversal.Filters.{accepts}
 use Rattle.dom_model.specs.Commands.Guards.{Bounds, Step, guarded, no_node, no_room, answers, does}
-use Rattle.dom_model.specs.Commands.AnswerTraversal.{with_object, iterator_at, walker_at, with_iterator, with_walker, answer_create_iterator, answer_create_walker, answer_iterator, answer_next_node, answer_previous_node, answer_walker, answer_set_current, answer_walk}
+use Rattle.dom_model.specs.Commands.AnswerTraversal.{with_object, iterator_at, walker_at, with_iterator, with_walker, released_iterator, released_walker, answer_create_iterator, answer_create_walker, answer_iterator, answer_next_node, answer_previous_node, answer_walker, answer_set_current, answer_walk, answer_release_iterator, answer_release_walker}
 use Rattle.dom_model.specs.Soundness.Sound.{IsIterator, IsWalker, IsSound}
 use Rattle.dom_model.proofs.Forests.Totals.{total-tree_at, occurs-without}
 use Rattle.dom_model.proofs.Forests.Entries.{HasNode-occurs, occurs-HasNode}
 use Rattle.dom_model.proofs.Forests.TreeOrder.Flattened.{hits-numbers}
 use Rattle.dom_model.proofs.BoundaryPoints.RootsKept.{hits-found, next-stays, previous-stays}
 use Rattle.dom_model.proofs.Traversal.WalksThere.{listed_there, steps_there}
+use Rattle.dom_model.proofs.Soundness.SoundWorlds.{element}
 use Rattle.dom_model.proofs.Soundness.SoundGuards.{sound-guarded, there_unless}
-
--- an element that is read is one of the list
-pub element : {A : Type 0} (P : A → Type 0) (xs : List A) (i : ℕ) → All P xs → IfSome (slice_get xs i) P
-element {A} P xs i h = go (slice_get_cases xs i).1
-  where
-    go : ((x : A) × (i < length xs) × (slice_get xs i ≡ Some x) × (slice_index_or xs i x ≡ x)) ⊎ ((length xs ≤ i) × (slice_get xs i ≡ None)) → IfSome (slice_get xs i) P
-    go (inl (x, lt, e, d)) = subst (λ o. IfSome o P) (sym e) (subst P d (h i x lt))
-    go (inr (le, e)) = subst (λ o. IfSome o P) (sym e) tt
 
 sound-with_object : {A : Type 0} (P : A → Type 0) (o : Option A) (w : World) (step : A → Step) → IsSound w → IfSome o P → ((a : A) → P a → IsSound (step a).world) → IsSound (with_object o w step).world
 sound-with_object P None w step s h k = s
@@ -33,11 +25,19 @@ sound-with_object P (Some a) w step s h k = k a h
 
 sound-with_iterator : (i : ℕ) (it : Iterator) (w : World) → IsSound w → IsIterator w.forest it → IsSound (with_iterator i it w)
 sound-with_iterator i it w s h =
-    record { forest = s.forest; ranges = s.ranges; iterators = All-set (IsIterator w.forest) w.iterators i it h s.iterators; walkers = s.walkers; registrations = s.registrations; statics = s.statics }
+    record { forest = s.forest; ranges = s.ranges; iterators = All-set (λ (x : Option Iterator). IfSome x (IsIterator w.forest)) w.iterators i (Some it) h s.iterators; walkers = s.walkers; registrations = s.registrations; statics = s.statics }
 
 sound-with_walker : (k : ℕ) (walker : Walker) (w : World) → IsSound w → IsWalker w.forest walker → IsSound (with_walker k walker w)
 sound-with_walker k walker w s h =
-    record { forest = s.forest; ranges = s.ranges; iterators = s.iterators; walkers = All-set (IsWalker w.forest) w.walkers k walker h s.walkers; registrations = s.registrations; statics = s.statics }
+    record { forest = s.forest; ranges = s.ranges; iterators = s.iterators; walkers = All-set (λ (x : Option Walker). IfSome x (IsWalker w.forest)) w.walkers k (Some walker) h s.walkers; registrations = s.registrations; statics = s.statics }
+
+sound-released_iterator : (i : ℕ) (w : World) → IsSound w → IsSound (released_iterator i w)
+sound-released_iterator i w s =
+    record { forest = s.forest; ranges = s.ranges; iterators = All-set (λ (x : Option Iterator). IfSome x (IsIterator w.forest)) w.iterators i None tt s.iterators; walkers = s.walkers; registrations = s.registrations; statics = s.statics }
+
+sound-released_walker : (k : ℕ) (w : World) → IsSound w → IsSound (released_walker k w)
+sound-released_walker k w s =
+    record { forest = s.forest; ranges = s.ranges; iterators = s.iterators; walkers = All-set (λ (x : Option Walker). IfSome x (IsWalker w.forest)) w.walkers k None tt s.walkers; registrations = s.registrations; statics = s.statics }
 
 new_iterator_sound : (f : Forest Content) (root : ℕ) (filter : Filter) → 0 < occurs root f → IsIterator f (new_iterator root filter)
 new_iterator_sound f root filter h =
@@ -76,11 +76,11 @@ moved_walker_sound f (Some n) k t h = record { root = h.root; current = HasNode-
 module _ (b : Bounds) (w : World) (s : IsSound w) where
   pub sound-create_iterator : (root : ℕ) (filter : Filter) → IsSound (answer_create_iterator b root filter w).world
   sound-create_iterator root filter =
-      sound-guarded (no_node root w ∷ no_room b (length w.iterators) 1 ∷ []) w (answers (Number (length w.iterators)) (record w { iterators = w.iterators ++ new_iterator root filter ∷ [] })) s
+      sound-guarded (no_node root w ∷ no_room b (length w.iterators) 1 ∷ []) w (answers (Number (length w.iterators)) (record w { iterators = w.iterators ++ Some (new_iterator root filter) ∷ [] })) s
       (λ h. record {
         forest = s.forest;
         ranges = s.ranges;
-        iterators = All-push (IsIterator w.forest) w.iterators (new_iterator root filter) s.iterators (new_iterator_sound w.forest root filter (there_unless w.forest root h.0));
+        iterators = All-push (λ (x : Option Iterator). IfSome x (IsIterator w.forest)) w.iterators (Some (new_iterator root filter)) s.iterators (new_iterator_sound w.forest root filter (there_unless w.forest root h.0));
         walkers = s.walkers;
         registrations = s.registrations;
         statics = s.statics;
@@ -88,13 +88,13 @@ module _ (b : Bounds) (w : World) (s : IsSound w) where
 
   pub sound-create_walker : (root : ℕ) (filter : Filter) → IsSound (answer_create_walker b root filter w).world
   sound-create_walker root filter =
-      sound-guarded (no_node root w ∷ no_room b (length w.walkers) 1 ∷ []) w (answers (Number (length w.walkers)) (record w { walkers = w.walkers ++ new_walker root filter ∷ [] })) s
+      sound-guarded (no_node root w ∷ no_room b (length w.walkers) 1 ∷ []) w (answers (Number (length w.walkers)) (record w { walkers = w.walkers ++ Some (new_walker root filter) ∷ [] })) s
       (λ h. let t = HasNode-occurs w.forest root (there_unless w.forest root h.0) in
       record {
         forest = s.forest;
         ranges = s.ranges;
         iterators = s.iterators;
-        walkers = All-push (IsWalker w.forest) w.walkers (new_walker root filter) s.walkers (record { root = t; current = t });
+        walkers = All-push (λ (x : Option Walker). IfSome x (IsWalker w.forest)) w.walkers (Some (new_walker root filter)) s.walkers (record { root = t; current = t });
         registrations = s.registrations;
         statics = s.statics;
       })
@@ -128,3 +128,11 @@ module _ (b : Bounds) (w : World) (s : IsSound w) where
       (λ (walker : Walker). answers (MaybeNumber (walk_found move w.forest walker)) (with_walker k (walker_moved (walk_found move w.forest walker) walker) w)) s
       (element (IsWalker w.forest) w.walkers k s.walkers)
       (λ walker h. sound-with_walker k (walker_moved (walk_found move w.forest walker) walker) w s (moved_walker_sound w.forest (walk_found move w.forest walker) walker (walk_there move w.forest s.forest.once walker h) h))
+
+  pub sound-release_iterator : (i : ℕ) → IsSound (answer_release_iterator b i w).world
+  sound-release_iterator i =
+      sound-with_object (IsIterator w.forest) (iterator_at i w) w _ s (element (IsIterator w.forest) w.iterators i s.iterators) (λ it h. sound-released_iterator i w s)
+
+  pub sound-release_walker : (k : ℕ) → IsSound (answer_release_walker b k w).world
+  sound-release_walker k =
+      sound-with_object (IsWalker w.forest) (walker_at k w) w _ s (element (IsWalker w.forest) w.walkers k s.walkers) (λ walker h. sound-released_walker k w s)

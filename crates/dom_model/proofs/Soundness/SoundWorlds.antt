@@ -1,5 +1,7 @@
 -- The parts of a sound world, and what a removal leaves of them. DOM Standard, "Mutation algorithms": remove.
-use Rattle.std.proofs.Common.{◌≡◌, ℕ, ◌<◌, ◌==◌, Bool, true, false, List, [], ◌∷◌, map, filter, Option, Some, None, IfSome, All, option_map, unwrap_or, refl, sym, subst}
+use Rattle.std.proofs.Common.{◌≡◌, ℕ, ◌<◌, ◌≤◌, ◌==◌, Bool, true, false, List, [], ◌∷◌, length, map, filter, Option, Some, None, IfSome, All, option_map, unwrap_or, slice_index_or, refl, sym, subst, ⊎_elim}
+use Rattle.std.proofs.lemmas.Bool.{cases_lt}
+use Rattle.std.proofs.lemmas.List.{get_or_past}
 use Rattle.std.proofs.lemmas.List.Elements.{All-map, All-weaker, All-append, All-filter, All-nil}
 use Rattle.dom_model.specs.Forests.Forest.{Forest, occurs, one_at, cut, entry_in, HasNode, parent_of, ancestors, previous_of, next_of}
 use Rattle.dom_model.specs.Worlds.World.{Content, Point, Range, Walker, Registration, Mutation, World}
@@ -19,19 +21,23 @@ use Rattle.dom_model.proofs.RangesAndContents.RangesCut.{range-cut, iterator-cut
 abbrev pub IsLive : Forest Content → Option Range → Type 0
 IsLive f r = IfSome r (IsRange f)
 
-pub each-moved : (P Q : Range → Type 0) (move : Point → Point) → ((r : Range) → P r → Q (moved_range move r)) → (rs : List (Option Range)) → Lives P rs → Lives Q (map_ranges move rs)
-each-moved P Q move keeps rs h = All-map (λ r. IfSome r Q) (λ r. option_map (moved_range move) r) rs (All-weaker (λ r. IfSome r P) (λ r. IfSome (option_map (moved_range move) r) Q) each rs h)
+-- a map on each that was not released
+pub each-mapped : {A : Type 0} (P Q : A → Type 0) (change : A → A) → ((a : A) → P a → Q (change a)) → (xs : List (Option A)) → All (λ (x : Option A). IfSome x P) xs → All (λ (x : Option A). IfSome x Q) (map (λ (x : Option A). option_map change x) xs)
+each-mapped {A} P Q change keeps xs h = All-map (λ x. IfSome x Q) (λ x. option_map change x) xs (All-weaker (λ x. IfSome x P) (λ x. IfSome (option_map change x) Q) each xs h)
   where
-    each : (r : Option Range) → IfSome r P → IfSome (option_map (moved_range move) r) Q
+    each : (x : Option A) → IfSome x P → IfSome (option_map change x) Q
     each None k = tt
-    each (Some r) k = keeps r k
+    each (Some a) k = keeps a k
 
-pub each-kept : (P Q : Range → Type 0) → ((r : Range) → P r → Q r) → (rs : List (Option Range)) → Lives P rs → Lives Q rs
-each-kept P Q keeps rs h = All-weaker (λ r. IfSome r P) (λ r. IfSome r Q) each rs h
+pub each-kept : {A : Type 0} (P Q : A → Type 0) → ((a : A) → P a → Q a) → (xs : List (Option A)) → All (λ (x : Option A). IfSome x P) xs → All (λ (x : Option A). IfSome x Q) xs
+each-kept {A} P Q keeps xs h = All-weaker (λ x. IfSome x P) (λ x. IfSome x Q) each xs h
   where
-    each : (r : Option Range) → IfSome r P → IfSome r Q
+    each : (x : Option A) → IfSome x P → IfSome x Q
     each None k = tt
-    each (Some r) k = keeps r k
+    each (Some a) k = keeps a k
+
+pub each-moved : (P Q : Range → Type 0) (move : Point → Point) → ((r : Range) → P r → Q (moved_range move r)) → (rs : List (Option Range)) → Lives P rs → Lives Q (map_ranges move rs)
+each-moved P Q move keeps rs h = each-mapped P Q (moved_range move) keeps rs h
 
 pub ranges-moved : (f g : Forest Content) (move : Point → Point) → ((r : Range) → IsRange f r → IsRange g (moved_range move r)) → (rs : List (Option Range)) → All (IsLive f) rs → All (IsLive g) (map_ranges move rs)
 ranges-moved f g move keeps rs h = each-moved (IsRange f) (IsRange g) move keeps rs h
@@ -39,8 +45,16 @@ ranges-moved f g move keeps rs h = each-moved (IsRange f) (IsRange g) move keeps
 pub ranges-kept : (f g : Forest Content) → ((r : Range) → IsRange f r → IsRange g r) → (rs : List (Option Range)) → All (IsLive f) rs → All (IsLive g) rs
 ranges-kept f g keeps rs h = each-kept (IsRange f) (IsRange g) keeps rs h
 
-pub walkers-kept : (f g : Forest Content) → ((n : ℕ) → HasNode f n → HasNode g n) → (ks : List Walker) → All (IsWalker f) ks → All (IsWalker g) ks
-walkers-kept f g there ks h = All-weaker (IsWalker f) (IsWalker g) (λ k w. record { root = there k.root w.root; current = there k.current w.current }) ks h
+pub walkers-kept : (f g : Forest Content) → ((n : ℕ) → HasNode f n → HasNode g n) → (ks : List (Option Walker)) → All (λ (k : Option Walker). IfSome k (IsWalker f)) ks → All (λ (k : Option Walker). IfSome k (IsWalker g)) ks
+walkers-kept f g there ks h = each-kept (IsWalker f) (IsWalker g) (λ k w. record { root = there k.root w.root; current = there k.current w.current }) ks h
+
+-- what is read at a number has what each has that was not released
+pub element : {A : Type 0} (P : A → Type 0) (xs : List (Option A)) (i : ℕ) → All (λ (x : Option A). IfSome x P) xs → IfSome (slice_index_or xs i None) P
+element P xs i h =
+    ⊎_elim
+    (λ (lt : i < length xs). h i None lt)
+    (λ (le : length xs ≤ i). subst (λ o. IfSome o P) (sym (get_or_past xs i None le)) tt)
+    (cases_lt i (length xs))
 
 pub registrations-kept : (f g : Forest Content) → ((n : ℕ) → HasNode f n → HasNode g n) → (rs : List Registration) → All (IsRegistration f) rs → All (IsRegistration g) rs
 registrations-kept f g there rs h = All-weaker (IsRegistration f) (IsRegistration g) (λ r k. record { node = there r.node k.node; source = from r.source k.source }) rs h
@@ -49,8 +63,8 @@ registrations-kept f g there rs h = All-weaker (IsRegistration f) (IsRegistratio
     from None k = tt
     from (Some n) k = there n k
 
-pub statics-kept : (f g : Forest Content) → ((n : ℕ) → HasNode f n → HasNode g n) → (rs : List Range) → All (AreHeld f) rs → All (AreHeld g) rs
-statics-kept f g there rs h = All-weaker (AreHeld f) (AreHeld g) (λ r k. record { start = there r.start.node k.start; end = there r.end.node k.end }) rs h
+pub statics-kept : (f g : Forest Content) → ((n : ℕ) → HasNode f n → HasNode g n) → (rs : List (Option Range)) → All (λ (r : Option Range). IfSome r (AreHeld f)) rs → All (λ (r : Option Range). IfSome r (AreHeld g)) rs
+statics-kept f g there rs h = each-kept (AreHeld f) (AreHeld g) (λ r k. record { start = there r.start.node k.start; end = there r.end.node k.end }) rs h
 
 -- a change that is noted
 pub sound-queued : (m : Mutation) (w : World) → IsSound w → IsSound (queued m w)
@@ -117,7 +131,7 @@ sound-taken_out n parent w e s =
     record {
       forest = IsWood-cut s.forest n h;
       ranges = ranges-moved w.forest (cut n w.forest) _ (range-cut s.forest parent n h e) w.ranges s.ranges;
-      iterators = All-map (IsIterator (cut n w.forest)) (pre_removed w.forest n) w.iterators (All-weaker (IsIterator w.forest) (λ i. IsIterator (cut n w.forest) (pre_removed w.forest n i)) (iterator-cut s.forest parent n h e) w.iterators s.iterators);
+      iterators = each-mapped (IsIterator w.forest) (IsIterator (cut n w.forest)) (pre_removed w.forest n) (iterator-cut s.forest parent n h e) w.iterators s.iterators;
       walkers = walkers-kept w.forest (cut n w.forest) (there_after_cut w.forest n) w.walkers s.walkers;
       registrations = registrations-kept w.forest (cut n w.forest) (there_after_cut w.forest n) w.observing.registrations s.registrations;
       statics = statics-kept w.forest (cut n w.forest) (there_after_cut w.forest n) w.static_ranges s.statics;

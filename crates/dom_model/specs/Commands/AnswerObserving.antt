@@ -1,19 +1,19 @@
 -- The answers to the commands of mutation observers. DOM Standard, "Interface MutationObserver".
--- Ours: observers are numbered in the order of making, and stand until the session ends.
-use Rattle.std.specs.Prelude.{ℕ, nat_lt, Bool, not, [], ◌∷◌, length}
+-- Ours: observers are numbered in the order of making, and stand until they are released or the session ends.
+use Rattle.std.specs.Prelude.{ℕ, Bool, not, [], ◌∷◌, length}
 use Rattle.dom_model.specs.declared.OwnError.TheVariants.{NoSuchObject}
 use Rattle.dom_model.specs.Worlds.World.{Observing, World}
 use Rattle.dom_model.specs.MutationObservers.GivenOptions.{GivenOptions}
 use Rattle.dom_model.specs.Commands.Reply.{Number, Numbers, Records, Notified, Reply, Own}
 use Rattle.dom_model.specs.Commands.Guards.{Bounds, Step, guarded, checked, no_node, no_room, answers, does}
-use Rattle.dom_model.specs.MutationObservers.Records.{options_refusal, options_of, observed, queue_of, pending_of, with_observer, records_taken, disconnected, told, after_notify}
+use Rattle.dom_model.specs.MutationObservers.Records.{options_refusal, options_of, observed, has_observer, queue_of, pending_of, with_observer, records_taken, disconnected, released_observer, told, after_notify}
 
 abbrev pub observers_made : World → ℕ
 observers_made w = length w.observing.places
 
--- no observer of that number
+-- no observer of that number: never made, or released
 abbrev pub no_observer : ℕ → World → Bool × Reply
-no_observer o w = (not (nat_lt o (observers_made w)), Own NoSuchObject)
+no_observer o w = (not (has_observer w.observing o), Own NoSuchObject)
 
 abbrev pub with_observing : Observing → World → World
 with_observing x w = record w { observing = x }
@@ -31,6 +31,11 @@ answer_observe b o n options w =
 abbrev pub answer_disconnect : Bounds → ℕ → World → Step
 answer_disconnect b o w =
     guarded (no_observer o w ∷ []) w (does (with_observing (disconnected o w.observing) w))
+
+-- release an observer (ours): it is disconnected, is pending no more, and no command finds it
+abbrev pub answer_release_observer : Bounds → ℕ → World → Step
+answer_release_observer b o w =
+    guarded (no_observer o w ∷ []) w (does (with_observing (released_observer o w.observing) w))
 
 abbrev pub answer_take_records : Bounds → ℕ → World → Step
 answer_take_records b o w =

@@ -4,8 +4,8 @@ use Rattle.dom_model.specs.declared.OwnError.TheVariants.{NoSuchObject}
 use Rattle.dom_model.specs.Worlds.World.{Point, Range, World}
 use Rattle.dom_model.specs.Commands.Reply.{Number, StaticEnds, Reply, Done, Own}
 use Rattle.dom_model.specs.Worlds.Lengths.{unit_count}
-use Rattle.dom_model.specs.RangesAndContents.StaticRanges.{check_static, is_valid_static, static_at, made_static}
-use Rattle.dom_model.specs.Commands.Guards.{Bounds, Step, refused, guarded, checked, no_node, no_room, answers}
+use Rattle.dom_model.specs.RangesAndContents.StaticRanges.{check_static, is_valid_static, static_at, made_static, released_static}
+use Rattle.dom_model.specs.Commands.Guards.{Bounds, Step, refused, guarded, checked, no_node, no_room, answers, does}
 
 abbrev pub no_static : ℕ → World → Bool × Reply
 no_static u w = (is_none (static_at w u), Own NoSuchObject)
@@ -22,3 +22,6 @@ static_told w (Some range) = answers (StaticEnds range (is_valid_static unit_cou
 
 abbrev pub answer_static_range : Bounds → ℕ → World → Step
 answer_static_range b u w = guarded (no_static u w ∷ []) w (static_told w (static_at w u))
+
+abbrev pub answer_release_static_range : Bounds → ℕ → World → Step
+answer_release_static_range b u w = guarded (no_static u w ∷ []) w (does (released_static u w))

@@ -3,7 +3,7 @@
 use Rattle.std.specs.Prelude.{ℕ, Bool, true, false, not, if◌then◌else◌, List, [], ◌∷◌, filter}
 use Rattle.std.specs.List.{list_any}
 use Rattle.dom_model.specs.Worlds.World.{World}
-use Rattle.dom_model.specs.Commands.Command.{Command, CreateRange, CloneRange, DescribeRange, SetStart, SetEnd, SetStartBefore, SetStartAfter, SetEndBefore, SetEndAfter, Collapse, SelectNode, SelectNodeContents, CompareBoundaryPoints, ComparePoint, IsPointInRange, IntersectsNode, CommonAncestor, RangeText, DeleteContents, ExtractContents, CloneContents, InsertNode, SurroundContents, ReleaseRange, CreateIterator, CreateWalker, DescribeIterator, NextNode, PreviousNode, DescribeWalker, SetCurrent, Walk, Observe, Disconnect, TakeRecords, Notify, Pending, CreateStaticRange, DescribeStaticRange, Discard}
+use Rattle.dom_model.specs.Commands.Command.{Command, CreateRange, CloneRange, DescribeRange, SetStart, SetEnd, SetStartBefore, SetStartAfter, SetEndBefore, SetEndAfter, Collapse, SelectNode, SelectNodeContents, CompareBoundaryPoints, ComparePoint, IsPointInRange, IntersectsNode, CommonAncestor, RangeText, DeleteContents, ExtractContents, CloneContents, InsertNode, SurroundContents, ReleaseRange, CreateIterator, CreateWalker, DescribeIterator, NextNode, PreviousNode, DescribeWalker, SetCurrent, Walk, Observe, Disconnect, TakeRecords, Notify, Pending, CreateStaticRange, DescribeStaticRange, ReleaseIterator, ReleaseWalker, ReleaseStaticRange, ReleaseObserver, Discard}
 use Rattle.dom_model.specs.Commands.Reply.{Answer, Numbers, Notified, Reply, Done, Dom, Own}
 use Rattle.dom_model.specs.MutationObservers.Record.{Told}
 use Rattle.dom_model.specs.Commands.Guards.{Bounds}
@@ -34,12 +34,13 @@ discards _ = false
 abbrev pub makes_no_discard : List Command → Bool
 makes_no_discard cs = not (list_any discards cs)
 
--- Observers, told by a test of their numbers: what they observe, disconnect and take is erased; that they are made is not.
+-- Observers, told by a test of their numbers: what they observe, disconnect and take is erased, and that they are released; that they are made is not.
 
 abbrev pub is_by_observer : (ℕ → Bool) → Command → Bool
 is_by_observer erased (Observe o n options) = erased o
 is_by_observer erased (Disconnect o) = erased o
 is_by_observer erased (TakeRecords o) = erased o
+is_by_observer erased (ReleaseObserver o) = erased o
 is_by_observer erased _ = false
 
 abbrev pub parts_left : (ℕ → Bool) → Answer → Answer
@@ -106,6 +107,9 @@ only_watches (SetCurrent k n) = true
 only_watches (Walk k move) = true
 only_watches (CreateStaticRange start end) = true
 only_watches (DescribeStaticRange s) = true
+only_watches (ReleaseIterator i) = true
+only_watches (ReleaseWalker k) = true
+only_watches (ReleaseStaticRange s) = true
 only_watches _ = false
 
 -- watchers can be erased from a list that makes no edit by a range

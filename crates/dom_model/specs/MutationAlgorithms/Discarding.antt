@@ -19,10 +19,6 @@ documents {X} f = map (λ (r : Row X). r.at.document) (rows 0 f)
 abbrev pub nodes_of_range : Range → List ℕ
 nodes_of_range r = r.start.node ∷ r.end.node ∷ []
 
-abbrev pub nodes_of_live : Option Range → List ℕ
-nodes_of_live None = []
-nodes_of_live (Some r) = nodes_of_range r
-
 abbrev pub nodes_of_iterator : Iterator → List ℕ
 nodes_of_iterator i = i.root ∷ i.reference ∷ []
 
@@ -33,11 +29,16 @@ nodes_of_walker k = k.root ∷ k.current ∷ []
 abbrev pub nodes_of_registration : Registration → List ℕ
 nodes_of_registration r = r.node ∷ if_any r.source
 
+-- what was released names no node
+abbrev pub nodes_unless_released : {A : Type 0} → (A → List ℕ) → Option A → List ℕ
+nodes_unless_released nodes None = []
+nodes_unless_released nodes (Some a) = nodes a
+
 abbrev pub nodes_of_record : Record → List ℕ
 nodes_of_record r = r.target ∷ (r.added ++ (r.removed ++ (if_any r.previous ++ if_any r.next)))
 
--- the records that observers from `o` on have not taken; one place for each observer
-abbrev pub queues_from : ℕ → List ℕ → Observing → List Record
+-- the records that observers from `o` on have not taken; one place for each observer, and no record where it was released
+abbrev pub queues_from : ℕ → List (Option ℕ) → Observing → List Record
 queues_from o [] x = []
 queues_from o (place ∷ places) x = queue_of o x ++ queues_from (suc o) places x
 
@@ -50,10 +51,10 @@ observed_nodes x = flat_map nodes_of_registration x.registrations ++ flat_map no
 -- every node that something else than a tree names
 abbrev pub named_nodes : World → List ℕ
 named_nodes w =
-    flat_map nodes_of_live w.ranges
-    ++ (flat_map nodes_of_range w.static_ranges
-    ++ (flat_map nodes_of_iterator w.iterators
-    ++ (flat_map nodes_of_walker w.walkers
+    flat_map (nodes_unless_released nodes_of_range) w.ranges
+    ++ (flat_map (nodes_unless_released nodes_of_range) w.static_ranges
+    ++ (flat_map (nodes_unless_released nodes_of_iterator) w.iterators
+    ++ (flat_map (nodes_unless_released nodes_of_walker) w.walkers
     ++ observed_nodes w.observing)))
 
 -- a node outside has the node as a child, or one of its inclusive descendants as its node document

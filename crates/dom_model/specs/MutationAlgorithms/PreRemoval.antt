@@ -1,5 +1,5 @@
 -- What an iterator does before a node is removed. DOM Standard, "Interface NodeIterator", pre-removing steps.
-use Rattle.std.specs.Prelude.{ℕ, ◌==◌, false, not, ◌&&◌, if◌then◌else◌, List, map, filter, Option, Some, None, unwrap_or}
+use Rattle.std.specs.Prelude.{ℕ, ◌==◌, false, not, ◌&&◌, if◌then◌else◌, List, map, filter, Option, Some, None, option_map, unwrap_or}
 use Rattle.dom_model.specs.PlainLists.Lists.{among, head_of, before, past}
 use Rattle.dom_model.specs.Forests.Forest.{Forest, inclusive_descendants}
 use Rattle.dom_model.specs.Worlds.World.{Iterator}
@@ -31,5 +31,6 @@ module _ {X : Type 0} where
   abbrev pub pre_removed : Forest X → ℕ → Iterator → Iterator
   pre_removed f n i = pre_removed_among n (inclusive_descendants f n) (inclusive_descendants f i.root) i
 
-  abbrev pub pre_removed_all : Forest X → ℕ → List Iterator → List Iterator
-  pre_removed_all f n is = map (pre_removed f n) is
+  -- and of every iterator that was not released
+  abbrev pub pre_removed_all : Forest X → ℕ → List (Option Iterator) → List (Option Iterator)
+  pre_removed_all f n is = map (λ (i : Option Iterator). option_map (pre_removed f n) i) is

@@ -1,7 +1,8 @@
 -- What observers are told: options as they are settled, registrations, queues and the pending list as readings of the one list of mutations.
 -- DOM Standard, "Mutation observers": observe, disconnect, takeRecords, queue a mutation record, notify mutation observers.
--- Ours: only a registration that is not transient counts as already there, and notify is a command that ends every transient one.
-use Rattle.std.specs.Prelude.{ℕ, ◌==◌, Bool, true, false, not, ◌&&◌, ◌||◌, if◌then◌else◌, List, [], ◌∷◌, ◌++◌, map, filter, filter_map, flat_map, drop, length, Option, Some, None, is_some, is_none, unwrap_or, slice_index_or, slice_set, bytes_eq, Result, Ok, Err}
+-- Ours: only a registration that is not transient counts as already there, notify is a command that ends every transient one,
+-- and an observer can be released, where the standard leaves it to garbage collection.
+use Rattle.std.specs.Prelude.{ℕ, ◌<◌, ◌==◌, Bool, true, false, not, ◌&&◌, ◌||◌, if◌then◌else◌, List, [], ◌∷◌, ◌++◌, map, filter, filter_map, flat_map, drop, length, Option, Some, None, is_some, is_none, option_map, unwrap_or, slice_index_or, slice_set, bytes_eq, All, Result, Ok, Err}
 use Rattle.std.specs.List.{list_any}
 use Rattle.dom_model.specs.declared.RecordType.{RecordType}
 use Rattle.dom_model.specs.declared.RecordType.TheVariants.{ChildList, Attributes, CharacterData}
@@ -130,13 +131,21 @@ record_for o m = record_by m (filter (λ (r : Registration). r.observer == o) (i
 
 -- Queues and the pending list.
 
--- the place in the list of mutations up to which the observer's records were taken
-abbrev pub taken_up_to : ℕ → Observing → ℕ
-taken_up_to o x = slice_index_or x.places o 0
+-- the place in the list of mutations up to which the observer's records were taken; none where its number was not given out, or was released
+abbrev pub taken_up_to : ℕ → Observing → Option ℕ
+taken_up_to o x = slice_index_or x.places o None
+
+-- an observer of that number is there: it was made, and not released
+abbrev pub has_observer : Observing → ℕ → Bool
+has_observer x o = is_some (taken_up_to o x)
+
+abbrev pub records_past : ℕ → List Mutation → Option ℕ → List Record
+records_past o ms None = []
+records_past o ms (Some place) = filter_map (record_for o) (drop place ms)
 
 -- an observer's queue: the records of the mutations after its place
 abbrev pub queue_of : ℕ → Observing → List Record
-queue_of o x = filter_map (record_for o) (drop (taken_up_to o x) x.mutations)
+queue_of o x = records_past o x.mutations (taken_up_to o x)
 
 abbrev pub observers_of : Mutation → List ℕ
 observers_of m = map (λ (r : Registration). r.observer) (interested m)
@@ -146,21 +155,30 @@ abbrev pub each_once : List ℕ → List ℕ
 each_once [] = []
 each_once (n ∷ ns) = n ∷ left_out n (each_once ns)
 
--- the pending list: the observers that a mutation since the last notify interests, by the first such mutation, then by the first such registration
+-- the pending list: the observers that a mutation since the last notify interests, by the first such mutation, then by the first such registration;
+-- those that were released are left out
 abbrev pub pending_of : Observing → List ℕ
-pending_of x = each_once (flat_map observers_of (drop x.notified x.mutations))
+pending_of x = filter (has_observer x) (each_once (flat_map observers_of (drop x.notified x.mutations)))
+
+-- each observer that a mutation since the last notify interests has a number that was given out
+abbrev pub InterestedAreMade : Observing → Type 0
+InterestedAreMade x = All (λ o. o < length x.places) (flat_map observers_of (drop x.notified x.mutations))
 
 -- a new observer: nothing in the list is before it
 abbrev pub with_observer : Observing → Observing
-with_observer x = record x { places = x.places ++ length x.mutations ∷ [] }
+with_observer x = record x { places = x.places ++ Some (length x.mutations) ∷ [] }
 
 -- takeRecords: the observer's place moves to the end
 abbrev pub records_taken : ℕ → Observing → Observing
-records_taken o x = record x { places = slice_set x.places o (length x.mutations) }
+records_taken o x = record x { places = slice_set x.places o (Some (length x.mutations)) }
 
 -- disconnect: all its registrations go, transient ones too, and its queue is emptied
 abbrev pub disconnected : ℕ → Observing → Observing
 disconnected o x = record (records_taken o x) { registrations = filter (λ (r : Registration). not (r.observer == o)) x.registrations }
+
+-- an observer is released: it is disconnected, and then has no place any more; its number is not used again (ours)
+abbrev pub released_observer : ℕ → Observing → Observing
+released_observer o x = record (disconnected o x) { places = slice_set x.places o None }
 
 abbrev pub told_in : Observing → ℕ → Told
 told_in x o = record { observer = o; records = queue_of o x }
@@ -176,6 +194,6 @@ told x = filter has_records (map (told_in x) (pending_of x))
 abbrev pub after_notify : Observing → Observing
 after_notify x = record x {
   registrations = filter (λ (r : Registration). is_none r.source) x.registrations;
-  places = map (λ _. length x.mutations) x.places;
+  places = map (λ (place : Option ℕ). option_map (λ _. length x.mutations) place) x.places;
   notified = length x.mutations;
 }

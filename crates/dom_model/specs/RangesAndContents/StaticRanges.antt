@@ -1,6 +1,6 @@
 -- Static ranges: their making, and whether they are valid as the tree stands. DOM Standard, "Interface StaticRange".
--- A static range is never adjusted.
-use Rattle.std.specs.Prelude.{ℕ, nat_le, Bool, not, ◌&&◌, ◌||◌, [], ◌∷◌, ◌++◌, Option, slice_get}
+-- A static range is never adjusted. Ours: it can be released, where the standard leaves it to garbage collection.
+use Rattle.std.specs.Prelude.{ℕ, nat_le, Bool, not, ◌&&◌, ◌||◌, [], ◌∷◌, ◌++◌, Option, Some, None, slice_index_or, slice_set}
 use Rattle.dom_model.specs.declared.Kind.TheVariants.{DocumentType}
 use Rattle.dom_model.specs.declared.DomError.{DomError}
 use Rattle.dom_model.specs.declared.DomError.TheVariants.{InvalidNodeTypeError}
@@ -23,9 +23,14 @@ module _ {X : Type 0} where
       && ((nat_le r.start.offset (node_length measure f r.start.node) && nat_le r.end.offset (node_length measure f r.end.node))
       && not (is_before f r.end r.start))
 
+-- a static range of the world; none where its number was not given out, or was released
 abbrev pub static_at : World → ℕ → Option Range
-static_at w u = slice_get w.static_ranges u
+static_at w u = slice_index_or w.static_ranges u None
 
 -- a new static range, with the next number
 abbrev pub made_static : Range → World → World
-made_static range w = record w { static_ranges = w.static_ranges ++ range ∷ [] }
+made_static range w = record w { static_ranges = w.static_ranges ++ Some range ∷ [] }
+
+-- a static range is released; its number is not used again
+abbrev pub released_static : ℕ → World → World
+released_static u w = record w { static_ranges = slice_set w.static_ranges u None }

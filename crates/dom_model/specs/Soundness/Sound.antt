@@ -47,7 +47,7 @@ pub record AreHeld (f : Forest Content) (r : Range) : Type 0 where
 pub record IsSound (w : World) : Type 0 where
   pub forest : IsForest (record { forest = w.forest; made = w.made })
   pub ranges : All (λ (r : Option Range). IfSome r (IsRange w.forest)) w.ranges
-  pub iterators : All (IsIterator w.forest) w.iterators
-  pub walkers : All (IsWalker w.forest) w.walkers
+  pub iterators : All (λ (i : Option Iterator). IfSome i (IsIterator w.forest)) w.iterators
+  pub walkers : All (λ (k : Option Walker). IfSome k (IsWalker w.forest)) w.walkers
   pub registrations : All (IsRegistration w.forest) w.observing.registrations
-  pub statics : All (AreHeld w.forest) w.static_ranges
+  pub statics : All (λ (r : Option Range). IfSome r (AreHeld w.forest)) w.static_ranges

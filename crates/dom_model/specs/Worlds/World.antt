@@ -73,22 +73,22 @@ pub record Mutation : Type 0 where
   pub standing : List Registration
 
 -- the observing part: one flat list of registrations, one list of mutations, for each observer the place in that list
--- up to which its records were taken, and the place of the last notify
+-- up to which its records were taken (None where the observer was released), and the place of the last notify
 pub record Observing : Type 0 where
   pub registrations : List Registration
   pub mutations : List Mutation
-  pub places : List ℕ
+  pub places : List (Option ℕ)
   pub notified : ℕ
 
 pub record World : Type 0 where
   pub forest : Forest Content
   pub made : ℕ
-  -- released ranges are None
+  -- ranges, iterators, walkers and static ranges that were released are None
   pub ranges : List (Option Range)
-  pub iterators : List Iterator
-  pub walkers : List Walker
+  pub iterators : List (Option Iterator)
+  pub walkers : List (Option Walker)
   pub observing : Observing
-  pub static_ranges : List Range
+  pub static_ranges : List (Option Range)
 
 abbrev pub no_content : Content
 no_content = record { text = []; attributes = [] }

@@ -1,6 +1,10 @@
 -- The nodes that were passed are out.
+use Rattle.dom_edit.specs.Keeping.{KeepsLabels}
 use Rattle.dom_content.proofs.EachRemoved.{IsLeaving}
 use Rattle.dom_content.proofs.deleting.remove_each.Given as goal
 
 abbrev pub invariant-loop-node : goal.invariant-loop-node
-invariant-loop-node l = IsLeaving l.initial.world l.world l.nodes l.node-index
+invariant-loop-node l = record {
+  leaving : IsLeaving l.initial.world l.world l.nodes l.node-index;
+  kept : KeepsLabels l.initial.world l.world;
+}

@@ -1,29 +1,37 @@
 -- Each node takes its turn.
+use Rattle.std.proofs.Common.{refl}
+use Rattle.dom_edit.proofs.NodesKept.{labels-then}
+use Rattle.dom_content.proofs.LabelsKept.{labels-same}
 use Rattle.dom_content.proofs.PieceSteps.{filling-first, filling-may, filling-room, filling-held, filling-next, filling-end}
 use Rattle.dom_content.proofs.pieces.children_into.Goals as goal
 
 pub loop-node-init : goal.loop-node-init
-loop-node-init c = filling-first c.args.world.now c.args.moves c.args.into c.args.nodes.now c.requires.whole c.requires.may c.requires.room
+loop-node-init c = record {
+  filling = filling-first c.args.world.now c.args.moves c.args.into c.args.nodes.now c.requires.whole c.requires.may c.requires.room;
+  kept = labels-same c.args.world.now c.args.world.now refl;
+}
 
 pub child_into-requires-clause-may : goal.child_into-requires-clause-may
 child_into-requires-clause-may c =
-    filling-may c.args.world.now c.loop-node.world c.args.moves c.args.into c.args.nodes.now c.loop-node.node-index c.loop-node.invariant c.node-item.result c.node-item.is c.loop-node-test.true
+    filling-may c.args.world.now c.loop-node.world c.args.moves c.args.into c.args.nodes.now c.loop-node.node-index c.loop-node.invariant.filling c.node-item.result c.node-item.is c.loop-node-test.true
 
 pub child_into-requires-clause-held : goal.child_into-requires-clause-held
 child_into-requires-clause-held c =
-    filling-held c.args.world.now c.loop-node.world c.args.moves c.args.into c.args.nodes.now c.loop-node.node-index c.loop-node.invariant c.node-item.result c.node-item.is c.loop-node-test.true
+    filling-held c.args.world.now c.loop-node.world c.args.moves c.args.into c.args.nodes.now c.loop-node.node-index c.loop-node.invariant.filling c.node-item.result c.node-item.is c.loop-node-test.true
 
 pub child_into-requires-clause-room : goal.child_into-requires-clause-room
 child_into-requires-clause-room c =
-    filling-room c.args.world.now c.loop-node.world c.args.moves c.args.into c.args.nodes.now c.loop-node.node-index c.loop-node.invariant c.node-item.result c.node-item.is c.loop-node-test.true
+    filling-room c.args.world.now c.loop-node.world c.args.moves c.args.into c.args.nodes.now c.loop-node.node-index c.loop-node.invariant.filling c.node-item.result c.node-item.is c.loop-node-test.true
 
 pub loop-node-preserved : goal.loop-node-preserved
-loop-node-preserved c =
-    filling-next c.args.world.now c.loop-node.world c.args.moves c.args.into c.args.nodes.now c.loop-node.node-index c.loop-node.invariant c.node-item.result c.node-item.is c.loop-node-test.true
-    c.child_into.new.world c.in_ok-child_into.ensures.drawn c.in_ok-child_into.ensures.stays c.in_ok-child_into.ensures.whole
+loop-node-preserved c = record {
+  filling = filling-next c.args.world.now c.loop-node.world c.args.moves c.args.into c.args.nodes.now c.loop-node.node-index c.loop-node.invariant.filling c.node-item.result c.node-item.is c.loop-node-test.true
+      c.child_into.new.world c.in_ok-child_into.ensures.drawn c.in_ok-child_into.ensures.stays c.in_ok-child_into.ensures.whole;
+  kept = labels-then c.args.world.now c.loop-node.world c.child_into.new.world c.loop-node.invariant.kept c.in_ok-child_into.ensures.kept;
+}
 
 pub returns-clause-drawn : goal.returns-clause-drawn
-returns-clause-drawn c = filling-end c.args.world.now c.loop-node.world c.args.moves c.args.into c.args.nodes.now c.loop-node.node-index c.loop-node.invariant c.loop-node-test.false
+returns-clause-drawn c = filling-end c.args.world.now c.loop-node.world c.args.moves c.args.into c.args.nodes.now c.loop-node.node-index c.loop-node.invariant.filling c.loop-node-test.false
 
 pub returns-clause-stays : goal.returns-clause-stays
-returns-clause-stays c = c.loop-node.invariant.still
+returns-clause-stays c = c.loop-node.invariant.filling.still

@@ -1,6 +1,10 @@
 -- The nodes that were passed are in the fragment.
+use Rattle.dom_edit.specs.Keeping.{KeepsLabels}
 use Rattle.dom_content.proofs.PieceSteps.{IsFilling}
 use Rattle.dom_content.proofs.pieces.children_into.Given as goal
 
 abbrev pub invariant-loop-node : goal.invariant-loop-node
-invariant-loop-node l = IsFilling l.initial.world l.world l.moves l.into l.nodes l.node-index
+invariant-loop-node l = record {
+  filling : IsFilling l.initial.world l.world l.moves l.into l.nodes l.node-index;
+  kept : KeepsLabels l.initial.world l.world;
+}

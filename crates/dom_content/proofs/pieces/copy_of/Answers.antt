@@ -1,5 +1,6 @@
 -- A copy is there beside all others.
 use Rattle.std.proofs.lemmas.Result.{on_ok_weaker}
+use Rattle.dom_content.proofs.LabelsKept.{labels-left}
 use Rattle.dom_content.proofs.PieceSteps.{room-clone, kinds-clone, data-clone, clone-held}
 use Rattle.dom_content.proofs.StaysOf.{stays-clone}
 use Rattle.dom_content.proofs.pieces.copy_of.Goals as goal
@@ -18,3 +19,6 @@ returns-clause-kinds c = on_ok_weaker c.clone_node.result (kinds-clone c.args.wo
 
 pub returns-clause-texts : goal.returns-clause-texts
 returns-clause-texts c = on_ok_weaker c.clone_node.result (data-clone c.args.world.now c.clone_node.new.world c.args.deep c.args.node) c.clone_node.ensures.cloned
+
+pub returns-clause-kept : goal.returns-clause-kept
+returns-clause-kept c = labels-left c.args.world.now c.clone_node.new.world c.clone_node.ensures.left

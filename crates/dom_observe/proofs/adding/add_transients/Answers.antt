@@ -1,17 +1,17 @@
 -- Each key gives the node one more transient registration, or none.
-use Rattle.std.proofs.Common.{◌≡◌, ◌<◌, ℕ, Vec, Global, length, arith, refl, List, [], if◌then◌else◌, ◌==◌, Bool, true, false, Some, None, option_map, ap, sym, ◌∙◌, subst}
+use Rattle.std.proofs.Common.{◌≡◌, refl, List, if◌then◌else◌, ◌==◌, Bool, true, false, Some, None, option_map, ap, sym, ◌∙◌, subst}
 use Rattle.std.specs.Prelude.{slice_index_or, slice_set}
 use Rattle.dom_observe.specs.Watchers.{on}
 use Rattle.dom_observe.specs.Registrations.{plain, at, listed, AllStand, HaveSources, Agree, transient_under}
 use Rattle.dom_observe.proofs.Agreeing.{agree-made, agree-transient}
 use Rattle.dom_observe.specs.Naming.{NamesNone}
 use Rattle.dom_observe.proofs.Holding.{none-added, none-made}
-use Rattle.dom_observe.specs.Kept.{keys_by, IsIndexed}
+use Rattle.dom_observe.specs.Kept.{has_queue, IsIndexed}
+use Rattle.dom_observe.specs.Roster.{passing_by, queues_by}
 use Rattle.dom_observe.proofs.Hearing.{last-there}
 use Rattle.dom_observe.proofs.Indexing.{indexed-pended, indexed-transient, made-transient}
-use Rattle.dom_observe.proofs.Keeping.{keys_by-set, keys_by-at, keys_by-length, set_same}
+use Rattle.dom_observe.proofs.Rosters.{has-kept, within-passing, passing-there, passing-set, passing-same, lasting-same, queues-same}
 use Rattle.dom_model.specs.PlainLists.LastOnce.{with_last}
-use Rattle.std.proofs.lemmas.List.{length-set}
 use Rattle.dom_observe.specs.Origins.{NotesIfAny, AlsoNotes}
 use Rattle.dom_observe.proofs.Noting.{noted-added}
 use Rattle.dom_observe.proofs.Sources.{sources-added, source-made}
@@ -30,22 +30,23 @@ loop-key-init c = record {
   noted = subst (λ own. NotesIfAny (at c.args.table.now) own c.in_ok-origins.origins.noted) c.keys_on.ensures c.in_ok-origins.ensures;
   standing = alike_self (at c.args.table.now) c.args.standing.now;
   has = λ n. nothing_yet (c.args.node == n) _;
-  stands = λ made bounded all. all;
+  stands = λ there bounded all. all;
   names = λ p here keys none. none;
-  indexed = λ lasts made bounded ix. ix;
+  indexed = λ lasts there bounded ix. ix;
   sources = λ have. have;
   agree = λ have. have;
-  len = refl;
+  lasting = refl;
+  queues = refl;
   full = λ full. full;
 }
 
 pub returns-in_err-add-clause-all_stand : goal.returns-in_err-add-clause-all_stand
-returns-in_err-add-clause-all_stand c = λ made bounded all.
-    let before = c.loop-key.invariant.stands made bounded all in
+returns-in_err-add-clause-all_stand c = λ there bounded all.
+    let before = c.loop-key.invariant.stands there bounded all in
     let t = c.in_err-add.ensures.err_table in
     let l = c.in_err-add.ensures.err_nodes in
-    subst (λ slots. AllStand (λ k. option_map plain (slice_index_or slots k None)) made (listed c.add.new.nodes.entries)) (sym t)
-    (subst (AllStand (at c.loop-key.table) made) (sym l) before)
+    subst (λ slots. AllStand (λ k. option_map plain (slice_index_or slots k None)) there (listed c.add.new.nodes.entries)) (sym t)
+    (subst (AllStand (at c.loop-key.table) there) (sym l) before)
 
 pub returns-in_err-add-clause-names : goal.returns-in_err-add-clause-names
 returns-in_err-add-clause-names c = λ p here keys none.
@@ -67,11 +68,32 @@ pub returns-in_err-add-clause-full : goal.returns-in_err-add-clause-full
 returns-in_err-add-clause-full c = λ full. c.add.ensures.full (c.loop-key.invariant.full full)
 
 pub returns-in_err-pend-clause-indexed : goal.returns-in_err-pend-clause-indexed
-returns-in_err-pend-clause-indexed c = λ lasts made bounded ix.
-    subst (λ some. IsIndexed (at c.loop-key.table) (listed c.loop-key.nodes.entries) lasts (keys_by c.loop-key.passing.items) some made) (sym c.in_err-pend.ensures.err) (c.loop-key.invariant.indexed lasts made bounded ix)
+returns-in_err-pend-clause-indexed c = λ lasts there bounded ix.
+    subst (λ some. IsIndexed (at c.loop-key.table) (listed c.loop-key.nodes.entries) lasts (passing_by c.loop-key.roster) some there) (sym c.in_err-pend.ensures.err) (c.loop-key.invariant.indexed lasts there bounded ix)
+
+-- the observer of a registration that is made is there
+pub get_mut-kept-requires : goal.get_mut-kept-requires
+get_mut-kept-requires c =
+    let u0 = at c.args.table.now in
+    let u = at c.loop-key.table in
+    let i = c.loop-key.key-index in
+    let own = on c.args.node (listed c.loop-key.nodes.entries) in
+    let some : transient_under u own c.args.node (slice_index_or c.args.standing.now i 0) ≡ Some (plain c.in-Some.made) = ap (λ ks. transient_under u ks c.args.node (slice_index_or c.args.standing.now i 0)) (sym c.keys_on-in-loop-key.ensures) ∙ sym c.in_ok-made.ensures ∙ ap (option_map plain) c.in-Some.is in
+    let shape = made-transient u0 u own c.args.node c.args.standing.now i 0 c.loop-key-test.true c.loop-key.invariant.standing (plain c.in-Some.made) some in
+    sym (has-kept c.loop-key.roster c.in-Some.made.observer)
+    ∙ ap (λ qs. has_queue qs c.in-Some.made.observer) c.loop-key.invariant.queues
+    ∙ shape.0 (has_queue (queues_by c.args.roster.now)) c.requires.there
+
+pub returns-in_err-add-clause-lasting : goal.returns-in_err-add-clause-lasting
+returns-in_err-add-clause-lasting c =
+    lasting-same c.loop-key.roster c.in-Some.made.observer c.get_mut-kept.result.now c.get_mut-kept.ensures.value (record c.get_mut-kept.result.now { passing = c.add.new.keys }) refl ∙ c.loop-key.invariant.lasting
+
+pub returns-in_err-add-clause-queues : goal.returns-in_err-add-clause-queues
+returns-in_err-add-clause-queues c =
+    queues-same c.loop-key.roster c.in-Some.made.observer c.get_mut-kept.result.now c.get_mut-kept.ensures.value (record c.get_mut-kept.result.now { passing = c.add.new.keys }) refl ∙ c.loop-key.invariant.queues
 
 pub returns-in_err-add-clause-indexed : goal.returns-in_err-add-clause-indexed
-returns-in_err-add-clause-indexed c = λ lasts made bounded ix.
+returns-in_err-add-clause-indexed c = λ lasts there bounded ix.
     let u0 = at c.args.table.now in
     let u = at c.loop-key.table in
     let inv = c.loop-key.invariant in
@@ -80,16 +102,14 @@ returns-in_err-add-clause-indexed c = λ lasts made bounded ix.
     let some : transient_under u own c.args.node (slice_index_or c.args.standing.now i 0) ≡ Some (plain c.in-Some.made) = ap (λ ks. transient_under u ks c.args.node (slice_index_or c.args.standing.now i 0)) (sym c.keys_on-in-loop-key.ensures) ∙ sym c.in_ok-made.ensures ∙ ap (option_map plain) c.in-Some.is in
     let shape = made-transient u0 u own c.args.node c.args.standing.now i 0 c.loop-key-test.true inv.standing (plain c.in-Some.made) some in
     let o = c.in-Some.made.observer in
-    let ps = c.loop-key.passing.items in
-    let lt : o < length ps = subst (λ l. o < l) (sym inv.len) (shape.0 (length c.args.passing.now.items) c.requires.made) in
-    let had = ap (λ (l : Vec ℕ Global). l.items) c.index_mut-keys.ensures.value ∙ ap (λ i. (slice_index_or ps i c.index_mut-keys.result.now).items) c.number.ensures ∙ sym (keys_by-at ps o c.index_mut-keys.result.now lt) in
-    let same_keys : keys_by (slice_set ps c.number.result c.add.new.keys) ≡ keys_by ps =
-    ap (λ i. keys_by (slice_set ps i c.add.new.keys)) c.number.ensures ∙ keys_by-set ps o c.add.new.keys (slice_index_or (keys_by ps) o []) (c.in_err-add.ensures.err_own ∙ had) ∙ set_same (keys_by ps) o [] in
-    subst (λ slots. IsIndexed (λ k. option_map plain (slice_index_or slots k None)) (listed c.add.new.nodes.entries) lasts (keys_by (slice_set ps c.number.result c.add.new.keys)) c.pend.new.pending.keys made) (sym c.in_err-add.ensures.err_table)
-    (subst (λ l. IsIndexed u l lasts (keys_by (slice_set ps c.number.result c.add.new.keys)) c.pend.new.pending.keys made) (sym c.in_err-add.ensures.err_nodes)
-    (subst (λ l. IsIndexed u (listed c.loop-key.nodes.entries) lasts l c.pend.new.pending.keys made) (sym same_keys)
-    (subst (λ some. IsIndexed u (listed c.loop-key.nodes.entries) lasts (keys_by ps) some made) (sym c.in_ok-pend.ensures.ok)
-    (indexed-pended u (listed c.loop-key.nodes.entries) lasts (keys_by ps) c.loop-key.fleeting.keys made o (shape.0 made bounded) (inv.indexed lasts made bounded ix)))))
+    let kept = c.get_mut-kept.result.now in
+    let same_keys = passing-same c.loop-key.roster o kept c.get_mut-kept.ensures.value (record kept { passing = c.add.new.keys }) c.in_err-add.ensures.err_own in
+    let roster' = slice_set c.loop-key.roster o (Some (record kept { passing = c.add.new.keys })) in
+    subst (λ slots. IsIndexed (λ k. option_map plain (slice_index_or slots k None)) (listed c.add.new.nodes.entries) lasts (passing_by roster') c.pend.new.pending.keys there) (sym c.in_err-add.ensures.err_table)
+    (subst (λ l. IsIndexed u l lasts (passing_by roster') c.pend.new.pending.keys there) (sym c.in_err-add.ensures.err_nodes)
+    (subst (λ l. IsIndexed u (listed c.loop-key.nodes.entries) lasts l c.pend.new.pending.keys there) (sym same_keys)
+    (subst (λ some. IsIndexed u (listed c.loop-key.nodes.entries) lasts (passing_by c.loop-key.roster) some there) (sym c.in_ok-pend.ensures.ok)
+    (indexed-pended u (listed c.loop-key.nodes.entries) lasts (passing_by c.loop-key.roster) c.loop-key.fleeting.keys there o (shape.0 there bounded) (inv.indexed lasts there bounded ix)))))
 
 pub loop-key-preserved : goal.loop-key-preserved
 loop-key-preserved c =
@@ -107,38 +127,40 @@ loop-key-preserved c =
           let a = w.in_ok-add.ensures.ok in
           let v = at w.add.new.table in
           let lists' = listed w.add.new.nodes.entries in
-          rw (w.table-is, w.nodes-is, w.passing-is, w.fleeting-is, w.origins-is) (record {
+          rw (w.table-is, w.nodes-is, w.roster-is, w.fleeting-is, w.origins-is) (record {
             unique = w.add.ensures.unique;
             noted = noted-added u lists (plain w.in-Some.made) v lists' a inv.live c.args.node (slice_index_or keys i 0) some c.loop-key.origins.noted w.note.new.self.noted inv.noted
                 (subst (λ n. AlsoNotes w.in-Some.made.observer n c.loop-key.origins.noted w.note.new.self.noted) w.origin.ensures w.in_ok-note.ensures);
             live = all_live-added u lists (plain w.in-Some.made) v lists' a inv.live;
             standing = turn-alike u0 u lists0 lists c.args.node keys i 0 c.loop-key-test.true inv.live inv.standing inv.has (plain w.in-Some.made) some v lists' a c.requires.standing;
             has = turn-added u0 u lists0 lists c.args.node keys i 0 c.loop-key-test.true inv.live inv.standing inv.has (plain w.in-Some.made) some v lists' a;
-            stands = λ made bounded all. turn-stands u0 u lists0 lists c.args.node keys i 0 c.loop-key-test.true inv.live inv.standing inv.has (plain w.in-Some.made) some v lists' a made bounded (inv.stands made bounded all);
+            stands = λ there bounded all. turn-stands u0 u lists0 lists c.args.node keys i 0 c.loop-key-test.true inv.live inv.standing inv.has (plain w.in-Some.made) some v lists' a there bounded (inv.stands there bounded all);
             names = λ p here named none.
                 none-added p u lists (plain w.in-Some.made) v lists' a inv.live
                 (none-made p u0 u own c.args.node keys i 0 c.loop-key-test.true inv.standing (plain w.in-Some.made) some here named) (inv.names p here named none);
-            indexed = λ lasts made bounded ix.
+            indexed = λ lasts there bounded ix.
                 let shape = made-transient u0 u own c.args.node keys i 0 c.loop-key-test.true inv.standing (plain w.in-Some.made) some in
                 let o = w.in-Some.made.observer in
-                let ps = c.loop-key.passing.items in
-                let lt : o < length ps = subst (λ l. o < l) (sym inv.len) (shape.0 (length c.args.passing.now.items) c.requires.made) in
-                subst (λ i. IsIndexed v lists' lasts (keys_by (slice_set ps i w.add.new.keys)) w.pend.new.pending.keys made) (sym w.number.ensures)
-                (subst (λ some. IsIndexed v lists' lasts (keys_by (slice_set ps o w.add.new.keys)) some made) (sym w.in_ok-pend.ensures.ok)
-                (indexed-transient u lists (plain w.in-Some.made) v lists' a w.index_mut-keys.result.now.items w.add.new.keys.items w.in_ok-add.ensures.own lasts (keys_by ps) (with_last c.loop-key.fleeting.keys o) made
-                (indexed-pended u lists lasts (keys_by ps) c.loop-key.fleeting.keys made o (shape.0 made bounded) (inv.indexed lasts made bounded ix)) shape.1 (keys_by (slice_set ps o w.add.new.keys))
-                (omega (arith, lt, keys_by-length ps)) (ap (λ (l : Vec ℕ Global). l.items) w.index_mut-keys.ensures.value ∙ ap (λ i. (slice_index_or ps i w.index_mut-keys.result.now).items) w.number.ensures ∙ sym (keys_by-at ps o w.index_mut-keys.result.now lt)) (keys_by-set ps o w.add.new.keys w.add.new.keys.items refl) (last-there o c.loop-key.fleeting.keys)));
+                let kept = w.get_mut-kept.result.now in
+                let held_there = ap (λ qs. has_queue qs o) inv.queues ∙ shape.0 (has_queue (queues_by c.args.roster.now)) c.requires.there in
+                let ps = passing_by c.loop-key.roster in
+                let ps' = passing_by (slice_set c.loop-key.roster o (Some (record kept { passing = w.add.new.keys }))) in
+                subst (λ some. IsIndexed v lists' lasts ps' some there) (sym w.in_ok-pend.ensures.ok)
+                (indexed-transient u lists (plain w.in-Some.made) v lists' a kept.passing.items w.add.new.keys.items w.in_ok-add.ensures.own lasts ps (with_last c.loop-key.fleeting.keys o) there
+                (indexed-pended u lists lasts ps c.loop-key.fleeting.keys there o (shape.0 there bounded) (inv.indexed lasts there bounded ix)) shape.1 ps'
+                (within-passing c.loop-key.roster o held_there) (sym (passing-there c.loop-key.roster o kept w.get_mut-kept.ensures.value)) (passing-set c.loop-key.roster o (record kept { passing = w.add.new.keys })) (last-there o c.loop-key.fleeting.keys));
             sources = λ have. sources-added u v lists (plain w.in-Some.made) lists' a (source-made u own c.args.node (slice_index_or keys i 0) (plain w.in-Some.made) some (inv.sources have)) (inv.sources have);
             agree = λ have.
                 let before = inv.agree have in
                 agree-transient u v lists (plain w.in-Some.made) lists' a before (agree-made u own c.args.node (slice_index_or keys i 0) (plain w.in-Some.made) some before)
                 (made-transient u0 u own c.args.node keys i 0 c.loop-key-test.true inv.standing (plain w.in-Some.made) some).1;
-            len = length-set c.loop-key.passing.items w.number.result w.add.new.keys ∙ inv.len;
+            lasting = lasting-same c.loop-key.roster w.in-Some.made.observer w.get_mut-kept.result.now w.get_mut-kept.ensures.value (record w.get_mut-kept.result.now { passing = w.add.new.keys }) refl ∙ inv.lasting;
+            queues = queues-same c.loop-key.roster w.in-Some.made.observer w.get_mut-kept.result.now w.get_mut-kept.ensures.value (record w.get_mut-kept.result.now { passing = w.add.new.keys }) refl ∙ inv.queues;
             full = λ full. w.add.ensures.full (inv.full full);
           })
       | in_default w ↦
           let none : transient_under u own c.args.node (slice_index_or keys i 0) ≡ None = ap (λ ks. transient_under u ks c.args.node (slice_index_or keys i 0)) (sym c.keys_on-in-loop-key.ensures) ∙ sym c.in_ok-made.ensures ∙ ap (option_map plain) w.in_default.is in
-          rw (w.table-is, w.nodes-is, w.passing-is, w.fleeting-is, w.origins-is) (record {
+          rw (w.table-is, w.nodes-is, w.roster-is, w.fleeting-is, w.origins-is) (record {
             unique = inv.unique;
             noted = inv.noted;
             live = inv.live;
@@ -149,7 +171,8 @@ loop-key-preserved c =
             indexed = inv.indexed;
             sources = inv.sources;
             agree = inv.agree;
-            len = inv.len;
+            lasting = inv.lasting;
+            queues = inv.queues;
             full = inv.full;
           })
     ]

@@ -1,9 +1,10 @@
 -- The node has the transient registrations of the first keys, and their origins are noted; what stands under the keys themselves stays.
-use Rattle.std.proofs.Common.{◌≡◌, ℕ, Bool, List, nat_eq, take, length, false}
+use Rattle.std.proofs.Common.{◌≡◌, ℕ, Bool, List, nat_eq, take, false}
 use Rattle.std.specs.List.{AllByRecursion}
 use Rattle.indexmap.specs.IndexMap.{IsUnique}
 use Rattle.dom_observe.specs.Watchers.{on}
-use Rattle.dom_observe.specs.Kept.{keys_by, IsIndexed}
+use Rattle.dom_observe.specs.Kept.{IsIndexed}
+use Rattle.dom_observe.specs.Roster.{lasting_by, passing_by, queues_by}
 use Rattle.dom_observe.specs.Naming.{names_one, NamesNone}
 use Rattle.dom_observe.specs.Origins.{NotesIfAny}
 use Rattle.dom_observe.specs.Registrations.{at, found, listed, AllLive, Stands, AllStand, HaveKeys, HaveSources, Agree, with_added_transients}
@@ -17,12 +18,14 @@ invariant-loop-key l = record {
   standing : AllByRecursion (λ k. at l.table k ≡ at l.initial.table k) l.standing;
   has : (n : ℕ) → found l.table (on n (listed l.nodes.entries))
       ≡ with_added_transients l.node (found l.initial.table (take l.key-index l.standing)) n (found l.initial.table (on n (listed l.initial.nodes.entries)));
-  stands : (made : ℕ) → AllByRecursion (Stands (at l.initial.table) made) l.standing → AllStand (at l.initial.table) made (listed l.initial.nodes.entries) → AllStand (at l.table) made (listed l.nodes.entries);
+  stands : (there : ℕ → Bool) → AllByRecursion (Stands (at l.initial.table) there) l.standing → AllStand (at l.initial.table) there (listed l.initial.nodes.entries) → AllStand (at l.table) there (listed l.nodes.entries);
   names : (p : ℕ → Bool) → p l.node ≡ false → AllByRecursion (λ key. names_one p (at l.initial.table key) ≡ false) l.standing → NamesNone p (at l.initial.table) (listed l.initial.nodes.entries) → NamesNone p (at l.table) (listed l.nodes.entries);
-  indexed : (lasts : List (List ℕ)) (made : ℕ) → AllByRecursion (Stands (at l.initial.table) made) l.standing → IsIndexed (at l.initial.table) (listed l.initial.nodes.entries) lasts (keys_by l.initial.passing.items) l.initial.fleeting.keys made
-      → IsIndexed (at l.table) (listed l.nodes.entries) lasts (keys_by l.passing.items) l.fleeting.keys made;
+  indexed : (lasts : List (List ℕ)) (there : ℕ → Bool) → AllByRecursion (Stands (at l.initial.table) there) l.standing
+      → IsIndexed (at l.initial.table) (listed l.initial.nodes.entries) lasts (passing_by l.initial.roster) l.initial.fleeting.keys there
+      → IsIndexed (at l.table) (listed l.nodes.entries) lasts (passing_by l.roster) l.fleeting.keys there;
   sources : HaveSources (at l.initial.table) → HaveSources (at l.table);
   agree : Agree (at l.initial.table) → Agree (at l.table);
-  len : length l.passing.items ≡ length l.initial.passing.items;
+  lasting : lasting_by l.roster ≡ lasting_by l.initial.roster;
+  queues : queues_by l.roster ≡ queues_by l.initial.roster;
   full : HaveKeys (listed l.initial.nodes.entries) → HaveKeys (listed l.nodes.entries);
 }

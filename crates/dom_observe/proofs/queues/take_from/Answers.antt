@@ -1,16 +1,20 @@
--- One queue is emptied.
-use Rattle.std.proofs.Common.{◌<◌, [], length, ap, ◌∙◌, arith}
-use Rattle.std.specs.Prelude.{slice_set, slice_index_or}
-use Rattle.dom_observe.proofs.Keeping.{queue-at}
+-- One queue is emptied, and the keys stay.
+use Rattle.std.proofs.Common.{[], Some, refl, ap, sym, ◌∙◌}
+use Rattle.std.specs.Prelude.{slice_set, unwrap_or}
+use Rattle.dom_observe.specs.Roster.{queues_by}
+use Rattle.dom_observe.proofs.Rosters.{has-kept, queue-there, keys-same, queues-set}
 use Rattle.dom_observe.proofs.queues.take_from.Goals as goal
+
+pub get_mut-kept-requires : goal.get_mut-kept-requires
+get_mut-kept-requires c = sym (has-kept c.args.roster.now c.args.observer) ∙ c.requires
 
 pub returns-clause-records : goal.returns-clause-records
 returns-clause-records c =
-    let qs = c.args.queues.now.items in
-    let here : c.number.result < length qs = omega (arith, c.number.ensures, c.requires) in
-    c.take.ensures.records ∙ c.index_mut.ensures.value ∙ queue-at qs c.number.result _ here ∙ ap (λ i. slice_index_or qs i []) c.number.ensures
+    c.take.ensures.records ∙ sym (ap (λ q. unwrap_or q []) (queue-there c.args.roster.now c.args.observer c.get_mut-kept.result.now c.get_mut-kept.ensures.value))
 
 pub returns-clause-emptied : goal.returns-clause-emptied
 returns-clause-emptied c =
-    let qs = c.args.queues.now.items in
-    ap (slice_set qs c.number.result) c.take.ensures.emptied ∙ ap (λ i. slice_set qs i []) c.number.ensures
+    queues-set c.args.roster.now c.args.observer _ ∙ ap (λ q. slice_set (queues_by c.args.roster.now) c.args.observer (Some q)) c.take.ensures.emptied
+
+pub returns-clause-keys : goal.returns-clause-keys
+returns-clause-keys c = keys-same c.args.roster.now c.args.observer c.get_mut-kept.result.now c.get_mut-kept.ensures.value _ refl refl

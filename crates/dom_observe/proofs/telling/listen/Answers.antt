@@ -1,34 +1,34 @@
 -- Each key gives one more listener, or none.
-use Rattle.std.proofs.Common.{◌≡◌, ℕ, ◌<◌, ◌==◌, ◌||◌, ◌++◌, Bool, true, false, if◌then◌else◌, Some, None, take, refl, nat_eq, ap, sym, ◌∙◌, subst, append-nil, arith}
+use Rattle.std.proofs.Common.{◌≡◌, ℕ, ◌==◌, ◌||◌, ◌++◌, Bool, true, false, if◌then◌else◌, Some, None, take, refl, nat_eq, ap, sym, ◌∙◌, subst, append-nil, arith}
 use Rattle.std.proofs.lemmas.Grind.{common_steps}
 use Rattle.std.specs.Prelude.{slice_index_or, unwrap_or, option_to_list}
-use Rattle.std.specs.List.{AllByRecursion}
 use Rattle.std.specs.Map.{keys_of, lookup}
 use Rattle.dom_model.specs.PlainLists.Lists.{among}
 use Rattle.dom_model.specs.PlainLists.LastOnce.{with_last, with_all_last}
+use Rattle.dom_observe.specs.Kept.{AllThere}
 use Rattle.dom_observe.specs.Names.{text_of}
 use Rattle.dom_observe.specs.Registrations.{at, Stands}
 use Rattle.dom_observe.specs.Telling.{listener_under, listeners, flag_of}
 use Rattle.dom_observe.proofs.Tables.{all_at, found_more}
-use Rattle.dom_observe.proofs.Hearing.{stay-last, bounded-last, listener-made, flag-last, keys_of-append, all_last-append}
+use Rattle.dom_observe.proofs.Hearing.{stay-last, there-last, listener-there, flag-last, keys_of-append, all_last-append}
 use Rattle.dom_observe.proofs.telling.listen.Goals as goal
 use Rattle.dom_observe.proofs.telling.listen.Goals.{in-Some+in_ok-pend+in_ok-note, in_default}
 
-pub returns-in_err-pend-clause-made : goal.returns-in_err-pend-clause-made
-returns-in_err-pend-clause-made c = λ made s b.
-    subst (AllByRecursion (λ o. o < made)) (sym c.in_err-pend.ensures.err) (c.loop-key.invariant.made made s b)
+pub returns-in_err-pend-clause-there : goal.returns-in_err-pend-clause-there
+returns-in_err-pend-clause-there c = λ there s b.
+    subst (AllThere there) (sym c.in_err-pend.ensures.err) (c.loop-key.invariant.there there s b)
 
 pub returns-in_err-note-clause-stay : goal.returns-in_err-note-clause-stay
 returns-in_err-note-clause-stay c = λ p h.
     subst (λ ks. among p ks ≡ true) (sym c.in_ok-pend.ensures.ok) (stay-last p c.in-Some.listener.0 c.loop-key.pending.keys (c.loop-key.invariant.stay p h))
 
-pub returns-in_err-note-clause-made : goal.returns-in_err-note-clause-made
-returns-in_err-note-clause-made c = λ made s b.
+pub returns-in_err-note-clause-there : goal.returns-in_err-note-clause-there
+returns-in_err-note-clause-there c = λ there s b.
     let q = c.args.question.now in
     let l : ℕ × Bool = c.in-Some.listener in
     let some : listener_under (at c.args.table.now) q.what q.target (text_of q.name) (slice_index_or c.args.standing.now c.loop-key.key-index 0) ≡ Some l = sym c.listener_at.ensures ∙ c.in-Some.is in
-    let lt = listener-made (at c.args.table.now) q.what q.target (text_of q.name) made _ l (all_at (Stands (at c.args.table.now) made) c.args.standing.now c.loop-key.key-index 0 s c.loop-key-test.true) some in
-    subst (AllByRecursion (λ o. o < made)) (sym c.in_ok-pend.ensures.ok) (bounded-last made c.in-Some.listener.0 c.loop-key.pending.keys (c.loop-key.invariant.made made s b) lt)
+    let lt = listener-there (at c.args.table.now) q.what q.target (text_of q.name) there _ l (all_at (Stands (at c.args.table.now) there) c.args.standing.now c.loop-key.key-index 0 s c.loop-key-test.true) some in
+    subst (AllThere there) (sym c.in_ok-pend.ensures.ok) (there-last there c.in-Some.listener.0 c.loop-key.pending.keys (c.loop-key.invariant.there there s b) lt)
 
 pub loop-key-preserved : goal.loop-key-preserved
 loop-key-preserved c =
@@ -55,10 +55,10 @@ loop-key-preserved c =
                 ∙ ap (with_all_last c.args.pending.now.keys) (keys_of-append before l)
                 ∙ all_last-append c.args.pending.now.keys (keys_of before) o);
             stay = λ p h. subst (λ ks. among p ks ≡ true) (sym w.in_ok-pend.ensures.ok) (stay-last p o c.loop-key.pending.keys (inv.stay p h));
-            made = λ made s b.
-                subst (AllByRecursion (λ k. k < made)) (sym w.in_ok-pend.ensures.ok)
-                (bounded-last made o c.loop-key.pending.keys (inv.made made s b) (listener-made u q.what q.target (text_of q.name) made _ l (all_at (Stands u made) keys i 0 s c.loop-key-test.true) some));
-            known = λ made s. w.in_ok-note.ensures.made made (listener-made u q.what q.target (text_of q.name) made _ l (all_at (Stands u made) keys i 0 s c.loop-key-test.true) some) (inv.known made s);
+            there = λ there s b.
+                subst (AllThere there) (sym w.in_ok-pend.ensures.ok)
+                (there-last there o c.loop-key.pending.keys (inv.there there s b) (listener-there u q.what q.target (text_of q.name) there _ l (all_at (Stands u there) keys i 0 s c.loop-key-test.true) some));
+            known = λ there s. w.in_ok-note.ensures.there there (listener-there u q.what q.target (text_of q.name) there _ l (all_at (Stands u there) keys i 0 s c.loop-key-test.true) some) (inv.known there s);
             unique = w.note.ensures.unique;
           })
       | in_default w ↦
@@ -68,7 +68,7 @@ loop-key-preserved c =
             heard = λ p. inv.heard p ∙ sym (ap (flag_of p) next);
             pending = inv.pending ∙ sym (ap (λ ls. with_all_last c.args.pending.now.keys (keys_of ls)) next);
             stay = inv.stay;
-            made = inv.made;
+            there = inv.there;
             known = inv.known;
             unique = inv.unique;
           })
@@ -79,8 +79,8 @@ loop-key-init c = record {
   heard = λ p. ap (lookup (nat_eq p)) c.new-heard.ensures.empty;
   pending = refl;
   stay = λ p h. h;
-  made = λ made s b. b;
-  known = λ made s. subst (λ es. AllByRecursion (λ o. o < made) (keys_of es)) (sym c.new-heard.ensures.empty) tt;
+  there = λ there s b. b;
+  known = λ there s. subst (λ es. AllThere there (keys_of es)) (sym c.new-heard.ensures.empty) tt;
   unique = c.new-heard.ensures.unique;
 }
 

@@ -1,10 +1,11 @@
 -- The listeners of the first keys are noted, and pending.
-use Rattle.std.proofs.Common.{◌≡◌, ℕ, ◌<◌, nat_eq, take, true}
+use Rattle.std.proofs.Common.{◌≡◌, ℕ, Bool, nat_eq, take, true}
 use Rattle.std.specs.List.{AllByRecursion}
 use Rattle.std.specs.Map.{keys_of}
 use Rattle.indexmap.specs.IndexMap.{get, IsUnique}
 use Rattle.dom_model.specs.PlainLists.Lists.{among}
 use Rattle.dom_model.specs.PlainLists.LastOnce.{with_all_last}
+use Rattle.dom_observe.specs.Kept.{AllThere}
 use Rattle.dom_observe.specs.Names.{text_of}
 use Rattle.dom_observe.specs.Registrations.{at, Stands}
 use Rattle.dom_observe.specs.Telling.{listeners, flag_of}
@@ -15,7 +16,7 @@ invariant-loop-key l = record {
   heard : (p : ℕ) → get nat_eq l.heard p ≡ flag_of p (listeners (at l.table) l.question.what l.question.target (text_of l.question.name) (take l.key-index l.standing));
   pending : l.pending.keys ≡ with_all_last l.initial.pending.keys (keys_of (listeners (at l.table) l.question.what l.question.target (text_of l.question.name) (take l.key-index l.standing)));
   stay : (p : ℕ) → among p l.initial.pending.keys ≡ true → among p l.pending.keys ≡ true;
-  made : (made : ℕ) → AllByRecursion (Stands (at l.table) made) l.standing → AllByRecursion (λ o. o < made) l.initial.pending.keys → AllByRecursion (λ o. o < made) l.pending.keys;
-  known : (made : ℕ) → AllByRecursion (Stands (at l.table) made) l.standing → AllByRecursion (λ o. o < made) (keys_of l.heard.entries);
+  there : (there : ℕ → Bool) → AllByRecursion (Stands (at l.table) there) l.standing → AllThere there l.initial.pending.keys → AllThere there l.pending.keys;
+  known : (there : ℕ → Bool) → AllByRecursion (Stands (at l.table) there) l.standing → AllThere there (keys_of l.heard.entries);
   unique : IsUnique nat_eq l.heard;
 }

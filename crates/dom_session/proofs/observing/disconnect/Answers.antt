@@ -1,4 +1,6 @@
-use Rattle.std.proofs.Common.{◌≡◌, nat_lt, length, true, refl}
+use Rattle.std.proofs.Common.{◌≡◌, true, refl}
+use Rattle.std.specs.Prelude.{is_some}
+use Rattle.dom_observe.specs.Watchers.{queue_in}
 use Rattle.dom_session.specs.declared.reply.Answer.TheVariants.{Nothing}
 use Rattle.dom_session.specs.declared.reply.Reply.TheVariants.{Done}
 use Rattle.dom_session.proofs.ObserverSteps.{step-disconnect}
@@ -7,7 +9,7 @@ use Rattle.dom_session.proofs.observing.disconnect.Goals as goal
 pub returns : goal.returns
 returns c =
     let v = c.args.world.now in
-    let made : nat_lt c.args.observer (length v.observers.queues) ≡ true = cc in
+    let there : is_some (queue_in v.observers c.args.observer) ≡ true = cc in
     record {
-      step = λ b. step-disconnect v c.requires.shown.shows.whole b c.args.observer c.disconnect.new.self (Done Nothing) made refl c.disconnect.ensures.ended c.disconnect.ensures.names;
+      step = λ b. step-disconnect v c.requires.shown.shows.whole b c.args.observer c.disconnect.new.self (Done Nothing) there refl c.disconnect.ensures.ended c.disconnect.ensures.names;
     }

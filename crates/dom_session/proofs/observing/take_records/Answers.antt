@@ -1,4 +1,6 @@
-use Rattle.std.proofs.Common.{◌≡◌, nat_lt, length, true, refl}
+use Rattle.std.proofs.Common.{◌≡◌, true, refl}
+use Rattle.std.specs.Prelude.{is_some}
+use Rattle.dom_observe.specs.Watchers.{queue_in}
 use Rattle.dom_session.specs.declared.reply.Answer.TheVariants.{Records}
 use Rattle.dom_session.specs.declared.reply.Reply.TheVariants.{Done}
 use Rattle.dom_session.proofs.ObserverSteps.{step-take}
@@ -7,8 +9,8 @@ use Rattle.dom_session.proofs.observing.take_records.Goals as goal
 pub returns : goal.returns
 returns c =
     let v = c.args.world.now in
-    let made : nat_lt c.args.observer (length v.observers.queues) ≡ true = cc in
+    let there : is_some (queue_in v.observers c.args.observer) ≡ true = cc in
     record {
-      step = λ b. step-take v c.requires.shown.shows.whole b c.args.observer c.take.result.items c.take.new.self (Done (Records c.take.result)) made refl
+      step = λ b. step-take v c.requires.shown.shows.whole b c.args.observer c.take.result.items c.take.new.self (Done (Records c.take.result)) there refl
           c.take.ensures.records c.take.ensures.taken c.take.ensures.names;
     }

@@ -1,7 +1,7 @@
-use Rattle.std.proofs.Common.{◌≡◌, ◌+◌, nat_lt, true, false, length, [], ◌∷◌, ◌++◌, refl, arith, sym, ap, ◌∙◌, subst}
+use Rattle.std.proofs.Common.{◌≡◌, ◌+◌, nat_lt, true, false, length, [], ◌∷◌, ◌++◌, Option, Some, refl, arith, sym, ap, ◌∙◌, subst}
 use Rattle.std.proofs.lemmas.Bool.Decides.{nat_tests}
 use Rattle.std.proofs.lemmas.List.Elements.{All-push}
-use Rattle.std.specs.Prelude.{is_some}
+use Rattle.std.specs.Prelude.{is_some, IfSome}
 use Rattle.dom_model.specs.Forests.Forest.{entry_in}
 use Rattle.dom_model.specs.Worlds.World.{Point, Range}
 use Rattle.dom_model.specs.RangesAndContents.StaticRanges.{check_static}
@@ -29,10 +29,10 @@ returns-in_ok-id-in-Ok c =
     let room : nat_lt c.args.numbers (n + 1) ≡ false = grind (arith, nat_tests) in
     let same = ap (λ (q : Point). refused (check_static f q.node c.end.inside.node)) c.start.view_is ∙ ap (λ (q : Point). refused (check_static f start.node q.node)) c.end.view_is in
     let check = passed (check_static f start.node end.node) c.in-Ok.field-0 (sym c.in-Ok.is ∙ c.check.ensures ∙ same) in
-    let held = All-push (AreHeld f) old.statics range c.requires.shown.shows.whole.statics (record { start = first; end = last }) in
+    let held = All-push (λ (o : Option Range). IfSome o (AreHeld f)) old.statics (Some range) c.requires.shown.shows.whole.statics (record { start = first; end = last }) in
     let number : c.number.result ≡ n = c.number.ensures ∙ c.in_ok-id-in-Ok.ensures.number in
     record {
-      step = rw number (step-statics (numbered c.args.numbers) (CreateStaticRange start end) (Done (Number n)) old c.make.new.self (old.statics ++ range ∷ []) refl c.requires.shown c.in_ok-id-in-Ok.ensures.made held
+      step = rw number (step-statics (numbered c.args.numbers) (CreateStaticRange start end) (Done (Number n)) old c.make.new.self (old.statics ++ Some range ∷ []) refl c.requires.shown c.in_ok-id-in-Ok.ensures.made held
           (λ w shown. answer-create_static_range old (numbered c.args.numbers) w shown start end first last room check));
     }
 

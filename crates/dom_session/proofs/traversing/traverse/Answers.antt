@@ -24,3 +24,9 @@ returns-in-SetCurrent c = search (tests, rules)
 
 pub returns-in-Walk : goal.returns-in-Walk
 returns-in-Walk c = search (tests, rules)
+
+pub returns-in-ReleaseIterator : goal.returns-in-ReleaseIterator
+returns-in-ReleaseIterator c = search (tests, rules)
+
+pub returns-in-ReleaseWalker : goal.returns-in-ReleaseWalker
+returns-in-ReleaseWalker c = search (tests, rules)

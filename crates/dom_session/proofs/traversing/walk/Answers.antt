@@ -1,7 +1,8 @@
+use Rattle.std.proofs.Common.{sym, ◌∙◌}
 use Rattle.dom_session.proofs.TraversalSteps.{step-walk}
 use Rattle.dom_session.proofs.traversing.walk.Goals as goal
 
 pub returns : goal.returns
 returns c = record {
-  step = λ b. step-walk c.args.world.now c.requires.shown b c.args.walker c.args.direction c.step-found.result c.step-found.new.self c.reply_found.result (c.holds.ensures.0 c.if-not-holds.false) c.reply_found.ensures c.step-found.ensures.found c.step-found.ensures.moved;
+  step = λ b. step-walk c.args.world.now c.requires.shown b c.args.walker c.args.direction c.step-found.result c.step-found.new.self c.reply_found.result (sym c.holds.ensures ∙ c.if-not-holds.false) c.reply_found.ensures c.step-found.ensures.found c.step-found.ensures.moved;
 }

@@ -1,5 +1,5 @@
 -- The state that was read stands inside its root.
-use Rattle.std.proofs.Common.{rules, ◌≡◌, true, Some, IfSome, ap, sym, ◌∙◌, subst, slice_get}
+use Rattle.std.proofs.Common.{rules, ◌≡◌, true, ap}
 use Rattle.dom_model.specs.PlainLists.Lists.{among}
 use Rattle.dom_model.specs.Forests.Forest.{HasNode, ancestors}
 use Rattle.dom_model.specs.Worlds.World.{Iterator}

@@ -1,13 +1,10 @@
-use Rattle.std.proofs.Common.{arith}
+use Rattle.std.proofs.Common.{◌∙◌}
 use Rattle.dom_model.specs.MutationObservers.Observing.{standing_on, noted}
 use Rattle.dom_model.specs.Forests.Forest.{ancestors}
 use Rattle.uses.proofs.observe.tell_and_take.Goals as goal
 
 pub take-requires : goal.take-requires
-take-requires g c =
-    let made = c.in_ok-queue.ensures.made in
-    let held = c.requires.held in
-    omega arith
+take-requires g c = record { held = c.in_ok-queue.ensures.made.there c.args.observer ∙ c.requires.held }
 
 pub returns : goal.returns
 returns g c = record {

@@ -1,4 +1,4 @@
-use Rattle.std.proofs.Common.{false, [], None, sym, ◌∙◌, tests, rules}
+use Rattle.std.proofs.Common.{[], None, sym, ◌∙◌, tests, rules}
 use Rattle.std.proofs.lemmas.Result.{on_ok_weaker}
 use Rattle.dom_model.specs.MutationAlgorithms.Editing.{remove_all, freed, emptied_fragment, tree_record}
 use Rattle.dom_edit.proofs.Following.{follows-then}

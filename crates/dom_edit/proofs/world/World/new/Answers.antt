@@ -1,7 +1,12 @@
 use Rattle.std.proofs.Common.{refl, ap, ◌∙◌}
 use Rattle.dom_model.specs.Worlds.Making.{with_text}
-use Rattle.dom_edit.proofs.Beginning.{shows-first}
+use Rattle.dom_edit.proofs.Beginning.{whole-empty, shows-first}
 use Rattle.dom_edit.proofs.world.World.new.Goals as goal
+
+pub make-requires-clause-whole : goal.make-requires-clause-whole
+make-requires-clause-whole c =
+    let e = c.empty-world.ensures in
+    whole-empty c.empty-world.result e.tree e.ranges e.statics e.iterators e.walkers e.observers
 
 pub returns : goal.returns
 returns c =

@@ -1,4 +1,4 @@
-use Rattle.std.proofs.Common.{true, ap, sym, ◌∙◌, tests, rules}
+use Rattle.std.proofs.Common.{ap, sym, ◌∙◌, tests, rules}
 use Rattle.dom_edit.proofs.Marking.{stand-by_replace}
 use Rattle.dom_edit.specs.Inserting.{reference_in}
 use Rattle.dom_edit.proofs.ReplacedNodes.{insertable-instead, entering-instead, follows-replace}

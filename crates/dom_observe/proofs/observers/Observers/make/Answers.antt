@@ -1,97 +1,81 @@
 -- One more queue, and nothing in it.
-use Rattle.std.proofs.Common.{◌≡◌, ◌+◌, List, [], ◌∷◌, length, length-append, ap, sym, ◌∙◌, subst, tests, rules, arith}
-use Rattle.std.proofs.lemmas.Grind.{common_steps}
-use Rattle.dom_model.specs.MutationObservers.Record.{Record}
+use Rattle.std.proofs.Common.{List, [], ◌∷◌, ◌++◌, Option, Some, None, length, is_some, ap, sym, ◌∙◌, subst}
+use Rattle.std.proofs.Math.Seq.{get_or-append_seam}
 use Rattle.dom_model.specs.MutationObservers.Records.{with_observer}
-use Rattle.dom_observe.specs.Watchers.{Watches}
+use Rattle.dom_observe.specs.declared.roster.Observer.{Observer}
+use Rattle.dom_observe.specs.Watchers.{Watchers, Watches}
 use Rattle.dom_observe.specs.Registrations.{at, listed}
-use Rattle.dom_observe.specs.Kept.{registered_nodes, keys_by, IsKept}
-use Rattle.dom_observe.proofs.Indexing.{indexed-seated}
+use Rattle.dom_observe.specs.Kept.{registered_nodes, has_queue, IsKept, IsIndexed}
+use Rattle.dom_observe.specs.Roster.{lasting_by, passing_by, queues_by}
 use Rattle.dom_observe.specs.Held.{NamesOnly}
 use Rattle.dom_observe.specs.Naming.{TellsNone}
 use Rattle.dom_observe.proofs.Holding.{names-only, names-same, tells-grown}
-use Rattle.dom_observe.proofs.Keeping.{queues-pushed, keys_by-length, kept-made}
+use Rattle.dom_observe.proofs.Keeping.{kept-made}
+use Rattle.dom_observe.proofs.Keyrings.{indexed-more}
+use Rattle.dom_observe.proofs.Outcomes.{on_ok, on_err, both_ok, by_one, by_both}
+use Rattle.dom_observe.proofs.Rosters.{length-queues}
 use Rattle.dom_observe.proofs.Watching.{watches-made}
 use Rattle.dom_observe.proofs.observers.Observers.make.Goals as goal
 
-pub invariant_of-self-2 : goal.invariant_of-self-2
-invariant_of-self-2 c =
+pub invariant_of-self : goal.invariant_of-self
+invariant_of-self c =
     let a = c.self.inside in
-    let grown = queues-pushed a.queues.items c.push.new.self.items c.new.result c.in_ok-push.ensures.items c.new.ensures in
-    let qs = a.queues.items in
-    let ix = c.self.invariant.1 in
-    let more : length c.push.new.self.items ≡ length qs + 1 = ap length grown ∙ length-append qs ([] ∷ []) in
-    let room1 = c.in_ok-seat.ensures.room in
-    let room2 = c.in_ok-seat-2.ensures.room in (
-      subst (λ qs. IsKept a.table a.nodes.entries qs a.pending.keys) (sym grown)
-          (kept-made a.table a.nodes.entries qs a.pending.keys c.self.invariant.0),
-      indexed-seated (at a.table) (listed a.nodes.entries) (keys_by a.lasting.items) (keys_by c.seat.new.lists.items) (keys_by a.passing.items) (keys_by c.seat-2.new.lists.items) a.fleeting.keys (length qs) (length c.push.new.self.items) c.seat.ensures.same c.seat-2.ensures.same
-          (omega (arith, more)) (omega (arith, more, room1, c.len-made.ensures, a.queues.ok, keys_by-length c.seat.new.lists.items)) (omega (arith, more, room2, c.len-made.ensures, a.queues.ok, keys_by-length c.seat-2.new.lists.items)) ix,
+    let new = c.make.new.self in
+    by_both c.make.result c.make.ensures.keys c.make.ensures.queues c.make.ensures.err
+    (λ keys queues. (
+      subst (λ qs. IsKept a.table a.nodes.entries qs a.pending.keys) (sym queues) (kept-made a.table a.nodes.entries (queues_by a.roster) a.pending.keys c.self.invariant.0),
+      indexed-more (at a.table) (listed a.nodes.entries) a.fleeting.keys a.roster new c.self.invariant.1 keys queues,
       c.self.invariant.2,
       c.self.invariant.3,
-    )
+    ))
+    (λ same. (
+      subst (λ r. IsKept a.table a.nodes.entries (queues_by r) a.pending.keys) (sym same) c.self.invariant.0,
+      subst (λ r. IsIndexed (at a.table) (listed a.nodes.entries) (lasting_by r) (passing_by r) a.fleeting.keys (has_queue (queues_by r))) (sym same) c.self.invariant.1,
+      c.self.invariant.2,
+      c.self.invariant.3,
+    ))
 
 pub returns-clause-ok : goal.returns-clause-ok
-returns-clause-ok c = λ x w.
+returns-clause-ok c =
+    on_ok c.make.result c.make.ensures.queues (λ queues x w.
     let a = c.self.inside in
-    let grown = queues-pushed a.queues.items c.push.new.self.items c.new.result c.in_ok-push.ensures.items c.new.ensures in
-    let u : Watches (record { nodes = registered_nodes a.table a.nodes.entries; queues = a.queues.items; pending = a.pending.keys }) x = subst (λ o. Watches o x) (sym c.self.view_is) w in
-    subst (λ qs. Watches (record { nodes = registered_nodes a.table a.nodes.entries; queues = qs; pending = a.pending.keys }) (with_observer x)) (sym grown) (watches-made _ x u)
+    let o : Watchers = record { nodes = registered_nodes a.table a.nodes.entries; queues = queues_by a.roster; pending = a.pending.keys } in
+    let shown = subst (λ (o : Watchers). Watches o x) (sym c.self.view_is) w in
+    subst (λ qs. Watches (record { nodes = registered_nodes a.table a.nodes.entries; queues = qs; pending = a.pending.keys }) (with_observer x)) (sym queues) (watches-made o x shown))
+
+pub returns-clause-made : goal.returns-clause-made
+returns-clause-made c = on_ok c.make.result c.make.ensures.queues (λ queues. queues ∙ ap (λ (o : Watchers). o.queues ++ Some [] ∷ []) c.self.view_is)
+
+pub returns-clause-number : goal.returns-clause-number
+returns-clause-number c =
+    both_ok c.make.result c.make.ensures.number c.make.ensures.queues (λ id first _.
+    first ∙ sym (length-queues c.self.inside.roster) ∙ ap (λ (o : Watchers). length o.queues) c.self.view_is)
 
 pub returns-clause-held : goal.returns-clause-held
 returns-clause-held c =
+    both_ok c.make.result c.make.ensures.number c.make.ensures.queues (λ id first queues.
+    let old = queues_by c.self.inside.roster in
+    ap (λ i. has_queue (queues_by c.make.new.self) i) (first ∙ sym (length-queues c.self.inside.roster))
+    ∙ ap (λ qs. has_queue qs (length old)) queues
+    ∙ ap is_some (get_or-append_seam old (Some []) [] None))
+
+pub returns-clause-err : goal.returns-clause-err
+returns-clause-err c =
+    on_err c.make.result c.make.ensures.err (λ same.
     let a = c.self.inside in
-    let grown = queues-pushed a.queues.items c.push.new.self.items c.new.result c.in_ok-push.ensures.items c.new.ensures in
-    ap length grown ∙ length-append a.queues.items ([] ∷ []) ∙ ap (λ o. length o.queues + 1) c.self.view_is
+    let seen : List (Option Observer) → Watchers = λ r. record { nodes = registered_nodes a.table a.nodes.entries; queues = queues_by r; pending = a.pending.keys } in
+    ap seen same ∙ c.self.view_is)
 
 pub returns-clause-names : goal.returns-clause-names
 returns-clause-names c =
     let a = c.self.inside in
-    let qs = a.queues.items in
-    let grown = queues-pushed a.queues.items c.push.new.self.items c.new.result c.in_ok-push.ensures.items c.new.ensures in
-    let kept = subst (λ qs. IsKept a.table a.nodes.entries qs a.pending.keys) (sym grown)
-    (kept-made a.table a.nodes.entries qs a.pending.keys c.self.invariant.0) in
-    names-only a.table a.nodes.entries qs a.pending.keys c.args.self.now c.self.view_is a.table a.nodes.entries c.push.new.self.items a.pending.keys kept []
-    (λ p _ names tells. (names, subst (TellsNone p) (sym grown) (tells-grown p qs tells)))
-
-pub returns-in_err-push-clause-names : goal.returns-in_err-push-clause-names
-returns-in_err-push-clause-names c =
-    let a = c.self.inside in
-    subst (λ vs. NamesOnly [] c.args.self.now (record { nodes = registered_nodes a.table a.nodes.entries; queues = vs; pending = a.pending.keys })) (sym {A = List (List Record)} c.in_err-push.ensures.items)
-    (subst (NamesOnly [] c.args.self.now) (sym c.self.view_is)
-    (names-same a.table a.nodes.entries a.queues.items a.pending.keys c.self.invariant.0 c.args.self.now c.self.view_is []))
-
-pub overflow_cast-made : goal.overflow_cast-made
-overflow_cast-made c = grind (arith, common_steps)
-
-pub returns-clause-number : goal.returns-clause-number
-returns-clause-number c = grind (arith, common_steps)
-
-pub returns-clause-err : goal.returns-clause-err
-returns-clause-err c = search (tests, rules)
-
-pub returns-in_err-seat-clause-names : goal.returns-in_err-seat-clause-names
-returns-in_err-seat-clause-names c =
-    let a = c.self.inside in
-    subst (NamesOnly [] c.args.self.now) (sym c.self.view_is)
-    (names-same a.table a.nodes.entries a.queues.items a.pending.keys c.self.invariant.0 c.args.self.now c.self.view_is [])
-
-pub returns-in_err-seat-2-clause-names : goal.returns-in_err-seat-2-clause-names
-returns-in_err-seat-2-clause-names c =
-    let a = c.self.inside in
-    subst (NamesOnly [] c.args.self.now) (sym c.self.view_is)
-    (names-same a.table a.nodes.entries a.queues.items a.pending.keys c.self.invariant.0 c.args.self.now c.self.view_is [])
-
-pub invariant_of-self-in_err-push : goal.invariant_of-self-in_err-push
-invariant_of-self-in_err-push c =
-    let a = c.self.inside in
-    let qs = a.queues.items in
-    let same = ap length c.in_err-push.ensures.items in
-    let room1 = c.in_ok-seat.ensures.room in
-    let room2 = c.in_ok-seat-2.ensures.room in (
-      subst (λ qs. IsKept a.table a.nodes.entries qs a.pending.keys) (sym {A = List (List Record)} c.in_err-push.ensures.items) c.self.invariant.0,
-      indexed-seated (at a.table) (listed a.nodes.entries) (keys_by a.lasting.items) (keys_by c.seat.new.lists.items) (keys_by a.passing.items) (keys_by c.seat-2.new.lists.items) a.fleeting.keys (length qs) (length c.push.new.self.items) c.seat.ensures.same c.seat-2.ensures.same
-          (omega (arith, same)) (omega (arith, same, room1, c.len-made.ensures, a.queues.ok, keys_by-length c.seat.new.lists.items)) (omega (arith, same, room2, c.len-made.ensures, a.queues.ok, keys_by-length c.seat-2.new.lists.items)) c.self.invariant.1,
-      c.self.invariant.2,
-      c.self.invariant.3,
-    )
+    let qs = queues_by a.roster in
+    let seen : List (Option Observer) → Watchers = λ r. record { nodes = registered_nodes a.table a.nodes.entries; queues = queues_by r; pending = a.pending.keys } in
+    by_one c.make.result c.make.ensures.queues c.make.ensures.err
+    (λ queues.
+    let kept = subst (λ q. IsKept a.table a.nodes.entries q a.pending.keys) (sym queues) (kept-made a.table a.nodes.entries qs a.pending.keys c.self.invariant.0) in
+    names-only a.table a.nodes.entries qs a.pending.keys c.args.self.now c.self.view_is a.table a.nodes.entries (queues_by c.make.new.self) a.pending.keys kept []
+    (λ p _ names tells. (names, subst (TellsNone p) (sym queues) (tells-grown p qs tells))))
+    (λ same.
+    subst (λ r. NamesOnly [] c.args.self.now (seen r)) (sym same)
+    (subst (NamesOnly [] c.args.self.now) (sym c.self.view_is) (names-same a.table a.nodes.entries qs a.pending.keys c.self.invariant.0 c.args.self.now c.self.view_is [])))

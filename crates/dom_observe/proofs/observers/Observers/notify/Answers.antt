@@ -1,18 +1,21 @@
 -- Each pending observer is told its records; then nobody is pending, and no queue has records.
-use Rattle.std.proofs.Common.{◌≡◌, ◌<◌, ℕ, Bool, true, false, List, [], length, map, filter, refl, ap, sym, ◌∙◌, subst, arith}
-use Rattle.std.specs.Prelude.{slice_index_or, is_none}
-use Rattle.std.specs.List.{AllByRecursion}
+use Rattle.std.proofs.Common.{◌≡◌, ℕ, Bool, true, false, List, [], Option, length, map, filter, refl, ap, sym, ◌∙◌, subst}
+use Rattle.std.specs.Prelude.{is_none}
 use Rattle.dom_model.specs.PlainLists.Lists.{among}
 use Rattle.dom_model.specs.Worlds.World.{Registration}
 use Rattle.dom_model.specs.MutationObservers.Record.{Record}
 use Rattle.dom_model.specs.MutationObservers.Records.{has_records, told_in}
-use Rattle.dom_observe.specs.Watchers.{Watchers, Watches}
-use Rattle.dom_observe.specs.Registrations.{at, listed}
-use Rattle.dom_observe.specs.Kept.{registered_nodes, keys_by, IsKept, IsIndexed}
-use Rattle.dom_observe.proofs.Holding.{names-only, none-ended}
+use Rattle.dom_observe.specs.Watchers.{Watchers, Watches, records_at}
+use Rattle.dom_observe.specs.Naming.{TellsNone}
+use Rattle.dom_observe.specs.Registrations.{at, listed, passes_for, Owned}
+use Rattle.dom_observe.specs.Kept.{registered_nodes, has_queue, AllThere, HaveNone, IsKept}
+use Rattle.dom_observe.specs.Roster.{first_keys, second_keys, lasting_by, passing_by, queues_by}
+use Rattle.dom_observe.proofs.Holding.{names-only, none-ended, same-there}
 use Rattle.dom_observe.specs.declared.registration.Ended.TheVariants.{Transient}
 use Rattle.dom_observe.proofs.Indexing.{indexed-notified}
-use Rattle.dom_observe.proofs.Keeping.{on-registered_nodes, keys_by-length, stand_grown, stand-ended, found-ended, kept_queues}
+use Rattle.dom_observe.proofs.Keeping.{on-registered_nodes, stand-alike, stand-ended, found-ended, kept_queues}
+use Rattle.dom_observe.proofs.Keyrings.{indexed-same, indexed-by}
+use Rattle.dom_observe.proofs.Rosters.{has-same, length-same}
 use Rattle.dom_observe.proofs.Tables.{all_imply}
 use Rattle.dom_observe.proofs.Gathered.{waiting-told}
 use Rattle.dom_observe.proofs.Agreeing.{agree-ended}
@@ -21,110 +24,133 @@ use Rattle.dom_observe.proofs.Watching.{watches-notified}
 use Rattle.dom_observe.proofs.observers.Observers.notify.Goals as goal
 
 -- an observer that is pending was told, and another had nothing to be told
-all_empty : (pending : List ℕ) (old new : List (List Record)) → ((p : ℕ) → among p pending ≡ false → slice_index_or old p [] ≡ [])
-    → ((p : ℕ) → among p pending ≡ true → slice_index_or new p [] ≡ []) → ((p : ℕ) → slice_index_or old p [] ≡ [] → slice_index_or new p [] ≡ []) → (p : ℕ) → slice_index_or new p [] ≡ []
+all_empty : (pending : List ℕ) (old new : List (Option (List Record))) → ((p : ℕ) → among p pending ≡ false → records_at old p ≡ [])
+    → ((p : ℕ) → among p pending ≡ true → records_at new p ≡ []) → ((p : ℕ) → records_at old p ≡ [] → records_at new p ≡ []) → (p : ℕ) → records_at new p ≡ []
 all_empty pending old new waiting emptied empty p = go (among p pending) refl
   where
-    go : (b : Bool) → among p pending ≡ b → slice_index_or new p [] ≡ []
+    go : (b : Bool) → among p pending ≡ b → records_at new p ≡ []
     go true e = emptied p e
     go false e = empty p (waiting p e)
 
 pub gather-requires : goal.gather-requires
-gather-requires c = c.self.invariant.0.made
+gather-requires c = c.self.invariant.0.there
 
 pub invariant_of-self-2 : goal.invariant_of-self-2
 invariant_of-self-2 c =
     let a = c.self.inside in
-    let qs = a.queues.items in
-    let qs' = c.gather.new.queues.items in
-    let lengths : length qs' ≡ length qs = c.gather.ensures.len in
-    let stand = stand-ended (at a.table) (at c.end_transients.new.table) Transient (listed a.nodes.entries) (listed c.end_transients.new.nodes.entries) c.end_transients.ensures.left c.end_transients.ensures.swept (length qs) c.self.invariant.0.stand in
-    let empty = all_empty a.pending.keys qs qs' c.self.invariant.0.waiting c.in_ok-told.ensures.emptied c.gather.ensures.empty in
+    let qs = queues_by a.roster in
+    let qs' = queues_by c.end_transients.new.roster in
+    let u = at a.table in
+    let v = at c.end_transients.new.table in
+    let lists = listed a.nodes.entries in
+    let lists' = listed c.end_transients.new.nodes.entries in
+    let same : (i : ℕ) → has_queue qs' i ≡ has_queue qs i = λ i. ap (λ q. has_queue q i) c.end_transients.ensures.queues ∙ has-same a.roster c.gather.new.roster c.gather.ensures.keys i in
+    let stand = stand-ended u v Transient lists lists' c.end_transients.ensures.left c.end_transients.ensures.swept (has_queue qs) c.self.invariant.0.stand in
+    let empty = all_empty a.pending.keys qs (queues_by c.gather.new.roster) c.self.invariant.0.waiting c.in_ok-told.ensures.emptied c.gather.ensures.empty in
     let kept : IsKept c.end_transients.new.table c.end_transients.new.nodes.entries qs' c.clear.new.self.keys = record {
       unique = c.end_transients.ensures.unique;
       full = c.end_transients.ensures.full c.self.invariant.0.full;
-      stand = stand_grown (at c.end_transients.new.table) (length qs) (length qs') (listed c.end_transients.new.nodes.entries) (omega (arith, lengths)) stand;
-      made = subst (AllByRecursion (λ o. o < length qs')) (sym c.clear.ensures.empty) tt;
-      waiting = λ p _. empty p;
+      stand = stand-alike v (has_queue qs) (has_queue qs') lists' (λ i there. same i ∙ there) stand;
+      there = subst (AllThere (has_queue qs')) (sym c.clear.ensures.empty) tt;
+      waiting = λ p _. ap (λ q. records_at q p) c.end_transients.ensures.queues ∙ empty p;
     } in (
       kept,
-      subst (IsIndexed (at c.end_transients.new.table) (listed c.end_transients.new.nodes.entries) (keys_by a.lasting.items) (keys_by c.end_transients.new.passing.items) c.clear-2.new.self.keys) (sym lengths)
-          (indexed-notified (at a.table) (at c.end_transients.new.table) (listed a.nodes.entries) (listed c.end_transients.new.nodes.entries) (keys_by a.lasting.items) (keys_by a.passing.items) (keys_by c.end_transients.new.passing.items) a.fleeting.keys c.clear-2.new.self.keys (length qs) c.self.invariant.1
-          c.end_transients.ensures.placed c.end_transients.ensures.left c.end_transients.ensures.owned c.end_transients.ensures.none (keys_by-length c.end_transients.new.passing.items ∙ c.end_transients.ensures.len ∙ sym (keys_by-length a.passing.items)) c.clear-2.ensures.empty),
-      sources-ended (at a.table) (at c.end_transients.new.table) Transient c.end_transients.ensures.left c.self.invariant.2,
-      agree-ended (at a.table) (at c.end_transients.new.table) Transient c.end_transients.ensures.left c.self.invariant.3,
+      indexed-by v lists' c.clear-2.new.self.keys c.end_transients.new.roster (lasting_by a.roster) (passing_by c.end_transients.new.roster) (has_queue qs)
+          (c.end_transients.ensures.lasting ∙ ap (map first_keys) c.gather.ensures.keys) refl (λ i there. same i ∙ there)
+          (indexed-notified u v lists lists' (lasting_by a.roster) (passing_by a.roster) (passing_by c.end_transients.new.roster) a.fleeting.keys c.clear-2.new.self.keys (has_queue qs) c.self.invariant.1
+          c.end_transients.ensures.placed c.end_transients.ensures.left c.end_transients.ensures.owned c.end_transients.ensures.none c.clear-2.ensures.empty),
+      sources-ended u v Transient c.end_transients.ensures.left c.self.invariant.2,
+      agree-ended u v Transient c.end_transients.ensures.left c.self.invariant.3,
     )
 
 pub returns-clause-told : goal.returns-clause-told
 returns-clause-told c = λ x w.
     let a = c.self.inside in
-    let qs = a.queues.items in
+    let qs = queues_by a.roster in
     let shown = subst (λ (o : Watchers). Watches o x) (sym c.self.view_is) w in
     c.in_ok-told.ensures.told
-    ∙ ap (filter has_records) (waiting-told qs x shown.queues a.pending.keys c.self.invariant.0.made)
+    ∙ ap (filter has_records) (waiting-told qs x shown.queues a.pending.keys)
     ∙ ap (λ ps. filter has_records (map (told_in x) ps)) shown.pending
 
 pub returns-clause-after : goal.returns-clause-after
 returns-clause-after c = λ x w.
     let a = c.self.inside in
-    let qs = a.queues.items in
-    let qs' = c.gather.new.queues.items in
+    let qs = queues_by a.roster in
+    let qs' = queues_by c.end_transients.new.roster in
     let o : Watchers = record { nodes = registered_nodes a.table a.nodes.entries; queues = qs; pending = a.pending.keys } in
     let shown = subst (λ (o : Watchers). Watches o x) (sym c.self.view_is) w in
-    let lengths : length qs' ≡ length qs = c.gather.ensures.len in
-    let empty = all_empty a.pending.keys qs qs' c.self.invariant.0.waiting c.in_ok-told.ensures.emptied c.gather.ensures.empty in
+    let empty = all_empty a.pending.keys qs (queues_by c.gather.new.roster) c.self.invariant.0.waiting c.in_ok-told.ensures.emptied c.gather.ensures.empty in
     let found = λ (n : ℕ). found-ended (at a.table) (at c.end_transients.new.table) Transient (listed a.nodes.entries) (listed c.end_transients.new.nodes.entries) c.end_transients.ensures.left c.end_transients.ensures.swept n in
     watches-notified o x shown (registered_nodes c.end_transients.new.table c.end_transients.new.nodes.entries) qs' c.clear.new.self.keys
     (λ n. on-registered_nodes c.end_transients.new.table n c.end_transients.new.nodes.entries ∙ found n ∙ ap (filter (λ (r : Registration). is_none r.source)) (sym (on-registered_nodes a.table n a.nodes.entries)))
-    lengths empty c.clear.ensures.empty
+    (ap length c.end_transients.ensures.queues ∙ length-same a.roster c.gather.new.roster c.gather.ensures.keys)
+    (λ i. ap (λ q. has_queue q i) c.end_transients.ensures.queues ∙ has-same a.roster c.gather.new.roster c.gather.ensures.keys i)
+    (λ i. ap (λ q. records_at q i) c.end_transients.ensures.queues ∙ empty i) c.clear.ensures.empty
 
 pub returns-in_err-told-clause-names : goal.returns-in_err-told-clause-names
 returns-in_err-told-clause-names c =
     let a = c.self.inside in
-    let qs = a.queues.items in
-    let qs' = c.gather.new.queues.items in
-    let lengths : length qs' ≡ length qs = c.gather.ensures.len in
-    let kept = kept_queues a.table a.nodes.entries qs a.pending.keys c.self.invariant.0 qs' (omega (arith, lengths)) (λ o free. c.gather.ensures.empty o (c.self.invariant.0.waiting o free)) in
+    let qs = queues_by a.roster in
+    let qs' = queues_by c.gather.new.roster in
+    let kept = kept_queues a.table a.nodes.entries qs a.pending.keys c.self.invariant.0 qs' (λ i there. has-same a.roster c.gather.new.roster c.gather.ensures.keys i ∙ there) (λ o free. c.gather.ensures.empty o (c.self.invariant.0.waiting o free)) in
     names-only a.table a.nodes.entries qs a.pending.keys c.args.self.now c.self.view_is a.table a.nodes.entries qs' a.pending.keys kept [] (λ p _ names tells. (names, c.gather.ensures.names p tells))
 
 pub returns-in_err-told-clause-made : goal.returns-in_err-told-clause-made
-returns-in_err-told-clause-made c = c.gather.ensures.len ∙ ap (λ o. length o.queues) c.self.view_is
+returns-in_err-told-clause-made c =
+    let a = c.self.inside in
+    let new : Watchers = record { nodes = registered_nodes a.table a.nodes.entries; queues = queues_by c.gather.new.roster; pending = a.pending.keys } in
+    same-there c.args.self.now new (queues_by a.roster) (ap (λ (o : Watchers). o.queues) c.self.view_is) (length-same a.roster c.gather.new.roster c.gather.ensures.keys) (has-same a.roster c.gather.new.roster c.gather.ensures.keys)
 
 pub returns-clause-names : goal.returns-clause-names
 returns-clause-names c =
     let a = c.self.inside in
-    let qs = a.queues.items in
-    let qs' = c.gather.new.queues.items in
-    let lengths : length qs' ≡ length qs = c.gather.ensures.len in
-    let stand = stand-ended (at a.table) (at c.end_transients.new.table) Transient (listed a.nodes.entries) (listed c.end_transients.new.nodes.entries) c.end_transients.ensures.left c.end_transients.ensures.swept (length qs) c.self.invariant.0.stand in
-    let empty = all_empty a.pending.keys qs qs' c.self.invariant.0.waiting c.in_ok-told.ensures.emptied c.gather.ensures.empty in
+    let qs = queues_by a.roster in
+    let qs' = queues_by c.end_transients.new.roster in
+    let u = at a.table in
+    let v = at c.end_transients.new.table in
+    let lists = listed a.nodes.entries in
+    let lists' = listed c.end_transients.new.nodes.entries in
+    let same : (i : ℕ) → has_queue qs' i ≡ has_queue qs i = λ i. ap (λ q. has_queue q i) c.end_transients.ensures.queues ∙ has-same a.roster c.gather.new.roster c.gather.ensures.keys i in
+    let stand = stand-ended u v Transient lists lists' c.end_transients.ensures.left c.end_transients.ensures.swept (has_queue qs) c.self.invariant.0.stand in
+    let empty = all_empty a.pending.keys qs (queues_by c.gather.new.roster) c.self.invariant.0.waiting c.in_ok-told.ensures.emptied c.gather.ensures.empty in
     let kept : IsKept c.end_transients.new.table c.end_transients.new.nodes.entries qs' c.clear.new.self.keys = record {
       unique = c.end_transients.ensures.unique;
       full = c.end_transients.ensures.full c.self.invariant.0.full;
-      stand = stand_grown (at c.end_transients.new.table) (length qs) (length qs') (listed c.end_transients.new.nodes.entries) (omega (arith, lengths)) stand;
-      made = subst (AllByRecursion (λ o. o < length qs')) (sym c.clear.ensures.empty) tt;
-      waiting = λ p _. empty p;
+      stand = stand-alike v (has_queue qs) (has_queue qs') lists' (λ i there. same i ∙ there) stand;
+      there = subst (AllThere (has_queue qs')) (sym c.clear.ensures.empty) tt;
+      waiting = λ p _. ap (λ q. records_at q p) c.end_transients.ensures.queues ∙ empty p;
     } in
     names-only a.table a.nodes.entries qs a.pending.keys c.args.self.now c.self.view_is c.end_transients.new.table c.end_transients.new.nodes.entries qs' c.clear.new.self.keys kept []
-    (λ p _ names tells. (none-ended p (at a.table) (at c.end_transients.new.table) Transient (listed a.nodes.entries) (listed c.end_transients.new.nodes.entries) c.end_transients.ensures.left c.end_transients.ensures.swept names, c.gather.ensures.names p tells))
+    (λ p _ names tells. (none-ended p u v Transient lists lists' c.end_transients.ensures.left c.end_transients.ensures.swept names, subst (TellsNone p) (sym c.end_transients.ensures.queues) (c.gather.ensures.names p tells)))
 
 pub returns-clause-made : goal.returns-clause-made
-returns-clause-made c = c.gather.ensures.len ∙ ap (λ o. length o.queues) c.self.view_is
-
-pub end_transients-requires-clause-made : goal.end_transients-requires-clause-made
-end_transients-requires-clause-made c =
+returns-clause-made c =
     let a = c.self.inside in
-    let r = c.self.invariant.1.passing_room in
-    all_imply (λ o. o < length a.queues.items) (λ o. o < length a.passing.items) (λ o lt. omega (arith, r, keys_by-length a.passing.items)) a.fleeting.keys c.self.invariant.1.known
+    let new : Watchers = record { nodes = registered_nodes c.end_transients.new.table c.end_transients.new.nodes.entries; queues = queues_by c.end_transients.new.roster; pending = c.clear.new.self.keys } in
+    same-there c.args.self.now new (queues_by a.roster) (ap (λ (o : Watchers). o.queues) c.self.view_is)
+    (ap length c.end_transients.ensures.queues ∙ length-same a.roster c.gather.new.roster c.gather.ensures.keys)
+    (λ i. ap (λ q. has_queue q i) c.end_transients.ensures.queues ∙ has-same a.roster c.gather.new.roster c.gather.ensures.keys i)
+
+pub end_transients-requires-clause-there : goal.end_transients-requires-clause-there
+end_transients-requires-clause-there c =
+    let a = c.self.inside in
+    all_imply (λ o. has_queue (queues_by a.roster) o ≡ true) (λ o. has_queue (queues_by c.gather.new.roster) o ≡ true) (λ i there. has-same a.roster c.gather.new.roster c.gather.ensures.keys i ∙ there) a.fleeting.keys c.self.invariant.1.known
+
+pub end_transients-requires-clause-owned : goal.end_transients-requires-clause-owned
+end_transients-requires-clause-owned c =
+    subst (Owned passes_for (at c.self.inside.table)) (sym (ap (map second_keys) c.gather.ensures.keys)) c.self.invariant.1.passing
+
+pub end_transients-requires-clause-all : goal.end_transients-requires-clause-all
+end_transients-requires-clause-all c =
+    subst (HaveNone c.self.inside.fleeting.keys) (sym (ap (map second_keys) c.gather.ensures.keys)) c.self.invariant.1.fleeting
 
 pub invariant_of-self : goal.invariant_of-self
 invariant_of-self c =
     let a = c.self.inside in
-    let qs = a.queues.items in
-    let qs' = c.gather.new.queues.items in
-    let lengths : length qs' ≡ length qs = c.gather.ensures.len in (
-      kept_queues a.table a.nodes.entries qs a.pending.keys c.self.invariant.0 qs' (omega (arith, lengths)) (λ o free. c.gather.ensures.empty o (c.self.invariant.0.waiting o free)),
-      subst (IsIndexed (at a.table) (listed a.nodes.entries) (keys_by a.lasting.items) (keys_by a.passing.items) a.fleeting.keys) (sym lengths) c.self.invariant.1,
+    let qs = queues_by a.roster in
+    let qs' = queues_by c.gather.new.roster in (
+      kept_queues a.table a.nodes.entries qs a.pending.keys c.self.invariant.0 qs' (λ i there. has-same a.roster c.gather.new.roster c.gather.ensures.keys i ∙ there) (λ o free. c.gather.ensures.empty o (c.self.invariant.0.waiting o free)),
+      indexed-same (at a.table) (listed a.nodes.entries) a.fleeting.keys a.roster c.gather.new.roster c.self.invariant.1 c.gather.ensures.keys,
       c.self.invariant.2,
       c.self.invariant.3,
     )

@@ -1,6 +1,7 @@
 -- What the registrations and the queues name is what the definitions have as observed.
-use Rattle.std.proofs.Common.{◌≡◌, ℕ, ◌||◌, ◌+◌, ◌<◌, List, length, ap, sym, ◌∙◌, subst, nat_eq, arith}
-use Rattle.std.specs.List.{list_any, IsDistinct, AllByRecursion}
+use Rattle.std.proofs.Common.{◌≡◌, ℕ, ◌||◌, ◌+◌, List, [], Option, ap, sym, ◌∙◌, subst, nat_eq, arith}
+use Rattle.std.specs.Prelude.{unwrap_or}
+use Rattle.std.specs.List.{list_any, IsDistinct}
 use Rattle.dom_model.specs.PlainLists.Lists.{among}
 use Rattle.dom_model.specs.Forests.Forest.{inclusive_descendants}
 use Rattle.dom_model.specs.MutationObservers.Record.{Record}
@@ -9,16 +10,13 @@ use Rattle.dom_model.specs.MutationObservers.Records.{queue_of}
 use Rattle.dom_model.specs.MutationAlgorithms.Discarding.{nodes_of_registration, nodes_of_record, queued_records}
 use Rattle.dom_observe.specs.Watchers.{Watchers, Watches}
 use Rattle.dom_observe.specs.Kept.{registered_nodes}
+use Rattle.dom_observe.specs.Roster.{queues_by}
 use Rattle.dom_observe.specs.Held.{named}
 use Rattle.dom_observe.proofs.Holding.{named-parts}
 use Rattle.dom_observe.proofs.Keyed.{any-keyed}
 use Rattle.dom_observe.proofs.Named.{any-flat, any-registered, queues-waiting, keys-registered_nodes, any-observed}
 use Rattle.dom_observe.proofs.Waiting.{any-told}
 use Rattle.dom_observe.proofs.observers.Observers.refers.Goals as goal
-
--- there is a queue for each pending observer
-pub is_told-requires-clause-made : goal.is_told-requires-clause-made
-is_told-requires-clause-made g c = subst (λ (qs : List (List Record)). AllByRecursion (λ o. o < length qs) c.self.inside.pending.keys) (sym c.as_slice.ensures.value) c.self.invariant.0.made
 
 pub returns-then-is_named-clause-observed : goal.returns-then-is_named-clause-observed
 returns-then-is_named-clause-observed g c = λ x w.
@@ -28,7 +26,7 @@ returns-then-is_named-clause-observed g c = λ x w.
     let shown = subst (λ (o : Watchers). Watches o x) (sym c.self.view_is) w in
     let distinct = subst (IsDistinct nat_eq) (sym (keys-registered_nodes a.table a.nodes.entries)) c.self.invariant.0.unique in
     let named : c.is_named.result ≡ list_any one x.registrations =
-    c.is_named.ensures ∙ any-keyed a.table a.nodes.entries a.queues.items a.pending.keys c.self.invariant.0 c.self.invariant.1.placed c.self.invariant.2 p ∙ any-registered one (registered_nodes a.table a.nodes.entries) x.registrations distinct shown.registrations in
+    c.is_named.ensures ∙ any-keyed a.table a.nodes.entries (queues_by a.roster) a.pending.keys c.self.invariant.0 c.self.invariant.1.placed c.self.invariant.2 p ∙ any-registered one (registered_nodes a.table a.nodes.entries) x.registrations distinct shown.registrations in
     c.if-is_named.true
     ∙ sym (any-observed p x ∙ ap (λ b. b || list_any (λ (r : Record). list_any p (nodes_of_record r)) (queued_records x)) (sym named ∙ c.if-is_named.true))
 
@@ -41,12 +39,12 @@ returns-else-is_named-clause-observed g c = λ x w.
     let shown = subst (λ (o : Watchers). Watches o x) (sym c.self.view_is) w in
     let distinct = subst (IsDistinct nat_eq) (sym (keys-registered_nodes a.table a.nodes.entries)) c.self.invariant.0.unique in
     let named : c.is_named.result ≡ list_any one x.registrations =
-    c.is_named.ensures ∙ any-keyed a.table a.nodes.entries a.queues.items a.pending.keys c.self.invariant.0 c.self.invariant.1.placed c.self.invariant.2 p ∙ any-registered one (registered_nodes a.table a.nodes.entries) x.registrations distinct shown.registrations in
+    c.is_named.ensures ∙ any-keyed a.table a.nodes.entries (queues_by a.roster) a.pending.keys c.self.invariant.0 c.self.invariant.1.placed c.self.invariant.2 p ∙ any-registered one (registered_nodes a.table a.nodes.entries) x.registrations distinct shown.registrations in
     let end : (i : ℕ) → i ≡ i + 0 = λ i. omega arith in
-    let waiting = queues-waiting x x.places a.queues.items 0 shown.made (λ i lt. shown.queues i lt ∙ ap (λ k. queue_of k x) (end i)) in
+    let waiting = queues-waiting x x.places (queues_by a.roster) 0 shown.made (λ i. shown.queues i ∙ ap (λ k. queue_of k x) (end i)) in
     c.is_told.ensures
-    ∙ any-told p c.as_slice.result.now a.queues.items a.pending.keys c.as_slice.ensures.value c.self.invariant.0.waiting
-    ∙ sym (any-flat told (λ q. q) a.queues.items)
+    ∙ any-told p (queues_by a.roster) a.pending.keys c.self.invariant.0.waiting
+    ∙ sym (any-flat told (λ (q : Option (List Record)). unwrap_or q []) (queues_by a.roster))
     ∙ ap (list_any told) (sym waiting)
     ∙ sym (any-observed p x ∙ ap (λ b. b || list_any told (queued_records x)) (sym named ∙ c.if-is_named.false))
 
@@ -54,18 +52,18 @@ pub returns-then-is_named-clause-named : goal.returns-then-is_named-clause-named
 returns-then-is_named-clause-named g c =
     let a = c.self.inside in
     let p = λ (m : ℕ). among m (inclusive_descendants c.args.tree.now.forest c.args.top) in
-    let there = sym (c.is_named.ensures ∙ any-keyed a.table a.nodes.entries a.queues.items a.pending.keys c.self.invariant.0 c.self.invariant.1.placed c.self.invariant.2 p) ∙ c.if-is_named.true in
+    let there = sym (c.is_named.ensures ∙ any-keyed a.table a.nodes.entries (queues_by a.roster) a.pending.keys c.self.invariant.0 c.self.invariant.1.placed c.self.invariant.2 p) ∙ c.if-is_named.true in
     c.if-is_named.true
-    ∙ sym (ap (λ (o : Watchers). list_any p (named o)) (sym c.self.view_is) ∙ named-parts p (record { nodes = registered_nodes a.table a.nodes.entries; queues = a.queues.items; pending = a.pending.keys })
-    ∙ ap (λ b. b || list_any (λ (q : List Record). list_any (λ r. list_any p (nodes_of_record r)) q) a.queues.items) there)
+    ∙ sym (ap (λ (o : Watchers). list_any p (named o)) (sym c.self.view_is) ∙ named-parts p (record { nodes = registered_nodes a.table a.nodes.entries; queues = queues_by a.roster; pending = a.pending.keys })
+    ∙ ap (λ b. b || list_any (λ (q : Option (List Record)). list_any (λ r. list_any p (nodes_of_record r)) (unwrap_or q [])) (queues_by a.roster)) there)
 
 pub returns-else-is_named-clause-named : goal.returns-else-is_named-clause-named
 returns-else-is_named-clause-named g c =
     let a = c.self.inside in
     let p = λ (m : ℕ). among m (inclusive_descendants c.args.tree.now.forest c.args.top) in
     let told = λ (r : Record). list_any p (nodes_of_record r) in
-    let there = sym (c.is_named.ensures ∙ any-keyed a.table a.nodes.entries a.queues.items a.pending.keys c.self.invariant.0 c.self.invariant.1.placed c.self.invariant.2 p) ∙ c.if-is_named.false in
+    let there = sym (c.is_named.ensures ∙ any-keyed a.table a.nodes.entries (queues_by a.roster) a.pending.keys c.self.invariant.0 c.self.invariant.1.placed c.self.invariant.2 p) ∙ c.if-is_named.false in
     c.is_told.ensures
-    ∙ any-told p c.as_slice.result.now a.queues.items a.pending.keys c.as_slice.ensures.value c.self.invariant.0.waiting
-    ∙ sym (ap (λ (o : Watchers). list_any p (named o)) (sym c.self.view_is) ∙ named-parts p (record { nodes = registered_nodes a.table a.nodes.entries; queues = a.queues.items; pending = a.pending.keys })
-    ∙ ap (λ b. b || list_any (λ (q : List Record). list_any told q) a.queues.items) there)
+    ∙ any-told p (queues_by a.roster) a.pending.keys c.self.invariant.0.waiting
+    ∙ sym (ap (λ (o : Watchers). list_any p (named o)) (sym c.self.view_is) ∙ named-parts p (record { nodes = registered_nodes a.table a.nodes.entries; queues = queues_by a.roster; pending = a.pending.keys })
+    ∙ ap (λ b. b || list_any (λ (q : Option (List Record)). list_any told (unwrap_or q [])) (queues_by a.roster)) there)

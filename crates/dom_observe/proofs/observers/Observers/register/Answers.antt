@@ -1,74 +1,103 @@
 -- The registration gets the options, or a new one comes last.
-use Rattle.std.proofs.Common.{◌≡◌, ◌≤◌, ◌<◌, ℕ, not, List, [], ◌∷◌, ◌++◌, if◌then◌else◌, ◌==◌, length, map, filter, find, Some, None, Global, option_map, refl, ap, sym, ◌∙◌, subst, arith}
-use Rattle.std.specs.Prelude.{Vec, filter_map, slice_index_or, slice_set}
+use Rattle.std.proofs.Common.{◌≡◌, ◌≤◌, ℕ, true, not, List, [], ◌∷◌, ◌++◌, if◌then◌else◌, ◌==◌, map, filter, find, Option, Some, None, option_map, refl, ap, sym, ◌∙◌, subst, arith}
+use Rattle.std.specs.Prelude.{filter_map, slice_index_or, slice_set}
 use Rattle.std.specs.List.{list_any}
 use Rattle.dom_model.specs.PlainLists.Lists.{among}
 use Rattle.dom_model.specs.Worlds.World.{Registration}
+use Rattle.dom_model.specs.MutationObservers.Record.{Record}
 use Rattle.dom_model.specs.MutationObservers.Observing.{registered_on}
-use Rattle.dom_model.specs.MutationObservers.Records.{is_registered, is_transient_from, with_options, new_registration}
+use Rattle.dom_model.specs.MutationObservers.Records.{is_registered, is_transient_from, with_options, new_registration, observed}
 use Rattle.dom_observe.specs.Watchers.{Watchers, Watches, on}
 use Rattle.dom_observe.specs.Once.{once}
-use Rattle.dom_observe.specs.Registrations.{plain, at, listed, own_at, AllStand, HaveSources, Agree}
-use Rattle.dom_observe.specs.Kept.{registered_nodes, keys_by, IsIndexed}
+use Rattle.dom_observe.specs.Registrations.{plain, at, listed, is_live, left_by, own_at, AllStand, HaveSources, Agree}
+use Rattle.dom_observe.specs.Kept.{registered_nodes, has_queue, IsKept, IsIndexed}
+use Rattle.dom_observe.specs.Roster.{lasting_by, passing_by, queues_by}
 use Rattle.dom_observe.proofs.Indexing.{from-left, indexed-changed, indexed-passing_ended, indexed-lasting}
 use Rattle.dom_observe.proofs.Agreeing.{agree-again, agree-lasting, nothing-comes}
 use Rattle.dom_observe.proofs.Once.{count-once}
 use Rattle.dom_observe.proofs.OwnKeys.{on-lasts}
-use Rattle.dom_observe.proofs.Outcomes.{on_ok, by_one, by_outcome, by_two}
+use Rattle.dom_observe.proofs.Outcomes.{on_ok, by_one, by_errors, by_outcome, by_two}
 use Rattle.dom_observe.proofs.Sources.{sources-ended, sources-changed, sources-added}
 use Rattle.dom_observe.proofs.Counting.{tally, count-filter}
 use Rattle.dom_observe.proofs.Tables.{live_of_stands, found-added, stands-added}
-use Rattle.dom_observe.proofs.Keeping.{on-registered_nodes, kept_table, keys_by-set, keys_by-at, keys_by-length, set_same}
-use Rattle.dom_observe.specs.Naming.{NamesNone}
+use Rattle.dom_observe.proofs.Keeping.{on-registered_nodes, kept_table}
+use Rattle.dom_observe.proofs.Keyrings.{indexed-by}
+use Rattle.dom_observe.proofs.Rosters.{has-kept, within-lasting, within-passing, lasting-there, passing-there, lasting-set, passing-set, lasting-same, passing-same, queues-same}
+use Rattle.dom_observe.specs.Naming.{NamesNone, TellsNone}
 use Rattle.dom_observe.specs.declared.registration.Ended.TheVariants.{From}
-use Rattle.dom_observe.proofs.Holding.{names-only, none-ended, none-changed, none-added}
+use Rattle.dom_observe.proofs.Holding.{names-only, none-ended, none-changed, none-added, same-queues}
 use Rattle.dom_observe.proofs.Again.{any_own, stand-again, found-again}
 use Rattle.dom_observe.proofs.Watching.{watches-observed, watches-observed_again}
 use Rattle.dom_observe.proofs.observers.Observers.register.Goals as goal
+
+pub get-requires : goal.get-requires
+get-requires c = sym (has-kept c.self.inside.roster c.args.observer) ∙ subst (λ (o : Watchers). has_queue o.queues c.args.observer ≡ true) (sym c.self.view_is) c.requires.held
 
 pub own_key-own-requires-clause-either : goal.own_key-own-requires-clause-either
 own_key-own-requires-clause-either c = λ key own.
     let a = c.self.inside in
     let o = c.args.observer in
-    let ls = a.lasting.items in
-    let lt = subst (λ (w : Watchers). o < length w.queues) (sym c.self.view_is) c.requires.held in
-    let room : o < length ls = (let r = c.self.invariant.1.lasting_room in omega (arith, lt, r, keys_by-length ls)) in
-    let had = c.as_slice.ensures.value ∙ ap (λ (l : Vec ℕ Global). l.items) c.index.ensures ∙ ap (λ i. (slice_index_or ls i c.index.result.now).items) c.number.ensures ∙ sym (keys_by-at ls o c.index.result.now room) in
+    let had = c.as_slice.ensures.value ∙ sym (lasting-there a.roster o c.get.result.now c.get.ensures) in
     ap (among key) c.keys_on.ensures ∙ c.self.invariant.1.placed c.args.node key ∙ on-lasts o c.args.node (at a.table key) own ∙ sym (c.self.invariant.1.lasting o key) ∙ ap (among key) (sym had)
 
 pub own_key-own-requires-clause-one : goal.own_key-own-requires-clause-one
 own_key-own-requires-clause-one c = c.self.invariant.3.one c.args.observer c.args.node
 
+pub get_mut-kept-requires : goal.get_mut-kept-requires
+get_mut-kept-requires c = sym (has-kept c.self.inside.roster c.args.observer) ∙ subst (λ (o : Watchers). has_queue o.queues c.args.observer ≡ true) (sym c.self.view_is) c.requires.held
+
+pub get_mut-kept-requires-in-None : goal.get_mut-kept-requires-in-None
+get_mut-kept-requires-in-None c = sym (has-kept c.self.inside.roster c.args.observer) ∙ subst (λ (o : Watchers). has_queue o.queues c.args.observer ≡ true) (sym c.self.view_is) c.requires.held
+
 pub end_own-requires-clause-owned : goal.end_own-requires-clause-owned
-end_own-requires-clause-owned c = λ k. c.self.invariant.1.passing c.args.observer k
+end_own-requires-clause-owned c = λ k.
+    ap (among k) (sym (passing-there c.self.inside.roster c.args.observer c.get_mut-kept.result.now c.get_mut-kept.ensures.value)) ∙ c.self.invariant.1.passing c.args.observer k
 
 pub invariant_of-self : goal.invariant_of-self
 invariant_of-self c =
     let a = c.self.inside in
-    let found_key : find (own_at (at a.table) c.args.observer c.args.node) (on c.args.node (listed a.nodes.entries)) ≡ Some c.in-Some.key =
-    ap (find (own_at (at a.table) c.args.observer c.args.node)) (sym c.keys_on.ensures) ∙ sym c.own_key-own.ensures ∙ c.in-Some.is in
-    let stand = stand-again (at a.table) (at c.end_own.new.table) (at c.set_options.new.table) (listed a.nodes.entries) (listed c.end_own.new.nodes.entries) c.args.observer c.args.node c.in-Some.key c.args.options.value
-    (from-left (at a.table) (at c.end_own.new.table) (listed a.nodes.entries) (keys_by a.lasting.items) (keys_by a.passing.items) a.fleeting.keys (length a.queues.items) c.args.observer c.args.node c.self.invariant.1 c.end_own.ensures.left) c.end_own.ensures.swept found_key c.set_options.ensures.changed c.set_options.ensures.others (length a.queues.items) c.self.invariant.0.stand in
-    let within = subst (λ (o : Watchers). c.args.observer < length o.queues) (sym c.self.view_is) c.requires.held in (
-      kept_table a.table a.nodes.entries a.queues.items a.pending.keys c.self.invariant.0 c.set_options.new.table c.end_own.new.nodes.entries c.end_own.ensures.unique stand (c.end_own.ensures.full c.self.invariant.0.full),
-      indexed-changed (at c.end_own.new.table) (at c.set_options.new.table) (listed c.end_own.new.nodes.entries) (keys_by a.lasting.items) (keys_by c.end_own.new.lists.items) a.fleeting.keys (length a.queues.items) c.in-Some.key c.args.options.value c.set_options.ensures.changed c.set_options.ensures.others
-          (indexed-passing_ended (at a.table) (at c.end_own.new.table) (listed a.nodes.entries) (listed c.end_own.new.nodes.entries) (keys_by a.lasting.items) (keys_by a.passing.items) a.fleeting.keys (length a.queues.items) c.args.observer (From c.args.observer c.args.node) c.self.invariant.1 c.end_own.ensures.placed (keys_by c.end_own.new.lists.items)
-          (let r = c.self.invariant.1.passing_room in omega arith) c.end_own.ensures.left c.end_own.ensures.keys),
-      sources-changed (at c.end_own.new.table) (at c.set_options.new.table) c.in-Some.key c.args.options.value c.set_options.ensures.changed c.set_options.ensures.others
-          (sources-ended (at a.table) (at c.end_own.new.table) (From c.args.observer c.args.node)
-          (from-left (at a.table) (at c.end_own.new.table) (listed a.nodes.entries) (keys_by a.lasting.items) (keys_by a.passing.items) a.fleeting.keys (length a.queues.items) c.args.observer c.args.node c.self.invariant.1 c.end_own.ensures.left) c.self.invariant.2),
-      agree-again (at a.table) (at c.end_own.new.table) (at c.set_options.new.table) (listed a.nodes.entries) c.args.observer c.args.node c.in-Some.key c.args.options.value
-          (from-left (at a.table) (at c.end_own.new.table) (listed a.nodes.entries) (keys_by a.lasting.items) (keys_by a.passing.items) a.fleeting.keys (length a.queues.items) c.args.observer c.args.node c.self.invariant.1 c.end_own.ensures.left) found_key c.set_options.ensures.changed c.set_options.ensures.others c.self.invariant.3,
+    let had = passing-there a.roster c.args.observer c.get_mut-kept.result.now c.get_mut-kept.ensures.value in
+    let ended : (k : ℕ) → at c.end_own.new.table k ≡ (if among k (slice_index_or (passing_by a.roster) c.args.observer []) then left_by (From c.args.observer c.args.node) (at a.table k) else at a.table k) = λ k.
+    c.end_own.ensures.left k ∙ ap (λ ks. if among k ks then left_by (From c.args.observer c.args.node) (at a.table k) else at a.table k) (sym had) in
+    let roster' = slice_set a.roster c.args.observer (Some (record c.get_mut-kept.result.now { passing = c.end_own.new.keys })) in
+    let same : queues_by roster' ≡ queues_by a.roster = queues-same a.roster c.args.observer c.get_mut-kept.result.now c.get_mut-kept.ensures.value (record c.get_mut-kept.result.now { passing = c.end_own.new.keys }) refl in
+    let u = at a.table in
+    let v = at c.end_own.new.table in
+    let w = at c.set_options.new.table in
+    let lists = listed a.nodes.entries in
+    let lists' = listed c.end_own.new.nodes.entries in
+    let o = c.args.observer in
+    let there = has_queue (queues_by a.roster) in
+    let held_there = subst (λ (o : Watchers). has_queue o.queues c.args.observer ≡ true) (sym c.self.view_is) c.requires.held in
+    let found_key : find (own_at u o c.args.node) (on c.args.node lists) ≡ Some c.in-Some.key =
+    ap (find (own_at u o c.args.node)) (sym c.keys_on.ensures) ∙ sym c.own_key-own.ensures ∙ c.in-Some.is in
+    let left = from-left u v lists (lasting_by a.roster) (passing_by a.roster) a.fleeting.keys there o c.args.node c.self.invariant.1 ended in
+    let stand = stand-again u v w lists lists' o c.args.node c.in-Some.key c.args.options.value left c.end_own.ensures.swept found_key c.set_options.ensures.changed c.set_options.ensures.others there c.self.invariant.0.stand in
+    let passing : passing_by roster' ≡ slice_set (passing_by a.roster) o (filter (is_live v) (slice_index_or (passing_by a.roster) o [])) =
+    passing-set a.roster o (record c.get_mut-kept.result.now { passing = c.end_own.new.keys }) ∙ ap (slice_set (passing_by a.roster) o) (c.end_own.ensures.keys ∙ ap (filter (is_live v)) (sym had)) in
+    let lasting = lasting-same a.roster o c.get_mut-kept.result.now c.get_mut-kept.ensures.value (record c.get_mut-kept.result.now { passing = c.end_own.new.keys }) refl in (
+      subst (λ qs. IsKept c.set_options.new.table c.end_own.new.nodes.entries qs a.pending.keys) (sym same)
+          (kept_table a.table a.nodes.entries (queues_by a.roster) a.pending.keys c.self.invariant.0 c.set_options.new.table c.end_own.new.nodes.entries c.end_own.ensures.unique stand (c.end_own.ensures.full c.self.invariant.0.full)),
+      indexed-by w lists' a.fleeting.keys roster' (lasting_by a.roster) (slice_set (passing_by a.roster) o (filter (is_live v) (slice_index_or (passing_by a.roster) o []))) there lasting passing (λ i yet. ap (λ qs. has_queue qs i) same ∙ yet)
+          (indexed-changed v w lists' (lasting_by a.roster) (slice_set (passing_by a.roster) o (filter (is_live v) (slice_index_or (passing_by a.roster) o []))) a.fleeting.keys there c.in-Some.key c.args.options.value c.set_options.ensures.changed c.set_options.ensures.others
+          (indexed-passing_ended u v lists lists' (lasting_by a.roster) (passing_by a.roster) a.fleeting.keys there o (From o c.args.node) c.self.invariant.1 c.end_own.ensures.placed _ (within-passing a.roster o held_there) ended refl)),
+      sources-changed v w c.in-Some.key c.args.options.value c.set_options.ensures.changed c.set_options.ensures.others (sources-ended u v (From o c.args.node) left c.self.invariant.2),
+      agree-again u v w lists o c.args.node c.in-Some.key c.args.options.value left found_key c.set_options.ensures.changed c.set_options.ensures.others c.self.invariant.3,
     )
 
 pub returns-in-Some-clause-ok : goal.returns-in-Some-clause-ok
 returns-in-Some-clause-ok c = λ x w.
     let a = c.self.inside in
+    let had = passing-there a.roster c.args.observer c.get_mut-kept.result.now c.get_mut-kept.ensures.value in
+    let ended : (k : ℕ) → at c.end_own.new.table k ≡ (if among k (slice_index_or (passing_by a.roster) c.args.observer []) then left_by (From c.args.observer c.args.node) (at a.table k) else at a.table k) = λ k.
+    c.end_own.ensures.left k ∙ ap (λ ks. if among k ks then left_by (From c.args.observer c.args.node) (at a.table k) else at a.table k) (sym had) in
+    let roster' = slice_set a.roster c.args.observer (Some (record c.get_mut-kept.result.now { passing = c.end_own.new.keys })) in
+    let same : queues_by roster' ≡ queues_by a.roster = queues-same a.roster c.args.observer c.get_mut-kept.result.now c.get_mut-kept.ensures.value (record c.get_mut-kept.result.now { passing = c.end_own.new.keys }) refl in
     let i = c.args.observer in
     let n = c.args.node in
     let u = at a.table in
     let lists = listed a.nodes.entries in
-    let o : Watchers = record { nodes = registered_nodes a.table a.nodes.entries; queues = a.queues.items; pending = a.pending.keys } in
+    let o : Watchers = record { nodes = registered_nodes a.table a.nodes.entries; queues = queues_by a.roster; pending = a.pending.keys } in
     let shown = subst (λ (o : Watchers). Watches o x) (sym c.self.view_is) w in
     let found_key : find (own_at u i n) (on n lists) ≡ Some c.in-Some.key = ap (find (own_at u i n)) (sym c.keys_on.ensures) ∙ sym c.own_key-own.ensures ∙ c.in-Some.is in
     let here : filter_map u (on n lists) ≡ once (registered_on n x.registrations) = sym (on-registered_nodes a.table n a.nodes.entries) ∙ shown.registrations n in
@@ -78,45 +107,51 @@ returns-in-Some-clause-ok c = λ x w.
     let few : tally (is_registered i n) (once (registered_on n x.registrations)) ≤ 1 = omega arith in
     let once = subst (λ (rs : List Registration). tally (is_registered i n) rs ≤ 1) (sym here) few in
     let again = found-again u (at c.end_own.new.table) (at c.set_options.new.table) lists (listed c.end_own.new.nodes.entries) i n c.in-Some.key c.args.options.value
-    (from-left (at a.table) (at c.end_own.new.table) (listed a.nodes.entries) (keys_by a.lasting.items) (keys_by a.passing.items) a.fleeting.keys (length a.queues.items) c.args.observer c.args.node c.self.invariant.1 c.end_own.ensures.left) c.end_own.ensures.swept found_key c.set_options.ensures.changed c.set_options.ensures.others (length a.queues.items) c.self.invariant.0.stand once in
-    watches-observed_again o x shown i n c.args.options.value (registered_nodes c.set_options.new.table c.end_own.new.nodes.entries)
+    (from-left (at a.table) (at c.end_own.new.table) (listed a.nodes.entries) (lasting_by a.roster) (passing_by a.roster) a.fleeting.keys (has_queue (queues_by a.roster)) c.args.observer c.args.node c.self.invariant.1 ended) c.end_own.ensures.swept found_key c.set_options.ensures.changed c.set_options.ensures.others (has_queue (queues_by a.roster)) c.self.invariant.0.stand once in
+    subst (λ qs. Watches (record { nodes = registered_nodes c.set_options.new.table c.end_own.new.nodes.entries; queues = qs; pending = a.pending.keys }) (observed i n c.args.options.value x)) (sym same)
+    (watches-observed_again o x shown i n c.args.options.value (registered_nodes c.set_options.new.table c.end_own.new.nodes.entries)
     (ap (list_any (is_registered i n)) (on-registered_nodes a.table n a.nodes.entries) ∙ any_own u i n (on n lists) (Some c.in-Some.key) found_key)
     (λ m. on-registered_nodes c.set_options.new.table m c.end_own.new.nodes.entries ∙ again m
-    ∙ ap (λ rs. map (with_options i n c.args.options.value) (filter (λ (r : Registration). not (is_transient_from i n r)) rs)) (sym (on-registered_nodes a.table m a.nodes.entries)))
+    ∙ ap (λ rs. map (with_options i n c.args.options.value) (filter (λ (r : Registration). not (is_transient_from i n r)) rs)) (sym (on-registered_nodes a.table m a.nodes.entries))))
 
 pub invariant_of-self-in-None : goal.invariant_of-self-in-None
 invariant_of-self-in-None c =
     let a = c.self.inside in
-    let made = length a.queues.items in
-    let lt = subst (λ (o : Watchers). c.args.observer < length o.queues) (sym c.self.view_is) c.requires.held in
+    let kept' = record c.get_mut-kept-in-None.result.now { lasting = c.add.new.keys } in
+    let roster' = slice_set a.roster c.args.observer (Some kept') in
+    let same : queues_by roster' ≡ queues_by a.roster = queues-same a.roster c.args.observer c.get_mut-kept-in-None.result.now c.get_mut-kept-in-None.ensures.value kept' refl in
+    let o = c.args.observer in
+    let kept = c.get_mut-kept-in-None.result.now in
+    let there = has_queue (queues_by a.roster) in
+    let held_there = subst (λ (o : Watchers). has_queue o.queues c.args.observer ≡ true) (sym c.self.view_is) c.requires.held in
+    let u = at a.table in
+    let lists = listed a.nodes.entries in
     let lists' = listed c.add.new.nodes.entries in
-    let no_key : find (own_at (at a.table) c.args.observer c.args.node) (on c.args.node (listed a.nodes.entries)) ≡ None = ap (find (own_at (at a.table) c.args.observer c.args.node)) (sym c.keys_on.ensures) ∙ sym c.own_key-own.ensures ∙ c.in-None.is in
-    let stand : AllStand (at c.add.new.table) made lists' =
+    let no_key : find (own_at u o c.args.node) (on c.args.node lists) ≡ None = ap (find (own_at u o c.args.node)) (sym c.keys_on.ensures) ∙ sym c.own_key-own.ensures ∙ c.in-None.is in
+    let stand : AllStand (at c.add.new.table) there lists' =
     by_outcome c.add.result c.add.ensures.ok c.add.ensures.err_table c.add.ensures.err_nodes
-    (λ added. stands-added (at a.table) (listed a.nodes.entries) _ (at c.add.new.table) lists' added made c.self.invariant.0.stand lt)
+    (λ added. stands-added u lists _ (at c.add.new.table) lists' added there c.self.invariant.0.stand held_there)
     (λ slots keys.
-    subst (λ ss. AllStand (λ k. option_map plain (slice_index_or ss k None)) made lists') (sym slots)
-    (subst (AllStand (at a.table) made) (sym keys) c.self.invariant.0.stand)) in
-    let ls = a.lasting.items in
-    let room : c.args.observer < length ls = (let r = c.self.invariant.1.lasting_room in omega (arith, lt, r, keys_by-length ls)) in
-    let had = ap (λ (l : Vec ℕ Global). l.items) c.index_mut-keys.ensures.value ∙ ap (λ i. (slice_index_or ls i c.index_mut-keys.result.now).items) c.number-in-None.ensures ∙ sym (keys_by-at ls c.args.observer c.index_mut-keys.result.now room) in
-    let indexed : IsIndexed (at c.add.new.table) lists' (keys_by (slice_set ls c.args.observer c.add.new.keys)) (keys_by a.passing.items) a.fleeting.keys made =
+    subst (λ ss. AllStand (λ k. option_map plain (slice_index_or ss k None)) there lists') (sym slots)
+    (subst (AllStand u there) (sym keys) c.self.invariant.0.stand)) in
+    let passing = passing-same a.roster o kept c.get_mut-kept-in-None.ensures.value kept' refl in
+    let indexed : IsIndexed (at c.add.new.table) lists' (lasting_by roster') (passing_by a.roster) a.fleeting.keys there =
     by_two c.add.result c.add.ensures.ok c.add.ensures.own c.add.ensures.err_table c.add.ensures.err_nodes c.add.ensures.err_own
-    (λ added key. indexed-lasting (at a.table) (listed a.nodes.entries) _ (at c.add.new.table) lists' added c.index_mut-keys.result.now.items c.add.new.keys.items key (keys_by ls) (keys_by a.passing.items) a.fleeting.keys made c.self.invariant.1 refl (keys_by (slice_set ls c.args.observer c.add.new.keys))
-    (omega (arith, room, keys_by-length ls)) had (keys_by-set ls c.args.observer c.add.new.keys c.add.new.keys.items refl))
+    (λ added key. indexed-lasting u lists _ (at c.add.new.table) lists' added kept.lasting.items c.add.new.keys.items key (lasting_by a.roster) (passing_by a.roster) a.fleeting.keys there c.self.invariant.1 refl (lasting_by roster')
+    (within-lasting a.roster o held_there) (sym (lasting-there a.roster o kept c.get_mut-kept-in-None.ensures.value)) (lasting-set a.roster o kept'))
     (λ slots keys own.
-    let same_keys : keys_by (slice_set ls c.args.observer c.add.new.keys) ≡ keys_by ls = keys_by-set ls c.args.observer c.add.new.keys (slice_index_or (keys_by ls) c.args.observer []) (own ∙ had) ∙ set_same (keys_by ls) c.args.observer [] in
-    subst (λ ss. IsIndexed (λ k. option_map plain (slice_index_or ss k None)) lists' (keys_by (slice_set ls c.args.observer c.add.new.keys)) (keys_by a.passing.items) a.fleeting.keys made) (sym slots)
-    (subst (λ l. IsIndexed (at a.table) l (keys_by (slice_set ls c.args.observer c.add.new.keys)) (keys_by a.passing.items) a.fleeting.keys made) (sym keys)
-    (subst (λ l. IsIndexed (at a.table) (listed a.nodes.entries) l (keys_by a.passing.items) a.fleeting.keys made) (sym same_keys) c.self.invariant.1))) in (
-      kept_table a.table a.nodes.entries a.queues.items a.pending.keys c.self.invariant.0 c.add.new.table c.add.new.nodes.entries c.add.ensures.unique stand (c.add.ensures.full c.self.invariant.0.full),
-      subst (λ i. IsIndexed (at c.add.new.table) lists' (keys_by (slice_set ls i c.add.new.keys)) (keys_by a.passing.items) a.fleeting.keys made) (sym c.number-in-None.ensures) indexed,
+    subst (λ ss. IsIndexed (λ k. option_map plain (slice_index_or ss k None)) lists' (lasting_by roster') (passing_by a.roster) a.fleeting.keys there) (sym slots)
+    (subst (λ l. IsIndexed u l (lasting_by roster') (passing_by a.roster) a.fleeting.keys there) (sym keys)
+    (subst (λ l. IsIndexed u lists l (passing_by a.roster) a.fleeting.keys there) (sym (lasting-same a.roster o kept c.get_mut-kept-in-None.ensures.value kept' own)) c.self.invariant.1))) in (
+      subst (λ qs. IsKept c.add.new.table c.add.new.nodes.entries qs a.pending.keys) (sym same)
+          (kept_table a.table a.nodes.entries (queues_by a.roster) a.pending.keys c.self.invariant.0 c.add.new.table c.add.new.nodes.entries c.add.ensures.unique stand (c.add.ensures.full c.self.invariant.0.full)),
+      indexed-by (at c.add.new.table) lists' a.fleeting.keys roster' (lasting_by roster') (passing_by a.roster) there refl passing (λ i yet. ap (λ qs. has_queue qs i) same ∙ yet) indexed,
       by_one c.add.result c.add.ensures.ok c.add.ensures.err_table
-          (λ added. sources-added (at a.table) (at c.add.new.table) (listed a.nodes.entries) _ lists' added (λ n source. let none : None ≡ Some n = source in cc none) c.self.invariant.2)
+          (λ added. sources-added u (at c.add.new.table) lists _ lists' added (λ n source. let none : None ≡ Some n = source in cc none) c.self.invariant.2)
           (λ slots. subst (λ ss. HaveSources (λ k. option_map plain (slice_index_or ss k None))) (sym slots) c.self.invariant.2),
       by_one c.add.result c.add.ensures.ok c.add.ensures.err_table
-          (λ added. agree-lasting (at a.table) (at c.add.new.table) (listed a.nodes.entries) _ lists' added c.self.invariant.3 refl
-          (nothing-comes (at a.table) c.args.observer c.args.node (listed a.nodes.entries) c.self.invariant.1.placed c.self.invariant.2 no_key))
+          (λ added. agree-lasting u (at c.add.new.table) lists _ lists' added c.self.invariant.3 refl
+          (nothing-comes u o c.args.node lists c.self.invariant.1.placed c.self.invariant.2 no_key))
           (λ slots. subst (λ ss. Agree (λ k. option_map plain (slice_index_or ss k None))) (sym slots) c.self.invariant.3),
     )
 
@@ -124,62 +159,103 @@ pub returns-in-None-clause-ok : goal.returns-in-None-clause-ok
 returns-in-None-clause-ok c =
     on_ok c.add.result c.add.ensures.ok (λ added x w.
     let a = c.self.inside in
+    let kept' = record c.get_mut-kept-in-None.result.now { lasting = c.add.new.keys } in
+    let roster' = slice_set a.roster c.args.observer (Some kept') in
+    let same : queues_by roster' ≡ queues_by a.roster = queues-same a.roster c.args.observer c.get_mut-kept-in-None.result.now c.get_mut-kept-in-None.ensures.value kept' refl in
     let i = c.args.observer in
     let n = c.args.node in
     let u = at a.table in
     let lists = listed a.nodes.entries in
-    let o : Watchers = record { nodes = registered_nodes a.table a.nodes.entries; queues = a.queues.items; pending = a.pending.keys } in
+    let o : Watchers = record { nodes = registered_nodes a.table a.nodes.entries; queues = queues_by a.roster; pending = a.pending.keys } in
     let shown = subst (λ (o : Watchers). Watches o x) (sym c.self.view_is) w in
     let no_key : find (own_at u i n) (on n lists) ≡ None = ap (find (own_at u i n)) (sym c.keys_on.ensures) ∙ sym c.own_key-own.ensures ∙ c.in-None.is in
-    let live = λ (m : ℕ). live_of_stands u (length a.queues.items) m (on m lists) (c.self.invariant.0.stand m) in
-    watches-observed o x shown i n c.args.options.value (registered_nodes c.add.new.table c.add.new.nodes.entries)
+    let live = λ (m : ℕ). live_of_stands u (has_queue (queues_by a.roster)) m (on m lists) (c.self.invariant.0.stand m) in
+    subst (λ qs. Watches (record { nodes = registered_nodes c.add.new.table c.add.new.nodes.entries; queues = qs; pending = a.pending.keys }) (observed i n c.args.options.value x)) (sym same)
+    (watches-observed o x shown i n c.args.options.value (registered_nodes c.add.new.table c.add.new.nodes.entries)
     (ap (list_any (is_registered i n)) (on-registered_nodes a.table n a.nodes.entries) ∙ any_own u i n (on n lists) None no_key)
     (λ m. on-registered_nodes c.add.new.table m c.add.new.nodes.entries
     ∙ found-added u lists (new_registration i n c.args.options.value) (at c.add.new.table) (listed c.add.new.nodes.entries) added live m
-    ∙ ap (λ rs. rs ++ (if n == m then new_registration i n c.args.options.value ∷ [] else [])) (sym (on-registered_nodes a.table m a.nodes.entries))))
+    ∙ ap (λ rs. rs ++ (if n == m then new_registration i n c.args.options.value ∷ [] else [])) (sym (on-registered_nodes a.table m a.nodes.entries)))))
 
 pub returns-in-Some-clause-names : goal.returns-in-Some-clause-names
 returns-in-Some-clause-names c =
     let a = c.self.inside in
-    let qs = a.queues.items in
+    let qs = queues_by a.roster in
+    let had = passing-there a.roster c.args.observer c.get_mut-kept.result.now c.get_mut-kept.ensures.value in
+    let ended : (k : ℕ) → at c.end_own.new.table k ≡ (if among k (slice_index_or (passing_by a.roster) c.args.observer []) then left_by (From c.args.observer c.args.node) (at a.table k) else at a.table k) = λ k.
+    c.end_own.ensures.left k ∙ ap (λ ks. if among k ks then left_by (From c.args.observer c.args.node) (at a.table k) else at a.table k) (sym had) in
+    let roster' = slice_set a.roster c.args.observer (Some (record c.get_mut-kept.result.now { passing = c.end_own.new.keys })) in
+    let same : queues_by roster' ≡ queues_by a.roster = queues-same a.roster c.args.observer c.get_mut-kept.result.now c.get_mut-kept.ensures.value (record c.get_mut-kept.result.now { passing = c.end_own.new.keys }) refl in
     let lists = listed a.nodes.entries in
     let lists' = listed c.end_own.new.nodes.entries in
     let found_key : find (own_at (at a.table) c.args.observer c.args.node) (on c.args.node lists) ≡ Some c.in-Some.key =
     ap (find (own_at (at a.table) c.args.observer c.args.node)) (sym c.keys_on.ensures) ∙ sym c.own_key-own.ensures ∙ c.in-Some.is in
     let stand = stand-again (at a.table) (at c.end_own.new.table) (at c.set_options.new.table) lists lists' c.args.observer c.args.node c.in-Some.key c.args.options.value
-    (from-left (at a.table) (at c.end_own.new.table) (listed a.nodes.entries) (keys_by a.lasting.items) (keys_by a.passing.items) a.fleeting.keys (length a.queues.items) c.args.observer c.args.node c.self.invariant.1 c.end_own.ensures.left) c.end_own.ensures.swept found_key c.set_options.ensures.changed c.set_options.ensures.others (length qs) c.self.invariant.0.stand in
-    let kept = kept_table a.table a.nodes.entries qs a.pending.keys c.self.invariant.0 c.set_options.new.table c.end_own.new.nodes.entries c.end_own.ensures.unique stand (c.end_own.ensures.full c.self.invariant.0.full) in
-    names-only a.table a.nodes.entries qs a.pending.keys c.args.self.now c.self.view_is c.set_options.new.table c.end_own.new.nodes.entries qs a.pending.keys kept (c.args.node ∷ [])
+    (from-left (at a.table) (at c.end_own.new.table) (listed a.nodes.entries) (lasting_by a.roster) (passing_by a.roster) a.fleeting.keys (has_queue (queues_by a.roster)) c.args.observer c.args.node c.self.invariant.1 ended) c.end_own.ensures.swept found_key c.set_options.ensures.changed c.set_options.ensures.others (has_queue qs) c.self.invariant.0.stand in
+    let kept =
+    subst (λ q. IsKept c.set_options.new.table c.end_own.new.nodes.entries q a.pending.keys) (sym same)
+    (kept_table a.table a.nodes.entries qs a.pending.keys c.self.invariant.0 c.set_options.new.table c.end_own.new.nodes.entries c.end_own.ensures.unique stand (c.end_own.ensures.full c.self.invariant.0.full)) in
+    names-only a.table a.nodes.entries qs a.pending.keys c.args.self.now c.self.view_is c.set_options.new.table c.end_own.new.nodes.entries (queues_by roster') a.pending.keys kept (c.args.node ∷ [])
     (λ p _ names tells. (
       none-changed p (at c.end_own.new.table) (at c.set_options.new.table) c.in-Some.key c.args.options.value lists' c.set_options.ensures.changed c.set_options.ensures.others
-          (none-ended p (at a.table) (at c.end_own.new.table) (From c.args.observer c.args.node) lists lists' (from-left (at a.table) (at c.end_own.new.table) (listed a.nodes.entries) (keys_by a.lasting.items) (keys_by a.passing.items) a.fleeting.keys (length a.queues.items) c.args.observer c.args.node c.self.invariant.1 c.end_own.ensures.left) c.end_own.ensures.swept names),
-      tells,
+          (none-ended p (at a.table) (at c.end_own.new.table) (From c.args.observer c.args.node) lists lists' (from-left (at a.table) (at c.end_own.new.table) (listed a.nodes.entries) (lasting_by a.roster) (passing_by a.roster) a.fleeting.keys (has_queue (queues_by a.roster)) c.args.observer c.args.node c.self.invariant.1 ended) c.end_own.ensures.swept names),
+      subst (TellsNone p) (sym same) tells,
     ))
 
 pub returns-in-None-clause-names : goal.returns-in-None-clause-names
 returns-in-None-clause-names c =
     let a = c.self.inside in
+    let kept' = record c.get_mut-kept-in-None.result.now { lasting = c.add.new.keys } in
+    let roster' = slice_set a.roster c.args.observer (Some kept') in
+    let same : queues_by roster' ≡ queues_by a.roster = queues-same a.roster c.args.observer c.get_mut-kept-in-None.result.now c.get_mut-kept-in-None.ensures.value kept' refl in
     let u = at a.table in
     let v = at c.add.new.table in
-    let qs = a.queues.items in
-    let made = length qs in
-    let lt = subst (λ (o : Watchers). c.args.observer < length o.queues) (sym c.self.view_is) c.requires.held in
+    let qs = queues_by a.roster in
+    let there = has_queue qs in
+    let held_there = subst (λ (o : Watchers). has_queue o.queues c.args.observer ≡ true) (sym c.self.view_is) c.requires.held in
     let lists = listed a.nodes.entries in
     let lists' = listed c.add.new.nodes.entries in
-    let live = λ (m : ℕ). live_of_stands u made m (on m lists) (c.self.invariant.0.stand m) in
-    let stand : AllStand v made lists' =
+    let live = λ (m : ℕ). live_of_stands u there m (on m lists) (c.self.invariant.0.stand m) in
+    let stand : AllStand v there lists' =
     by_outcome c.add.result c.add.ensures.ok c.add.ensures.err_table c.add.ensures.err_nodes
-    (λ added. stands-added u lists _ v lists' added made c.self.invariant.0.stand lt)
+    (λ added. stands-added u lists _ v lists' added there c.self.invariant.0.stand held_there)
     (λ slots keys.
-    subst (λ ss. AllStand (λ k. option_map plain (slice_index_or ss k None)) made lists') (sym slots)
-    (subst (AllStand u made) (sym keys) c.self.invariant.0.stand)) in
-    let kept = kept_table a.table a.nodes.entries qs a.pending.keys c.self.invariant.0 c.add.new.table c.add.new.nodes.entries c.add.ensures.unique stand (c.add.ensures.full c.self.invariant.0.full) in
-    names-only a.table a.nodes.entries qs a.pending.keys c.args.self.now c.self.view_is c.add.new.table c.add.new.nodes.entries qs a.pending.keys kept (c.args.node ∷ [])
+    subst (λ ss. AllStand (λ k. option_map plain (slice_index_or ss k None)) there lists') (sym slots)
+    (subst (AllStand u there) (sym keys) c.self.invariant.0.stand)) in
+    let kept =
+    subst (λ q. IsKept c.add.new.table c.add.new.nodes.entries q a.pending.keys) (sym same)
+    (kept_table a.table a.nodes.entries qs a.pending.keys c.self.invariant.0 c.add.new.table c.add.new.nodes.entries c.add.ensures.unique stand (c.add.ensures.full c.self.invariant.0.full)) in
+    names-only a.table a.nodes.entries qs a.pending.keys c.args.self.now c.self.view_is c.add.new.table c.add.new.nodes.entries (queues_by roster') a.pending.keys kept (c.args.node ∷ [])
     (λ p nameless names tells. (
       by_outcome c.add.result c.add.ensures.ok c.add.ensures.err_table c.add.ensures.err_nodes
           (λ added. none-added p u lists (new_registration c.args.observer c.args.node c.args.options.value) v lists' added live nameless names)
           (λ slots keys.
           subst (λ ss. NamesNone p (λ k. option_map plain (slice_index_or ss k None)) lists') (sym slots)
           (subst (NamesNone p u) (sym keys) names)),
-      tells,
+      subst (TellsNone p) (sym same) tells,
     ))
+
+pub returns-in-Some-clause-made : goal.returns-in-Some-clause-made
+returns-in-Some-clause-made c =
+    let a = c.self.inside in
+    let kept' = record c.get_mut-kept.result.now { passing = c.end_own.new.keys } in
+    let new : Watchers = record { nodes = registered_nodes c.set_options.new.table c.end_own.new.nodes.entries; queues = queues_by (slice_set a.roster c.args.observer (Some kept')); pending = a.pending.keys } in
+    same-queues c.args.self.now new (queues-same a.roster c.args.observer c.get_mut-kept.result.now c.get_mut-kept.ensures.value kept' refl ∙ ap (λ (o : Watchers). o.queues) c.self.view_is)
+
+pub returns-in-None-clause-made : goal.returns-in-None-clause-made
+returns-in-None-clause-made c =
+    let a = c.self.inside in
+    let kept' = record c.get_mut-kept-in-None.result.now { lasting = c.add.new.keys } in
+    let new : Watchers = record { nodes = registered_nodes c.add.new.table c.add.new.nodes.entries; queues = queues_by (slice_set a.roster c.args.observer (Some kept')); pending = a.pending.keys } in
+    same-queues c.args.self.now new (queues-same a.roster c.args.observer c.get_mut-kept-in-None.result.now c.get_mut-kept-in-None.ensures.value kept' refl ∙ ap (λ (o : Watchers). o.queues) c.self.view_is)
+
+pub returns-in-None-clause-err : goal.returns-in-None-clause-err
+returns-in-None-clause-err c =
+    by_errors c.add.result c.add.ensures.err_own c.add.ensures.err_table c.add.ensures.err_nodes (λ own slots keys.
+    let a = c.self.inside in
+    let kept' = record c.get_mut-kept-in-None.result.now { lasting = c.add.new.keys } in
+    let same = queues-same a.roster c.args.observer c.get_mut-kept-in-None.result.now c.get_mut-kept-in-None.ensures.value kept' refl in
+    let nodes : registered_nodes c.add.new.table c.add.new.nodes.entries ≡ registered_nodes a.table a.nodes.entries =
+    (λ i. map (λ (e : ℕ × List ℕ). (e.0, filter_map (λ k. option_map plain (slice_index_or (slots i) k None)) e.1)) (keys i)) in
+    let seen : List (ℕ × List Registration) → List (Option (List Record)) → Watchers = λ ns qs. record { nodes = ns; queues = qs; pending = a.pending.keys } in
+    (λ i. seen (nodes i) (same i)) ∙ c.self.view_is)

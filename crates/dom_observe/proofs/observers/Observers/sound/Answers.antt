@@ -1,5 +1,6 @@
 -- What is kept, seen from outside.
 use Rattle.std.proofs.Common.{subst}
+use Rattle.dom_observe.specs.Roster.{queues_by}
 use Rattle.dom_observe.specs.Sound.{IsSound}
 use Rattle.dom_observe.proofs.Sounding.{seen-sound}
 use Rattle.dom_observe.proofs.observers.Observers.sound.Goals as goal
@@ -7,4 +8,4 @@ use Rattle.dom_observe.proofs.observers.Observers.sound.Goals as goal
 pub returns : goal.returns
 returns c =
     let a = c.self.inside in
-    subst IsSound c.self.view_is (seen-sound a.table a.nodes.entries a.queues.items a.pending.keys c.self.invariant.0 c.self.invariant.1.placed c.self.invariant.2 c.self.invariant.3)
+    subst IsSound c.self.view_is (seen-sound a.table a.nodes.entries (queues_by a.roster) a.pending.keys c.self.invariant.0 c.self.invariant.1.placed c.self.invariant.2 c.self.invariant.3)

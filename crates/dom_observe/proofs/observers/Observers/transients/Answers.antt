@@ -4,16 +4,18 @@ use Rattle.std.specs.List.{AllByRecursion}
 use Rattle.std.proofs.lemmas.Bool.{true≢false, or_parts}
 use Rattle.dom_model.proofs.PlainLists.Numbers.{same_or, same, apart}
 use Rattle.dom_model.specs.Forests.Forest.{ancestors}
-use Rattle.dom_model.specs.MutationObservers.Observing.{registered_on}
+use Rattle.dom_model.specs.MutationObservers.Observing.{registered_on, with_transients}
 use Rattle.dom_observe.specs.Once.{once}
 use Rattle.dom_observe.specs.Watchers.{Watchers, Watches, on}
 use Rattle.dom_observe.specs.Registrations.{at, found, listed, is_live, AllLive, Stands}
-use Rattle.dom_observe.specs.Kept.{registered_nodes, keys_by}
-use Rattle.dom_observe.specs.Naming.{names_one}
-use Rattle.dom_observe.proofs.Holding.{names-only, names-same}
+use Rattle.dom_observe.specs.Kept.{registered_nodes, has_queue, IsKept}
+use Rattle.dom_observe.specs.Roster.{lasting_by, passing_by, queues_by}
+use Rattle.dom_observe.specs.Naming.{names_one, TellsNone}
+use Rattle.dom_observe.proofs.Holding.{names-only, names-same, same-queues}
+use Rattle.dom_observe.proofs.Keyrings.{indexed-by}
 use Rattle.dom_observe.proofs.Outcomes.{on_ok}
-use Rattle.dom_observe.proofs.Tables.{all_imply, live_of_stands}
-use Rattle.dom_observe.proofs.Keeping.{on-registered_nodes, kept_table, keys_by-length, all_deep, stands_of}
+use Rattle.dom_observe.proofs.Tables.{live_of_stands}
+use Rattle.dom_observe.proofs.Keeping.{on-registered_nodes, kept_table, all_deep, stands_of}
 use Rattle.dom_observe.proofs.Transients.{transients-once, none-added-there}
 use Rattle.dom_observe.proofs.Watching.{watches-transients}
 use Rattle.dom_observe.proofs.observers.Observers.transients.Goals as goal
@@ -34,77 +36,93 @@ returns-then-is_empty-clause-left g c = λ x w.
     let t : (c.in_ok-standing.standing.len == 0) ≡ true = sym c.is_empty.ensures ∙ c.if-is_empty.true in
     elim (same_or c.in_ok-standing.standing.len 0) [ same e _ ↦ omega arith | apart _ f ↦ absurd (true≢false (sym t ∙ f)) ]) in
     let has : (n : ℕ) → found a.table (on n (listed a.nodes.entries)) ≡ once (registered_on n x.registrations) = λ n. sym (on-registered_nodes a.table n a.nodes.entries) ∙ shown.registrations n in
-    let kept = transients-once (at a.table) (listed a.nodes.entries) (length a.queues.items) c.self.invariant.3 c.self.invariant.0.stand x.registrations has c.args.node ns [] (sym nothing ∙ c.in_ok-standing.ensures) in
+    let kept = transients-once (at a.table) (listed a.nodes.entries) (has_queue (queues_by a.roster)) c.self.invariant.3 c.self.invariant.0.stand x.registrations has c.args.node ns [] (sym nothing ∙ c.in_ok-standing.ensures) in
     watches-transients o x w c.args.node ns o.nodes
     (λ n. ap (λ (p : Watchers). on n p.nodes) (sym c.self.view_is) ∙ on-registered_nodes a.table n a.nodes.entries ∙ sym (none-added-there c.args.node n (found a.table (on n (listed a.nodes.entries)))) ∙ kept n)
 
 pub add_transients-requires-clause-live : goal.add_transients-requires-clause-live
 add_transients-requires-clause-live g c = λ n.
     let a = c.self.inside in
-    live_of_stands (at a.table) (length a.queues.items) n (on n (listed a.nodes.entries)) (c.self.invariant.0.stand n)
+    live_of_stands (at a.table) (has_queue (queues_by a.roster)) n (on n (listed a.nodes.entries)) (c.self.invariant.0.stand n)
 
 pub add_transients-requires-clause-standing : goal.add_transients-requires-clause-standing
 add_transients-requires-clause-standing g c =
     let a = c.self.inside in
-    let live = λ (n : ℕ). live_of_stands (at a.table) (length a.queues.items) n (on n (listed a.nodes.entries)) (c.self.invariant.0.stand n) in
+    let live = λ (n : ℕ). live_of_stands (at a.table) (has_queue (queues_by a.roster)) n (on n (listed a.nodes.entries)) (c.self.invariant.0.stand n) in
     subst (AllLive (at a.table)) (sym (c.as_slice.ensures.value ∙ c.in_ok-standing.ensures))
     (all_deep (at a.table) (λ k. is_live (at a.table) k ≡ true) (listed a.nodes.entries) live (ancestors c.args.parent c.args.tree.now.forest))
 
 pub invariant_of-self : goal.invariant_of-self
 invariant_of-self g c =
     let a = c.self.inside in
-    let made = length a.queues.items in
-    let bounded = subst (AllByRecursion (Stands (at a.table) made)) (sym (c.as_slice.ensures.value ∙ c.in_ok-standing.ensures))
-    (all_deep (at a.table) (Stands (at a.table) made) (listed a.nodes.entries) (λ n. stands_of (at a.table) made n (on n (listed a.nodes.entries)) (c.self.invariant.0.stand n)) (ancestors c.args.parent c.args.tree.now.forest)) in
-    let stand = c.add_transients.ensures.all_stand made bounded c.self.invariant.0.stand in
-    (kept_table a.table a.nodes.entries a.queues.items a.pending.keys c.self.invariant.0 c.add_transients.new.table c.add_transients.new.nodes.entries c.add_transients.ensures.unique stand (c.add_transients.ensures.full c.self.invariant.0.full), c.add_transients.ensures.indexed (keys_by a.lasting.items) made bounded c.self.invariant.1, c.add_transients.ensures.sources c.self.invariant.2, c.add_transients.ensures.agree c.self.invariant.3)
+    let there = has_queue (queues_by a.roster) in
+    let bounded = subst (AllByRecursion (Stands (at a.table) there)) (sym (c.as_slice.ensures.value ∙ c.in_ok-standing.ensures))
+    (all_deep (at a.table) (Stands (at a.table) there) (listed a.nodes.entries) (λ n. stands_of (at a.table) there n (on n (listed a.nodes.entries)) (c.self.invariant.0.stand n)) (ancestors c.args.parent c.args.tree.now.forest)) in
+    let stand = c.add_transients.ensures.all_stand there bounded c.self.invariant.0.stand in
+    let roster' = c.add_transients.new.roster in
+    let queues = c.add_transients.ensures.queues in (
+      subst (λ q. IsKept c.add_transients.new.table c.add_transients.new.nodes.entries q a.pending.keys) (sym queues)
+          (kept_table a.table a.nodes.entries (queues_by a.roster) a.pending.keys c.self.invariant.0 c.add_transients.new.table c.add_transients.new.nodes.entries c.add_transients.ensures.unique stand (c.add_transients.ensures.full c.self.invariant.0.full)),
+      indexed-by (at c.add_transients.new.table) (listed c.add_transients.new.nodes.entries) c.add_transients.new.fleeting.keys roster' (lasting_by a.roster) (passing_by roster') there c.add_transients.ensures.lasting refl
+          (λ i held_there. ap (λ q. has_queue q i) queues ∙ held_there) (c.add_transients.ensures.indexed (lasting_by a.roster) there bounded c.self.invariant.1),
+      c.add_transients.ensures.sources c.self.invariant.2,
+      c.add_transients.ensures.agree c.self.invariant.3,
+    )
 
 pub returns-clause-left : goal.returns-clause-left
 returns-clause-left g c =
     on_ok c.add_transients.result c.add_transients.ensures.ok (λ added x w.
     let a = c.self.inside in
     let ns = ancestors c.args.parent c.args.tree.now.forest in
-    let o : Watchers = record { nodes = registered_nodes a.table a.nodes.entries; queues = a.queues.items; pending = a.pending.keys } in
+    let o : Watchers = record { nodes = registered_nodes a.table a.nodes.entries; queues = queues_by a.roster; pending = a.pending.keys } in
     let shown = subst (λ (o : Watchers). Watches o x) (sym c.self.view_is) w in
     let has : (n : ℕ) → found a.table (on n (listed a.nodes.entries)) ≡ once (registered_on n x.registrations) = λ n. sym (on-registered_nodes a.table n a.nodes.entries) ∙ shown.registrations n in
-    watches-transients o x shown c.args.node ns (registered_nodes c.add_transients.new.table c.add_transients.new.nodes.entries)
+    subst (λ q. Watches (record { nodes = registered_nodes c.add_transients.new.table c.add_transients.new.nodes.entries; queues = q; pending = a.pending.keys }) (with_transients c.args.node ns x)) (sym c.add_transients.ensures.queues)
+    (watches-transients o x shown c.args.node ns (registered_nodes c.add_transients.new.table c.add_transients.new.nodes.entries)
     (λ n. on-registered_nodes c.add_transients.new.table n c.add_transients.new.nodes.entries ∙ added n
-    ∙ transients-once (at a.table) (listed a.nodes.entries) (length a.queues.items) c.self.invariant.3 c.self.invariant.0.stand x.registrations has c.args.node ns c.as_slice.result.now (c.as_slice.ensures.value ∙ c.in_ok-standing.ensures) n))
+    ∙ transients-once (at a.table) (listed a.nodes.entries) (has_queue (queues_by a.roster)) c.self.invariant.3 c.self.invariant.0.stand x.registrations has c.args.node ns c.as_slice.result.now (c.as_slice.ensures.value ∙ c.in_ok-standing.ensures) n)))
 
 pub returns-clause-names : goal.returns-clause-names
 returns-clause-names g c =
     let a = c.self.inside in
-    let qs = a.queues.items in
-    let made = length qs in
+    let qs = queues_by a.roster in
+    let there = has_queue qs in
     let ns = ancestors c.args.parent c.args.tree.now.forest in
     let lists = listed a.nodes.entries in
     let keys = c.as_slice.ensures.value ∙ c.in_ok-standing.ensures in
-    let bounded = subst (AllByRecursion (Stands (at a.table) made)) (sym keys)
-    (all_deep (at a.table) (Stands (at a.table) made) lists (λ n. stands_of (at a.table) made n (on n lists) (c.self.invariant.0.stand n)) ns) in
-    let stand = c.add_transients.ensures.all_stand made bounded c.self.invariant.0.stand in
-    let kept = kept_table a.table a.nodes.entries qs a.pending.keys c.self.invariant.0 c.add_transients.new.table c.add_transients.new.nodes.entries c.add_transients.ensures.unique stand (c.add_transients.ensures.full c.self.invariant.0.full) in
-    names-only a.table a.nodes.entries qs a.pending.keys c.args.self.now c.self.view_is c.add_transients.new.table c.add_transients.new.nodes.entries qs a.pending.keys kept (c.args.node ∷ [])
+    let bounded = subst (AllByRecursion (Stands (at a.table) there)) (sym keys)
+    (all_deep (at a.table) (Stands (at a.table) there) lists (λ n. stands_of (at a.table) there n (on n lists) (c.self.invariant.0.stand n)) ns) in
+    let stand = c.add_transients.ensures.all_stand there bounded c.self.invariant.0.stand in
+    let queues = c.add_transients.ensures.queues in
+    let kept =
+    subst (λ q. IsKept c.add_transients.new.table c.add_transients.new.nodes.entries q a.pending.keys) (sym queues)
+    (kept_table a.table a.nodes.entries qs a.pending.keys c.self.invariant.0 c.add_transients.new.table c.add_transients.new.nodes.entries c.add_transients.ensures.unique stand (c.add_transients.ensures.full c.self.invariant.0.full)) in
+    names-only a.table a.nodes.entries qs a.pending.keys c.args.self.now c.self.view_is c.add_transients.new.table c.add_transients.new.nodes.entries (queues_by c.add_transients.new.roster) a.pending.keys kept (c.args.node ∷ [])
     (λ p nameless names tells. (
       c.add_transients.ensures.names p (or_parts (p c.args.node) false nameless).0
           (subst (AllByRecursion (λ k. names_one p (at a.table k) ≡ false)) (sym keys) (all_deep (at a.table) (λ k. names_one p (at a.table k) ≡ false) lists names ns)) names,
-      tells,
+      subst (TellsNone p) (sym queues) tells,
     ))
 
 pub returns-then-is_empty-clause-names : goal.returns-then-is_empty-clause-names
 returns-then-is_empty-clause-names g c =
     let a = c.self.inside in
-    names-same a.table a.nodes.entries a.queues.items a.pending.keys c.self.invariant.0 c.args.self.now c.self.view_is (c.args.node ∷ [])
+    names-same a.table a.nodes.entries (queues_by a.roster) a.pending.keys c.self.invariant.0 c.args.self.now c.self.view_is (c.args.node ∷ [])
 
 pub returns-in_err-standing-clause-names : goal.returns-in_err-standing-clause-names
 returns-in_err-standing-clause-names g c =
     let a = c.self.inside in
-    names-same a.table a.nodes.entries a.queues.items a.pending.keys c.self.invariant.0 c.args.self.now c.self.view_is (c.args.node ∷ [])
+    names-same a.table a.nodes.entries (queues_by a.roster) a.pending.keys c.self.invariant.0 c.args.self.now c.self.view_is (c.args.node ∷ [])
 
-pub add_transients-requires-clause-made : goal.add_transients-requires-clause-made
-add_transients-requires-clause-made g c =
+pub add_transients-requires-clause-there : goal.add_transients-requires-clause-there
+add_transients-requires-clause-there g c =
     let a = c.self.inside in
-    let made = length a.queues.items in
-    let bounded = all_deep (at a.table) (Stands (at a.table) made) (listed a.nodes.entries) (λ n. stands_of (at a.table) made n (on n (listed a.nodes.entries)) (c.self.invariant.0.stand n)) (ancestors c.args.parent c.args.tree.now.forest) in
-    subst (AllByRecursion (Stands (at a.table) (length a.passing.items))) (sym (c.as_slice.ensures.value ∙ c.in_ok-standing.ensures))
-    (all_imply (Stands (at a.table) made) (Stands (at a.table) (length a.passing.items))
-    (λ k s. record { registration = s.registration; is = s.is; observer = (let lt = s.observer in let r = c.self.invariant.1.passing_room in omega (arith, lt, r, keys_by-length a.passing.items)) }) _ bounded)
+    let there = has_queue (queues_by a.roster) in
+    subst (AllByRecursion (Stands (at a.table) there)) (sym (c.as_slice.ensures.value ∙ c.in_ok-standing.ensures))
+    (all_deep (at a.table) (Stands (at a.table) there) (listed a.nodes.entries) (λ n. stands_of (at a.table) there n (on n (listed a.nodes.entries)) (c.self.invariant.0.stand n)) (ancestors c.args.parent c.args.tree.now.forest))
+
+pub returns-clause-made : goal.returns-clause-made
+returns-clause-made g c =
+    let a = c.self.inside in
+    let new : Watchers = record { nodes = registered_nodes c.add_transients.new.table c.add_transients.new.nodes.entries; queues = queues_by c.add_transients.new.roster; pending = a.pending.keys } in
+    same-queues c.args.self.now new (c.add_transients.ensures.queues ∙ ap (λ (o : Watchers). o.queues) c.self.view_is)

@@ -1,8 +1,20 @@
--- By the nodes inside.
-use Rattle.std.proofs.Common.{rules, of_calls}
-use Rattle.std.specs.List.{flat_map}
-use Rattle.dom_model.specs.MutationAlgorithms.Discarding.{nodes_of_range}
+-- By the nodes inside, or by each end.
+use Rattle.std.proofs.Common.{ℕ, List, Option, ap, ◌∙◌, rules, of_calls}
+use Rattle.std.specs.List.{list_any, flat_map}
+use Rattle.dom_model.specs.PlainLists.Lists.{among}
+use Rattle.dom_model.specs.Forests.Forest.{inclusive_descendants}
+use Rattle.dom_model.specs.Worlds.World.{Range}
+use Rattle.dom_model.specs.MutationAlgorithms.Discarding.{nodes_of_range, nodes_unless_released}
+use Rattle.dom_ranges.proofs.EndsCounted.{any-by_slot}
 use Rattle.dom_ranges.proofs.statics.Statics.refers.Goals as goal
 
 pub returns-in-Some : goal.returns-in-Some
-returns-in-Some g c = c.in-Some.ensures.found (flat_map nodes_of_range c.args.self.now) (λ n passes called. search (rules, of_calls))
+returns-in-Some g c = c.in-Some.ensures.found (flat_map (nodes_unless_released nodes_of_range) c.args.self.now) (λ n passes called. search (rules, of_calls))
+
+pub returns-in-None : goal.returns-in-None
+returns-in-None g c =
+    let inside = λ (m : ℕ). among m (inclusive_descendants c.args.tree.now.forest c.args.top) in
+    c.refer.ensures
+    ∙ ap (λ (rs : List Range). list_any inside (flat_map nodes_of_range rs)) c.deref.ensures.value
+    ∙ any-by_slot inside nodes_of_range c.sound.ensures.fit c.self.inside.table.items c.self.invariant.long
+    ∙ ap (λ (rs : List (Option Range)). list_any inside (flat_map (nodes_unless_released nodes_of_range) rs)) c.self.view_is

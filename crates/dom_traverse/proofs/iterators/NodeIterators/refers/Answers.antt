@@ -1,15 +1,12 @@
--- The nodes that iterators name are their roots and references.
-use Rattle.std.proofs.Common.{ap, ◌∙◌}
-use Rattle.std.specs.List.{list_any, flat_map}
+-- What is named by the iterators in slots is what is named by those that were not released.
+use Rattle.std.proofs.Common.{◌∙◌}
 use Rattle.dom_model.specs.PlainLists.Lists.{among}
 use Rattle.dom_model.specs.Forests.Forest.{inclusive_descendants}
-use Rattle.dom_model.specs.Worlds.World.{Iterator}
 use Rattle.dom_model.specs.MutationAlgorithms.Discarding.{nodes_of_iterator}
-use Rattle.dom_traverse.proofs.Found.{found-names}
+use Rattle.dom_traverse.proofs.BySlot.{any-entry}
 use Rattle.dom_traverse.proofs.iterators.NodeIterators.refers.Goals as goal
 
-pub returns-in-Some : goal.returns-in-Some
-returns-in-Some g c =
-    c.in-Some.ensures (flat_map nodes_of_iterator c.self.inside.iterators.items)
-    (found-names (λ (i : Iterator). i.root) (λ (i : Iterator). i.reference) c.self.inside.iterators.items c.self.inside.roots c.self.inside.references c.self.invariant)
-    ∙ ap (λ is. list_any (λ m. among m (inclusive_descendants c.args.tree.now.forest c.args.top)) (flat_map nodes_of_iterator is)) c.self.view_is
+pub returns : goal.returns
+returns g c =
+    c.refers.ensures
+    ∙ any-entry (λ m. among m (inclusive_descendants c.args.tree.now.forest c.args.top)) nodes_of_iterator c.sound.ensures.fit c.self.inside.iterators c.self.invariant c.args.self.now c.self.view_is

@@ -1,19 +1,16 @@
-use Rattle.std.proofs.Common.{[], ◌∷◌, ◌++◌, length, refl, ap, ◌∙◌, arith, tests, rules}
-use Rattle.dom_model.specs.Worlds.World.{Walker}
+-- The walker has the next number, and the next slot.
+use Rattle.std.proofs.Common.{arith}
 use Rattle.dom_model.specs.Traversal.Walks.{new_walker}
-use Rattle.dom_traverse.proofs.Found.{found-more}
+use Rattle.dom_traverse.proofs.BySlot.{entry-count, items-few, entry-more}
 use Rattle.dom_traverse.proofs.walkers.Walkers.make.Goals as goal
 
-pub returns-clause-number : goal.returns-clause-number
-returns-clause-number c = search (tests, rules)
+pub reserve-requires : goal.reserve-requires
+reserve-requires c = omega (arith, c.requires, entry-count c.self.inside.slots.slots c.self.inside.walkers c.args.self.now c.self.view_is)
+
+pub make-requires : goal.make-requires
+make-requires c = omega (arith, c.requires, items-few c.sound.ensures.fit c.self.inside.walkers c.self.invariant c.args.self.now c.self.view_is c.sound.ensures.live)
 
 pub returns-clause-made : goal.returns-clause-made
-returns-clause-made c = search (tests, rules)
-
-pub returns-clause-unchanged : goal.returns-clause-unchanged
-returns-clause-unchanged c = search (tests, rules)
-
-pub invariant_of-self-2 : goal.invariant_of-self-2
-invariant_of-self-2 c =
-    found-more (λ (k : Walker). k.root) (λ (k : Walker). k.current) c.self.inside.walkers.items c.self.inside.roots c.self.inside.currents c.self.invariant c.push_reserved.new.self.items c.reserve-2.new.self c.name.new.roots c.add.new.self
-    (new_walker c.args.root c.in_ok-filter.filter) c.args.root (omega (arith, c.requires.room, ap length c.self.view_is)) c.reserve-2.ensures.keys refl refl c.name.ensures c.in_ok-add.ensures.added (c.push_reserved.ensures.items ∙ ap (λ ks. ks ++ new_walker c.args.root c.in_ok-filter.filter ∷ []) c.reserve.ensures.items)
+returns-clause-made c =
+    entry-more c.sound.ensures.fit c.self.inside.walkers c.self.invariant c.args.self.now c.self.view_is c.reserve.new.self.slots c.push_reserved.new.self.slots c.reserve.new.self.numbers c.make.new.self (new_walker c.args.root c.args.filter)
+    c.reserve.ensures.slots c.reserve.ensures.numbers c.push_reserved.ensures.slots c.in_ok-make.ensures.made

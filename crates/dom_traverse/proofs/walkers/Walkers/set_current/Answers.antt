@@ -1,16 +1,16 @@
--- The walker that was written is the one by that number.
-use Rattle.std.proofs.Common.{length, refl, ap, sym, ◌∙◌, arith}
+-- The walker in the slot of the number.
 use Rattle.dom_model.specs.Worlds.World.{Walker}
-use Rattle.dom_traverse.proofs.Following.{written-at}
-use Rattle.dom_traverse.proofs.Found.{found-written}
+use Rattle.dom_traverse.proofs.BySlot.{has-slot, slot-within, entry-written, long-written}
 use Rattle.dom_traverse.proofs.walkers.Walkers.set_current.Goals as goal
 
+pub slot_of-slot-requires : goal.slot_of-slot-requires
+slot_of-slot-requires c = has-slot c.self.inside.slots.slots c.self.inside.walkers c.args.self.now c.self.view_is c.args.id c.number.result c.number.ensures c.requires
+
+pub set_current-requires : goal.set_current-requires
+set_current-requires c = slot-within c.slot_of-slot.ensures.fit c.self.inside.walkers c.self.invariant c.args.self.now c.self.view_is c.args.id c.number.result c.slot_of-slot.result c.number.ensures c.slot_of-slot.ensures.slot
+
 pub invariant_of-self : goal.invariant_of-self
-invariant_of-self c =
-    found-written (λ (k : Walker). k.root) (λ (k : Walker). k.current) c.self.inside.walkers.items c.self.inside.roots c.self.inside.currents c.self.invariant c.set.new.self c.number.result c.number-2.result c.args.node c.index_mut.result.now _
-    (c.number-2.ensures ∙ sym c.number.ensures) (omega (arith, c.number.ensures, c.requires, ap length c.self.view_is)) c.index_mut.ensures.value (ap (λ (k : Walker). k.root) c.behind-self.view_is) refl c.set.ensures
+invariant_of-self c = long-written c.slot_of-slot.ensures.fit c.self.inside.walkers c.self.invariant c.args.self.now c.self.view_is c.args.id c.number.result c.slot_of-slot.result c.number.ensures c.slot_of-slot.ensures.slot (λ (w : Walker). record w { current = c.args.node }) c.set_current.new.self c.set_current.ensures
 
 pub returns : goal.returns
-returns c =
-    written-at c.self.inside.walkers.items c.args.self.now c.self.view_is c.number.result c.args.id c.number.ensures c.requires c.index_mut.result.now c.index_mut.ensures.value
-    (λ (k : Walker). record k { current = c.args.node }) _ (ap (λ (k : Walker). record k { current = c.args.node }) c.behind-self.view_is)
+returns c = entry-written c.slot_of-slot.ensures.fit c.self.inside.walkers c.self.invariant c.args.self.now c.self.view_is c.args.id c.number.result c.slot_of-slot.result c.number.ensures c.slot_of-slot.ensures.slot (λ (w : Walker). record w { current = c.args.node }) c.set_current.new.self c.set_current.ensures

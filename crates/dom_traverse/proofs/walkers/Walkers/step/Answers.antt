@@ -1,23 +1,24 @@
--- The walker that was read is the one by that number.
-use Rattle.std.proofs.Common.{◌≡◌, length, ap, sym, ◌∙◌, arith}
-use Rattle.dom_model.specs.Worlds.World.{Walker}
+-- The walker in the slot of the number.
+use Rattle.std.proofs.Common.{◌≡◌}
 use Rattle.dom_model.specs.Traversal.Walks.{walk_found, walker_moved}
-use Rattle.dom_traverse.proofs.Following.{told-at, written-at}
-use Rattle.dom_traverse.proofs.Found.{found-written, moved-walker_root}
+use Rattle.dom_traverse.specs.Standing.{StandsThere}
+use Rattle.dom_traverse.proofs.BySlot.{has-slot, slot-within, entry-told, entry-known, entry-written, long-written}
 use Rattle.dom_traverse.proofs.walkers.Walkers.step.Goals as goal
 
+pub slot_of-slot-requires : goal.slot_of-slot-requires
+slot_of-slot-requires g c = has-slot c.self.inside.slots.slots c.self.inside.walkers c.args.self.now c.self.view_is c.args.id c.number.result c.number.ensures c.requires.held
+
+pub step-requires-clause-held : goal.step-requires-clause-held
+step-requires-clause-held g c = slot-within c.slot_of-slot.ensures.fit c.self.inside.walkers c.self.invariant c.args.self.now c.self.view_is c.args.id c.number.result c.slot_of-slot.result c.number.ensures c.slot_of-slot.ensures.slot
+
+pub step-requires-clause-there : goal.step-requires-clause-there
+step-requires-clause-there g c = entry-known c.slot_of-slot.ensures.fit c.self.inside.walkers c.self.invariant c.args.self.now c.self.view_is c.args.id c.number.result c.slot_of-slot.result c.number.ensures c.slot_of-slot.ensures.slot (StandsThere c.args.tree.now.forest) c.requires.there
+
 pub invariant_of-self : goal.invariant_of-self
-invariant_of-self g c =
-    found-written (λ (k : Walker). k.root) (λ (k : Walker). k.current) c.self.inside.walkers.items c.self.inside.roots c.self.inside.currents c.self.invariant c.set.new.self c.number.result c.number-2.result c.walker.inside.current c.index_mut-walker.result.now c.step-found.new.self
-    (c.number-2.ensures ∙ sym c.number.ensures) (omega (arith, c.number.ensures, c.requires.held, ap length c.self.view_is)) c.index_mut-walker.ensures.value
-    (ap (λ (k : Walker). k.root) c.step-found.ensures.moved ∙ moved-walker_root (walk_found c.args.direction c.args.tree.now.forest c.index_mut-walker.result.now) c.index_mut-walker.result.now) (ap (λ (k : Walker). k.current) c.walker.view_is) c.set.ensures
+invariant_of-self g c = long-written c.slot_of-slot.ensures.fit c.self.inside.walkers c.self.invariant c.args.self.now c.self.view_is c.args.id c.number.result c.slot_of-slot.result c.number.ensures c.slot_of-slot.ensures.slot (λ w. walker_moved (walk_found c.args.way c.args.tree.now.forest w) w) c.step.new.self c.step.ensures.moved
 
 pub returns-clause-found : goal.returns-clause-found
-returns-clause-found g c =
-    told-at c.self.inside.walkers.items c.args.self.now c.self.view_is c.number.result c.args.id c.number.ensures c.requires.held c.index_mut-walker.result.now c.index_mut-walker.ensures.value
-    (λ k. c.step-found.result ≡ walk_found c.args.direction c.args.tree.now.forest k) c.step-found.ensures.found
+returns-clause-found g c = entry-told c.slot_of-slot.ensures.fit c.self.inside.walkers c.self.invariant c.args.self.now c.self.view_is c.args.id c.number.result c.slot_of-slot.result c.number.ensures c.slot_of-slot.ensures.slot (λ w. c.step.result ≡ walk_found c.args.way c.args.tree.now.forest w) c.step.ensures.found
 
 pub returns-clause-moved : goal.returns-clause-moved
-returns-clause-moved g c =
-    written-at c.self.inside.walkers.items c.args.self.now c.self.view_is c.number.result c.args.id c.number.ensures c.requires.held c.index_mut-walker.result.now c.index_mut-walker.ensures.value
-    (λ k. walker_moved (walk_found c.args.direction c.args.tree.now.forest k) k) c.step-found.new.self c.step-found.ensures.moved
+returns-clause-moved g c = entry-written c.slot_of-slot.ensures.fit c.self.inside.walkers c.self.invariant c.args.self.now c.self.view_is c.args.id c.number.result c.slot_of-slot.result c.number.ensures c.slot_of-slot.ensures.slot (λ w. walker_moved (walk_found c.args.way c.args.tree.now.forest w) w) c.step.new.self c.step.ensures.moved

@@ -1,0 +1,26 @@
+-- Steps after which each node that was held is held, with its label.
+use Rattle.std.specs.Prelude.{IsSome}
+use Rattle.std.proofs.Common.{◌≡◌, ℕ, ap, sym, ◌∙◌, subst}
+use Rattle.dom_model.specs.Forests.Forest.{Forest, HasNode, entry_in}
+use Rattle.dom_model.specs.Worlds.World.{Content}
+use Rattle.dom_model.specs.TokenText.Originals.{label_in}
+use Rattle.dom_model.proofs.Forests.Entries.{occurs-HasNode}
+use Rattle.dom_model.proofs.Worlds.Measured.{entry-beside}
+use Rattle.dom_edit.specs.declared.world.World.{World}
+use Rattle.dom_edit.specs.Keeping.{KeepsLabels}
+use Rattle.dom_edit.proofs.NodesKept.{nodes-same}
+use Rattle.dom_clone.specs.Leaving.{LeavesAll}
+
+-- the tree is as it was
+pub labels-same : (a b : World) → b.tree ≡ a.tree → KeepsLabels a b
+labels-same a b e = (nodes-same a b e).labelled
+
+-- what is new stands behind what was there
+pub labels-left : (a b : World) → LeavesAll a b → KeepsLabels a b
+labels-left a b l =
+    let same : (n : ℕ) → HasNode a.tree.forest n → entry_in b.tree.forest n ≡ entry_in a.tree.forest n =
+    λ n h. ap (λ (f : Forest Content). entry_in f n) l.forest ∙ entry-beside a.tree.forest l.trees n (occurs-HasNode a.tree.forest n h) in
+    record {
+      held = λ n h. subst (λ e. IsSome e) (sym (same n h)) h;
+      labels = λ n h. ap label_in (same n h);
+    }

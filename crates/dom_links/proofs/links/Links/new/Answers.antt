@@ -1,9 +1,0 @@
-use Rattle.std.proofs.Common.{[], refl, arith}
-use Rattle.dom_links.proofs.Closing.{closes, stands-none}
-use Rattle.dom_links.proofs.links.Links.new.Goals as goal
-
-pub invariant_of-result : goal.invariant_of-result
-invariant_of-result g c = rw (c.new.ensures.items, c.new-2.ensures.items, c.new-3.ensures) ((closes [] stands-none refl).stands, omega arith)
-
-pub returns : goal.returns
-returns g c = rw (c.new.ensures.items, c.new-2.ensures.items, c.new-3.ensures) (closes [] stands-none refl).view

@@ -1,0 +1,44 @@
+-- The keys of nodes and observers, as what is kept of the observers changes.
+use Rattle.std.proofs.Common.{◌≡◌, ℕ, Bool, true, false, List, [], ◌∷◌, ◌++◌, map, Option, Some, ap, ◌∙◌, ◌⊎◌}
+use Rattle.std.specs.Prelude.{slice_index_or, slice_set}
+use Rattle.dom_model.specs.PlainLists.Lists.{among}
+use Rattle.dom_model.specs.Worlds.World.{Registration}
+use Rattle.dom_observe.specs.declared.registration.Ended.TheVariants.{Of}
+use Rattle.dom_observe.specs.declared.roster.Observer.{Observer}
+use Rattle.dom_observe.specs.Registrations.{left_by, Placed}
+use Rattle.dom_observe.specs.Kept.{has_queue, AllThere, IsIndexed}
+use Rattle.dom_observe.specs.Roster.{keys_by, first_keys, second_keys, lasting_by, passing_by, queues_by}
+use Rattle.dom_observe.proofs.Indexing.{indexed-alike, indexed-left}
+use Rattle.dom_observe.proofs.QueueLists.{has-more}
+use Rattle.dom_observe.proofs.Rosters.{has-same, within-lasting, within-passing, lasting-more, passing-more}
+
+module _ (u : ℕ → Option Registration) (lists : List (ℕ × List ℕ)) (some : List ℕ) (old new : List (Option Observer))
+    (ix : IsIndexed u lists (lasting_by old) (passing_by old) some (has_queue (queues_by old))) where
+  -- the keys stay
+  pub indexed-same : keys_by new ≡ keys_by old → IsIndexed u lists (lasting_by new) (passing_by new) some (has_queue (queues_by new))
+  indexed-same keys =
+      indexed-alike u lists (lasting_by old) (lasting_by new) (passing_by old) (passing_by new) some (has_queue (queues_by old)) (has_queue (queues_by new))
+      (λ i. ap (λ ks. slice_index_or (map first_keys ks) i []) keys) (λ i. ap (λ ks. slice_index_or (map second_keys ks) i []) keys)
+      (λ i there. has-same old new keys i ∙ there) ix
+
+  -- one more observer, without keys
+  pub indexed-more : keys_by new ≡ keys_by old ++ Some ([], []) ∷ [] → queues_by new ≡ queues_by old ++ Some [] ∷ [] → IsIndexed u lists (lasting_by new) (passing_by new) some (has_queue (queues_by new))
+  indexed-more keys queues =
+      indexed-alike u lists (lasting_by old) (lasting_by new) (passing_by old) (passing_by new) some (has_queue (queues_by old)) (has_queue (queues_by new))
+      (lasting-more old new keys) (passing-more old new keys) (λ i there. ap (λ qs. has_queue qs i) queues ∙ has-more (queues_by old) i there) ix
+
+-- the lists of keys that are kept, and the observers that are there
+pub indexed-by : (u : ℕ → Option Registration) (lists : List (ℕ × List ℕ)) (some : List ℕ) (new : List (Option Observer)) (ls ps : List (List ℕ)) (there : ℕ → Bool) → lasting_by new ≡ ls → passing_by new ≡ ps
+    → ((i : ℕ) → there i ≡ true → has_queue (queues_by new) i ≡ true) → IsIndexed u lists ls ps some there → IsIndexed u lists (lasting_by new) (passing_by new) some (has_queue (queues_by new))
+indexed-by u lists some new ls ps there lasting passing more ix =
+    indexed-alike u lists ls (lasting_by new) ps (passing_by new) some there (has_queue (queues_by new))
+    (λ i. ap (λ ks. slice_index_or ks i []) lasting) (λ i. ap (λ ks. slice_index_or ks i []) passing) more ix
+
+-- an observer loses all its registrations
+module _ (u v : ℕ → Option Registration) (lists lists' : List (ℕ × List ℕ)) (old new : List (Option Observer)) (some : List ℕ) (o : ℕ)
+    (ix : IsIndexed u lists (lasting_by old) (passing_by old) some (has_queue (queues_by old))) (held_there : has_queue (queues_by old) o ≡ true) (placed : Placed v lists') (left : (k : ℕ) → v k ≡ left_by (Of o) (u k))
+    (lasting : lasting_by new ≡ slice_set (lasting_by old) o []) (passing : passing_by new ≡ slice_set (passing_by old) o []) where
+  pub indexed-lost : (some' : List ℕ) → ((p : ℕ) → among p some' ≡ false → (p ≡ o) ⊎ (among p some ≡ false)) → AllThere (has_queue (queues_by new)) some' → IsIndexed v lists' (lasting_by new) (passing_by new) some' (has_queue (queues_by new))
+  indexed-lost some' out known =
+      indexed-by v lists' some' new (slice_set (lasting_by old) o []) (slice_set (passing_by old) o []) (has_queue (queues_by new)) lasting passing (λ i there. there)
+      (indexed-left u v lists lists' (lasting_by old) (passing_by old) some (has_queue (queues_by old)) o ix (within-lasting old o held_there) (within-passing old o held_there) placed left some' (has_queue (queues_by new)) out known)

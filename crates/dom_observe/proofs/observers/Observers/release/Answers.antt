@@ -1,0 +1,120 @@
+-- The observer's registrations go from every node, it is not pending any more, and has no queue.
+use Rattle.std.proofs.Common.{◌≡◌, ℕ, true, List, [], Option, Some, None, filter, is_some, ap, sym, ◌∙◌, subst, arith, nat_eq}
+use Rattle.std.specs.Prelude.{slice_set}
+use Rattle.dom_model.specs.PlainLists.Lists.{among, left_out}
+use Rattle.dom_model.specs.MutationObservers.Record.{Record}
+use Rattle.dom_model.specs.MutationObservers.Records.{released_observer}
+use Rattle.dom_observe.specs.declared.registration.Ended.TheVariants.{Of}
+use Rattle.dom_observe.specs.Watchers.{Watchers, Watches, on}
+use Rattle.dom_observe.specs.Registrations.{at, listed, spares}
+use Rattle.dom_observe.specs.Kept.{registered_nodes, has_queue, AllThere, IsKept}
+use Rattle.dom_observe.specs.Roster.{lasting_by, passing_by, queues_by}
+use Rattle.dom_observe.specs.Naming.{TellsNone}
+use Rattle.dom_observe.proofs.Agreeing.{agree-ended}
+use Rattle.dom_observe.proofs.Holding.{names-only, none-ended, tells-released}
+use Rattle.dom_observe.proofs.Keeping.{on-registered_nodes, found-ended}
+use Rattle.dom_observe.proofs.Keyrings.{indexed-lost}
+use Rattle.dom_observe.proofs.QueueLists.{queue_within}
+use Rattle.dom_observe.proofs.Releasing.{taken-out, out-taken, there-taken, others-there, kept-released}
+use Rattle.dom_observe.proofs.Rosters.{has-kept, lasting-there, passing-there, length-queues, lasting-gone, passing-gone, queues-gone}
+use Rattle.dom_observe.proofs.Sources.{sources-ended}
+use Rattle.dom_observe.proofs.Watching.{watches-filtered, watches-released}
+use Rattle.std.specs.List.{list_any}
+use Rattle.std.proofs.lemmas.List.{get_or-set_same, set-set}
+use Rattle.dom_observe.proofs.observers.Observers.release.Goals as goal
+
+pub get_mut-kept-requires : goal.get_mut-kept-requires
+get_mut-kept-requires c = sym (has-kept c.self.inside.roster c.args.observer) ∙ subst (λ (o : Watchers). has_queue o.queues c.args.observer ≡ true) (sym c.self.view_is) c.requires.held
+
+pub end_all-requires-clause-lasting : goal.end_all-requires-clause-lasting
+end_all-requires-clause-lasting c = λ k.
+    ap (among k) (sym (lasting-there c.self.inside.roster c.args.observer c.get_mut-kept.result.now c.get_mut-kept.ensures.value)) ∙ c.self.invariant.1.lasting c.args.observer k
+
+pub end_all-requires-clause-passing : goal.end_all-requires-clause-passing
+end_all-requires-clause-passing c = λ k.
+    ap (among k) (sym (passing-there c.self.inside.roster c.args.observer c.get_mut-kept.result.now c.get_mut-kept.ensures.value)) ∙ c.self.invariant.1.passing c.args.observer k
+
+pub release-requires : goal.release-requires
+release-requires c =
+    let a = c.self.inside in
+    let o = c.args.observer in
+    let held_there = subst (λ (w : Watchers). has_queue w.queues o ≡ true) (sym c.self.view_is) c.requires.held in
+    let within = queue_within (queues_by a.roster) o held_there in
+    ap is_some (get_or-set_same a.roster o (Some c.end_all.new.kept) None (omega (arith, within, length-queues a.roster)))
+
+pub invariant_of-self : goal.invariant_of-self
+invariant_of-self c =
+    let a = c.self.inside in
+    let o = c.args.observer in
+    let qs = queues_by a.roster in
+    let held_there = subst (λ (w : Watchers). has_queue w.queues o ≡ true) (sym c.self.view_is) c.requires.held in
+    let u = at a.table in
+    let v = at c.end_all.new.table in
+    let lists = listed a.nodes.entries in
+    let lists' = listed c.end_all.new.nodes.entries in
+    let new = c.release.new.self in
+    let gone : new ≡ slice_set a.roster o None = c.release.ensures ∙ set-set a.roster o (Some c.end_all.new.kept) None in
+    let queues : queues_by new ≡ slice_set qs o None = ap queues_by gone ∙ queues-gone a.roster o in
+    let pending : c.shift_remove.new.self.keys ≡ left_out o a.pending.keys =
+    c.shift_remove.ensures.keys ∙ taken-out o a.pending.keys (ap (list_any (nat_eq o)) (sym c.shift_remove.ensures.keys) ∙ c.shift_remove.ensures.updates.1) in
+    let taken = c.swap_remove.ensures.updates.0 in
+    let known : AllThere (has_queue (queues_by new)) c.swap_remove.new.self.keys =
+    subst (λ q. AllThere (has_queue q) c.swap_remove.new.self.keys) (sym queues)
+    (there-taken o a.fleeting.keys c.swap_remove.new.self.keys taken (has_queue qs) (has_queue (slice_set qs o None)) (others-there qs o) c.self.invariant.1.known) in (
+      subst (λ ps. IsKept c.end_all.new.table c.end_all.new.nodes.entries (queues_by new) ps) (sym pending)
+          (subst (λ q. IsKept c.end_all.new.table c.end_all.new.nodes.entries q (left_out o a.pending.keys)) (sym queues)
+          (kept-released a.table a.nodes.entries qs a.pending.keys c.self.invariant.0 c.end_all.new.table c.end_all.new.nodes.entries o c.end_all.ensures.left c.end_all.ensures.swept c.end_all.ensures.unique (c.end_all.ensures.full c.self.invariant.0.full))),
+      indexed-lost u v lists lists' a.roster new a.fleeting.keys o c.self.invariant.1 held_there c.end_all.ensures.placed c.end_all.ensures.left (ap lasting_by gone ∙ lasting-gone a.roster o) (ap passing_by gone ∙ passing-gone a.roster o)
+          c.swap_remove.new.self.keys (out-taken o a.fleeting.keys c.swap_remove.new.self.keys taken) known,
+      sources-ended u v (Of o) c.end_all.ensures.left c.self.invariant.2,
+      agree-ended u v (Of o) c.end_all.ensures.left c.self.invariant.3,
+    )
+
+pub returns-clause-released : goal.returns-clause-released
+returns-clause-released c = λ x w.
+    let a = c.self.inside in
+    let i = c.args.observer in
+    let qs = queues_by a.roster in
+    let new = c.release.new.self in
+    let queues : queues_by new ≡ slice_set qs i None = ap queues_by (c.release.ensures ∙ set-set a.roster i (Some c.end_all.new.kept) None) ∙ queues-gone a.roster i in
+    let pending : c.shift_remove.new.self.keys ≡ left_out i a.pending.keys =
+    c.shift_remove.ensures.keys ∙ taken-out i a.pending.keys (ap (list_any (nat_eq i)) (sym c.shift_remove.ensures.keys) ∙ c.shift_remove.ensures.updates.1) in
+    let nodes' = registered_nodes c.end_all.new.table c.end_all.new.nodes.entries in
+    let o : Watchers = record { nodes = registered_nodes a.table a.nodes.entries; queues = qs; pending = a.pending.keys } in
+    let shown = subst (λ (o : Watchers). Watches o x) (sym c.self.view_is) w in
+    let keep = spares (Of i) in
+    let left : (n : ℕ) → on n nodes' ≡ filter keep (on n (registered_nodes a.table a.nodes.entries)) = λ n.
+    on-registered_nodes c.end_all.new.table n c.end_all.new.nodes.entries
+    ∙ found-ended (at a.table) (at c.end_all.new.table) (Of i) (listed a.nodes.entries) (listed c.end_all.new.nodes.entries) c.end_all.ensures.left c.end_all.ensures.swept n
+    ∙ ap (filter keep) (sym (on-registered_nodes a.table n a.nodes.entries)) in
+    let gone = watches-filtered o x shown keep nodes' left in
+    subst (λ (q : List (Option (List Record))). Watches (record { nodes = nodes'; queues = q; pending = c.shift_remove.new.self.keys }) (released_observer i x)) (sym queues)
+    (subst (λ ps. Watches (record { nodes = nodes'; queues = slice_set qs i None; pending = ps }) (released_observer i x)) (sym pending)
+    (watches-released _ _ gone i))
+
+pub returns-clause-names : goal.returns-clause-names
+returns-clause-names c =
+    let a = c.self.inside in
+    let o = c.args.observer in
+    let qs = queues_by a.roster in
+    let u = at a.table in
+    let v = at c.end_all.new.table in
+    let lists = listed a.nodes.entries in
+    let lists' = listed c.end_all.new.nodes.entries in
+    let new = c.release.new.self in
+    let queues : queues_by new ≡ slice_set qs o None = ap queues_by (c.release.ensures ∙ set-set a.roster o (Some c.end_all.new.kept) None) ∙ queues-gone a.roster o in
+    let pending : c.shift_remove.new.self.keys ≡ left_out o a.pending.keys =
+    c.shift_remove.ensures.keys ∙ taken-out o a.pending.keys (ap (list_any (nat_eq o)) (sym c.shift_remove.ensures.keys) ∙ c.shift_remove.ensures.updates.1) in
+    let kept =
+    subst (λ ps. IsKept c.end_all.new.table c.end_all.new.nodes.entries (queues_by new) ps) (sym pending)
+    (subst (λ q. IsKept c.end_all.new.table c.end_all.new.nodes.entries q (left_out o a.pending.keys)) (sym queues)
+    (kept-released a.table a.nodes.entries qs a.pending.keys c.self.invariant.0 c.end_all.new.table c.end_all.new.nodes.entries o c.end_all.ensures.left c.end_all.ensures.swept c.end_all.ensures.unique (c.end_all.ensures.full c.self.invariant.0.full))) in
+    names-only a.table a.nodes.entries qs a.pending.keys c.args.self.now c.self.view_is c.end_all.new.table c.end_all.new.nodes.entries (queues_by new) c.shift_remove.new.self.keys kept []
+    (λ p _ names tells. (none-ended p u v (Of o) lists lists' c.end_all.ensures.left c.end_all.ensures.swept names, subst (TellsNone p) (sym queues) (tells-released p qs o tells)))
+
+pub returns-clause-made : goal.returns-clause-made
+returns-clause-made c =
+    let a = c.self.inside in
+    let o = c.args.observer in
+    ap queues_by (c.release.ensures ∙ set-set a.roster o (Some c.end_all.new.kept) None) ∙ queues-gone a.roster o
+    ∙ ap (λ (w : Watchers). slice_set w.queues o None) c.self.view_is

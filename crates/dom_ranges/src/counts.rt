@@ -1,0 +1,86 @@
+//! How many ends of static ranges stand in each node.
+
+ghost use Rattle.std.specs.Prelude.{◌≡◌, ℕ, ◌+◌, ◌^◌, ◌<◌, ◌≤◌, nat_lt, [], OnOk};
+ghost use Rattle.dom_ranges.specs.StaticEnds.{count_in, with_end};
+
+use dom_tree::NodeId;
+use indexmap::IndexMap;
+use std::alloc::{AllocError, Global};
+use std::marker::Model;
+
+/// For each node how many ends stand in it. Memory is taken for the nodes in which some do.
+#[derive(Drop)]
+pub(crate) struct EndCounts {
+    by_node: IndexMap<u32, usize>,
+}
+
+impl Model for EndCounts {
+    ghost use Rattle.indexmap.specs.IndexMap.{spare};
+    ghost use Rattle.dom_ranges.specs.StaticEnds.{CountedEnds, AreCounts};
+
+    ghost Value = { CountedEnds };
+
+    ghost view = { λ a. record { counts = a.by_node.entries; room = spare a.by_node } };
+
+    ghost invariant = { λ a. AreCounts a.by_node.entries };
+}
+
+impl EndCounts {
+    /// No end in any node. It takes no memory.
+    pub(crate) fn new(alloc: Global) -> EndCounts
+        ensures { result.counts ≡ [] }
+    {
+        EndCounts {
+            by_node: IndexMap::new(alloc),
+        }
+    }
+
+    /// Makes room for so many more ends, wherever they stand.
+    pub(crate) fn reserve(&mut self, additional: usize) -> Result<(), AllocError>
+        ensures room { OnOk result (additional ≤ self.new.room) }
+        ensures counts { self.new.counts ≡ self.old.counts }
+    {
+        self.by_node.reserve(additional)
+    }
+
+    // How many ends stand in a node.
+    fn count(&self, node: NodeId) -> usize
+        ensures { result ≡ count_in self.now.counts node }
+    {
+        match self.by_node.get(&node.number()) {
+            Some(count) => *count,
+            None => 0,
+        }
+    }
+
+    /// Whether an end stands in a node.
+    pub(crate) fn stands_in(&self, node: NodeId) -> bool
+        ensures { result ≡ nat_lt 0 (count_in self.now.counts node) }
+    {
+        self.by_node.contains_key(&node.number())
+    }
+
+    /// One more end stands in a node; there is room for it. It takes no memory.
+    pub(crate) fn add(&mut self, node: NodeId)
+        requires room { 0 < self.old.room }
+        requires few { count_in self.old.counts node + 1 < 2 ^ 64 }
+        ensures added { (n : ℕ) → count_in self.new.counts n ≡ with_end node self.old.counts n }
+        ensures room { self.old.room ≤ self.new.room + 1 }
+    {
+        let count = self.count(node) + 1;
+        self.by_node.insert(node.number(), count).unwrap();
+    }
+
+    /// An end that stood in a node does so no more. It takes no memory.
+    pub(crate) fn take(&mut self, node: NodeId)
+        requires { 0 < count_in self.old.counts node }
+        ensures taken { (n : ℕ) → count_in self.old.counts n ≡ with_end node self.new.counts n }
+    {
+        let count = self.count(node) - 1;
+        if count == 0 {
+            self.by_node.swap_remove(&node.number());
+        } else {
+            self.by_node.insert(node.number(), count).unwrap();
+        }
+    }
+}

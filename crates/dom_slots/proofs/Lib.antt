@@ -1,0 +1,5 @@
+pub mod Entries
+pub mod Fitting
+pub mod Live
+pub mod Places
+pub mod Steps

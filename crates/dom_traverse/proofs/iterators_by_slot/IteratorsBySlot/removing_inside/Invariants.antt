@@ -1,0 +1,17 @@
+-- The iterators of the nodes that were passed have given way.
+use Rattle.std.proofs.Common.{length}
+use Rattle.std.specs.Option.{ForSome}
+use Rattle.dom_model.specs.PlainLists.Lists.{from_first}
+use Rattle.dom_model.specs.Forests.Forest.{IsForest, inclusive_descendants}
+use Rattle.dom_traverse.specs.Exits.{IsExit}
+use Rattle.dom_traverse.proofs.LeavingInside.{IsLeaving}
+use Rattle.dom_traverse.proofs.iterators_by_slot.IteratorsBySlot.removing_inside.Given as goal
+
+abbrev pub invariant-loop-next : goal.invariant-loop-next
+invariant-loop-next g l = record {
+  leaving : (s : IsForest l.tree) → IsLeaving l.tree s l.node l.fn.self l.self l.here;
+  found : ForSome l.last (IsExit l.tree.forest l.node);
+}
+
+abbrev pub decreases-loop-next : goal.decreases-loop-next
+decreases-loop-next g l = length (from_first l.here (inclusive_descendants l.tree.forest l.node))

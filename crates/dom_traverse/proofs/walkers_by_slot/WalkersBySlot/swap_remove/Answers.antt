@@ -1,0 +1,16 @@
+-- The walker that was there names its nodes no more, and the last lies there.
+use Rattle.std.proofs.Common.{length, ap, arith}
+use Rattle.dom_model.specs.Worlds.World.{Walker}
+use Rattle.dom_traverse.proofs.Found.{root-counted, found-fewer}
+use Rattle.dom_traverse.proofs.walkers_by_slot.WalkersBySlot.swap_remove.Goals as goal
+
+pub unname-requires : goal.unname-requires
+unname-requires c =
+    root-counted (λ (k : Walker). k.root) (λ (k : Walker). k.current) c.self.inside.walkers.items c.self.inside.roots c.self.inside.currents c.self.invariant c.args.slot c.swap_remove-released.result (omega (arith, c.requires, ap length c.self.view_is)) c.swap_remove-released.ensures.value
+    c.released.inside.root (ap (λ (k : Walker). k.root) c.released.view_is)
+
+pub invariant_of-self : goal.invariant_of-self
+invariant_of-self c =
+    found-fewer (λ (k : Walker). k.root) (λ (k : Walker). k.current) c.self.inside.walkers.items c.self.inside.roots c.self.inside.currents c.self.invariant c.args.slot c.swap_remove-released.result (omega (arith, c.requires, ap length c.self.view_is)) c.swap_remove-released.ensures.value
+    c.released.inside.root (ap (λ (k : Walker). k.root) c.released.view_is)
+    c.swap_remove-released.new.self.items c.unname.new.roots c.swap_remove.new.self c.unname.ensures c.swap_remove.ensures c.swap_remove-released.ensures.items
