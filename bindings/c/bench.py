@@ -1,5 +1,6 @@
 #!/usr/bin/env python3
-"""Nanoseconds a call of scenes through the library for C, and of building, moving and walking by libxml2 where that is there.
+"""Nanoseconds a call of scenes through the library for C, and of building, moving and walking by libxml2 where that is there; and the bytes that one
+more object of each kind takes in a session.
 
 libxml2 checks nothing, keeps no ranges, iterators or observers, and its walk follows pointers in place of a call. Each scene is run a few
 times, each time in a program of its own, and the quickest run is told, for each program. The ratio is ours over libxml2's.
@@ -68,6 +69,8 @@ def main():
         if not other:
             print("left out: libxml2, since pkg-config does not know libxml-2.0")
         table(ours, other, given)
+        print("\n| one more | bytes |\n|---|---|")
+        print("\n".join(lines(compiled(given, "sizes", work, f"-I{folder}", os.path.join(folder, "libhuckleport.a")))))
 
 
 if __name__ == "__main__":

@@ -5,6 +5,7 @@
 - each dialogue of dialogues through hp_line, byte for byte, and again through the calls of the header, from Python and from C;
 - each call with a closed session, and what is handed in wrongly;
 - what is read around a node, which takes no memory, and a hundred thousand children removed one by one;
+- what is released, which no call finds and which keeps no tree, and the memory after a million of each kind;
 - each allocation refused in turn over all dialogues, and over one of the calls that copy names and texts;
 - two sessions on two threads;
 - the examples, as docs/c-library.md shows them; of the one that loads HTML also that libxml2's own tree of what it writes is that of what it read;
@@ -182,6 +183,10 @@ class Tests:
         if self.alone("nearby", link=WRAPPED) is not None:
             self.must("a hundred thousand children removed, by the clock", os.path.join(self.work, "nearby"), "timed")
 
+    def released(self):
+        if self.alone("released", link=WRAPPED) is not None:
+            self.must("a million of each kind that come and go", os.path.join(self.work, "released"), "million")
+
     def threads(self):
         self.alone("threads", "2", *self.words_of_dialogues(), link=["-pthread"])
 
@@ -249,7 +254,7 @@ class Tests:
         return 1 if self.faults else 0
 
 
-PARTS = ("header", "lines", "typed", "closed", "misuse", "nearby", "refused", "threads", "example", "loading", "page")
+PARTS = ("header", "lines", "typed", "closed", "misuse", "nearby", "released", "refused", "threads", "example", "loading", "page")
 
 
 def main():

@@ -70,6 +70,7 @@ Range.intersects_node            | intersects_node         | node:node          
 Range.release                    | release_range           |                          | none
 NodeIterator.next_node           | next_node               |                          | node?
 NodeIterator.previous_node       | previous_node           |                          | node?
+NodeIterator.release             | release_iterator        |                          | none
 """
 
 

@@ -166,9 +166,8 @@ export class Session {
     this.#wrappers.register(wrapper, number);
   }
 
-  /** Calls the library to release an object by its number once its wrapper is gone, where the library has such a call. */
+  /** Calls the library to release an object by its number once its wrapper is gone. */
   releaseWith(call, wrapper, number) {
-    if (!has(call)) return;
     if (!this.#releases.has(call)) this.#releases.set(call, new FinalizationRegistry((its) => this.#release(call, its)));
     this.#releases.get(call).register(wrapper, number);
   }
@@ -181,8 +180,7 @@ export class Session {
   /** Lets an observer go that nothing points at. */
   loseObserver(number) {
     this.observers.delete(number);
-    native.hp_disconnect(this.index, number);
-    if (has("hp_release_observer")) native.hp_release_observer(this.index, number);
+    native.hp_release_observer(this.index, number);
     this.#sweepSoon();
   }
 

@@ -4,7 +4,7 @@ import test from "node:test";
 import { setImmediate as turn } from "node:timers/promises";
 
 import { native } from "../lib/core.js";
-import { createDocument, MutationObserver, Session } from "../lib/index.js";
+import { createDocument, MutationObserver, NodeFilter, Session, StaticRange } from "../lib/index.js";
 
 /** Collects what can't be reached, and lets the finalizers run. */
 async function collect(times = 4) {
@@ -108,6 +108,54 @@ test("a tree that is in use goes once it is in use no more", async () => {
   range = null;
   await collect(8);
   assert.ok(!isThere(session, number));
+});
+
+/** What can be made over a node, one of each kind. */
+const OVER = {
+  NodeIterator: (node) => node.ownerDocument.createNodeIterator(node),
+  "NodeIterator with a filter": (node) => node.ownerDocument.createNodeIterator(node, NodeFilter.SHOW_ALL, () => NodeFilter.FILTER_ACCEPT),
+  TreeWalker: (node) => node.ownerDocument.createTreeWalker(node),
+  StaticRange: (node) => new StaticRange({ startContainer: node, startOffset: 0, endContainer: node, endOffset: 0 }),
+  MutationObserver: (node) => {
+    const observer = new MutationObserver(() => undefined);
+    observer.observe(node, { childList: true });
+    return observer;
+  },
+};
+
+for (const [name, over] of Object.entries(OVER)) {
+  test(`a tree goes once the ${name} over it is gone`, async () => {
+    const session = new Session();
+    const { document } = session;
+    let held;
+    const number = (() => {
+      const root = document.createElement("p");
+      root.appendChild(document.createTextNode("t"));
+      held = over(root);
+      return session.number(root);
+    })();
+    await collect();
+    assert.ok(isThere(session, number));
+    assert.ok(held);
+    held = null;
+    await collect(8);
+    assert.ok(!isThere(session, number));
+  });
+}
+
+test("100,000 of each kind made and dropped leave memory level", async () => {
+  const document = createDocument();
+  const root = document.appendChild(document.createElement("p"));
+  const levels = [];
+  for (let round = 0; round < 20; round++) {
+    for (let at = 0; at < 5000; at++) {
+      for (const over of Object.values(OVER)) over(root).disconnect?.();
+      document.createRange().selectNode(root);
+    }
+    await collect(2);
+    levels.push(native.held());
+  }
+  assert.ok(Math.max(...levels.slice(5)) < 1.5 * levels[4] + 1e6, `${levels}`);
 });
 
 test("an observer lives as long as what it observes", async () => {

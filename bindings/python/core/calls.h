@@ -1302,6 +1302,17 @@ static PyObject *call_static_range(PyObject *self, PyObject *words)
     return found;
 }
 
+static PyObject *call_release_static_range(PyObject *self, PyObject *words)
+{
+    uint32_t range = 0;
+    PyObject *found = NULL;
+    if (is_counted(words, 1, "release_static_range") && uint32_of(word(words, 0), &range)) {
+        uint8_t status = hp_release_static_range(session_at(self), range);
+        found = status ? refused(status, "release_static_range", self, words) : none();
+    }
+    return found;
+}
+
 static PyObject *call_range_text(PyObject *self, PyObject *words)
 {
     uint32_t range = 0;
@@ -1489,6 +1500,28 @@ static PyObject *call_walk(PyObject *self, PyObject *words)
     return found;
 }
 
+static PyObject *call_release_iterator(PyObject *self, PyObject *words)
+{
+    uint32_t iterator = 0;
+    PyObject *found = NULL;
+    if (is_counted(words, 1, "release_iterator") && uint32_of(word(words, 0), &iterator)) {
+        uint8_t status = hp_release_iterator(session_at(self), iterator);
+        found = status ? refused(status, "release_iterator", self, words) : none();
+    }
+    return found;
+}
+
+static PyObject *call_release_walker(PyObject *self, PyObject *words)
+{
+    uint32_t walker = 0;
+    PyObject *found = NULL;
+    if (is_counted(words, 1, "release_walker") && uint32_of(word(words, 0), &walker)) {
+        uint8_t status = hp_release_walker(session_at(self), walker);
+        found = status ? refused(status, "release_walker", self, words) : none();
+    }
+    return found;
+}
+
 static PyObject *call_create_observer(PyObject *self, PyObject *words)
 {
     uint32_t observer = 0;
@@ -1557,6 +1590,17 @@ static PyObject *call_pending(PyObject *self, PyObject *words)
     if (is_counted(words, 0, "pending")) {
         uint8_t status = hp_pending(session_at(self));
         found = status ? refused(status, "pending", self, words) : none();
+    }
+    return found;
+}
+
+static PyObject *call_release_observer(PyObject *self, PyObject *words)
+{
+    uint32_t observer = 0;
+    PyObject *found = NULL;
+    if (is_counted(words, 1, "release_observer") && uint32_of(word(words, 0), &observer)) {
+        uint8_t status = hp_release_observer(session_at(self), observer);
+        found = status ? refused(status, "release_observer", self, words) : none();
     }
     return found;
 }
@@ -1742,6 +1786,7 @@ static PyObject *call_read_get_attribute(PyObject *self, PyObject *words)
     { "common_ancestor", call_common_ancestor, METH_VARARGS, NULL }, \
     { "create_static_range", call_create_static_range, METH_VARARGS, NULL }, \
     { "static_range", call_static_range, METH_VARARGS, NULL }, \
+    { "release_static_range", call_release_static_range, METH_VARARGS, NULL }, \
     { "range_text", call_range_text, METH_VARARGS, NULL }, \
     { "delete_contents", call_delete_contents, METH_VARARGS, NULL }, \
     { "extract_contents", call_extract_contents, METH_VARARGS, NULL }, \
@@ -1756,12 +1801,15 @@ static PyObject *call_read_get_attribute(PyObject *self, PyObject *words)
     { "walker", call_walker, METH_VARARGS, NULL }, \
     { "set_current", call_set_current, METH_VARARGS, NULL }, \
     { "walk", call_walk, METH_VARARGS, NULL }, \
+    { "release_iterator", call_release_iterator, METH_VARARGS, NULL }, \
+    { "release_walker", call_release_walker, METH_VARARGS, NULL }, \
     { "create_observer", call_create_observer, METH_VARARGS, NULL }, \
     { "observe", call_observe, METH_VARARGS, NULL }, \
     { "disconnect", call_disconnect, METH_VARARGS, NULL }, \
     { "take_records", call_take_records, METH_VARARGS, NULL }, \
     { "notify", call_notify, METH_VARARGS, NULL }, \
     { "pending", call_pending, METH_VARARGS, NULL }, \
+    { "release_observer", call_release_observer, METH_VARARGS, NULL }, \
     { "read_children", call_read_children, METH_VARARGS, NULL }, \
     { "read_pending", call_read_pending, METH_VARARGS, NULL }, \
     { "read_attribute_names", call_read_attribute_names, METH_VARARGS, NULL }, \
@@ -2407,6 +2455,13 @@ static PyObject *member_NodeIterator_previous_node(PyObject *self, PyObject *not
     return status ? refused_of(status, "previous_node", self, NULL, 0) : node_or_none_at(self, node);
 }
 
+static PyObject *member_NodeIterator_release(PyObject *self, PyObject *nothing)
+{
+    (void)nothing;
+    uint8_t status = hp_release_iterator(session_of(self), number_of(self));
+    return status ? refused_of(status, "release_iterator", self, NULL, 0) : none();
+}
+
 static PyMethodDef members_made[] = {
     { "Node.node_type", member_Node_node_type, METH_NOARGS, NULL },
     { "Node.node_document", member_Node_node_document, METH_NOARGS, NULL },
@@ -2463,5 +2518,6 @@ static PyMethodDef members_made[] = {
     { "Range.release", member_Range_release, METH_NOARGS, NULL },
     { "NodeIterator.next_node", member_NodeIterator_next_node, METH_NOARGS, NULL },
     { "NodeIterator.previous_node", member_NodeIterator_previous_node, METH_NOARGS, NULL },
+    { "NodeIterator.release", member_NodeIterator_release, METH_NOARGS, NULL },
     { NULL, NULL, 0, NULL },
 };

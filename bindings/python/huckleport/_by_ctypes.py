@@ -276,6 +276,9 @@ class Calls(Handle):
     def static_range(self, range: int) -> _signatures.hp_static_ends:
         return self._struct(_signatures.hp_static_ends(), "hp_static_range", uint32(range))
 
+    def release_static_range(self, range: int) -> None:
+        self._let_go("hp_release_static_range", uint32(range))
+
     def range_text(self, range: int) -> None:
         self._say("hp_range_text", uint32(range))
 
@@ -318,6 +321,12 @@ class Calls(Handle):
     def walk(self, walker: int, direction: int) -> int:
         return self._number(c_uint32(), "hp_walk", uint32(walker), uint8(direction))
 
+    def release_iterator(self, iterator: int) -> None:
+        self._let_go("hp_release_iterator", uint32(iterator))
+
+    def release_walker(self, walker: int) -> None:
+        self._let_go("hp_release_walker", uint32(walker))
+
     def create_observer(self) -> int:
         return self._number(c_uint32(), "hp_create_observer")
 
@@ -335,6 +344,9 @@ class Calls(Handle):
 
     def pending(self) -> None:
         self._say("hp_pending")
+
+    def release_observer(self, observer: int) -> None:
+        self._let_go("hp_release_observer", uint32(observer))
 
     def read_children(self, node: int) -> List[int]:
         return self._whole(self._answer_numbers, "hp_children", uint32(node))

@@ -99,6 +99,10 @@ ASKED: Dict[str, str] = {
     "attribute_names": "get_attribute_names",
     "set_current": "current_node",
     "release_range": "release",
+    "release_static_range": "release",
+    "release_iterator": "release",
+    "release_walker": "release",
+    "release_observer": "release",
 }
 
 

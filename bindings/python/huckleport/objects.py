@@ -31,13 +31,6 @@ class SessionObject(Thing):
     def _of_maybe(self, other: object, kind: Type[SessionObject]) -> int:
         return HP_NONE if other is None else self._of(other, kind)
 
-    def _release(self, call: str) -> None:
-        """Lets the object go, by a call that older libraries do not have."""
-        release = getattr(self._calls, call, None)
-        if release is None:
-            raise NotImplementedError(f"this library has no hp_{call}")
-        release(self.number)
-
     def _said(self) -> str:
         """What repr tells beside class and number."""
         return ""

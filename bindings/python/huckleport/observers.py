@@ -71,6 +71,7 @@ class MutationObserver(SessionObject):
         return self.session._take_left(self) + found
 
     def release(self) -> None:
-        """Lets the observer go, where the library can do it: it watches nothing then."""
-        self._release("release_observer")
+        """Lets the observer go: it watches nothing more, and lets the records go that were not told."""
+        self._calls.release_observer(self.number)
         self.session._observers.pop(self.number, None)
+        self.session._take_left(self)

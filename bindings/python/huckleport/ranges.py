@@ -168,5 +168,5 @@ class StaticRange(AbstractRange):
         return self._ends().is_valid != 0
 
     def release(self) -> None:
-        """Lets the range go, where the library can do it."""
-        self._release("release_static_range")
+        """Lets the range go, so that it keeps no tree."""
+        self._calls.release_static_range(self.number)

@@ -89,8 +89,8 @@ class NodeIterator(SessionObject):
         return f"of {place.root}, {'before' if place.is_before else 'after'} {place.reference}"
 
     def release(self) -> None:
-        """Lets the iterator go, where the library can do it."""
-        self._release("release_iterator")
+        """Lets the iterator go, so that removals have it no more to move, and that it keeps no tree."""
+        self._calls.release_iterator(self.number)
 
 
 class TreeWalker(SessionObject):
@@ -155,5 +155,5 @@ class TreeWalker(SessionObject):
         return f"of {place.root}, at {place.current}"
 
     def release(self) -> None:
-        """Lets the walker go, where the library can do it."""
-        self._release("release_walker")
+        """Lets the walker go, so that it keeps no tree."""
+        self._calls.release_walker(self.number)

@@ -1,6 +1,7 @@
 """What the objects of the package keep beside the replies: identity, texts, refusals, closed sessions, repr."""
 import copy
 import gc
+import os
 import pickle
 import threading
 import unittest
@@ -104,6 +105,62 @@ class Objects(unittest.TestCase):
         with_ends.release()
         with self.assertRaises(h.NoSuchObject):
             with_ends.start_offset
+
+    def over(self, node):
+        """What can be released, one of each kind, over a node."""
+        observer = self.session.create_mutation_observer(lambda records, it: None)
+        observer.observe(node, child_list=True, subtree=True)
+        range = self.document.create_range()
+        range.select_node_contents(node)
+        static = self.session.create_static_range(node, 0, node, 0)
+        return [self.document.create_node_iterator(node), self.document.create_tree_walker(node), static, observer, range]
+
+    def test_released(self):
+        """A tree can be discarded once all that was over it is released, and each of these is refused from then on."""
+        top = self.document.create_element("top")
+        kept = self.over(top)
+        for it in kept:
+            with self.assertRaises(h.InUse):
+                top.discard()
+            it.release()
+        top.discard()
+        iterator, walker, static, observer, _ = kept
+        uses = (iterator.next_node, walker.first_child, lambda: static.is_valid, observer.take_records, observer.disconnect)
+        for use in (*uses, *(it.release for it in kept)):
+            with self.assertRaises(h.NoSuchObject):
+                use()
+        self.assertEqual(repr(iterator), "<NodeIterator 0 no-such-object>")
+        self.assertEqual(self.document.create_node_iterator(self.document).number, iterator.number + 1)
+        with self.assertRaises(h.NoSuchObject):
+            self.session.mutation_observer(observer.number)
+
+    def test_released_observers_are_not_told(self):
+        told = []
+        gone, stays = (self.session.create_mutation_observer(lambda records, it: told.append(it)) for _ in range(2))
+        for it in (gone, stays):
+            it.observe(self.element, child_list=True)
+        self.text.remove()
+        gone.release()
+        self.assertEqual(self.session.pending(), [stays])
+        self.session.notify()
+        self.assertEqual(told, [stays])
+
+    def test_released_in_turn(self):
+        """What comes and goes leaves no memory: a hundred thousand of each kind one after another."""
+        resident = "/proc/self/statm"
+        if not os.path.exists(resident):
+            self.skipTest("there is no /proc")
+
+        def come_and_go(count):
+            for _ in range(count):
+                for it in self.over(self.document):
+                    it.release()
+            gc.collect()
+            with open(resident, encoding="ascii") as file:
+                return int(file.read().split()[1])
+
+        before = come_and_go(2000)
+        self.assertLess(come_and_go(100_000) - before, 1024)
 
     def test_iterating(self):
         found = self.document.create_node_iterator(self.document, h.NodeFilter.SHOW_TEXT)

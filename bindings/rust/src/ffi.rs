@@ -283,6 +283,7 @@ extern "C" {
     fn hp_common_ancestor(session: *mut hp_session, range: u32, ancestor: *mut u32) -> u8;
     fn hp_create_static_range(session: *mut hp_session, start: u32, start_offset: u32, end: u32, end_offset: u32, range: *mut u32) -> u8;
     fn hp_static_range(session: *mut hp_session, range: u32, ends: *mut hp_static_ends) -> u8;
+    fn hp_release_static_range(session: *mut hp_session, range: u32) -> u8;
     fn hp_range_text(session: *mut hp_session, range: u32) -> u8;
     fn hp_delete_contents(session: *mut hp_session, range: u32) -> u8;
     fn hp_extract_contents(session: *mut hp_session, range: u32, fragment: *mut u32) -> u8;
@@ -297,12 +298,15 @@ extern "C" {
     fn hp_walker(session: *mut hp_session, walker: u32, place: *mut hp_walker_at) -> u8;
     fn hp_set_current(session: *mut hp_session, walker: u32, node: u32) -> u8;
     fn hp_walk(session: *mut hp_session, walker: u32, direction: u8, node: *mut u32) -> u8;
+    fn hp_release_iterator(session: *mut hp_session, iterator: u32) -> u8;
+    fn hp_release_walker(session: *mut hp_session, walker: u32) -> u8;
     fn hp_create_observer(session: *mut hp_session, observer: *mut u32) -> u8;
     fn hp_observe(session: *mut hp_session, observer: u32, node: u32, options: *const hp_options, names: *const u8, names_length: usize, lengths: *const u32, lengths_length: usize) -> u8;
     fn hp_disconnect(session: *mut hp_session, observer: u32) -> u8;
     fn hp_take_records(session: *mut hp_session, observer: u32) -> u8;
     fn hp_notify(session: *mut hp_session) -> u8;
     fn hp_pending(session: *mut hp_session) -> u8;
+    fn hp_release_observer(session: *mut hp_session, observer: u32) -> u8;
 }
 
 /// An open session of the library, which is closed when it is dropped.
@@ -967,6 +971,12 @@ impl Handle {
         if status == HP_OK { Ok(out) } else { Err(status) }
     }
 
+    pub(crate) fn release_static_range(&mut self, range: u32) -> Result<(), u8> {
+        // SAFETY: as at the head of the file.
+        let status = unsafe { hp_release_static_range(self.session.get(), range) };
+        if status == HP_OK { Ok(()) } else { Err(status) }
+    }
+
     pub(crate) fn range_text(&mut self, range: u32) -> Result<(), u8> {
         // SAFETY: as at the head of the file.
         let status = unsafe { hp_range_text(self.session.get(), range) };
@@ -1060,6 +1070,18 @@ impl Handle {
         if status == HP_OK { Ok(out) } else { Err(status) }
     }
 
+    pub(crate) fn release_iterator(&mut self, iterator: u32) -> Result<(), u8> {
+        // SAFETY: as at the head of the file.
+        let status = unsafe { hp_release_iterator(self.session.get(), iterator) };
+        if status == HP_OK { Ok(()) } else { Err(status) }
+    }
+
+    pub(crate) fn release_walker(&mut self, walker: u32) -> Result<(), u8> {
+        // SAFETY: as at the head of the file.
+        let status = unsafe { hp_release_walker(self.session.get(), walker) };
+        if status == HP_OK { Ok(()) } else { Err(status) }
+    }
+
     pub(crate) fn create_observer(&mut self) -> Result<u32, u8> {
         let mut out = 0;
         // SAFETY: as at the head of the file.
@@ -1094,6 +1116,12 @@ impl Handle {
     pub(crate) fn pending(&mut self) -> Result<(), u8> {
         // SAFETY: as at the head of the file.
         let status = unsafe { hp_pending(self.session.get()) };
+        if status == HP_OK { Ok(()) } else { Err(status) }
+    }
+
+    pub(crate) fn release_observer(&mut self, observer: u32) -> Result<(), u8> {
+        // SAFETY: as at the head of the file.
+        let status = unsafe { hp_release_observer(self.session.get(), observer) };
         if status == HP_OK { Ok(()) } else { Err(status) }
     }
 }

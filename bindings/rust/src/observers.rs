@@ -83,4 +83,9 @@ impl Session {
         let count = self.handle.count().map_err(Exception::of)?;
         Ok(Observers::new(Part::whole(&self.handle), count))
     }
+
+    /// Lets an observer go: it watches nothing more, and is not told the records that waited for it.
+    pub fn release_observer(&mut self, observer: Observer) -> Result<()> {
+        self.handle.release_observer(observer.number()).map_err(Exception::of)
+    }
 }

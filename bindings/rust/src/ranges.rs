@@ -109,4 +109,9 @@ impl Session {
     pub fn static_range(&mut self, range: StaticRange) -> Result<StaticEnds> {
         self.handle.static_range(range.number()).map(StaticEnds::from).map_err(Exception::of)
     }
+
+    /// Lets a static range go. It keeps no tree in use any more.
+    pub fn release_static_range(&mut self, range: StaticRange) -> Result<()> {
+        self.handle.release_static_range(range.number()).map_err(Exception::of)
+    }
 }

@@ -91,4 +91,14 @@ impl Session {
     pub fn walk(&mut self, walker: TreeWalker, direction: Move) -> Result<Option<Node>> {
         self.handle.walk(walker.number(), direction as u8).map(Node::told).map_err(Exception::of)
     }
+
+    /// Lets an iterator go. No removal moves it any more, and it keeps no tree in use.
+    pub fn release_iterator(&mut self, iterator: NodeIterator) -> Result<()> {
+        self.handle.release_iterator(iterator.number()).map_err(Exception::of)
+    }
+
+    /// Lets a walker go. It keeps no tree in use any more.
+    pub fn release_walker(&mut self, walker: TreeWalker) -> Result<()> {
+        self.handle.release_walker(walker.number()).map_err(Exception::of)
+    }
 }

@@ -1,5 +1,5 @@
-//! What dialogues do not show: commands that they only refuse, texts that are not well-formed, limits, threads, iterators from both ends.
-use huckleport::{utf16, BoundaryPoint, Ends, Exception, Kind, Node, Result, Session};
+//! What dialogues do not show: commands that they only refuse, texts that are not well-formed, limits, threads, iterators from both ends, what is released.
+use huckleport::{utf16, BoundaryPoint, Ends, Exception, Kind, Move, Node, Options, Result, Session, SHOW_ALL};
 use std::thread;
 
 /// A session with an element of three Texts, `a`, `b` and `c`.
@@ -117,4 +117,81 @@ fn a_session_goes_to_another_thread() {
 fn exceptions_are_errors() {
     let refused: Box<dyn std::error::Error> = Box::new(Exception::HierarchyRequestError);
     assert_eq!(refused.to_string(), "HierarchyRequestError");
+}
+
+#[test]
+fn a_tree_that_only_what_was_released_named() -> Result<()> {
+    let (mut session, parent, [a, ..]) = session()?;
+    let iterator = session.create_iterator(parent, SHOW_ALL, &[])?;
+    let walker = session.create_walker(a, SHOW_ALL, &[])?;
+    let range = session.create_static_range(parent, 0, a, 1)?;
+    let observer = session.create_observer()?;
+    session.observe(observer, parent, &Options { child_list: Some(true), ..Options::default() })?;
+    assert_eq!(session.discard(parent), Err(Exception::InUse));
+    session.release_iterator(iterator)?;
+    session.release_walker(walker)?;
+    session.release_static_range(range)?;
+    assert_eq!(session.discard(parent), Err(Exception::InUse));
+    session.release_observer(observer)?;
+    session.discard(parent)?;
+    assert_eq!(session.next_node(iterator), Err(Exception::NoSuchObject));
+    assert_eq!(session.walk(walker, Move::FirstChild), Err(Exception::NoSuchObject));
+    assert_eq!(session.static_range(range), Err(Exception::NoSuchObject));
+    assert_eq!(session.disconnect(observer), Err(Exception::NoSuchObject));
+    assert_eq!(session.release_iterator(iterator), Err(Exception::NoSuchObject));
+    let next = session.create_iterator(Node::DOCUMENT, SHOW_ALL, &[])?;
+    assert_eq!(next.number(), iterator.number() + 1);
+    Ok(())
+}
+
+#[test]
+fn an_observer_that_is_released_is_told_nothing() -> Result<()> {
+    let (mut session, parent, [a, ..]) = session()?;
+    let observers = [session.create_observer()?, session.create_observer()?];
+    for observer in observers {
+        session.observe(observer, parent, &Options { child_list: Some(true), ..Options::default() })?;
+    }
+    session.remove(a)?;
+    session.release_observer(observers[0])?;
+    assert_eq!(session.pending()?.collect::<Vec<_>>(), observers[1..]);
+    let told: Vec<_> = session.notify()?.map(|it| it.observer).collect();
+    assert_eq!(told, observers[1..]);
+    Ok(())
+}
+
+/// Makes and releases so many of each kind, one after another.
+#[cfg(target_os = "linux")]
+fn come_and_go(session: &mut Session, count: usize) -> Result<()> {
+    let options = Options { child_list: Some(true), ..Options::default() };
+    for _ in 0..count {
+        let iterator = session.create_iterator(Node::DOCUMENT, SHOW_ALL, &[])?;
+        session.release_iterator(iterator)?;
+        let walker = session.create_walker(Node::DOCUMENT, SHOW_ALL, &[])?;
+        session.release_walker(walker)?;
+        let range = session.create_static_range(Node::DOCUMENT, 0, Node::DOCUMENT, 0)?;
+        session.release_static_range(range)?;
+        let observer = session.create_observer()?;
+        session.observe(observer, Node::DOCUMENT, &options)?;
+        session.release_observer(observer)?;
+    }
+    Ok(())
+}
+
+/// How many pages of this process are in memory.
+#[cfg(target_os = "linux")]
+fn resident() -> usize {
+    let told = std::fs::read_to_string("/proc/self/statm").unwrap();
+    told.split(' ').nth(1).unwrap().parse().unwrap()
+}
+
+#[cfg(target_os = "linux")]
+#[test]
+fn memory_stays_level_where_many_come_and_go() -> Result<()> {
+    let mut session = Session::new()?;
+    come_and_go(&mut session, 2_000)?;
+    let before = resident();
+    come_and_go(&mut session, 100_000)?;
+    let more = resident().saturating_sub(before);
+    assert!(more < 1_024, "{more} pages more");
+    Ok(())
 }
