@@ -390,7 +390,7 @@ PAIRS = (
     ("discard of a Text", ("with no other node observed", "with 10,000"), discarded_beside_observed, (0, 10000)),
     ("discard of a Text", ("with no static range", "beside 50,000"), discarded_beside_static_ranges, (0, 50000)),
     ("discard of an element with two Texts", ("beside 10 static ranges", "beside 50,000"), groups_discarded_beside_static_ranges, (10, 50000)),
-    ("discard of a Text", ("with no iterator or walker", "beside 10,000 of each"), discarded_beside_walks, (0, 10000)),
+    ("discard of a Text", ("beside 10 iterators and walkers", "beside 10,000 of each"), discarded_beside_walks, (10, 10000)),
     ("discard of a Document", ("after 100 other nodes went", "after 100,000"), documents_discarded, (100, 100000)),
     ("selectNode in the midst", ("of 100 children", "of 50,000"), selected_in_the_midst, (100, 50000)),
     ("comparePoint in the midst", ("of 100 children", "of 50,000"), compared_in_the_midst, (100, 50000)),

@@ -33,6 +33,7 @@ SAYS = {
     "dom_tree": "nodes by number, seen as nested lists",
     "dom_links": "linked slots in raw memory",
     "dom_pages": "tables in pages that are given back",
+    "dom_slots": "numbers that come and go, without gaps",
     "dom_units": "texts as UTF-16 units",
     "dom_kinds": "kinds, labels, names, exceptions",
     "dom_c": "the core as a C library",

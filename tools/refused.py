@@ -46,6 +46,7 @@ WITHOUT = "_without_a_growth"
 STAND = {
     ("layer_cases", "links::a_refused_add_hands_the_value_back"): 1000,
     ("layer_cases", "ranges::refused_room"): 1,
+    ("layer_cases", "slotted::refused_room"): 10,
     ("observer_cases", "observing::a_hundred_nodes"): 100,
 }
 
