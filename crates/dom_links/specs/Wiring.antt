@@ -35,10 +35,16 @@ module _ {T : Type 0} where
   link_ahead (Some p) n = n.prev
 
   abbrev pub with_next : Ptr → Option Ptr → Option Ptr → Ptr → Node T → Node T
-  with_next top prev next q n = record n { next = if leads_to prev q then next else n.next; first = if leads_to (link_unless prev top) q then next else n.first }
+  with_next top prev next q n = record n {
+    next = if leads_to prev q then next else n.next;
+    first = if leads_to (link_unless prev top) q then next else n.first;
+  }
 
   abbrev pub with_previous : Ptr → Option Ptr → Option Ptr → Ptr → Node T → Node T
-  with_previous top next prev q n = record n { prev = if leads_to next q then prev else n.prev; last = if leads_to (link_unless next top) q then prev else n.last }
+  with_previous top next prev q n = record n {
+    prev = if leads_to next q then prev else n.prev;
+    last = if leads_to (link_unless next top) q then prev else n.last;
+  }
 
   abbrev pub recounted : Ptr → ℕ → Ptr → Node T → Node T
   recounted p count q n = record n { count = if same_ptr p q then count else n.count }

@@ -140,7 +140,7 @@ impl<T> Links<T> {
         requires { IsHeld self.now slot }
         ensures { result ≡ length (children_in (entry_at self.now slot)) }
     {
-        self.store.count(self.store.place(slot))
+        self.store.count(self.store.place(slot)) as usize
     }
 
     pub fn value(&self, slot: Slot) -> &T

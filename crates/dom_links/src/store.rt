@@ -171,11 +171,11 @@ impl<T> Store<T> {
     }
 
     /// How many children there are. It takes no walk.
-    pub fn count(&self, place: Place) -> usize
+    pub fn count(&self, place: Place) -> u32
         requires { IsPlaced self.now place }
         ensures { result ≡ length (children_in (entry_at self.now.arena (slot_of self.now place))) }
     {
-        self.pool.get(place.node()).count as usize
+        self.pool.get(place.node()).count
     }
 
     pub fn value(&self, place: Place) -> &T

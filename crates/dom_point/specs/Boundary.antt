@@ -20,4 +20,5 @@ HasOneGapEach =
 -- two boundary points of one root stand as their gaps do in its token text
 abbrev pub StandAsTheirGaps : Type 0
 StandAsTheirGaps =
-    (g : Grove Content) → IsForest g → (root : ℕ) (p q : Point) → IsBoundary g.forest root p → IsBoundary g.forest root q → gap_order p q (root_text g.forest root) ≡ Some (order_of g.forest p q)
+    (g : Grove Content) → IsForest g → (root : ℕ) (p q : Point) → IsBoundary g.forest root p → IsBoundary g.forest root q →
+    gap_order p q (root_text g.forest root) ≡ Some (order_of g.forest p q)

@@ -56,7 +56,7 @@ fn find_order<X>(tree: &mut Tree<X>, first: NodeId, second: NodeId)
     requires child { IsSome (parent_of tree.old.forest first) }
     ensures { tree.new ≡ tree.old }
 {
-    let _ = tree.found_before(first, second);
+    let _ = tree.found_comes_before(first, second);
 }
 
 // How two points stand whose ways up meet there.

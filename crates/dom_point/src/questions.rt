@@ -3,7 +3,7 @@
 ghost use Rattle.std.specs.Prelude.{◌≡◌, ◌+◌, Some, option_map};
 ghost use Rattle.dom_model.specs.Forests.Forest.{HasNode, index_of, parent_of, root_of};
 ghost use Rattle.dom_model.specs.Forests.Nodes as nodes;
-ghost use Rattle.dom_model.specs.RangesAndContents.Ranges as points;
+ghost use Rattle.dom_model.specs.RangesAndContents.Ranges as ranges;
 ghost use Rattle.dom_model.specs.RangesAndContents.Ranges.{check_point, around};
 ghost use Rattle.dom_point.specs.Refusals.{refused};
 
@@ -27,7 +27,7 @@ pub fn is_before<X>(tree: &Tree<X>, a: Point, b: Point) -> bool
     requires a_held { HasNode tree.now.forest a.node }
     requires b_held { HasNode tree.now.forest b.node }
     requires one_root { root_of tree.now.forest a.node ≡ root_of tree.now.forest b.node }
-    ensures { result ≡ points.is_before tree.now.forest a b }
+    ensures { result ≡ ranges.is_before tree.now.forest a b }
 {
     match order(tree, a, b) {
         Ordering::Less => true,
@@ -40,7 +40,7 @@ pub fn found_before<X>(tree: &mut Tree<X>, a: Point, b: Point) -> bool
     requires a_held { HasNode tree.old.forest a.node }
     requires b_held { HasNode tree.old.forest b.node }
     requires one_root { root_of tree.old.forest a.node ≡ root_of tree.old.forest b.node }
-    ensures before { result ≡ points.is_before tree.old.forest a b }
+    ensures before { result ≡ ranges.is_before tree.old.forest a b }
     ensures unchanged { tree.new ≡ tree.old }
 {
     found_order(tree, a, b) == Ordering::Less
@@ -63,7 +63,7 @@ pub fn checked_point<X: Body>(tree: &Tree<X>, node: NodeId, offset: usize) -> Re
 /// The point ahead of a node in its parent; none without a parent.
 pub fn point_before<X>(tree: &Tree<X>, node: NodeId) -> Option<Point>
     requires { HasNode tree.now.forest node }
-    ensures { result ≡ points.point_before tree.now.forest node }
+    ensures { result ≡ ranges.point_before tree.now.forest node }
 {
     let parent = tree.parent(node)?;
     Some(Point {
@@ -75,7 +75,7 @@ pub fn point_before<X>(tree: &Tree<X>, node: NodeId) -> Option<Point>
 /// The point behind a node in its parent; none without a parent.
 pub fn point_after<X>(tree: &Tree<X>, node: NodeId) -> Option<Point>
     requires { HasNode tree.now.forest node }
-    ensures { result ≡ points.point_after tree.now.forest node }
+    ensures { result ≡ ranges.point_after tree.now.forest node }
 {
     let (_, after) = points_around(tree, node)?;
     Some(after)

@@ -1,8 +1,9 @@
 -- Going along the children of a node from slot to slot: what is left of them, and the numbers of what is left.
-use Rattle.std.proofs.Common.{◌≡◌, ℕ, ◌<◌, ◌==◌, Bool, true, false, if◌then◌else◌, List, [], ◌∷◌, map, Option, Some, None, IsSome, length, refl, ap, sym, ◌∙◌, arith}
+use Rattle.std.proofs.Common.{◌≡◌, ℕ, ◌<◌, ◌==◌, Bool, true, false, if◌then◌else◌, List, [], ◌∷◌, map, Option, Some, None, IsSome, length, refl, ap, sym, ◌∙◌, subst, arith}
 use Rattle.std.proofs.lemmas.Bool.{false≢true}
 use Rattle.std.specs.Prelude.{MatchOption}
 use Rattle.std.specs.Option.{ForSome}
+use denote.RawPtr.{Ptr}
 use Rattle.dom_model.specs.PlainLists.Lists.{hits, head_of, after, from_first}
 use Rattle.dom_model.specs.Forests.Arena.{Arena, Entry, entry_at, names, parent_in, children_in, list_under, siblings_in, next_in, IsLinked, IsHeld, IsSound}
 use Rattle.dom_model.specs.Forests.Forest.{Node, Grove, entry_in, parent_of, children_of}
@@ -11,7 +12,8 @@ use Rattle.dom_model.proofs.PlainLists.FromFirst.{from-last, from-after}
 use Rattle.dom_model.proofs.Forests.Changes.{seen, nothing, just}
 use Rattle.dom_model.proofs.Forests.Climbing.{hits-first}
 use Rattle.dom_model.proofs.Forests.PutBack.{hits-head_of, hits-after}
-use Rattle.dom_tree.specs.Following.{IsChild, slots_from, numbers_from}
+use Rattle.dom_links.specs.Placed.{Placed, slot_of, slots_of, IsPlaced}
+use Rattle.dom_tree.specs.Following.{HasParent, slots_from, slot_numbers_from, IsChild}
 use Rattle.dom_tree.specs.Slots.{Kept, nodes_alone, IsTree}
 use Rattle.dom_tree.specs.Spelled.{number_in_slot, slot_in, slot_for, numbered, shown, IsKept}
 use Rattle.dom_tree.proofs.Counting.{names-itself, names-other, children-once}
@@ -52,7 +54,7 @@ module _ {X : Type 0} (at : ℕ → Option (Entry (Kept X))) (l : IsLinked at) w
       ]
 
   -- the first child is a child, and from it on stand all
-  pub first-child : (p : ℕ) → IsChild at (head_of (children_in (at p)))
+  pub first-child : (p : ℕ) → HasParent at (head_of (children_in (at p)))
   first-child p c e = rw (under-parent p c (hits-head_of (children_in (at p)) c e)) refl
 
   pub slots-first : (p : ℕ) → slots_from at (head_of (children_in (at p))) ≡ children_in (at p)
@@ -65,7 +67,7 @@ module _ {X : Type 0} (at : ℕ → Option (Entry (Kept X))) (l : IsLinked at) w
       ]
 
   -- the sibling after a child is a child, and from the child on stand it and those from that sibling on
-  pub next-child : (s : ℕ) → IsChild at (next_in at s)
+  pub next-child : (s : ℕ) → HasParent at (next_in at s)
   next-child s n e =
       elim (seen (parent_in (at s))) [
         | nothing d ↦ absurd (let k = rw d at e in let z : None ≡ Some n = k in cc z)
@@ -101,7 +103,7 @@ module _ {X : Type 0} {a : Arena (Kept X)} (l : IsSound a) (s : ℕ) (h : IsSome
   child-node = held-nodes a s child-held
 
   -- the numbers from a child on: its own, and those from the sibling after it on
-  pub numbers-next : (o : Option ℕ) (n : ℕ) → o ≡ next_in (entry_at a) s → n ≡ number_in_slot (entry_at (nodes_alone a)) s → numbers_from a (Some s) ≡ n ∷ numbers_from a o
+  pub numbers-next : (o : Option ℕ) (n : ℕ) → o ≡ next_in (entry_at a) s → n ≡ number_in_slot (entry_at (nodes_alone a)) s → slot_numbers_from a (Some s) ≡ n ∷ slot_numbers_from a o
   numbers-next o n e d = rw (e, d) (ap (map (number_in_slot (entry_at (nodes_alone a)))) (slots-next (entry_at a) l.linked s h))
 
 module _ {X : Type 0} {a : Arena (Node X)} {table : List (Option ℕ)} {live : ℕ} (k : IsKept a table live) (l : IsSound a) where
@@ -121,13 +123,13 @@ module _ {X : Type 0} {a : Arena (Node X)} {table : List (Option ℕ)} {live : �
 
 module _ {X : Type 0} {a : Arena (Kept X)} {table : List (Option ℕ)} {live : ℕ} {strays : Bool} (k : IsTree a table live strays) {w : Grove X} (v : record { forest = shown (nodes_alone a) table; made = length table } ≡ w) (l : IsSound a) where
   -- the numbers from the first child's slot on are those of all children
-  pub all-numbers : (n s : ℕ) (o : Option ℕ) → slot_in table n ≡ Some s → o ≡ head_of (children_in (entry_at a s)) → numbers_from a o ≡ children_of w.forest n
+  pub all-numbers : (n s : ℕ) (o : Option ℕ) → slot_in table n ≡ Some s → o ≡ head_of (children_in (entry_at a s)) → slot_numbers_from a o ≡ children_of w.forest n
   all-numbers n s o i e =
-      ap (numbers_from a) e
+      ap (slot_numbers_from a) e
       ∙ ap (map (number_in_slot (entry_at (nodes_alone a)))) (slots-first (entry_at a) l.linked s ∙ sym (children-nodes a s))
       ∙ children-read k.stored.kept v n s i
 
-  numbers-slot : (c s p : ℕ) → slot_in table c ≡ Some s → parent_of w.forest c ≡ Some p → numbers_from a (Some s) ≡ from_first c (children_of w.forest p)
+  numbers-slot : (c s p : ℕ) → slot_in table c ≡ Some s → parent_of w.forest c ≡ Some p → slot_numbers_from a (Some s) ≡ from_first c (children_of w.forest p)
   numbers-slot c s p i e =
       ap (λ (ss : List ℕ). map (number_in_slot (entry_at (nodes_alone a))) (from_first s ss)) (sym (siblings-nodes a s))
       ∙ sym (from-slot k.stored.kept (sound-nodes l) c s i)
@@ -136,21 +138,30 @@ module _ {X : Type 0} {a : Arena (Kept X)} {table : List (Option ℕ)} {live : �
 
   module _ (child so : Option ℕ) (p : ℕ) (i : slot_for table child ≡ so) (h : ForSome child (λ c. parent_of w.forest c ≡ Some p)) where
     -- the slot of a child is a child's
-    pub given-child : IsChild (entry_at a) so
+    pub given-child : HasParent (entry_at a) so
     given-child = go child i h
       where
-        go : (nc : Option ℕ) → slot_for table nc ≡ so → ForSome nc (λ c. parent_of w.forest c ≡ Some p) → IsChild (entry_at a) so
+        go : (nc : Option ℕ) → slot_for table nc ≡ so → ForSome nc (λ c. parent_of w.forest c ≡ Some p) → HasParent (entry_at a) so
         go None j u s d = absurd (let z : None ≡ Some s = j ∙ d in cc z)
         go (Some c) j u s d = parent-there k v c s (j ∙ d) (rw (u c refl) refl)
 
     -- the numbers from it on
-    pub given-numbers : MatchOption child (numbers_from a so ≡ []) (λ c. numbers_from a so ≡ from_first c (children_of w.forest p))
+    pub given-numbers : MatchOption child (slot_numbers_from a so ≡ []) (λ c. slot_numbers_from a so ≡ from_first c (children_of w.forest p))
     given-numbers = go child i h
       where
-        go : (nc : Option ℕ) → slot_for table nc ≡ so → ForSome nc (λ c. parent_of w.forest c ≡ Some p) → MatchOption nc (numbers_from a so ≡ []) (λ c. numbers_from a so ≡ from_first c (children_of w.forest p))
-        go None j u = ap (numbers_from a) (sym j)
+        go : (nc : Option ℕ) → slot_for table nc ≡ so → ForSome nc (λ c. parent_of w.forest c ≡ Some p) → MatchOption nc (slot_numbers_from a so ≡ []) (λ c. slot_numbers_from a so ≡ from_first c (children_of w.forest p))
+        go None j u = ap (slot_numbers_from a) (sym j)
         go (Some c) j u =
             elim (seen so) [
               | nothing d ↦ absurd (let there = slot-of_child k v c (rw (u c refl) refl) in let none = rw (j, d) at there in false≢true none)
-              | just s d ↦ ap (numbers_from a) d ∙ numbers-slot c s p (j ∙ d) (u c refl)
+              | just s d ↦ ap (slot_numbers_from a) d ∙ numbers-slot c s p (j ∙ d) (u c refl)
             ]
+
+module _ {X : Type 0} {s : Placed (Kept X)} (l : IsSound s.arena) (p : Ptr) (o : Option Ptr) (h : ForSome o (IsPlaced s)) where
+  -- where the first child lies is a child
+  pub first-placed : slots_of s o ≡ head_of (children_in (entry_at s.arena (slot_of s p))) → IsChild s o
+  first-placed e = record { placed = h; child = subst (HasParent (entry_at s.arena)) (sym e) (first-child (entry_at s.arena) l.linked (slot_of s p)) }
+
+  -- and so is where the sibling after a child does
+  pub next-placed : slots_of s o ≡ next_in (entry_at s.arena) (slot_of s p) → IsChild s o
+  next-placed e = record { placed = h; child = subst (HasParent (entry_at s.arena)) (sym e) (next-child (entry_at s.arena) l.linked (slot_of s p)) }

@@ -7,10 +7,13 @@ pub mod Freeing
 pub mod Growing
 pub mod Kept
 pub mod Making
+pub mod Moving
 pub mod Nodes
 pub mod Numbering
 pub mod Passing
+pub mod Places
 pub mod PlacesAt
+pub mod Writing
 pub mod Written
 pub mod OwnedSlots
 pub mod OwnedSteps
@@ -22,6 +25,7 @@ pub mod ReferringByCount
 pub mod Renumbering
 pub mod Spelling
 pub mod Steps
+pub mod Spots
 pub mod Stores
 pub mod Sums
 pub mod Taking

@@ -16,7 +16,7 @@ use Rattle.dom_tree.proofs.Stores.{altered-at, added-new, added-old, taken-other
 use Rattle.dom_tree.proofs.Making.{slot_in-new, slot_in-old}
 use Rattle.dom_tree.proofs.Taking as taking
 use Rattle.dom_tree.proofs.OwnedSlots.{homed-owned, more-at, less-at}
-use Rattle.dom_tree.proofs.Owning.{names-is, names-not, having-few, having-some, owned-made, owned-moved, owned-taken}
+use Rattle.dom_tree.proofs.Owning.{names-is, names-not, having-few, having-some, having-but, owned-made, owned-moved, owned-taken}
 use Rattle.dom_tree.proofs.DocumentsKept.{document-HasNode, HasNode-document, document-none, documents-set, documents-others, documents-root, documents-older}
 use Rattle.dom_tree.proofs.OwnedTrees.{owning-stays}
 use Rattle.dom_tree.proofs.Trees.{Stays, slot-held, held-slot, holds-read, forest-read, alter-done, parent-none, children-none}
@@ -122,8 +122,15 @@ module _ {X : Type 0} {a : Arena (Kept X)} {table : List (Option ℕ)} {live : �
               go None h = absurd (false≢true h)
               go (Some e) h = elim (to == from) as (λ v. IsSome (if v then Some (with_value (with_owned (owned_in (entry_at b from) - 1) e.value) e) else Some e)) [ true ↦ refl | false ↦ refl ]
 
-          pub to-few : owned_in (entry_at c to) < 2 ^ 32
-          to-few = omega (arith, less to, b-owned to, w.right d to l, having-few (document_in (shown (nodes_alone a) table)) d (length table), k.stored.kept.small)
+          -- the node itself is not counted there
+          pub to-few : owned_in (entry_at c to) + 1 < 2 ^ 32
+          to-few =
+              let f = shown (nodes_alone a) table in
+              let moved = document_in (with_node n (in_document d) f) in
+              let but = having-but (document_in f) moved n (documents-others f whole.once n d) d (length table) (document-small n former former-is) in
+              let was_there = ap (λ o. names o d) former-is ∙ names-slot d to former from l j in
+              let comes = names-is (moved n) d (documents-set f whole.once n d there) in
+              omega (arith, less to, b-owned to, w.right d to l, but, was_there, comes, having-few moved d (length table), k.stored.kept.small)
 
           module _ (e : Arena (Kept X)) (ee : e ≡ one_more c to) where
             stays-e : Stays e table live (with_node n (in_document d) (shown (nodes_alone a) table))

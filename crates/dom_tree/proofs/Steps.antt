@@ -1,83 +1,96 @@
--- A walk from slot to slot: what each step says of the numbers of the nodes that stand there.
+-- A walk from place to place: what each step says of the numbers of the nodes that lie there.
 use Rattle.std.proofs.Common.{◌≡◌, ◌==◌, ℕ, Bool, List, length, Option, Some, None, IsSome, is_some, refl, ap, sym, ◌∙◌, subst}
+use denote.RawPtr.{Ptr}
 use Rattle.dom_model.specs.PlainLists.Lists.{head_of, last_of}
-use Rattle.dom_model.specs.Forests.Arena.{Arena, entry_at, parent_in, children_in, list_under, siblings_in, next_in, previous_in, IsHeld, IsSound}
+use Rattle.dom_model.specs.Forests.Arena.{entry_at, parent_in, children_in, list_under, siblings_in, next_in, previous_in, IsSound}
 use Rattle.dom_model.specs.Forests.Forest.{Grove, entry_in, HasNode, parent_of, children_of, next_of, previous_of}
-use Rattle.dom_tree.specs.Spelled.{number_in_slot, slot_in, shown}
+use Rattle.dom_links.specs.Placed.{Placed, slot_of, slots_of, IsPlaced}
+use Rattle.dom_tree.specs.Places.{called, Leads}
+use Rattle.dom_tree.specs.Spelled.{slot_in, shown}
 use Rattle.dom_tree.specs.Slots.{Kept, nodes_alone, IsTree}
-use Rattle.dom_tree.proofs.Nodes.{held-nodes, held-back}
+use Rattle.dom_tree.proofs.Nodes.{held-nodes}
 use Rattle.dom_tree.proofs.Numbering.{one_slot, same_test}
-use Rattle.dom_tree.proofs.Trees.{parent-named, first-named, last-named, next-named, previous-named, parent-read, parent-there, parent-same, count-read, first-read, last-read, next-read, previous-read, holds-read}
+use Rattle.dom_tree.proofs.Trees.{parent-read, parent-there, parent-same, count-read, first-read, last-read, next-read, previous-read, holds-read}
 
--- the number of the node in a slot
-abbrev pub called : {X : Type 0} → Arena (Kept X) → ℕ → ℕ
-called a s = number_in_slot (entry_at (nodes_alone a)) s
+module _ {X : Type 0} {s : Placed (Kept X)} where
+  -- a link that is another leads where that does
+  pub led : {r r' : Option Ptr} {to : Option ℕ} → r ≡ r' → Leads s r to → Leads s r' to
+  led {r} {r'} {to} e l = subst (λ o. Leads s o to) e l
 
-module _ {X : Type 0} {a : Arena (Kept X)} {table : List (Option ℕ)} {live : ℕ} {strays : Bool} (k : IsTree a table live strays) {w : Grove X} (v : record { forest = shown (nodes_alone a) table; made = length table } ≡ w) where
-  -- the slot of a number is held, and the node in it has that number
-  pub begins : (n s : ℕ) → slot_in table n ≡ Some s → IsHeld a s × (called a s ≡ n)
-  begins n s i = (let t = k.stored.kept.tabled.named n s i in (held-back a s t.0, t.1))
+  -- it leads somewhere where there is somewhere to go
+  pub led-there : (r : Option Ptr) (to : Option ℕ) → Leads s r to → IsSome to → IsSome r
+  led-there None to l h = subst IsSome (sym l.slot) h
+  led-there (Some p) to l h = refl
 
-  pub listed : (s : ℕ) → IsHeld a s → slot_in table (called a s) ≡ Some s
-  listed s h = k.stored.kept.tabled.listed s (held-nodes a s h)
+module _ {X : Type 0} {s : Placed (Kept X)} {table : List (Option ℕ)} {live : ℕ} {strays : Bool} (k : IsTree s.arena table live strays) {w : Grove X} (v : record { forest = shown (nodes_alone s.arena) table; made = length table } ≡ w) where
+  -- the node at the place of a number has that number
+  pub begins : (n : ℕ) (p : Ptr) → Leads s (Some p) (slot_in table n) → IsPlaced s p × (called s p ≡ n)
+  begins n p e = (e.placed p refl, (k.stored.kept.tabled.named n (slot_of s p) (sym e.slot)).1)
 
-  pub stands : (s : ℕ) → IsHeld a s → HasNode w.forest (called a s)
-  stands s h = sym (holds-read k v (called a s)) ∙ ap is_some (listed s h)
+  pub listed : (p : Ptr) → IsPlaced s p → slot_in table (called s p) ≡ Some (slot_of s p)
+  listed p h = k.stored.kept.tabled.listed (slot_of s p) (held-nodes s.arena (slot_of s p) h.held)
 
-  -- two slots of one number are one
-  pub one : (s t : ℕ) → IsHeld a s → IsHeld a t → called a s ≡ called a t → s ≡ t
-  one s t hs ht e = one_slot (entry_at (nodes_alone a)) (slot_in table) k.stored.kept.tabled s t (held-nodes a s hs) (held-nodes a t ht) e
+  pub stands : (p : Ptr) → IsPlaced s p → HasNode w.forest (called s p)
+  stands p h = sym (holds-read k v (called s p)) ∙ ap is_some (listed p h)
 
-  -- a slot is a number's, or is not, as the node in it has the number
-  pub meets : (s n e : ℕ) → IsHeld a s → slot_in table n ≡ Some e → (called a s == n) ≡ (s == e)
-  meets s n e h i =
-      let b = begins n e i in
-      ap (λ m. called a s == m) (sym b.1) ∙ same_test (entry_at (nodes_alone a)) (slot_in table) k.stored.kept.tabled s e (held-nodes a s h) (held-nodes a e b.0)
+  -- two places of one number have one slot
+  pub one : (p q : Ptr) → IsPlaced s p → IsPlaced s q → called s p ≡ called s q → slot_of s p ≡ slot_of s q
+  one p q hp hq e =
+      one_slot (entry_at (nodes_alone s.arena)) (slot_in table) k.stored.kept.tabled (slot_of s p) (slot_of s q) (held-nodes s.arena (slot_of s p) hp.held) (held-nodes s.arena (slot_of s q) hq.held) e
 
-  -- a step leads to a slot that is held, where the forest says so by number
-  module _ (l : IsSound a) (s : ℕ) (h : IsHeld a s) where
-    pub up : (p : ℕ) → Some p ≡ parent_in (entry_at a s) → IsHeld a p × (parent_of w.forest (called a s) ≡ Some (called a p))
-    up p e = (held-back a p (parent-named l s (Some p) e p refl), sym (parent-read k v (called a s) s (Some p) (Some (called a p)) (listed s h) e refl))
+  -- a place's slot is that of a number's place, or is not, as the node there has the number
+  pub meets : (p : Ptr) (n : ℕ) (q : Ptr) (a b : ℕ) → IsPlaced s p → Leads s (Some q) (slot_in table n) → a ≡ slot_of s p → b ≡ slot_of s q → (called s p == n) ≡ (a == b)
+  meets p n q a b h e ea eb =
+      let i = begins n q e in
+      ap (λ m. called s p == m) (sym i.1)
+      ∙ same_test (entry_at (nodes_alone s.arena)) (slot_in table) k.stored.kept.tabled (slot_of s p) (slot_of s q) (held-nodes s.arena (slot_of s p) h.held) (held-nodes s.arena (slot_of s q) i.0.held)
+      ∙ ap (λ m. m == slot_of s q) (sym ea)
+      ∙ ap (λ m. a == m) (sym eb)
+
+  -- a step leads to a place of the store's, where the forest says so by number
+  module _ (l : IsSound s.arena) (p : Ptr) (h : IsPlaced s p) where
+    pub up : (q : Ptr) → Leads s (Some q) (parent_in (entry_at s.arena (slot_of s p))) → IsPlaced s q × (parent_of w.forest (called s p) ≡ Some (called s q))
+    up q e = (e.placed q refl, sym (parent-read k v (called s p) (slot_of s p) (Some (slot_of s q)) (Some (called s q)) (listed p h) e.slot refl))
 
     -- a parent by number is one by slot
-    pub under : (p : ℕ) → IsHeld a p → parent_of w.forest (called a s) ≡ Some (called a p) → parent_in (entry_at a s) ≡ Some p
-    under p hp e =
-        parent-same k v l (Some (called a s)) (called a p) p (Some s) (listed p hp) (listed s h)
-        (λ b d. let q : called a s ≡ b = cc d in subst (λ m. parent_of w.forest m ≡ Some (called a p)) q e)
-        s refl
+    pub under : (q : Ptr) → IsPlaced s q → parent_of w.forest (called s p) ≡ Some (called s q) → parent_in (entry_at s.arena (slot_of s p)) ≡ Some (slot_of s q)
+    under q hq e =
+        parent-same k v l (Some (called s p)) (called s q) (slot_of s q) (Some (slot_of s p)) (listed q hq) (listed p h)
+        (λ b d. let i : called s p ≡ b = cc d in subst (λ m. parent_of w.forest m ≡ Some (called s q)) i e)
+        (slot_of s p) refl
 
     -- as many children of the parent as there are siblings
-    pub beside : (p r : ℕ) → Some p ≡ parent_in (entry_at a s) → r ≡ length (children_in (entry_at a p)) → r ≡ length (siblings_in (entry_in w.forest) (called a s))
-    beside p r e i =
-        let u = up p e in
-        count-read k v (called a p) p r (listed p u.0) i ∙ ap (λ o. length (list_under (entry_in w.forest) o)) (sym u.1)
+    pub beside : (q : Ptr) (r : ℕ) → Leads s (Some q) (parent_in (entry_at s.arena (slot_of s p))) → r ≡ length (children_in (entry_at s.arena (slot_of s q))) → r ≡ length (siblings_in (entry_in w.forest) (called s p))
+    beside q r e i =
+        let u = up q e in
+        count-read k v (called s q) (slot_of s q) r (listed q u.0) i ∙ ap (λ o. length (list_under (entry_in w.forest) o)) (sym u.1)
 
-    pub parented : IsSome (parent_of w.forest (called a s)) → IsSome (parent_in (entry_at a s))
-    parented e = parent-there k v (called a s) s (listed s h) e
+    pub parented : (r : Option Ptr) → Leads s r (parent_in (entry_at s.arena (slot_of s p))) → IsSome (parent_of w.forest (called s p)) → IsSome r
+    parented r e i = led-there r (parent_in (entry_at s.arena (slot_of s p))) e (parent-there k v (called s p) (slot_of s p) (listed p h) i)
 
-    pub topmost : None ≡ parent_in (entry_at a s) → parent_of w.forest (called a s) ≡ None
-    topmost e = sym (parent-read k v (called a s) s None None (listed s h) e refl)
+    pub topmost : Leads s None (parent_in (entry_at s.arena (slot_of s p))) → parent_of w.forest (called s p) ≡ None
+    topmost e = sym (parent-read k v (called s p) (slot_of s p) None None (listed p h) e.slot refl)
 
-    pub down : (p : ℕ) → Some p ≡ head_of (children_in (entry_at a s)) → IsHeld a p × (head_of (children_of w.forest (called a s)) ≡ Some (called a p))
-    down p e = (held-back a p (first-named l s (Some p) e p refl), sym (first-read k v (called a s) s (Some p) (Some (called a p)) (listed s h) e refl))
+    pub down : (q : Ptr) → Leads s (Some q) (head_of (children_in (entry_at s.arena (slot_of s p)))) → IsPlaced s q × (head_of (children_of w.forest (called s p)) ≡ Some (called s q))
+    down q e = (e.placed q refl, sym (first-read k v (called s p) (slot_of s p) (Some (slot_of s q)) (Some (called s q)) (listed p h) e.slot refl))
 
-    pub childless : None ≡ head_of (children_in (entry_at a s)) → head_of (children_of w.forest (called a s)) ≡ None
-    childless e = sym (first-read k v (called a s) s None None (listed s h) e refl)
+    pub childless : Leads s None (head_of (children_in (entry_at s.arena (slot_of s p)))) → head_of (children_of w.forest (called s p)) ≡ None
+    childless e = sym (first-read k v (called s p) (slot_of s p) None None (listed p h) e.slot refl)
 
-    pub down_last : (p : ℕ) → Some p ≡ last_of (children_in (entry_at a s)) → IsHeld a p × (last_of (children_of w.forest (called a s)) ≡ Some (called a p))
-    down_last p e = (held-back a p (last-named l s (Some p) e p refl), sym (last-read k v (called a s) s (Some p) (Some (called a p)) (listed s h) e refl))
+    pub down_last : (q : Ptr) → Leads s (Some q) (last_of (children_in (entry_at s.arena (slot_of s p)))) → IsPlaced s q × (last_of (children_of w.forest (called s p)) ≡ Some (called s q))
+    down_last q e = (e.placed q refl, sym (last-read k v (called s p) (slot_of s p) (Some (slot_of s q)) (Some (called s q)) (listed p h) e.slot refl))
 
-    pub leaf : None ≡ last_of (children_in (entry_at a s)) → last_of (children_of w.forest (called a s)) ≡ None
-    leaf e = sym (last-read k v (called a s) s None None (listed s h) e refl)
+    pub leaf : Leads s None (last_of (children_in (entry_at s.arena (slot_of s p)))) → last_of (children_of w.forest (called s p)) ≡ None
+    leaf e = sym (last-read k v (called s p) (slot_of s p) None None (listed p h) e.slot refl)
 
-    pub on : (p : ℕ) → Some p ≡ next_in (entry_at a) s → IsHeld a p × (next_of w.forest (called a s) ≡ Some (called a p))
-    on p e = (held-back a p (next-named l s (Some p) e p refl), sym (next-read k v l (called a s) s (Some p) (Some (called a p)) (listed s h) e refl))
+    pub on : (q : Ptr) → Leads s (Some q) (next_in (entry_at s.arena) (slot_of s p)) → IsPlaced s q × (next_of w.forest (called s p) ≡ Some (called s q))
+    on q e = (e.placed q refl, sym (next-read k v l (called s p) (slot_of s p) (Some (slot_of s q)) (Some (called s q)) (listed p h) e.slot refl))
 
-    pub hindmost : None ≡ next_in (entry_at a) s → next_of w.forest (called a s) ≡ None
-    hindmost e = sym (next-read k v l (called a s) s None None (listed s h) e refl)
+    pub hindmost : Leads s None (next_in (entry_at s.arena) (slot_of s p)) → next_of w.forest (called s p) ≡ None
+    hindmost e = sym (next-read k v l (called s p) (slot_of s p) None None (listed p h) e.slot refl)
 
-    pub back : (p : ℕ) → Some p ≡ previous_in (entry_at a) s → IsHeld a p × (previous_of w.forest (called a s) ≡ Some (called a p))
-    back p e = (held-back a p (previous-named l s (Some p) e p refl), sym (previous-read k v l (called a s) s (Some p) (Some (called a p)) (listed s h) e refl))
+    pub back : (q : Ptr) → Leads s (Some q) (previous_in (entry_at s.arena) (slot_of s p)) → IsPlaced s q × (previous_of w.forest (called s p) ≡ Some (called s q))
+    back q e = (e.placed q refl, sym (previous-read k v l (called s p) (slot_of s p) (Some (slot_of s q)) (Some (called s q)) (listed p h) e.slot refl))
 
-    pub foremost : None ≡ previous_in (entry_at a) s → previous_of w.forest (called a s) ≡ None
-    foremost e = sym (previous-read k v l (called a s) s None None (listed s h) e refl)
+    pub foremost : Leads s None (previous_in (entry_at s.arena) (slot_of s p)) → previous_of w.forest (called s p) ≡ None
+    foremost e = sym (previous-read k v l (called s p) (slot_of s p) None None (listed p h) e.slot refl)

@@ -4,7 +4,9 @@ pub mod Lends
 pub mod Numberings
 pub mod Outside
 pub mod Owned
+pub mod Places
 pub mod Slots
 pub mod Spelled
+pub mod Spots
 pub mod Standing
 pub mod Ways

@@ -49,8 +49,10 @@ module _ {X : Type 0} where
   -- the same nodes, of which those among the parent's children that stand from one place on and ahead of another have another index
   pub record IsWritten (old new : Arena (Kept X)) (parent from until : ℕ) (known : Bool) : Type 0 where
     pub nodes : nodes_alone new ≡ nodes_alone old
-    pub written : (x : ℕ) → 0 < hits x (children_in (entry_at old parent)) → from ≤ place_in x (children_in (entry_at old parent)) → place_in x (children_in (entry_at old parent)) < until → index_in (entry_at new x) ≡ told known (place_in x (children_in (entry_at old parent)))
-    pub untouched : (x : ℕ) → (0 < hits x (children_in (entry_at old parent)) → from ≤ place_in x (children_in (entry_at old parent)) → until ≤ place_in x (children_in (entry_at old parent))) → index_in (entry_at new x) ≡ index_in (entry_at old x)
+    pub written : (x : ℕ) → 0 < hits x (children_in (entry_at old parent)) → from ≤ place_in x (children_in (entry_at old parent)) →
+        place_in x (children_in (entry_at old parent)) < until → index_in (entry_at new x) ≡ told known (place_in x (children_in (entry_at old parent)))
+    pub untouched : (x : ℕ) → (0 < hits x (children_in (entry_at old parent)) → from ≤ place_in x (children_in (entry_at old parent)) →
+        until ≤ place_in x (children_in (entry_at old parent))) → index_in (entry_at new x) ≡ index_in (entry_at old x)
     pub sures : (slot : ℕ) → sure_in (entry_at new slot) ≡ sure_in (entry_at old slot)
     pub reaches : (slot : ℕ) → reach_in (entry_at new slot) ≡ reach_in (entry_at old slot)
     pub room : length new.slots ≡ length old.slots

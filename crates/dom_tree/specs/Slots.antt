@@ -19,11 +19,13 @@ pub record Kept (X : Type 0) : Type 0 where
 
 abbrev pub kept_code : {X : Type 0} → Coded X → Coded (Kept X)
 kept_code {X} c =
-    code_by (Node X × (ℕ × (ℕ × (ℕ × ℕ)))) (coded× (node_code c) (coded× coded_ℕ (coded× coded_ℕ (coded× coded_ℕ coded_ℕ)))) (λ k. (k.node, (k.index, (k.sure, (k.reach, k.owned))))) (λ p. record { node = p.0; index = p.1.0; sure = p.1.1.0; reach = p.1.1.1.0; owned = p.1.1.1.1 }) (λ _. refl)
+    code_by (Node X × (ℕ × (ℕ × (ℕ × ℕ)))) (coded× (node_code c) (coded× coded_ℕ (coded× coded_ℕ (coded× coded_ℕ coded_ℕ))))
+    (λ k. (k.node, (k.index, (k.sure, (k.reach, k.owned)))))
+    (λ p. record { node = p.0; index = p.1.0; sure = p.1.1.0; reach = p.1.1.1.0; owned = p.1.1.1.1 }) (λ _. refl)
 
 -- the index of a child of which none is known
 abbrev pub unknown : ℕ
-unknown = 18446744073709551615
+unknown = 4294967295
 
 -- What a kept index tells of a child's place: it is the place where either is below the parent's count of right ones, and else both are beyond that;
 -- and it is unknown from the parent's reach on.

@@ -6,28 +6,28 @@ ghost use Rattle.dom_model.specs.PlainLists.Lists.{from_first};
 ghost use Rattle.dom_model.specs.Forests.Forest.{HasNode, parent_of, children_of};
 
 use crate::item::Item;
+use crate::nearby::{link_to, number_of, place_of};
 use crate::node_id::NodeId;
-use crate::tree::{Tree, number_of, slot_of, slot_of_any};
-use dom_links::{Links, Slot};
+use crate::tree::Tree;
+use dom_links::{Link, Store};
 use std::marker::Model;
 
 /// The children of a node that are still to come, in tree order. It goes from one to the next in the store.
 #[derive(Drop)]
 pub struct Children<'a, X> {
-    links: &'a Links<Item<X>>,
-    next: Option<Slot>,
+    links: &'a Store<Item<X>>,
+    next: Link,
 }
 
 impl<'a, X> Model for Children<'a, X> {
     ghost use Rattle.std.specs.Prelude.{List, ℕ};
-    ghost use Rattle.dom_model.specs.Forests.Arena.{entry_at};
     ghost use Rattle.dom_tree.specs.Following.{numbers_from, IsChild};
 
     ghost Value = { List ℕ };
 
     ghost view = { λ c. numbers_from c.links.now c.next };
 
-    ghost invariant = { λ c. IsChild (entry_at c.links.now) c.next };
+    ghost invariant = { λ c. IsChild c.links.now c.next };
 }
 
 impl<'a, X> Iterator for Children<'a, X> {
@@ -40,11 +40,11 @@ impl<'a, X> Iterator for Children<'a, X> {
     ghost remaining = { item_count (λ s. s) };
 
     fn next(&mut self) -> Option<NodeId> {
-        let slot = self.next?;
+        let place = self.next.get()?;
         let links = self.links;
         links.sound();
-        self.next = links.next(slot);
-        Some(number_of(links, slot))
+        self.next = links.next(place);
+        Some(number_of(links, place))
     }
 }
 
@@ -55,7 +55,7 @@ impl<X> Tree<X> {
         ensures { result ≡ children_of self.now.forest parent }
     {
         self.links.sound();
-        let first = self.links.first(slot_of(&self.table, parent));
+        let first = self.links.first(place_of(&self.links, &self.table, parent));
         Children {
             links: &self.links,
             next: first,
@@ -68,7 +68,7 @@ impl<X> Tree<X> {
         ensures { MatchOption child (result ≡ []) (λ c. result ≡ from_first c (children_of self.now.forest parent)) }
     {
         self.links.sound();
-        let from = slot_of_any(&self.table, child);
+        let from = link_to(&self.links, &self.table, child);
         Children {
             links: &self.links,
             next: from,

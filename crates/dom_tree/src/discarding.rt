@@ -6,8 +6,9 @@ ghost use Rattle.dom_model.specs.MutationAlgorithms.Discarding.{is_held_outside}
 ghost use Rattle.dom_tree.specs.Outside.{refers_from};
 ghost use Rattle.dom_tree.specs.Owned.{document_in};
 
+use crate::nearby::place_of;
 use crate::node_id::NodeId;
-use crate::tree::{Tree, slot_of};
+use crate::tree::Tree;
 
 impl<X> Tree<X> {
     /// Whether something outside of a node's tree names the tree: a parent, or a node that has its node document there. It looks at the nodes of the tree alone, as long as nodes are counted by their node documents.
@@ -111,8 +112,9 @@ impl<X: Drop> Tree<X> {
         requires itself { document_in self.old.forest id ≡ Some id }
         ensures { self.new ≡ record self.old { forest = without id self.old.forest } }
     {
-        let slot = slot_of(&self.table, id);
+        let place = place_of(&self.links, &self.table, id);
         self.links.sound();
+        let slot = self.links.slot(place);
         let item = self.links.take(slot);
         self.links.sound();
         self.table.clear(id.number() as usize);

@@ -1,52 +1,55 @@
 //! Node documents, and how many nodes have each (DOM Standard, "Interface Node").
 
-ghost use Rattle.std.specs.Prelude.{◌≡◌, ◌<◌, ◌^◌, Some, IfSome};
-ghost use Rattle.dom_model.specs.Forests.Arena.{IsHeld, entry_at};
+ghost use Rattle.std.specs.Prelude.{◌≡◌, ◌+◌, ◌<◌, ◌^◌, Some, IfSome};
+ghost use Rattle.dom_model.specs.Forests.Arena.{entry_at};
 ghost use Rattle.dom_model.specs.Forests.Forest.{HasNode, with_node, in_document};
 ghost use Rattle.dom_tree.specs.Owned.{owned_by};
+ghost use Rattle.dom_links.specs.Placed.{slot_of, IsPlaced};
+ghost use Rattle.dom_tree.specs.Places.{with_arena};
 ghost use Rattle.dom_tree.specs.Slots.{owned_in, document_in_slot, owning, one_more, one_less, homed};
 
 use crate::item::Item;
+use crate::nearby::{place_at, place_of};
 use crate::node_id::NodeId;
-use crate::tree::{Tree, slot_at, slot_of};
-use dom_links::{Links, Slot};
+use crate::tree::Tree;
+use dom_links::{Place, Store};
 
-// Sets how many nodes have the node in a slot as their node document.
-fn set_owned<X>(links: &mut Links<Item<X>>, slot: Slot, owned: u64)
-    requires { IsHeld links.old slot }
-    ensures { links.new ≡ owning links.old slot owned }
+// Sets how many nodes have the node at a place as their node document.
+fn set_owned<X>(links: &mut Store<Item<X>>, place: Place, owned: u32)
+    requires { IsPlaced links.old place }
+    ensures { links.new ≡ with_arena (owning links.old.arena (slot_of links.old place) owned) links.old }
 {
-    let item = links.value_mut(slot);
+    let item = links.value_mut(place);
     item.owned = owned;
 }
 
 // Counts one node more for a node document.
-fn count_in<X>(links: &mut Links<Item<X>>, document: Slot)
-    requires held { IsHeld links.old document }
-    requires few { owned_in (entry_at links.old document) < 2 ^ 32 }
-    ensures { links.new ≡ one_more links.old document }
+fn count_in<X>(links: &mut Store<Item<X>>, document: Place)
+    requires placed { IsPlaced links.old document }
+    requires few { owned_in (entry_at links.old.arena (slot_of links.old document)) + 1 < 2 ^ 32 }
+    ensures { links.new ≡ with_arena (one_more links.old.arena (slot_of links.old document)) links.old }
 {
     let owned = links.value(document).owned;
     set_owned(links, document, owned + 1);
 }
 
 // Counts one node less for a node document.
-fn count_out<X>(links: &mut Links<Item<X>>, document: Slot)
-    requires held { IsHeld links.old document }
-    requires some { 0 < owned_in (entry_at links.old document) }
-    ensures { links.new ≡ one_less links.old document }
+fn count_out<X>(links: &mut Store<Item<X>>, document: Place)
+    requires placed { IsPlaced links.old document }
+    requires some { 0 < owned_in (entry_at links.old.arena (slot_of links.old document)) }
+    ensures { links.new ≡ with_arena (one_less links.old.arena (slot_of links.old document)) links.old }
 {
     let owned = links.value(document).owned;
     set_owned(links, document, owned - 1);
 }
 
-// Sets the node document of the node in a slot, and answers the former one.
-fn replace_document<X>(links: &mut Links<Item<X>>, slot: Slot, document: NodeId) -> NodeId
-    requires { IsHeld links.old slot }
-    ensures former { document_in_slot (entry_at links.old slot) ≡ Some result }
-    ensures written { links.new ≡ homed links.old slot document }
+// Sets the node document of the node at a place, and answers the former one.
+fn replace_document<X>(links: &mut Store<Item<X>>, place: Place, document: NodeId) -> NodeId
+    requires { IsPlaced links.old place }
+    ensures former { document_in_slot (entry_at links.old.arena (slot_of links.old place)) ≡ Some result }
+    ensures written { links.new ≡ with_arena (homed links.old.arena (slot_of links.old place) document) links.old }
 {
-    let item = links.value_mut(slot);
+    let item = links.value_mut(place);
     let former = item.document;
     item.document = document;
     former
@@ -58,16 +61,16 @@ impl<X> Tree<X> {
         requires { HasNode self.old.forest id }
         ensures { self.new ≡ record self.old { forest = with_node id (in_document document) self.old.forest } }
     {
-        let slot = slot_of(&self.table, id);
-        let former = replace_document(&mut self.links, slot, document);
+        let place = place_of(&self.links, &self.table, id);
+        let former = replace_document(&mut self.links, place, document);
         if self.strays {
             return;
         }
-        let Some(to) = slot_at(&self.table, document) else {
+        let Some(to) = place_at(&self.links, &self.table, document) else {
             self.strays = true;
             return;
         };
-        let from = slot_of(&self.table, former);
+        let from = place_of(&self.links, &self.table, former);
         count_out(&mut self.links, from);
         count_in(&mut self.links, to);
     }
@@ -84,10 +87,10 @@ impl<X> Tree<X> {
         requires { HasNode self.now.forest id }
         ensures { IfSome result (λ n. n ≡ owned_by self.now.forest self.now.made id) }
     {
-        let slot = slot_of(&self.table, id);
+        let place = place_of(&self.links, &self.table, id);
         if self.strays {
             return None;
         }
-        Some(self.links.value(slot).owned)
+        Some(self.links.value(place).owned as u64)
     }
 }

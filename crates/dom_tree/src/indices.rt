@@ -3,8 +3,9 @@
 ghost use Rattle.std.specs.Prelude.{◌≡◌, nat_lt, IsSome, IfSome};
 ghost use Rattle.dom_model.specs.Forests.Forest.{HasNode, parent_of, index_of};
 
+use crate::nearby::{self, place_of};
 use crate::node_id::NodeId;
-use crate::tree::{Tree, slot_of};
+use crate::tree::Tree;
 use crate::upkeep::number_up_to;
 
 // How far an index is looked for before it is made known.
@@ -16,12 +17,12 @@ impl<X> Tree<X> {
         requires { HasNode self.now.forest id }
         ensures { IfSome result (λ i. i ≡ index_of self.now.forest id) }
     {
-        let slot = slot_of(&self.table, id);
+        let place = place_of(&self.links, &self.table, id);
         self.links.sound();
-        let parent = self.links.parent(slot)?;
-        let index = self.links.value(slot).index;
-        if index < self.links.value(parent).sure {
-            return Some(index);
+        let above = nearby::parent(&self.links, place)?;
+        let index = self.links.value(place).index;
+        if index < self.links.value(above).sure {
+            return Some(index as usize);
         }
         None
     }
@@ -32,10 +33,10 @@ impl<X> Tree<X> {
         requires index { index ≡ index_of self.old.forest id }
         ensures { self.new ≡ self.old }
     {
-        let slot = slot_of(&self.table, id);
+        let place = place_of(&self.links, &self.table, id);
         self.links.sound();
-        if let Some(parent) = self.links.parent(slot) {
-            number_up_to(&mut self.links, parent, slot, index);
+        if let Some(above) = nearby::parent(&self.links, place) {
+            number_up_to(&mut self.links, above, place, index);
         }
     }
 
@@ -68,7 +69,7 @@ impl<X> Tree<X> {
     }
 
     /// Whether `a` comes before `b` among the children of their parent. Where that is not found 64 steps to both sides of `a`, the indices of both are made known, so that it is known when it is asked for again. It takes no memory.
-    pub fn found_before(&mut self, a: NodeId, b: NodeId) -> bool
+    pub fn found_comes_before(&mut self, a: NodeId, b: NodeId) -> bool
         requires a_held { HasNode self.old.forest a }
         requires b_held { HasNode self.old.forest b }
         requires one_parent { parent_of self.old.forest a ≡ parent_of self.old.forest b }

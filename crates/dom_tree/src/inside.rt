@@ -5,8 +5,9 @@ ghost use Rattle.std.specs.List.{list_any};
 ghost use Rattle.dom_model.specs.PlainLists.Lists.{among, after, last_of};
 ghost use Rattle.dom_model.specs.Forests.Forest.{HasNode, parent_of, ancestors, inclusive_descendants};
 
+use crate::nearby::{self, number_of, place_at, place_of};
 use crate::node_id::NodeId;
-use crate::tree::{Tree, number_of, slot_at, slot_of};
+use crate::tree::Tree;
 
 impl<X> Tree<X> {
     /// Whether a number is that of an inclusive descendant of `top`. The tree may hold neither; it does not climb where `top` has no children.
@@ -15,10 +16,10 @@ impl<X> Tree<X> {
     {
         self.sound();
         self.links.sound();
-        let Some(slot) = slot_at(&self.table, top) else {
+        let Some(place) = place_at(&self.links, &self.table, top) else {
             return false;
         };
-        match self.links.first(slot) {
+        match nearby::first(&self.links, place) {
             None => node == top,
             Some(_) => self.holds(node) && self.is_ancestor(top, node),
         }
@@ -32,16 +33,16 @@ impl<X> Tree<X> {
     {
         self.sound();
         self.links.sound();
-        let mut here = slot_of(&self.table, id);
-        if let Some(child) = self.links.first(here) {
+        let mut here = place_of(&self.links, &self.table, id);
+        if let Some(child) = nearby::first(&self.links, here) {
             return Some(number_of(&self.links, child));
         }
-        let end = slot_of(&self.table, top);
-        while here != end {
-            if let Some(next) = self.links.next(here) {
+        let end = self.links.slot(place_of(&self.links, &self.table, top));
+        while self.links.slot(here) != end {
+            if let Some(next) = nearby::next(&self.links, here) {
                 return Some(number_of(&self.links, next));
             }
-            here = self.links.parent(here).unwrap();
+            here = nearby::parent(&self.links, here).unwrap();
         }
         None
     }
@@ -53,8 +54,8 @@ impl<X> Tree<X> {
     {
         self.sound();
         self.links.sound();
-        let mut here = slot_of(&self.table, id);
-        while let Some(last) = self.links.last(here) {
+        let mut here = place_of(&self.links, &self.table, id);
+        while let Some(last) = nearby::last(&self.links, here) {
             here = last;
         }
         number_of(&self.links, here)
@@ -71,7 +72,8 @@ impl<X> Tree<X> {
     ) -> Option<bool>
         requires held { HasNode self.now.forest top }
         requires callable { F.IsAlwaysCallable test }
-        ensures found { (nodes : List ℕ) → ((n : ℕ) (passes : Bool) → F.post test n passes → passes ≡ among n nodes) → IfSome result (λ any. any ≡ list_any (λ m. among m (inclusive_descendants self.now.forest top)) nodes) }
+        ensures found { (nodes : List ℕ) → ((n : ℕ) (passes : Bool) → F.post test n passes → passes ≡ among n nodes) →
+            IfSome result (λ any. any ≡ list_any (λ m. among m (inclusive_descendants self.now.forest top)) nodes) }
         ensures answered { length (inclusive_descendants self.now.forest top) ≤ steps → IsSome result }
     {
         self.sound();

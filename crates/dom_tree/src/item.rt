@@ -5,7 +5,7 @@ use dom_kinds::Label;
 use std::marker::Model;
 
 /// The index of a child of which none is known.
-pub const UNKNOWN: usize = usize::MAX;
+pub const UNKNOWN: u32 = u32::MAX;
 
 /// A node as its slot holds it, with the number that callers know it by.
 ///
@@ -16,10 +16,10 @@ pub struct Item<X> {
     pub document: NodeId,
     pub label: Label,
     pub body: X,
-    pub index: usize,
-    pub sure: usize,
-    pub reach: usize,
-    pub owned: u64,
+    pub index: u32,
+    pub sure: u32,
+    pub reach: u32,
+    pub owned: u32,
 }
 
 impl<X> Model for Item<X> {
@@ -29,5 +29,11 @@ impl<X> Model for Item<X> {
 
     ghost coded = { kept_code X.code };
 
-    ghost view = { λ i. record { node = record { number = i.number; document = i.document; label = i.label; body = i.body }; index = i.index; sure = i.sure; reach = i.reach; owned = i.owned } };
+    ghost view = { λ i. record {
+      node = record { number = i.number; document = i.document; label = i.label; body = i.body };
+      index = i.index;
+      sure = i.sure;
+      reach = i.reach;
+      owned = i.owned;
+    } };
 }

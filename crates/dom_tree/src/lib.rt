@@ -1,6 +1,7 @@
 //! The tree of nodes, told on nested lists and kept in linked slots (DOM Standard, "Trees").
 #![tactic(auto)]
 
+mod at;
 mod body;
 mod children;
 mod discarding;
@@ -10,12 +11,13 @@ mod inside;
 mod item;
 mod kinds;
 mod meeting;
+mod nearby;
 mod node_id;
-mod slot_number;
 mod tree;
 mod upkeep;
 mod walks;
 
+pub use at::At;
 pub use body::Body;
 pub use children::Children;
 pub use meeting::Meeting;

@@ -4,8 +4,10 @@ ghost use Rattle.std.specs.Prelude.{◌≡◌, ◌+◌, ◌<◌, length, Some, N
 ghost use Rattle.dom_model.specs.Forests.Forest.{HasNode, ancestors, root_of};
 ghost use Rattle.dom_tree.specs.Ways.{CameThrough, IsOnWay, AreApart};
 
+use crate::nearby::{self, named, number_of, place_of};
 use crate::node_id::NodeId;
-use crate::tree::{Tree, named, number_of, slot_of};
+use crate::tree::Tree;
+use dom_links::Link;
 
 /// The deepest node on the ways up from two nodes, and its child on the way to each; none where the way begins there.
 #[derive(Clone, Copy, Debug)]
@@ -73,9 +75,9 @@ impl<X> Tree<X> {
     {
         self.sound();
         self.links.sound();
-        let mut here = slot_of(&self.table, id);
+        let mut here = place_of(&self.links, &self.table, id);
         for depth in 0..self.live {
-            match self.links.parent(here) {
+            match nearby::parent(&self.links, here) {
                 Some(parent) => here = parent,
                 None => return depth,
             }
@@ -93,11 +95,11 @@ impl<X> Tree<X> {
     {
         self.sound();
         self.links.sound();
-        let mut here = slot_of(&self.table, id);
-        let mut child = None;
+        let mut here = place_of(&self.links, &self.table, id);
+        let mut child = Link::none();
         for _passed in 0..steps {
-            let above = self.links.parent(here).unwrap();
-            child = Some(here);
+            let above = nearby::parent(&self.links, here).unwrap();
+            child = Link::to(here);
             here = above;
         }
         Step {
@@ -119,12 +121,12 @@ impl<X> Tree<X> {
     {
         self.sound();
         self.links.sound();
-        let mut left = slot_of(&self.table, a);
-        let mut right = slot_of(&self.table, b);
+        let mut left = place_of(&self.links, &self.table, a);
+        let mut right = place_of(&self.links, &self.table, b);
         loop {
-            let left_parent = self.links.parent(left).unwrap();
-            let right_parent = self.links.parent(right).unwrap();
-            if left_parent == right_parent {
+            let left_parent = nearby::parent(&self.links, left).unwrap();
+            let right_parent = nearby::parent(&self.links, right).unwrap();
+            if self.links.slot(left_parent) == self.links.slot(right_parent) {
                 return Fork {
                     node: number_of(&self.links, left_parent),
                     left: number_of(&self.links, left),

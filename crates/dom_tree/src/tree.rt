@@ -1,22 +1,21 @@
 //! The tree: making nodes, reading them, and changing where they stand.
 
-ghost use Rattle.std.specs.Prelude.{◌≡◌, ◌+◌, ◌<◌, length, Some, None, IsSome, is_some, option_map, unwrap_or, IfSome, IfOk, OnOk, OnErr, false};
+ghost use Rattle.std.specs.Prelude.{◌≡◌, ◌+◌, ◌<◌, length, Some, None, IsSome, is_some, unwrap_or, IfSome, IfOk, OnOk, OnErr, false};
 ghost use Rattle.std.specs.Borrow.{sem};
 ghost use Rattle.std.specs.Option.{ForSome};
 ghost use Rattle.dom_model.specs.PlainLists.Lists.{among, head_of, last_of};
-ghost use Rattle.dom_model.specs.Forests.Arena.{IsHeld, entry_at};
+ghost use Rattle.dom_model.specs.Forests.Arena.{entry_at};
 ghost use Rattle.dom_model.specs.Forests.Forest.{empty, node, beside, size, entry_in, HasNode, parent_of, children_of, next_of, previous_of, ancestors, put, cut, IsForest};
+ghost use Rattle.dom_links.specs.Placed.{slot_of, IsPlaced};
 ghost use Rattle.dom_tree.specs.Bodies.{lends_item_body};
-ghost use Rattle.dom_tree.specs.Spelled.{slot_in, slot_for, number_in_slot};
-ghost use Rattle.dom_tree.specs.Slots.{nodes_alone};
 ghost use Rattle.dom_tree.specs.Standing.{MayStand};
 
 use crate::item::Item;
+use crate::nearby::{link_to, named, place_of};
 use crate::node_id::NodeId;
-use crate::slot_number::SlotNumber;
 use crate::upkeep::{number_cut, number_put};
 use dom_kinds::Label;
-use dom_links::{Links, Slot};
+use dom_links::{Place, Store};
 use dom_pages::Pages;
 use std::alloc::{AllocError, Global};
 use std::marker::Model;
@@ -26,8 +25,8 @@ use std::marker::Model;
 /// `strays` is set, for good, where a node document may be no node of the tree. Until then each node's `owned` is right.
 #[derive(Drop)]
 pub struct Tree<X> {
-    pub(crate) links: Links<Item<X>>,
-    pub(crate) table: Pages<SlotNumber>,
+    pub(crate) links: Store<Item<X>>,
+    pub(crate) table: Pages<Place>,
     pub(crate) live: u64,
     pub(crate) strays: bool,
 }
@@ -37,70 +36,25 @@ impl<X> Model for Tree<X> {
     ghost use Rattle.dom_model.specs.Forests.Forest.{Grove};
     ghost use Rattle.dom_model.specs.Forests.ForestCode.{grove_code};
     ghost use Rattle.dom_tree.specs.Spelled.{shown};
-    ghost use Rattle.dom_tree.specs.Slots.{nodes_alone, IsTree};
+    ghost use Rattle.dom_tree.specs.Slots.{nodes_alone};
+    ghost use Rattle.dom_tree.specs.Places.{slots_in, IsSeated};
 
     ghost Value = { Grove X };
 
     ghost coded = { grove_code X.code };
 
-    ghost view = { λ t. record { forest = shown (nodes_alone t.links) t.table.items; made = length t.table.items } };
+    ghost view = { λ t. record { forest = shown (nodes_alone t.links.arena) (slots_in t.links t.table.items); made = length (slots_in t.links t.table.items) } };
 
-    ghost invariant = { λ t. IsTree t.links t.table.items t.live t.strays };
+    ghost invariant = { λ t. IsSeated t.links t.table.items t.live t.strays };
 }
 
-/// The slot of a number, where the table has one.
-pub(crate) fn slot_at(table: &Pages<SlotNumber>, id: NodeId) -> Option<Slot>
-    ensures { result ≡ slot_in table.now.items id }
+// The body of the node at a place.
+fn body_in<X>(links: &mut Store<Item<X>>, place: Place) -> &mut X
+    requires { IsPlaced links.old place }
+    ensures* writes_back { sem 𝓛 (lends_item_body X.row links.entry place result) }
+    ensures value { IfSome (entry_at links.old.arena (slot_of links.old place)) (λ e. result.now ≡ e.value.node.body) }
 {
-    let found = table.get(id.number() as usize)?;
-    Some(found.slot())
-}
-
-/// The slot of a number that the table has.
-pub(crate) fn slot_of(table: &Pages<SlotNumber>, id: NodeId) -> Slot
-    requires { IsSome (slot_in table.now.items id) }
-    ensures { slot_in table.now.items id ≡ Some result }
-{
-    table.get(id.number() as usize).unwrap().slot()
-}
-
-/// The slot of a number, where there is one.
-pub(crate) fn slot_of_any(table: &Pages<SlotNumber>, id: Option<NodeId>) -> Option<Slot>
-    requires { ForSome id (λ n. IsSome (slot_in table.now.items n)) }
-    ensures { slot_for table.now.items id ≡ result }
-{
-    match id {
-        Some(id) => Some(slot_of(table, id)),
-        None => None,
-    }
-}
-
-/// The number of the node in a slot.
-pub(crate) fn number_of<X>(links: &Links<Item<X>>, slot: Slot) -> NodeId
-    requires { IsHeld (nodes_alone links.now) slot }
-    ensures { result ≡ number_in_slot (entry_at (nodes_alone links.now)) slot }
-{
-    links.value(slot).number
-}
-
-/// The numbers in place of the slots.
-pub(crate) fn named<X>(links: &Links<Item<X>>, slot: Option<Slot>) -> Option<NodeId>
-    requires { ForSome slot (λ s. IsHeld (nodes_alone links.now) s) }
-    ensures { result ≡ option_map (number_in_slot (entry_at (nodes_alone links.now))) slot }
-{
-    match slot {
-        Some(slot) => Some(number_of(links, slot)),
-        None => None,
-    }
-}
-
-// The body in a slot.
-fn body_in<X>(links: &mut Links<Item<X>>, slot: Slot) -> &mut X
-    requires { IsHeld links.old slot }
-    ensures* writes_back { sem 𝓛 (lends_item_body X.row links.entry slot result) }
-    ensures value { IfSome (entry_at links.old slot) (λ e. result.now ≡ e.value.node.body) }
-{
-    let item = links.value_mut(slot);
+    let item = links.value_mut(place);
     &mut item.body
 }
 
@@ -114,7 +68,11 @@ impl<X: Drop> Tree<X> {
     ) -> Result<NodeId, AllocError>
         requires room { self.old.made < 4294967295 }
         ensures number { IfOk result (λ id. id ≡ self.old.made) }
-        ensures made { OnOk result (self.new ≡ record { forest = beside self.old.forest (node (record { number = self.old.made; document = unwrap_or document self.old.made; label = label; body = body }) empty empty); made = self.old.made + 1 }) }
+        ensures made { OnOk result (self.new ≡ record {
+          forest = beside self.old.forest
+              (node (record { number = self.old.made; document = unwrap_or document self.old.made; label = label; body = body }) empty empty);
+          made = self.old.made + 1;
+        }) }
         ensures unchanged { OnErr result (self.new ≡ self.old) }
     {
         self.sound();
@@ -127,7 +85,11 @@ impl<X: Drop> Tree<X> {
     fn make_alone(&mut self, label: Label, body: X) -> Result<NodeId, AllocError>
         requires room { self.old.made < 4294967295 }
         ensures number { IfOk result (λ id. id ≡ self.old.made) }
-        ensures made { OnOk result (self.new ≡ record { forest = beside self.old.forest (node (record { number = self.old.made; document = self.old.made; label = label; body = body }) empty empty); made = self.old.made + 1 }) }
+        ensures made { OnOk result (self.new ≡ record {
+          forest = beside self.old.forest
+              (node (record { number = self.old.made; document = self.old.made; label = label; body = body }) empty empty);
+          made = self.old.made + 1;
+        }) }
         ensures unchanged { OnErr result (self.new ≡ self.old) }
     {
         self.table.reserve(1)?;
@@ -146,7 +108,8 @@ impl<X: Drop> Tree<X> {
         let Ok(slot) = self.links.add(item) else {
             return Err(AllocError);
         };
-        self.table.push_reserved(SlotNumber::of(slot));
+        let place = self.links.place(slot);
+        self.table.push_reserved(place);
         self.live += 1;
         Ok(id)
     }
@@ -160,7 +123,7 @@ impl<X> Tree<X> {
         ensures { result ≡ record { forest = empty; made = 0 } }
     {
         Tree {
-            links: Links::new(alloc),
+            links: Store::new(alloc),
             table: Pages::new(alloc),
             live: 0,
             strays: false,
@@ -200,7 +163,7 @@ impl<X> Tree<X> {
         requires { HasNode self.now.forest id }
         ensures { IfSome (entry_in self.now.forest id) (λ e. result.now ≡ e.value.label) }
     {
-        let item = self.links.value(slot_of(&self.table, id));
+        let item = self.links.value(place_of(&self.links, &self.table, id));
         &item.label
     }
 
@@ -209,7 +172,7 @@ impl<X> Tree<X> {
         requires { HasNode self.now.forest id }
         ensures { IfSome (entry_in self.now.forest id) (λ e. result.now ≡ e.value.body) }
     {
-        let item = self.links.value(slot_of(&self.table, id));
+        let item = self.links.value(place_of(&self.links, &self.table, id));
         &item.body
     }
 
@@ -219,8 +182,8 @@ impl<X> Tree<X> {
         ensures* writes_back { sem 𝓛 (lends_body X.row self.entry id result) }
         ensures value { IfSome (entry_in self.old.forest id) (λ e. result.now ≡ e.value.body) }
     {
-        let slot = slot_of(&self.table, id);
-        body_in(&mut self.links, slot)
+        let place = place_of(&self.links, &self.table, id);
+        body_in(&mut self.links, place)
     }
 
     /// The node document.
@@ -228,7 +191,7 @@ impl<X> Tree<X> {
         requires { HasNode self.now.forest id }
         ensures { IfSome (entry_in self.now.forest id) (λ e. result ≡ e.value.document) }
     {
-        let item = self.links.value(slot_of(&self.table, id));
+        let item = self.links.value(place_of(&self.links, &self.table, id));
         item.document
     }
 
@@ -237,9 +200,9 @@ impl<X> Tree<X> {
         requires { HasNode self.now.forest id }
         ensures { result ≡ parent_of self.now.forest id }
     {
-        let slot = slot_of(&self.table, id);
+        let place = place_of(&self.links, &self.table, id);
         self.links.sound();
-        named(&self.links, self.links.parent(slot))
+        named(&self.links, self.links.parent(place))
     }
 
     /// The first child.
@@ -247,9 +210,9 @@ impl<X> Tree<X> {
         requires { HasNode self.now.forest id }
         ensures { result ≡ head_of (children_of self.now.forest id) }
     {
-        let slot = slot_of(&self.table, id);
+        let place = place_of(&self.links, &self.table, id);
         self.links.sound();
-        named(&self.links, self.links.first(slot))
+        named(&self.links, self.links.first(place))
     }
 
     /// The last child.
@@ -257,9 +220,9 @@ impl<X> Tree<X> {
         requires { HasNode self.now.forest id }
         ensures { result ≡ last_of (children_of self.now.forest id) }
     {
-        let slot = slot_of(&self.table, id);
+        let place = place_of(&self.links, &self.table, id);
         self.links.sound();
-        named(&self.links, self.links.last(slot))
+        named(&self.links, self.links.last(place))
     }
 
     /// The next sibling; none for a root.
@@ -267,9 +230,9 @@ impl<X> Tree<X> {
         requires { HasNode self.now.forest id }
         ensures { result ≡ next_of self.now.forest id }
     {
-        let slot = slot_of(&self.table, id);
+        let place = place_of(&self.links, &self.table, id);
         self.links.sound();
-        named(&self.links, self.links.next(slot))
+        named(&self.links, self.links.next(place))
     }
 
     /// The previous sibling; none for a root.
@@ -277,9 +240,9 @@ impl<X> Tree<X> {
         requires { HasNode self.now.forest id }
         ensures { result ≡ previous_of self.now.forest id }
     {
-        let slot = slot_of(&self.table, id);
+        let place = place_of(&self.links, &self.table, id);
         self.links.sound();
-        named(&self.links, self.links.prev(slot))
+        named(&self.links, self.links.prev(place))
     }
 
     /// How many children there are.
@@ -287,8 +250,8 @@ impl<X> Tree<X> {
         requires { HasNode self.now.forest id }
         ensures { result ≡ length (children_of self.now.forest id) }
     {
-        let slot = slot_of(&self.table, id);
-        self.links.count(slot)
+        let place = place_of(&self.links, &self.table, id);
+        self.links.count(place) as usize
     }
 
     /// Puts a root among a parent's children, just before one of them or last.
@@ -301,12 +264,12 @@ impl<X> Tree<X> {
         requires kinds { MayStand self.old.forest parent child }
         ensures { self.new ≡ record self.old { forest = put parent child before self.old.forest } }
     {
-        let above = slot_of(&self.table, parent);
-        let below = slot_of(&self.table, child);
-        let next = slot_of_any(&self.table, before);
+        let above = place_of(&self.links, &self.table, parent);
+        let below = place_of(&self.links, &self.table, child);
+        let next = link_to(&self.links, &self.table, before);
         self.links.sound();
         self.links.link(above, below, next);
-        number_put(&mut self.links, above, below, &next);
+        number_put(&mut self.links, above, below, next);
     }
 
     /// Takes a child from its parent: it becomes a root, with all that stands under it.
@@ -314,9 +277,9 @@ impl<X> Tree<X> {
         requires { IsSome (parent_of self.old.forest child) }
         ensures { self.new ≡ record self.old { forest = cut child self.old.forest } }
     {
-        let slot = slot_of(&self.table, child);
+        let place = place_of(&self.links, &self.table, child);
         self.links.sound();
-        number_cut(&mut self.links, slot);
-        self.links.unlink(slot);
+        number_cut(&mut self.links, place);
+        self.links.unlink(place);
     }
 }

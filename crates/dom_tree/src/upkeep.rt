@@ -3,66 +3,69 @@
 ghost use Rattle.std.specs.Prelude.{◌≡◌, ◌-◌, ◌<◌, ◌≤◌, Some, IsSome, length, slice_get};
 ghost use Rattle.std.specs.Option.{ForSome};
 ghost use Rattle.dom_model.specs.PlainLists.Lists.{place_in};
-ghost use Rattle.dom_model.specs.Forests.Arena.{IsHeld, IsSound, entry_at, parent_in, children_in};
+ghost use Rattle.dom_model.specs.Forests.Arena.{IsSound, entry_at, parent_in, children_in};
+ghost use Rattle.dom_links.specs.Placed.{slot_of, slots_of, IsPlaced};
+ghost use Rattle.dom_tree.specs.Places.{with_arena, Leads, AreWritten, AreNumbered};
 ghost use Rattle.dom_tree.specs.Slots.{sure_in, reach_in, indexed, assured, IsCounted};
-ghost use Rattle.dom_tree.specs.Numberings.{told, is_beyond, index_put, sure_put, reach_put, numbered_put, numbered_cut, IsWritten, IsNumbered};
+ghost use Rattle.dom_tree.specs.Numberings.{told, is_beyond, index_put, sure_put, reach_put, numbered_put, numbered_cut};
 
 use crate::item::{Item, UNKNOWN};
-use dom_links::{Links, Slot};
+use crate::nearby;
+use dom_links::{Link, Place, Store};
 
 // Sets the kept index of a node.
-fn set_index<X>(links: &mut Links<Item<X>>, slot: Slot, index: usize)
-    requires { IsHeld links.old slot }
-    ensures { links.new ≡ indexed links.old slot index }
+fn set_index<X>(links: &mut Store<Item<X>>, place: Place, index: u32)
+    requires { IsPlaced links.old place }
+    ensures { links.new ≡ with_arena (indexed links.old.arena (slot_of links.old place) index) links.old }
 {
-    let item = links.value_mut(slot);
+    let item = links.value_mut(place);
     item.index = index;
 }
 
 // Sets how many of a node's first children have a right index, and how many may have any.
-fn set_sure<X>(links: &mut Links<Item<X>>, slot: Slot, sure: usize, reach: usize)
-    requires { IsHeld links.old slot }
-    ensures { links.new ≡ assured links.old slot sure reach }
+fn set_sure<X>(links: &mut Store<Item<X>>, place: Place, sure: u32, reach: u32)
+    requires { IsPlaced links.old place }
+    ensures { links.new ≡ with_arena (assured links.old.arena (slot_of links.old place) sure reach) links.old }
 {
-    let item = links.value_mut(slot);
+    let item = links.value_mut(place);
     item.sure = sure;
     item.reach = reach;
 }
 
 // How many of a node's first children have a right index.
-fn sure_of<X>(links: &Links<Item<X>>, slot: Slot) -> usize
-    requires { IsHeld links.now slot }
-    ensures { result ≡ sure_in (entry_at links.now slot) }
+fn sure_of<X>(links: &Store<Item<X>>, place: Place) -> u32
+    requires { IsPlaced links.now place }
+    ensures { result ≡ sure_in (entry_at links.now.arena (slot_of links.now place)) }
 {
-    links.value(slot).sure
+    links.value(place).sure
 }
 
 // How many of a node's first children may have an index.
-fn reach_of<X>(links: &Links<Item<X>>, slot: Slot) -> usize
-    requires { IsHeld links.now slot }
-    ensures { result ≡ reach_in (entry_at links.now slot) }
+fn reach_of<X>(links: &Store<Item<X>>, place: Place) -> u32
+    requires { IsPlaced links.now place }
+    ensures { result ≡ reach_in (entry_at links.now.arena (slot_of links.now place)) }
 {
-    links.value(slot).reach
+    links.value(place).reach
 }
 
 // Whether the last child stands behind all that have an index.
-fn is_beyond<X>(links: &Links<Item<X>>, parent: Slot) -> bool
-    requires parent_held { IsHeld links.now parent }
-    requires child { 0 < length (children_in (entry_at links.now parent)) }
-    ensures { result ≡ is_beyond (entry_at links.now) parent }
+fn is_beyond<X>(links: &Store<Item<X>>, parent: Place) -> bool
+    requires parent_placed { IsPlaced links.now parent }
+    requires child { 0 < length (children_in (entry_at links.now.arena (slot_of links.now parent))) }
+    ensures { result ≡ is_beyond (entry_at links.now.arena) (slot_of links.now parent) }
 {
     let last = links.count(parent) - 1;
     sure_of(links, parent) < last && reach_of(links, parent) < last
 }
 
 // The index that a new child gets: that of the child behind it, or the last, which is unknown where those ahead of it are.
-fn new_index<X>(links: &Links<Item<X>>, parent: Slot, before: &Option<Slot>) -> usize
-    requires parent_held { IsHeld links.now parent }
-    requires child { 0 < length (children_in (entry_at links.now parent)) }
-    requires before_held { ForSome before.now (λ b. IsHeld links.now b) }
-    ensures { result ≡ index_put (entry_at links.now) parent before.now }
+fn new_index<X>(links: &Store<Item<X>>, parent: Place, before: Link) -> u32
+    requires parent_placed { IsPlaced links.now parent }
+    requires child { 0 < length (children_in (entry_at links.now.arena (slot_of links.now parent))) }
+    requires before_placed { ForSome before (λ b. IsPlaced links.now b) }
+    ensures { result ≡ index_put (entry_at links.now.arena) (slot_of links.now parent) (slots_of links.now before) }
 {
-    match *before {
+    match before.get() {
         Some(before) => links.value(before).index,
         None if is_beyond(links, parent) => UNKNOWN,
         None => links.count(parent) - 1,
@@ -70,28 +73,28 @@ fn new_index<X>(links: &Links<Item<X>>, parent: Slot, before: &Option<Slot>) -> 
 }
 
 // How many indices of a parent's children are right with the new child.
-fn new_sure<X>(links: &Links<Item<X>>, parent: Slot, before: &Option<Slot>, index: usize) -> usize
-    requires parent_held { IsHeld links.now parent }
-    requires child { 0 < length (children_in (entry_at links.now parent)) }
-    ensures { result ≡ sure_put (entry_at links.now) parent before.now index }
+fn new_sure<X>(links: &Store<Item<X>>, parent: Place, before: Link, index: u32) -> u32
+    requires parent_placed { IsPlaced links.now parent }
+    requires child { 0 < length (children_in (entry_at links.now.arena (slot_of links.now parent))) }
+    ensures { result ≡ sure_put (entry_at links.now.arena) (slot_of links.now parent) (slots_of links.now before) index }
 {
     let count = links.count(parent);
     let sure = sure_of(links, parent);
-    if before.is_none() && count - 1 <= sure {
+    if before.get().is_none() && count - 1 <= sure {
         return count;
     }
     index.min(sure)
 }
 
 // How many of a parent's children may have an index with the new child.
-fn new_reach<X>(links: &Links<Item<X>>, parent: Slot, before: &Option<Slot>) -> usize
-    requires parent_held { IsHeld links.now parent }
-    requires child { 0 < length (children_in (entry_at links.now parent)) }
-    ensures { result ≡ reach_put (entry_at links.now) parent before.now }
+fn new_reach<X>(links: &Store<Item<X>>, parent: Place, before: Link) -> u32
+    requires parent_placed { IsPlaced links.now parent }
+    requires child { 0 < length (children_in (entry_at links.now.arena (slot_of links.now parent))) }
+    ensures { result ≡ reach_put (entry_at links.now.arena) (slot_of links.now parent) (slots_of links.now before) }
 {
     let count = links.count(parent);
     let reach = reach_of(links, parent);
-    match *before {
+    match before.get() {
         Some(_) => reach.min(count - 1) + 1,
         None if is_beyond(links, parent) => reach,
         None => count,
@@ -99,17 +102,12 @@ fn new_reach<X>(links: &Links<Item<X>>, parent: Slot, before: &Option<Slot>) -> 
 }
 
 /// Keeps the indices right over a child that has just been put before another, or last.
-pub(crate) fn number_put<X>(
-    links: &mut Links<Item<X>>,
-    parent: Slot,
-    child: Slot,
-    before: &Option<Slot>,
-)
-    requires parent_held { IsHeld links.old parent }
-    requires child_held { IsHeld links.old child }
-    requires child { 0 < length (children_in (entry_at links.old parent)) }
-    requires before_held { ForSome before.now (λ b. IsHeld links.old b) }
-    ensures { links.new ≡ numbered_put links.old parent child before.now }
+pub(crate) fn number_put<X>(links: &mut Store<Item<X>>, parent: Place, child: Place, before: Link)
+    requires parent_placed { IsPlaced links.old parent }
+    requires child_placed { IsPlaced links.old child }
+    requires child { 0 < length (children_in (entry_at links.old.arena (slot_of links.old parent))) }
+    requires before_placed { ForSome before (λ b. IsPlaced links.old b) }
+    ensures { links.new ≡ with_arena (numbered_put links.old.arena (slot_of links.old parent) (slot_of links.old child) (slots_of links.old before)) links.old }
 {
     let index = new_index(links, parent, before);
     let sure = new_sure(links, parent, before, index);
@@ -119,12 +117,12 @@ pub(crate) fn number_put<X>(
 }
 
 /// Keeps the indices right over a child that is about to be cut.
-pub(crate) fn number_cut<X>(links: &mut Links<Item<X>>, child: Slot)
-    requires held { IsSome (parent_in (entry_at links.old child)) }
-    requires parent_held { ForSome (parent_in (entry_at links.old child)) (λ p. IsHeld links.old p) }
-    ensures { links.new ≡ numbered_cut links.old child }
+pub(crate) fn number_cut<X>(links: &mut Store<Item<X>>, child: Place)
+    requires placed { IsPlaced links.old child }
+    requires has_parent { IsSome (parent_in (entry_at links.old.arena (slot_of links.old child))) }
+    ensures { links.new ≡ with_arena (numbered_cut links.old.arena (slot_of links.old child)) links.old }
 {
-    let parent = links.parent(child).unwrap();
+    let parent = nearby::parent(links, child).unwrap();
     let index = links.value(child).index;
     let sure = sure_of(links, parent);
     let reach = reach_of(links, parent);
@@ -132,22 +130,23 @@ pub(crate) fn number_cut<X>(links: &mut Links<Item<X>>, child: Slot)
 }
 
 // The child so many places ahead of another.
-fn child_ahead<X>(links: &Links<Item<X>>, parent: Slot, child: Slot, steps: usize) -> Slot
-    requires sound { IsSound links.now }
-    requires child { parent_in (entry_at links.now child) ≡ Some parent }
-    requires within { steps ≤ place_in child (children_in (entry_at links.now parent)) }
-    ensures { slice_get (children_in (entry_at links.now parent)) (place_in child (children_in (entry_at links.now parent)) - steps) ≡ Some result }
+fn child_ahead<X>(links: &Store<Item<X>>, parent: Place, child: Place, steps: u32) -> Place
+    requires sound { IsSound links.now.arena }
+    requires placed { IsPlaced links.now child }
+    requires child { parent_in (entry_at links.now.arena (slot_of links.now child)) ≡ Some (slot_of links.now parent) }
+    requires within { steps ≤ place_in (slot_of links.now child) (children_in (entry_at links.now.arena (slot_of links.now parent))) }
+    ensures { Leads links.now (Some result) (slice_get (children_in (entry_at links.now.arena (slot_of links.now parent))) (place_in (slot_of links.now child) (children_in (entry_at links.now.arena (slot_of links.now parent))) - steps)) }
 {
     let mut here = child;
     for _passed in 0..steps {
-        let ahead = links.prev(here).unwrap();
+        let ahead = nearby::prev(links, here).unwrap();
         here = ahead;
     }
     here
 }
 
 // The index that is written for a child at a place.
-fn told(known: bool, place: usize) -> usize
+fn told(known: bool, place: u32) -> u32
     ensures { result ≡ told known place }
 {
     if known { place } else { UNKNOWN }
@@ -155,23 +154,23 @@ fn told(known: bool, place: usize) -> usize
 
 // Writes the indices of a parent's children from one of them on, which is given with its place, and ahead of another place: that each is at its place, or that none is known.
 fn write_indices<X>(
-    links: &mut Links<Item<X>>,
-    parent: Slot,
-    first: Option<Slot>,
-    from: usize,
-    until: usize,
+    links: &mut Store<Item<X>>,
+    parent: Place,
+    first: Link,
+    from: u32,
+    until: u32,
     known: bool,
 )
-    requires held { IsHeld links.old parent }
-    requires sound { IsSound links.old }
-    requires first { first ≡ slice_get (children_in (entry_at links.old parent)) from }
+    requires placed { IsPlaced links.old parent }
+    requires sound { IsSound links.old.arena }
+    requires first { Leads links.old first (slice_get (children_in (entry_at links.old.arena (slot_of links.old parent))) from) }
     requires ordered { from ≤ until }
-    requires within { until ≤ length (children_in (entry_at links.old parent)) }
-    ensures { IsWritten links.old links.new parent from until known }
+    requires within { until ≤ length (children_in (entry_at links.old.arena (slot_of links.old parent))) }
+    ensures { AreWritten links.old links.new parent from until known }
 {
     let mut next = first;
     for place in from..until {
-        let child = next.unwrap();
+        let child = next.get().unwrap();
         let index = told(known, place);
         set_index(links, child, index);
         next = links.next(child);
@@ -179,20 +178,22 @@ fn write_indices<X>(
 }
 
 /// Makes the index of a child known, which is given, with those of its siblings ahead of it. Those behind it get none. It goes from the child to the nearest one in front whose index is right, and over those behind that may have one.
-pub(crate) fn number_up_to<X>(links: &mut Links<Item<X>>, parent: Slot, child: Slot, index: usize)
-    requires held { IsHeld links.old parent }
-    requires sound { IsSound links.old }
-    requires counted { IsCounted (entry_at links.old) }
-    requires child { parent_in (entry_at links.old child) ≡ Some parent }
-    requires index { index ≡ place_in child (children_in (entry_at links.old parent)) }
-    ensures { IsNumbered links.old links.new parent child }
+pub(crate) fn number_up_to<X>(links: &mut Store<Item<X>>, parent: Place, child: Place, index: usize)
+    requires parent_placed { IsPlaced links.old parent }
+    requires child_placed { IsPlaced links.old child }
+    requires sound { IsSound links.old.arena }
+    requires counted { IsCounted (entry_at links.old.arena) }
+    requires child { parent_in (entry_at links.old.arena (slot_of links.old child)) ≡ Some (slot_of links.old parent) }
+    requires index { index ≡ place_in (slot_of links.old child) (children_in (entry_at links.old.arena (slot_of links.old parent))) }
+    ensures { AreNumbered links.old links.new parent child }
 {
+    let count = links.count(parent);
+    let index = index as u32;
     let from = index.min(sure_of(links, parent));
     let reach = reach_of(links, parent);
-    let count = links.count(parent);
     let end = index + 1;
     let first = child_ahead(links, parent, child, index - from);
-    write_indices(links, parent, Some(first), from, end, true);
+    write_indices(links, parent, Link::to(first), from, end, true);
     let next = links.next(child);
     let until = reach.min(count).max(end);
     links.sound();

@@ -7,8 +7,9 @@ ghost use Rattle.dom_model.specs.Forests.Forest.{HasNode, entry_in, parent_of, c
 ghost use Rattle.dom_model.specs.Worlds.Lengths.{length_of};
 
 use crate::body::Body;
+use crate::nearby::{self, number_of, place_at, place_of};
 use crate::node_id::NodeId;
-use crate::tree::{Tree, number_of, slot_at, slot_of};
+use crate::tree::Tree;
 use dom_kinds::Kind;
 
 impl<X> Tree<X> {
@@ -19,8 +20,8 @@ impl<X> Tree<X> {
     {
         self.sound();
         self.links.sound();
-        let mut top = slot_of(&self.table, id);
-        while let Some(above) = self.links.parent(top) {
+        let mut top = place_of(&self.links, &self.table, id);
+        while let Some(above) = nearby::parent(&self.links, top) {
             top = above;
         }
         number_of(&self.links, top)
@@ -33,12 +34,13 @@ impl<X> Tree<X> {
     {
         self.sound();
         self.links.sound();
-        let Some(end) = slot_at(&self.table, above) else {
+        let Some(end) = place_at(&self.links, &self.table, above) else {
             return false;
         };
-        let mut here = slot_of(&self.table, id);
-        while here != end {
-            match self.links.parent(here) {
+        let end = self.links.slot(end);
+        let mut here = place_of(&self.links, &self.table, id);
+        while self.links.slot(here) != end {
+            match nearby::parent(&self.links, here) {
                 Some(parent) => here = parent,
                 None => return false,
             }
@@ -53,15 +55,15 @@ impl<X> Tree<X> {
     {
         self.sound();
         self.links.sound();
-        let mut here = slot_of(&self.table, id);
-        if let Some(child) = self.links.first(here) {
+        let mut here = place_of(&self.links, &self.table, id);
+        if let Some(child) = nearby::first(&self.links, here) {
             return Some(number_of(&self.links, child));
         }
         loop {
-            if let Some(next) = self.links.next(here) {
+            if let Some(next) = nearby::next(&self.links, here) {
                 return Some(number_of(&self.links, next));
             }
-            match self.links.parent(here) {
+            match nearby::parent(&self.links, here) {
                 Some(parent) => here = parent,
                 None => return None,
             }
@@ -125,20 +127,20 @@ impl<X> Tree<X> {
     {
         self.sound();
         self.links.sound();
-        let end = slot_of(&self.table, b);
-        let mut forward = slot_of(&self.table, a);
+        let end = self.links.slot(place_of(&self.links, &self.table, b));
+        let mut forward = place_of(&self.links, &self.table, a);
         let mut backward = forward;
         for _passed in 0..steps {
-            let Some(next) = self.links.next(forward) else {
+            let Some(next) = nearby::next(&self.links, forward) else {
                 return Some(false);
             };
-            if next == end {
+            if self.links.slot(next) == end {
                 return Some(true);
             }
-            let Some(prev) = self.links.prev(backward) else {
+            let Some(prev) = nearby::prev(&self.links, backward) else {
                 return Some(true);
             };
-            if prev == end {
+            if self.links.slot(prev) == end {
                 return Some(false);
             }
             forward = next;
@@ -176,22 +178,22 @@ impl<X> Tree<X> {
     {
         self.sound();
         self.links.sound();
-        let mut backward = slot_of(&self.table, id);
+        let mut backward = place_of(&self.links, &self.table, id);
         let mut forward = backward;
-        let Some(parent) = self.links.parent(backward) else {
+        let Some(parent) = nearby::parent(&self.links, backward) else {
             return Some(0);
         };
-        let count = self.links.count(parent);
+        let count = self.links.count(parent) as usize;
         let sure = self.links.value(parent).sure;
         for passed in 0..=steps.min(count) {
             let index = self.links.value(backward).index;
             if index < sure {
-                return Some(passed + index);
+                return Some(passed + index as usize);
             }
-            let Some(prev) = self.links.prev(backward) else {
+            let Some(prev) = nearby::prev(&self.links, backward) else {
                 return Some(passed);
             };
-            let Some(next) = self.links.next(forward) else {
+            let Some(next) = nearby::next(&self.links, forward) else {
                 return Some(count - 1 - passed);
             };
             backward = prev;
@@ -222,9 +224,9 @@ impl<X> Tree<X> {
     {
         self.sound();
         self.links.sound();
-        let mut child = self.links.first(slot_of(&self.table, id))?;
+        let mut child = nearby::first(&self.links, place_of(&self.links, &self.table, id))?;
         for _passed in 0..steps {
-            child = self.links.next(child)?;
+            child = nearby::next(&self.links, child)?;
         }
         Some(number_of(&self.links, child))
     }
@@ -237,9 +239,9 @@ impl<X> Tree<X> {
     {
         self.sound();
         self.links.sound();
-        let mut child = self.links.last(slot_of(&self.table, id))?;
+        let mut child = nearby::last(&self.links, place_of(&self.links, &self.table, id))?;
         for _passed in 0..steps {
-            child = self.links.prev(child)?;
+            child = nearby::prev(&self.links, child)?;
         }
         Some(number_of(&self.links, child))
     }

@@ -65,7 +65,8 @@ detail_json DocumentFragment label body = []
 
 abbrev pub row_json : TreeRow → Data
 row_json r =
-    list_json (number_json r.depth ∷ number_json r.number ∷ number_json (number_of_kind r.label.kind) ∷ string (node_name r.label) ∷ detail_json r.label.kind r.label r.body)
+    list_json (number_json r.depth ∷ number_json r.number ∷ number_json (number_of_kind r.label.kind) ∷ string (node_name r.label)
+    ∷ detail_json r.label.kind r.label r.body)
 
 abbrev pub type_member : Label → Members
 type_member label = member (codes "type") (number_json (number_of_kind label.kind)) no_members

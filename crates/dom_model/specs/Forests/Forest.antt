@@ -95,7 +95,9 @@ module _ {X : Type 0} where
   abbrev pub placed_under : ℕ → Option ℕ → Forest X → Forest X → Forest X
   placed_under parent before g empty = empty
   placed_under parent before g (node x kids rest) =
-      node x (if x.number == parent then placed_before before g (placed_under parent before g kids) else placed_under parent before g kids) (placed_under parent before g rest)
+      node x
+      (if x.number == parent then placed_before before g (placed_under parent before g kids) else placed_under parent before g kids)
+      (placed_under parent before g rest)
 
   -- g put among the roots, by rising number
   abbrev pub placed_root : ℕ → Forest X → Forest X → Forest X

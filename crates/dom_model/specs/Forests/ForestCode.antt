@@ -11,7 +11,8 @@ use Rattle.dom_model.specs.Forests.Forest.{Node, Forest, empty, node, Grove}
 -- the kind of a nodeType, where there is one
 abbrev pub kind_numbered : ℕ → Kind
 kind_numbered n =
-    if n == 1 then Element else if n == 3 then Text else if n == 7 then ProcessingInstruction else if n == 8 then Comment else if n == 9 then Document else if n == 10 then DocumentType else DocumentFragment
+    if n == 1 then Element else if n == 3 then Text else if n == 7 then ProcessingInstruction else if n == 8 then Comment else if n == 9 then Document
+    else if n == 10 then DocumentType else DocumentFragment
 
 pub kind_numbered-number : (k : Kind) → kind_numbered (number_of_kind k) ≡ k
 kind_numbered-number Element = refl
@@ -27,11 +28,13 @@ kind_code = code_by ℕ coded_ℕ number_of_kind kind_numbered kind_numbered-num
 
 abbrev pub label_code : Coded Label
 label_code =
-    code_by (Kind × (List ℕ × (List ℕ × List ℕ))) (coded× kind_code (coded× (coded_list coded_ℕ) (coded× (coded_list coded_ℕ) (coded_list coded_ℕ)))) (λ l. (l.kind, (l.name, (l.public_id, l.system_id)))) (λ p. record { kind = p.0; name = p.1.0; public_id = p.1.1.0; system_id = p.1.1.1 }) (λ _. refl)
+    code_by (Kind × (List ℕ × (List ℕ × List ℕ))) (coded× kind_code (coded× (coded_list coded_ℕ) (coded× (coded_list coded_ℕ) (coded_list coded_ℕ))))
+    (λ l. (l.kind, (l.name, (l.public_id, l.system_id)))) (λ p. record { kind = p.0; name = p.1.0; public_id = p.1.1.0; system_id = p.1.1.1 }) (λ _. refl)
 
 abbrev pub node_code : {X : Type 0} → Coded X → Coded (Node X)
 node_code {X} c =
-    code_by (ℕ × (ℕ × (Label × X))) (coded× coded_ℕ (coded× coded_ℕ (coded× label_code c))) (λ n. (n.number, (n.document, (n.label, n.body)))) (λ p. record { number = p.0; document = p.1.0; label = p.1.1.0; body = p.1.1.1 }) (λ _. refl)
+    code_by (ℕ × (ℕ × (Label × X))) (coded× coded_ℕ (coded× coded_ℕ (coded× label_code c))) (λ n. (n.number, (n.document, (n.label, n.body))))
+    (λ p. record { number = p.0; document = p.1.0; label = p.1.1.0; body = p.1.1.1 }) (λ _. refl)
 
 abbrev pub head : Gv → Gv
 head gnil = gnil

@@ -29,7 +29,8 @@ removal_from n (Some parent) w = record w {
 }
 
 abbrev pub insertion_at : ℕ → Point → World → World
-insertion_at n p w = put_in p.node (slice_get (children_of w.forest p.node) p.offset) n (record w { ranges = map_ranges (after_gap p.node p.offset 1) w.ranges })
+insertion_at n p w = put_in p.node (slice_get (children_of w.forest p.node) p.offset) n
+    (record w { ranges = map_ranges (after_gap p.node p.offset 1) w.ranges })
 
 -- a new node beside the trees, of a number and with the node document of another
 abbrev pub with_new_text : ℕ → ℕ → List ℕ → World → World

@@ -32,10 +32,16 @@ pub record IsReady (w : World) : Type 0 where
 -- the edit fits the world, as where the operations make it
 pub data Fits (w : World) : Edit → Type 0 where
   fits_removal : (n parent : ℕ) → parent_of w.forest n ≡ Some parent → Fits w (Removal n)
-  fits_insertion : (n : ℕ) (p : Point) → 0 < occurs n w.forest → parent_of w.forest n ≡ None → 0 < occurs p.node w.forest → occurs p.node (tree_at n w.forest) ≡ 0 → kind_passes is_character_data w.forest p.node ≡ false → p.offset ≤ length (children_of w.forest p.node) → Fits w (Insertion n p)
-  fits_splice : (n offset count : ℕ) (units : List ℕ) → 0 < occurs n w.forest → kind_passes is_character_data w.forest n ≡ true → offset + count ≤ length (data_of w n) → Fits w (Splice n offset count units)
-  fits_parting : (p : Point) (new parent : ℕ) → parent_of w.forest p.node ≡ Some parent → kind_passes is_character_data w.forest p.node ≡ true → p.offset ≤ length (data_of w p.node) → occurs new w.forest ≡ 0 → Fits w (Parting p new)
-  fits_merge : (n next parent : ℕ) → parent_of w.forest n ≡ Some parent → parent_of w.forest next ≡ Some parent → index_of w.forest next ≡ index_of w.forest n + 1 → kind_passes is_character_data w.forest n ≡ true → kind_passes is_character_data w.forest next ≡ true → Fits w (Merge n next)
+  fits_insertion : (n : ℕ) (p : Point) → 0 < occurs n w.forest → parent_of w.forest n ≡ None → 0 < occurs p.node w.forest →
+      occurs p.node (tree_at n w.forest) ≡ 0 → kind_passes is_character_data w.forest p.node ≡ false → p.offset ≤ length (children_of w.forest p.node) →
+      Fits w (Insertion n p)
+  fits_splice : (n offset count : ℕ) (units : List ℕ) → 0 < occurs n w.forest → kind_passes is_character_data w.forest n ≡ true →
+      offset + count ≤ length (data_of w n) → Fits w (Splice n offset count units)
+  fits_parting : (p : Point) (new parent : ℕ) → parent_of w.forest p.node ≡ Some parent → kind_passes is_character_data w.forest p.node ≡ true →
+      p.offset ≤ length (data_of w p.node) → occurs new w.forest ≡ 0 → Fits w (Parting p new)
+  fits_merge : (n next parent : ℕ) → parent_of w.forest n ≡ Some parent → parent_of w.forest next ≡ Some parent →
+      index_of w.forest next ≡ index_of w.forest n + 1 → kind_passes is_character_data w.forest n ≡ true →
+      kind_passes is_character_data w.forest next ≡ true → Fits w (Merge n next)
   fits_end_set : (r : ℕ) (side : Bool) (p : Point) (range : Range) → range_at w r ≡ Some range → IsPoint w p → Fits w (EndSet r side p)
   fits_making : (f : Forest Content) → Childless f → ((n : ℕ) → occurs n w.forest + occurs n f ≤ 1) → Fits w (Making f)
   fits_range_making : (r : ℕ) (range : Range) → r ≡ length w.ranges → IsPoint w range.start → IsPoint w range.end → Fits w (RangeMaking r range)

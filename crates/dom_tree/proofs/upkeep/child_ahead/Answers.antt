@@ -1,19 +1,34 @@
 -- Each step goes to the sibling before.
-use Rattle.std.proofs.Common.{sym, ◌∙◌}
-use Rattle.dom_tree.proofs.Written.{ahead-start, ahead-held, ahead-there, ahead-next, ahead-end}
+use Rattle.std.proofs.Common.{refl, sym, subst}
+use Rattle.dom_links.specs.Placed.{slot_of, IsPlaced}
+use Rattle.dom_tree.proofs.Written.{ahead-start, ahead-there, ahead-next, ahead-end}
+use Rattle.dom_tree.proofs.Steps.{led, led-there}
+use Rattle.dom_tree.proofs.Places.{slot-led}
 use Rattle.dom_tree.proofs.upkeep.child_ahead.Goals as goal
 
 pub loop-passed-init : goal.loop-passed-init
-loop-passed-init g c = ahead-start c.requires.sound c.args.parent c.args.child c.args.steps c.requires.child
+loop-passed-init g c = record {
+  ahead = ahead-start c.requires.sound (slot_of c.args.links.now c.args.parent) (slot_of c.args.links.now c.args.child) c.args.steps c.requires.child;
+  placed = c.requires.placed;
+}
 
 pub prev-requires : goal.prev-requires
-prev-requires g c = ahead-held c.requires.sound c.args.parent c.loop-passed.invariant
+prev-requires g c = c.loop-passed.invariant.placed
 
 pub unwrap-ahead-requires : goal.unwrap-ahead-requires
-unwrap-ahead-requires g c = rw c.prev.ensures (ahead-there c.requires.sound c.args.parent c.loop-passed.invariant c.loop-passed-test.true c.requires.within)
+unwrap-ahead-requires g c =
+    led-there c.prev.result _ c.prev.ensures (ahead-there c.requires.sound (slot_of c.args.links.now c.args.parent) c.loop-passed.invariant.ahead c.loop-passed-test.true c.requires.within)
 
 pub loop-passed-preserved : goal.loop-passed-preserved
-loop-passed-preserved g c = ahead-next c.requires.sound c.args.parent c.loop-passed.invariant c.loop-passed-test.true c.unwrap-ahead.result (sym c.prev.ensures ∙ c.unwrap-ahead.ensures)
+loop-passed-preserved g c =
+    let l = led c.unwrap-ahead.ensures c.prev.ensures in
+    record {
+      ahead = ahead-next c.requires.sound (slot_of c.args.links.now c.args.parent) c.loop-passed.invariant.ahead c.loop-passed-test.true (slot_of c.args.links.now c.unwrap-ahead.result) (slot-led l);
+      placed = l.placed c.unwrap-ahead.result refl;
+    }
 
 pub returns : goal.returns
-returns g c = ahead-end c.requires.sound c.args.parent c.loop-passed.invariant c.loop-passed-test.false
+returns g c = record {
+  slot = sym (ahead-end c.requires.sound (slot_of c.args.links.now c.args.parent) c.loop-passed.invariant.ahead c.loop-passed-test.false);
+  placed = λ p e. subst (IsPlaced c.args.links.now) (cc e) c.loop-passed.invariant.placed;
+}

@@ -1,23 +1,37 @@
 -- Each child gets its index, and the next one comes.
-use Rattle.dom_tree.proofs.Written.{writing-start, writing-there, writing-held, writing-still, writing-next, writing-end}
+use Rattle.std.proofs.Common.{IsSome, refl, sym, ◌∙◌, subst}
+use Rattle.dom_links.specs.Placed.{slot_of, slots_of}
+use Rattle.dom_tree.proofs.Written.{writing-start, writing-there, writing-end}
+use Rattle.dom_tree.proofs.Writing.{written-places, written-placed, written-next}
+use Rattle.dom_tree.proofs.Places.{some-mapped}
 use Rattle.dom_tree.proofs.upkeep.write_indices.Goals as goal
 
 pub loop-place-init : goal.loop-place-init
-loop-place-init g c = writing-start c.requires.sound c.args.parent c.args.from c.args.until c.args.known c.args.first c.requires.first c.requires.ordered
+loop-place-init g c = record {
+  writing = writing-start c.requires.sound (slot_of c.args.links.now c.args.parent) c.args.from c.args.until c.args.known (slots_of c.args.links.now c.args.first) c.requires.first.slot c.requires.ordered;
+  places = refl;
+  placed = c.requires.first.placed;
+}
 
 pub unwrap-child-requires : goal.unwrap-child-requires
-unwrap-child-requires g c = writing-there c.requires.sound c.args.parent c.loop-place.invariant c.loop-place-test.true c.requires.within
+unwrap-child-requires g c =
+    subst IsSome (sym c.get.ensures) (some-mapped (slot_of c.args.links.now) c.loop-place.next (writing-there c.requires.sound (slot_of c.args.links.now c.args.parent) c.loop-place.invariant.writing c.loop-place-test.true c.requires.within))
 
 pub set_index-requires : goal.set_index-requires
-set_index-requires g c = writing-held c.requires.sound c.args.parent c.loop-place.invariant c.unwrap-child.result c.unwrap-child.ensures
+set_index-requires g c = c.loop-place.invariant.placed c.unwrap-child.result (sym c.get.ensures ∙ c.unwrap-child.ensures)
 
 pub next-next-requires : goal.next-next-requires
-next-next-requires g c =
-    writing-still c.requires.sound c.args.parent c.loop-place.invariant c.unwrap-child.result c.unwrap-child.ensures c.set_index.new.links c.told-index.result c.set_index.ensures
+next-next-requires g c = written-placed c.requires.sound c.args.parent c.loop-place.invariant.writing c.loop-place.invariant.places c.loop-place.invariant.placed c.unwrap-child.result (sym c.get.ensures ∙ c.unwrap-child.ensures) c.set_index.new.links c.told-index.result c.set_index.ensures
 
 pub loop-place-preserved : goal.loop-place-preserved
-loop-place-preserved g c =
-    writing-next c.requires.sound c.args.parent c.loop-place.invariant c.unwrap-child.result c.unwrap-child.ensures c.loop-place-test.true c.told-index.result c.told-index.ensures c.set_index.new.links c.set_index.ensures c.next-next.result c.next-next.ensures
+loop-place-preserved g c = record {
+  writing = written-next c.requires.sound c.args.parent c.loop-place.invariant.writing c.loop-place.invariant.places c.loop-place.invariant.placed c.unwrap-child.result (sym c.get.ensures ∙ c.unwrap-child.ensures) c.set_index.new.links c.told-index.result c.set_index.ensures c.loop-place-test.true c.told-index.ensures c.next-next.result c.next-next.ensures.slot;
+  places = written-places c.requires.sound c.args.parent c.loop-place.invariant.writing c.loop-place.invariant.places c.loop-place.invariant.placed c.unwrap-child.result (sym c.get.ensures ∙ c.unwrap-child.ensures) c.set_index.new.links c.told-index.result c.set_index.ensures;
+  placed = c.next-next.ensures.placed;
+}
 
 pub returns : goal.returns
-returns g c = writing-end c.requires.sound c.args.parent c.loop-place.invariant c.loop-place-test.false
+returns g c = record {
+  written = writing-end c.requires.sound (slot_of c.args.links.now c.args.parent) c.loop-place.invariant.writing c.loop-place-test.false;
+  places = c.loop-place.invariant.places;
+}

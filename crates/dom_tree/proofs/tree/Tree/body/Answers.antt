@@ -1,11 +1,17 @@
 -- The value in the slot is the node's.
+use Rattle.std.proofs.Common.{refl}
 use Rattle.dom_model.specs.Forests.Forest.{Node}
-use Rattle.dom_tree.proofs.Trees.{slot-held, value-read}
+use Rattle.dom_tree.proofs.Trees.{value-read}
+use Rattle.dom_tree.proofs.Places.{place-held, slot-led}
+use Rattle.dom_links.specs.Placed.{slot_of}
 use Rattle.dom_tree.proofs.tree.Tree.body.Goals as goal
 
-pub slot_of-requires : goal.slot_of-requires
-slot_of-requires g c = slot-held c.self.invariant c.self.view_is c.args.id c.requires
+pub place_of-requires : goal.place_of-requires
+place_of-requires g c = place-held c.self.invariant c.self.view_is c.args.id c.requires
+
+pub value-item-requires : goal.value-item-requires
+value-item-requires g c = c.place_of.ensures.placed c.place_of.result refl
 
 pub returns : goal.returns
 returns g c =
-    value-read c.self.invariant c.self.view_is (λ (x : Node g.row.X.Denot). x.body) c.args.id c.slot_of.result c.slot_of.ensures c.value-item.result.now _ c.item.view_is c.value-item.ensures
+    value-read c.self.invariant.tree c.self.view_is (λ (x : Node g.row.X.Denot). x.body) c.args.id (slot_of c.self.inside.links c.place_of.result) (slot-led c.place_of.ensures) c.value-item.result.now _ c.item.view_is c.value-item.ensures

@@ -1,23 +1,29 @@
 -- Whatever is written to the body, number and label stay.
 use Rattle.std.proofs.Common.{refl}
 use Rattle.dom_model.specs.Forests.Forest.{Node, with_node}
-use Rattle.dom_tree.specs.Bodies.{with_body}
-use Rattle.dom_tree.proofs.Trees.{slot-held, alter-done, keeps-shown, part-read}
+use Rattle.dom_links.specs.Placed.{slot_of}
+use Rattle.dom_tree.specs.Bodies.{with_body, bodied_at}
+use Rattle.dom_tree.proofs.Trees.{alter-done, keeps-shown, part-read}
 use Rattle.dom_tree.proofs.OwnedTrees.{alter-tree}
+use Rattle.dom_tree.proofs.Places.{place-held, slot-led, seated}
 use Rattle.dom_tree.proofs.tree.Tree.body_mut.Goals as goal
 
-pub slot_of-slot-requires : goal.slot_of-slot-requires
-slot_of-slot-requires g c = slot-held c.self.invariant c.self.view_is c.args.id c.requires
+pub place_of-place-requires : goal.place_of-place-requires
+place_of-place-requires g c = place-held c.self.invariant c.self.view_is c.args.id c.requires
+
+pub body_in-requires : goal.body_in-requires
+body_in-requires g c = c.place_of-place.ensures.placed c.place_of-place.result refl
 
 pub invariant_of-self-lent : goal.invariant_of-self-lent
-invariant_of-self-lent g c =
-    λ w. alter-tree c.self.invariant c.args.id c.slot_of-slot.result c.slot_of-slot.ensures (with_body w) (λ q. refl) (λ q. refl) (λ q. refl)
+invariant_of-self-lent g c = λ w.
+    seated c.self.invariant (bodied_at c.self.inside.links c.place_of-place.result w) refl
+    (alter-tree c.self.invariant.tree c.args.id (slot_of c.self.inside.links c.place_of-place.result) (slot-led c.place_of-place.ensures) (with_body w) (λ q. refl) (λ q. refl) (λ q. refl))
 
 pub returns : goal.returns
 returns g c = (
-  (refl, λ w. keeps-shown c.self.invariant c.self.view_is (with_node c.args.id (with_body w)) (alter-done c.self.invariant c.self.view_is c.args.id c.slot_of-slot.result c.slot_of-slot.ensures (with_body w) (λ q. refl) (λ q. refl))),
+  (refl, λ w. keeps-shown c.self.invariant.tree c.self.view_is (with_node c.args.id (with_body w)) (alter-done c.self.invariant.tree c.self.view_is c.args.id (slot_of c.self.inside.links c.place_of-place.result) (slot-led c.place_of-place.ensures) (with_body w) (λ q. refl) (λ q. refl))),
   record {
     writes_back = tt;
-    value = part-read c.self.invariant c.self.view_is (λ (x : Node g.row.X.Denot). x.body) c.args.id c.slot_of-slot.result c.slot_of-slot.ensures c.body_in.result.now c.body_in.ensures.value;
+    value = part-read c.self.invariant.tree c.self.view_is (λ (x : Node g.row.X.Denot). x.body) c.args.id (slot_of c.self.inside.links c.place_of-place.result) (slot-led c.place_of-place.ensures) c.body_in.result.now c.body_in.ensures.value;
   },
 )

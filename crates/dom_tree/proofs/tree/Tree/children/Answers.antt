@@ -1,15 +1,19 @@
--- From the first child's slot on stand all children.
-use Rattle.std.proofs.Common.{sym, ◌∙◌}
-use Rattle.dom_model.specs.Forests.Arena.{entry_at}
-use Rattle.dom_tree.proofs.Trees.{slot-held}
-use Rattle.dom_tree.proofs.Following.{first-child, all-numbers}
+-- From where the first child lies on stand all children.
+use Rattle.std.proofs.Common.{refl}
+use Rattle.dom_links.specs.Placed.{slot_of, slots_of}
+use Rattle.dom_tree.proofs.Following.{first-placed, all-numbers}
+use Rattle.dom_tree.proofs.Places.{place-held, slot-led}
 use Rattle.dom_tree.proofs.tree.Tree.children.Goals as goal
 
-pub slot_of-requires : goal.slot_of-requires
-slot_of-requires g c = slot-held c.self.invariant c.self.view_is c.args.parent c.requires
+pub place_of-requires : goal.place_of-requires
+place_of-requires g c = place-held c.self.invariant c.self.view_is c.args.parent c.requires
+
+pub first-first-requires : goal.first-first-requires
+first-first-requires g c = c.place_of.ensures.placed c.place_of.result refl
 
 pub invariant_of-result : goal.invariant_of-result
-invariant_of-result g c = λ s e. first-child (entry_at c.self.inside.links) c.sound.ensures.linked c.slot_of.result s (sym c.first-first.ensures ∙ e)
+invariant_of-result g c = first-placed c.sound.ensures c.place_of.result c.first-first.result c.first-first.ensures.placed c.first-first.ensures.slot
 
 pub returns : goal.returns
-returns g c = all-numbers c.self.invariant c.self.view_is c.sound.ensures c.args.parent c.slot_of.result c.first-first.result c.slot_of.ensures c.first-first.ensures
+returns g c =
+    all-numbers c.self.invariant.tree c.self.view_is c.sound.ensures c.args.parent (slot_of c.self.inside.links c.place_of.result) (slots_of c.self.inside.links c.first-first.result) (slot-led c.place_of.ensures) c.first-first.ensures.slot

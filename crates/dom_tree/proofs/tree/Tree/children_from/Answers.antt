@@ -1,13 +1,19 @@
--- From the child's slot on stand the children from it on.
-use Rattle.dom_tree.proofs.Trees.{slots-held}
+-- From where the child lies on stand the children from it on.
+use Rattle.std.proofs.Common.{sym}
+use Rattle.dom_links.specs.Placed.{slots_of}
 use Rattle.dom_tree.proofs.Following.{given-child, given-numbers}
+use Rattle.dom_tree.proofs.Places.{places-held}
 use Rattle.dom_tree.proofs.tree.Tree.children_from.Goals as goal
 
-pub slot_of_any-from-requires : goal.slot_of_any-from-requires
-slot_of_any-from-requires g c = slots-held c.self.invariant c.self.view_is c.args.child c.args.parent c.requires
+pub link_to-from-requires : goal.link_to-from-requires
+link_to-from-requires g c = places-held c.self.invariant c.self.view_is c.args.child c.args.parent c.requires
 
 pub invariant_of-result : goal.invariant_of-result
-invariant_of-result g c = given-child c.self.invariant c.self.view_is c.sound.ensures c.args.child c.slot_of_any-from.result c.args.parent c.slot_of_any-from.ensures c.requires
+invariant_of-result g c = record {
+  placed = c.link_to-from.ensures.placed;
+  child = given-child c.self.invariant.tree c.self.view_is c.sound.ensures c.args.child (slots_of c.self.inside.links c.link_to-from.result) c.args.parent (sym c.link_to-from.ensures.slot) c.requires;
+}
 
 pub returns : goal.returns
-returns g c = given-numbers c.self.invariant c.self.view_is c.sound.ensures c.args.child c.slot_of_any-from.result c.args.parent c.slot_of_any-from.ensures c.requires
+returns g c =
+    given-numbers c.self.invariant.tree c.self.view_is c.sound.ensures c.args.child (slots_of c.self.inside.links c.link_to-from.result) c.args.parent (sym c.link_to-from.ensures.slot) c.requires

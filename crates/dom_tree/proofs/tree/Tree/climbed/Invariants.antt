@@ -1,19 +1,17 @@
 -- A way up of as many steps as were made.
 use Rattle.std.proofs.Common.{◌≡◌, ◌+◌, length, None, option_map}
 use Rattle.std.specs.Option.{ForSome}
-use Rattle.dom_model.specs.Forests.Arena.{IsHeld, entry_at}
 use Rattle.dom_model.specs.Forests.Forest.{ancestors}
-use Rattle.dom_tree.specs.Slots.{nodes_alone}
-use Rattle.dom_tree.specs.Spelled.{number_in_slot}
+use Rattle.dom_links.specs.Placed.{IsPlaced}
 use Rattle.dom_tree.specs.Ways.{IsOnWay}
-use Rattle.dom_tree.proofs.Steps.{called}
+use Rattle.dom_tree.specs.Places.{called}
 use Rattle.dom_tree.proofs.tree.Tree.climbed.Given as goal
 
 abbrev pub invariant-loop-passed : goal.invariant-loop-passed
 invariant-loop-passed g l = record {
-  held : IsHeld l.self-inside.links l.here;
-  child_held : ForSome l.child (λ s. IsHeld (nodes_alone l.self-inside.links) s);
-  way : IsOnWay l.self.forest l.fn.id (called l.self-inside.links l.here) (option_map (number_in_slot (entry_at (nodes_alone l.self-inside.links))) l.child);
+  held : IsPlaced l.self-inside.links l.here;
+  child_held : ForSome l.child (λ p. IsPlaced l.self-inside.links p);
+  way : IsOnWay l.self.forest l.fn.id (called l.self-inside.links l.here) (option_map (called l.self-inside.links) l.child);
   counted : length (ancestors (called l.self-inside.links l.here) l.self.forest) + l._passed ≡ length (ancestors l.fn.id l.self.forest);
   start : (l._passed ≡ 0 → l.child ≡ None);
 }

@@ -1,10 +1,16 @@
 -- As many by slot as by number.
-use Rattle.dom_tree.proofs.Trees.{slot-held, count-read}
+use Rattle.std.proofs.Common.{refl}
+use Rattle.dom_tree.proofs.Trees.{count-read}
+use Rattle.dom_tree.proofs.Places.{place-held, slot-led}
+use Rattle.dom_links.specs.Placed.{slot_of}
 use Rattle.dom_tree.proofs.tree.Tree.count.Goals as goal
 
-pub slot_of-slot-requires : goal.slot_of-slot-requires
-slot_of-slot-requires g c = slot-held c.self.invariant c.self.view_is c.args.id c.requires
+pub place_of-place-requires : goal.place_of-place-requires
+place_of-place-requires g c = place-held c.self.invariant c.self.view_is c.args.id c.requires
+
+pub count-requires : goal.count-requires
+count-requires g c = c.place_of-place.ensures.placed c.place_of-place.result refl
 
 pub returns : goal.returns
 returns g c =
-    count-read c.self.invariant c.self.view_is c.args.id c.slot_of-slot.result c.count.result c.slot_of-slot.ensures c.count.ensures
+    count-read c.self.invariant.tree c.self.view_is c.args.id (slot_of c.self.inside.links c.place_of-place.result) c.count.result (slot-led c.place_of-place.ensures) c.count.ensures

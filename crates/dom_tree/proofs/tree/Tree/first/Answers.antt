@@ -1,13 +1,19 @@
--- What the links say by slot, by number.
-use Rattle.dom_tree.proofs.Trees.{slot-held, first-named, first-read}
+-- What the links say by place, by number.
+use Rattle.std.proofs.Common.{refl}
+use Rattle.dom_links.specs.Placed.{slot_of, slots_of}
+use Rattle.dom_tree.proofs.Trees.{first-read}
+use Rattle.dom_tree.proofs.Places.{place-held, slot-led, numbers-led}
 use Rattle.dom_tree.proofs.tree.Tree.first.Goals as goal
 
-pub slot_of-slot-requires : goal.slot_of-slot-requires
-slot_of-slot-requires g c = slot-held c.self.invariant c.self.view_is c.args.id c.requires
+pub place_of-place-requires : goal.place_of-place-requires
+place_of-place-requires g c = place-held c.self.invariant c.self.view_is c.args.id c.requires
+
+pub first-requires : goal.first-requires
+first-requires g c = c.place_of-place.ensures.placed c.place_of-place.result refl
 
 pub named-requires : goal.named-requires
-named-requires g c = first-named c.sound.ensures c.slot_of-slot.result c.first.result c.first.ensures
+named-requires g c = c.first.ensures.placed
 
 pub returns : goal.returns
 returns g c =
-    first-read c.self.invariant c.self.view_is c.args.id c.slot_of-slot.result c.first.result c.named.result c.slot_of-slot.ensures c.first.ensures c.named.ensures
+    first-read c.self.invariant.tree c.self.view_is c.args.id (slot_of c.self.inside.links c.place_of-place.result) (slots_of c.self.inside.links c.first.result) c.named.result (slot-led c.place_of-place.ensures) c.first.ensures.slot (numbers-led c.self.inside.links c.first.result c.named.result c.named.ensures)

@@ -4,4 +4,4 @@ use Rattle.dom_tree.proofs.Trees.{made-is}
 use Rattle.dom_tree.proofs.tree.Tree.fits.Goals as goal
 
 pub returns : goal.returns
-returns g c = (let s = c.self.invariant.stored.kept.small in omega (arith, s, made-is c.self.invariant c.self.view_is))
+returns g c = (let s = c.self.invariant.tree.stored.kept.small in omega (arith, s, made-is c.self.invariant.tree c.self.view_is))

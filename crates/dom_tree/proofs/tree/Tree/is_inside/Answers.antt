@@ -1,24 +1,30 @@
 -- Where there are children, the ancestors tell.
-use Rattle.std.proofs.Common.{◌≡◌, None, is_some, ap, sym, ◌∙◌, subst}
+use Rattle.std.proofs.Common.{◌≡◌, None, is_some, ap, sym, ◌∙◌, subst, refl}
 use Rattle.dom_model.specs.PlainLists.Lists.{head_of}
 use Rattle.dom_model.specs.Forests.Forest.{HasNode, children_of}
 use Rattle.dom_tree.proofs.Trees.{holds-read}
-use Rattle.dom_tree.proofs.Steps.{begins, stands, childless}
+use Rattle.dom_tree.proofs.Steps.{begins, stands, childless, led}
 use Rattle.dom_model.proofs.Forests.ToTheRoot.{inside-same}
 use Rattle.dom_tree.proofs.Referring.{inside-none, nothing-under, inside-alone}
 use Rattle.dom_tree.proofs.tree.Tree.is_inside.Goals as goal
 
+pub place_at-requires : goal.place_at-requires
+place_at-requires g c = c.self.invariant.placed
+
+pub first-requires : goal.first-requires
+first-requires g c = (led c.in-Some.is c.place_at.ensures).placed c.in-Some.place refl
+
 pub returns-in_default : goal.returns-in_default
 returns-in_default g c =
-    let e = sym (holds-read c.self.invariant c.self.view_is c.args.top) ∙ ap is_some (sym c.slot_at.ensures ∙ c.in_default.is) in
+    let e = sym (holds-read c.self.invariant.tree c.self.view_is c.args.top) ∙ ap is_some (sym (led c.in_default.is c.place_at.ensures).slot) in
     sym (nothing-under c.sound.ensures c.args.top e c.args.node)
 
 pub returns-in-None : goal.returns-in-None
 returns-in-None g c =
     let f = c.args.self.now.forest in
-    let b = begins c.self.invariant c.self.view_is c.args.top c.in-Some.slot (sym c.slot_at.ensures ∙ c.in-Some.is) in
-    let h = subst (λ n. HasNode f n) b.1 (stands c.self.invariant c.self.view_is c.in-Some.slot b.0) in
-    let z : head_of (children_of f c.args.top) ≡ None = ap (λ n. head_of (children_of f n)) (sym b.1) ∙ childless c.self.invariant c.self.view_is c.sound-2.ensures c.in-Some.slot b.0 (sym c.in-None.is ∙ c.first.ensures) in
+    let b = begins c.self.invariant.tree c.self.view_is c.args.top c.in-Some.place (led c.in-Some.is c.place_at.ensures) in
+    let h = subst (λ n. HasNode f n) b.1 (stands c.self.invariant.tree c.self.view_is c.in-Some.place b.0) in
+    let z : head_of (children_of f c.args.top) ≡ None = ap (λ n. head_of (children_of f n)) (sym b.1) ∙ childless c.self.invariant.tree c.self.view_is c.sound-2.ensures c.in-Some.place b.0 (led c.in-None.is c.first.ensures) in
     c.eq.ensures ∙ sym (inside-alone c.sound.ensures c.args.top h z c.args.node)
 
 pub returns-then-holds : goal.returns-then-holds

@@ -1,22 +1,26 @@
 -- An index below the parent's count is right.
-use Rattle.std.proofs.Common.{sym, ◌∙◌, tests, rules, arith}
-use Rattle.std.proofs.lemmas.Grind.{common_steps}
-use Rattle.dom_tree.proofs.Trees.{slot-held, parents-held, kept-read}
+use Rattle.std.proofs.Common.{refl, tests, rules}
+use Rattle.dom_tree.proofs.Trees.{kept-read}
+use Rattle.dom_tree.proofs.Places.{place-held, slot-led}
+use Rattle.dom_links.specs.Placed.{slot_of}
+use Rattle.dom_tree.proofs.Steps.{led}
 use Rattle.dom_tree.proofs.tree.Tree.kept_index.Goals as goal
 
-pub slot_of-slot-requires : goal.slot_of-slot-requires
-slot_of-slot-requires g c = slot-held c.self.invariant c.self.view_is c.args.id c.requires
+pub place_of-place-requires : goal.place_of-place-requires
+place_of-place-requires g c = place-held c.self.invariant c.self.view_is c.args.id c.requires
+
+pub value-requires : goal.value-requires
+value-requires g c = c.place_of-place.ensures.placed c.place_of-place.result refl
 
 pub value-requires-2 : goal.value-requires-2
-value-requires-2 g c =
-    parents-held c.self.invariant c.self.view_is c.sound.ensures c.slot_of-slot.result c.in_ok-parent.parent (sym c.parent.ensures ∙ c.in_ok-parent.was)
+value-requires-2 g c = (led c.in_ok-above.was c.parent.ensures).placed c.in_ok-above.above refl
 
 pub returns-then-index-value : goal.returns-then-index-value
 returns-then-index-value g c =
-    kept-read c.self.invariant c.self.view_is c.sound.ensures c.args.id c.slot_of-slot.result c.in_ok-parent.parent c.slot_of-slot.ensures (sym c.parent.ensures ∙ c.in_ok-parent.was) c.value.result.now c.value-2.result.now _ _ c.behind-self.view_is c.behind-self-2.view_is c.value.ensures c.value-2.ensures c.if-index-value.true
+    kept-read c.self.invariant.tree c.self.view_is c.sound.ensures c.args.id (slot_of c.self.inside.links c.place_of-place.result) (slot_of c.self.inside.links c.in_ok-above.above) (slot-led c.place_of-place.ensures) (slot-led (led c.in_ok-above.was c.parent.ensures)) c.value.result.now c.value-2.result.now _ _ c.behind-self.view_is c.behind-self-2.view_is c.value.ensures c.value-2.ensures c.if-index-value.true
 
 pub parent-requires : goal.parent-requires
-parent-requires g c = grind (arith, common_steps)
+parent-requires g c = c.place_of-place.ensures.placed c.place_of-place.result refl
 
 pub returns : goal.returns
 returns g c = search (tests, rules)

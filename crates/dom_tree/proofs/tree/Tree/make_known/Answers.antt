@@ -1,27 +1,41 @@
 -- The nodes are the same, and the indices right.
-use Rattle.std.proofs.Common.{ap, sym, ◌∙◌}
+use Rattle.std.proofs.Common.{refl, ap, ◌∙◌}
 use Rattle.dom_model.specs.PlainLists.Lists.{place_in}
 use Rattle.dom_model.specs.Forests.Arena.{entry_at, list_under}
-use Rattle.dom_tree.proofs.Trees.{slot-held, parents-held, index-slots, numbered-shown}
+use Rattle.dom_links.specs.Placed.{slot_of}
+use Rattle.dom_tree.proofs.Trees.{index-slots, numbered-shown}
 use Rattle.dom_tree.proofs.OwnedTrees.{numbered-tree}
+use Rattle.dom_tree.proofs.Steps.{led}
+use Rattle.dom_tree.proofs.Places.{place-held, slot-led, seated, same-places}
 use Rattle.dom_tree.proofs.tree.Tree.make_known.Goals as goal
 
-pub slot_of-slot-requires : goal.slot_of-slot-requires
-slot_of-slot-requires g c = slot-held c.self.invariant c.self.view_is c.args.id c.requires.held
+pub place_of-place-requires : goal.place_of-place-requires
+place_of-place-requires g c = place-held c.self.invariant c.self.view_is c.args.id c.requires.held
+
+pub parent-requires : goal.parent-requires
+parent-requires g c = c.place_of-place.ensures.placed c.place_of-place.result refl
 
 pub number_up_to-requires : goal.number_up_to-requires
 number_up_to-requires g c =
-    let e = sym c.parent.ensures ∙ c.in-Some.is in
+    let up = led c.in-Some.is c.parent.ensures in
+    let s = slot_of c.self.inside.links c.place_of-place.result in
     record {
-      held = parents-held c.self.invariant c.self.view_is c.sound.ensures c.slot_of-slot.result c.in-Some.parent e;
+      parent_placed = up.placed c.in-Some.above refl;
+      child_placed = c.place_of-place.ensures.placed c.place_of-place.result refl;
       sound = c.sound.ensures;
-      counted = c.self.invariant.stored.counted;
-      child = e;
-      index = c.requires.index ∙ index-slots c.self.invariant c.self.view_is c.sound.ensures c.args.id c.slot_of-slot.result c.slot_of-slot.ensures ∙ ap (λ o. place_in c.slot_of-slot.result (list_under (entry_at c.self.inside.links) o)) e;
+      counted = c.self.invariant.tree.stored.counted;
+      child = slot-led up;
+      index = c.requires.index ∙ index-slots c.self.invariant.tree c.self.view_is c.sound.ensures c.args.id s (slot-led c.place_of-place.ensures) ∙ ap (λ o. place_in s (list_under (entry_at c.self.inside.links.arena) o)) (slot-led up);
     }
 
 pub invariant_of-self : goal.invariant_of-self
-invariant_of-self g c = numbered-tree c.self.invariant c.number_up_to.new.links c.in-Some.parent c.slot_of-slot.result c.number_up_to.ensures
+invariant_of-self g c =
+    let links = c.number_up_to.new.links in
+    let n = c.number_up_to.ensures.numbered in
+    seated c.self.invariant links c.number_up_to.ensures.places (numbered-tree c.self.invariant.tree links.arena (slot_of c.self.inside.links c.in-Some.above) (slot_of c.self.inside.links c.place_of-place.result) n)
 
 pub returns-in-Some : goal.returns-in-Some
-returns-in-Some g c = numbered-shown c.self.invariant c.self.view_is c.number_up_to.new.links c.in-Some.parent c.slot_of-slot.result c.number_up_to.ensures
+returns-in-Some g c =
+    let links = c.number_up_to.new.links in
+    same-places c.self.inside.links links c.self.inside.table.items c.number_up_to.ensures.places
+    (numbered-shown c.self.invariant.tree c.self.view_is links.arena (slot_of c.self.inside.links c.in-Some.above) (slot_of c.self.inside.links c.place_of-place.result) c.number_up_to.ensures.numbered)

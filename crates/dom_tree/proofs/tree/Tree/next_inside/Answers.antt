@@ -1,5 +1,5 @@
 -- The first child, or else the next sibling of the nearest ancestor below the top that has one.
-use Rattle.std.proofs.Common.{◌==◌, ◌<◌, None, IsSome, ap, sym, ◌∙◌, subst}
+use Rattle.std.proofs.Common.{◌==◌, ◌<◌, None, refl, ap, sym, ◌∙◌, subst}
 use Rattle.std.proofs.lemmas.Bool.{not-true, not-false, eqb-true, eqb-false}
 use Rattle.dom_model.specs.PlainLists.Lists.{head_of}
 use Rattle.dom_model.specs.Forests.Forest.{children_of, occurs, tree_at}
@@ -7,36 +7,42 @@ use Rattle.dom_model.proofs.Forests.Above.{above}
 use Rattle.dom_model.proofs.Forests.ToTheRoot.{shorter, inside}
 use Rattle.dom_model.proofs.Forests.TreeOrder.Ordering.{past}
 use Rattle.dom_model.proofs.Forests.TreeOrder.Stepping.{first-after, none-after, tree-next, tree-up, tree-top, tree-parent}
-use Rattle.dom_tree.proofs.Nodes.{held-nodes}
-use Rattle.dom_tree.proofs.Trees.{slot-held}
+use Rattle.dom_tree.proofs.Places.{place-held}
 use Rattle.dom_tree.proofs.TreeOrder.{top-there}
-use Rattle.dom_tree.proofs.Steps.{called, begins, stands, meets, up, parented, down, childless, on, hindmost}
+use Rattle.dom_tree.specs.Places.{called}
+use Rattle.dom_tree.proofs.Steps.{begins, stands, meets, up, parented, down, childless, on, hindmost, led}
 use Rattle.dom_tree.proofs.tree.Tree.next_inside.Goals as goal
 
-pub slot_of-here-requires : goal.slot_of-here-requires
-slot_of-here-requires g c = slot-held c.self.invariant c.self.view_is c.args.id c.requires.held
+pub place_of-here-requires : goal.place_of-here-requires
+place_of-here-requires g c = place-held c.self.invariant c.self.view_is c.args.id c.requires.held
 
 pub first-requires : goal.first-requires
-first-requires g c = (begins c.self.invariant c.self.view_is c.args.id c.slot_of-here.result c.slot_of-here.ensures).0
+first-requires g c = (begins c.self.invariant.tree c.self.view_is c.args.id c.place_of-here.result c.place_of-here.ensures).0
 
 pub number_of-requires : goal.number_of-requires
 number_of-requires g c =
-    let b = begins c.self.invariant c.self.view_is c.args.id c.slot_of-here.result c.slot_of-here.ensures in
-    held-nodes c.self.inside.links c.in-Some.child (down c.self.invariant c.self.view_is c.sound-2.ensures c.slot_of-here.result b.0 c.in-Some.child (sym c.in-Some.is ∙ c.first.ensures)).0
+    let b = begins c.self.invariant.tree c.self.view_is c.args.id c.place_of-here.result c.place_of-here.ensures in
+    (down c.self.invariant.tree c.self.view_is c.sound-2.ensures c.place_of-here.result b.0 c.in-Some.child (led c.in-Some.is c.first.ensures)).0
 
 pub returns-in-Some : goal.returns-in-Some
 returns-in-Some g c =
-    let b = begins c.self.invariant c.self.view_is c.args.id c.slot_of-here.result c.slot_of-here.ensures in
-    let d = down c.self.invariant c.self.view_is c.sound-2.ensures c.slot_of-here.result b.0 c.in-Some.child (sym c.in-Some.is ∙ c.first.ensures) in
+    let b = begins c.self.invariant.tree c.self.view_is c.args.id c.place_of-here.result c.place_of-here.ensures in
+    let d = down c.self.invariant.tree c.self.view_is c.sound-2.ensures c.place_of-here.result b.0 c.in-Some.child (led c.in-Some.is c.first.ensures) in
     rw c.number_of.ensures (first-after c.sound.ensures c.args.top c.args.id (called c.self.inside.links c.in-Some.child) (inside c.sound.ensures c.args.top c.args.id c.requires.under) (ap (λ n. head_of (children_of c.args.self.now.forest n)) (sym b.1) ∙ d.1))
 
-pub slot_of-end-requires : goal.slot_of-end-requires
-slot_of-end-requires g c = slot-held c.self.invariant c.self.view_is c.args.top (top-there c.sound.ensures c.args.top c.args.id c.requires.under)
+pub place_of-requires : goal.place_of-requires
+place_of-requires g c = place-held c.self.invariant c.self.view_is c.args.top (top-there c.sound.ensures c.args.top c.args.id c.requires.under)
+
+pub slot-end-requires : goal.slot-end-requires
+slot-end-requires g c = c.place_of.ensures.placed c.place_of.result refl
+
+pub slot-requires : goal.slot-requires
+slot-requires g c = c.loop-self.invariant.held
 
 pub loop-self-init : goal.loop-self-init
 loop-self-init g c =
-    let b = begins c.self.invariant c.self.view_is c.args.id c.slot_of-here.result c.slot_of-here.ensures in
-    let d = childless c.self.invariant c.self.view_is c.sound-2.ensures c.slot_of-here.result b.0 (sym c.in_default.is ∙ c.first.ensures) in
+    let b = begins c.self.invariant.tree c.self.view_is c.args.id c.place_of-here.result c.place_of-here.ensures in
+    let d = childless c.self.invariant.tree c.self.view_is c.sound-2.ensures c.place_of-here.result b.0 (led c.in_default.is c.first.ensures) in
     let i = inside c.sound.ensures c.args.top c.args.id c.requires.under in
     record {
       held = b.0;
@@ -46,38 +52,38 @@ loop-self-init g c =
 
 pub number_of-requires-in-Some-next : goal.number_of-requires-in-Some-next
 number_of-requires-in-Some-next g c =
-    held-nodes c.self.inside.links c.in-Some-next.next (on c.self.invariant c.self.view_is c.sound-2.ensures c.loop-self.here c.loop-self.invariant.held c.in-Some-next.next (sym c.in-Some-next.is ∙ c.next.ensures)).0
+    (on c.self.invariant.tree c.self.view_is c.sound-2.ensures c.loop-self.here c.loop-self.invariant.held c.in-Some-next.next (led c.in-Some-next.is c.next.ensures)).0
 
 pub returns-in-Some-next : goal.returns-in-Some-next
 returns-in-Some-next g c =
-    let o = on c.self.invariant c.self.view_is c.sound-2.ensures c.loop-self.here c.loop-self.invariant.held c.in-Some-next.next (sym c.in-Some-next.is ∙ c.next.ensures) in
-    let t = meets c.self.invariant c.self.view_is c.loop-self.here c.args.top c.slot_of-end.result c.loop-self.invariant.held c.slot_of-end.ensures ∙ not-true (c.loop-self.here == c.slot_of-end.result) (sym c.ne.ensures ∙ c.loop-self-test.true) in
+    let o = on c.self.invariant.tree c.self.view_is c.sound-2.ensures c.loop-self.here c.loop-self.invariant.held c.in-Some-next.next (led c.in-Some-next.is c.next.ensures) in
+    let t = meets c.self.invariant.tree c.self.view_is c.loop-self.here c.args.top c.place_of.result c.slot.result c.slot-end.result c.loop-self.invariant.held c.place_of.ensures c.slot.ensures c.slot-end.ensures ∙ not-true (c.slot.result == c.slot-end.result) (sym c.ne.ensures ∙ c.loop-self-test.true) in
     let ne = eqb-false (called c.self.inside.links c.loop-self.here) c.args.top t in
     rw c.number_of-in-Some-next.ensures (sym (c.loop-self.invariant.same ∙ tree-next c.sound.ensures c.args.top (called c.self.inside.links c.loop-self.here) (called c.self.inside.links c.in-Some-next.next) c.loop-self.invariant.within ne o.1))
 
 pub unwrap-here-requires : goal.unwrap-here-requires
 unwrap-here-requires g c =
-    let n = hindmost c.self.invariant c.self.view_is c.sound-2.ensures c.loop-self.here c.loop-self.invariant.held (sym c.in_default-next.is ∙ c.next.ensures) in
-    let t = meets c.self.invariant c.self.view_is c.loop-self.here c.args.top c.slot_of-end.result c.loop-self.invariant.held c.slot_of-end.ensures ∙ not-true (c.loop-self.here == c.slot_of-end.result) (sym c.ne.ensures ∙ c.loop-self-test.true) in
+    let n = hindmost c.self.invariant.tree c.self.view_is c.sound-2.ensures c.loop-self.here c.loop-self.invariant.held (led c.in_default-next.is c.next.ensures) in
+    let t = meets c.self.invariant.tree c.self.view_is c.loop-self.here c.args.top c.place_of.result c.slot.result c.slot-end.result c.loop-self.invariant.held c.place_of.ensures c.slot.ensures c.slot-end.ensures ∙ not-true (c.slot.result == c.slot-end.result) (sym c.ne.ensures ∙ c.loop-self-test.true) in
     let ne = eqb-false (called c.self.inside.links c.loop-self.here) c.args.top t in
     let p = tree-parent c.sound.ensures c.args.top (called c.self.inside.links c.loop-self.here) c.loop-self.invariant.within ne n in
-    subst IsSome (sym c.parent.ensures) (parented c.self.invariant c.self.view_is c.sound-2.ensures c.loop-self.here c.loop-self.invariant.held p)
+    parented c.self.invariant.tree c.self.view_is c.sound-2.ensures c.loop-self.here c.loop-self.invariant.held c.parent.result c.parent.ensures p
 
 pub loop-self-smaller : goal.loop-self-smaller
 loop-self-smaller g c =
-    let h = stands c.self.invariant c.self.view_is c.loop-self.here c.loop-self.invariant.held in
-    let u = up c.self.invariant c.self.view_is c.sound-2.ensures c.loop-self.here c.loop-self.invariant.held c.unwrap-here.result (sym c.unwrap-here.ensures ∙ c.parent.ensures) in
+    let h = stands c.self.invariant.tree c.self.view_is c.loop-self.here c.loop-self.invariant.held in
+    let u = up c.self.invariant.tree c.self.view_is c.sound-2.ensures c.loop-self.here c.loop-self.invariant.held c.unwrap-here.result (led c.unwrap-here.ensures c.parent.ensures) in
     shorter c.args.self.now.forest (called c.self.inside.links c.loop-self.here) (called c.self.inside.links c.unwrap-here.result) (above c.sound.ensures _ _ h u.1)
 
 pub loop-self-preserved : goal.loop-self-preserved
 loop-self-preserved g c =
-    let n = hindmost c.self.invariant c.self.view_is c.sound-2.ensures c.loop-self.here c.loop-self.invariant.held (sym c.in_default-next.is ∙ c.next.ensures) in
-    let u = up c.self.invariant c.self.view_is c.sound-2.ensures c.loop-self.here c.loop-self.invariant.held c.unwrap-here.result (sym c.unwrap-here.ensures ∙ c.parent.ensures) in
-    let t = meets c.self.invariant c.self.view_is c.loop-self.here c.args.top c.slot_of-end.result c.loop-self.invariant.held c.slot_of-end.ensures ∙ not-true (c.loop-self.here == c.slot_of-end.result) (sym c.ne.ensures ∙ c.loop-self-test.true) in
+    let n = hindmost c.self.invariant.tree c.self.view_is c.sound-2.ensures c.loop-self.here c.loop-self.invariant.held (led c.in_default-next.is c.next.ensures) in
+    let u = up c.self.invariant.tree c.self.view_is c.sound-2.ensures c.loop-self.here c.loop-self.invariant.held c.unwrap-here.result (led c.unwrap-here.ensures c.parent.ensures) in
+    let t = meets c.self.invariant.tree c.self.view_is c.loop-self.here c.args.top c.place_of.result c.slot.result c.slot-end.result c.loop-self.invariant.held c.place_of.ensures c.slot.ensures c.slot-end.ensures ∙ not-true (c.slot.result == c.slot-end.result) (sym c.ne.ensures ∙ c.loop-self-test.true) in
     let k = tree-up c.sound.ensures c.args.top (called c.self.inside.links c.loop-self.here) (called c.self.inside.links c.unwrap-here.result) c.loop-self.invariant.within (eqb-false (called c.self.inside.links c.loop-self.here) c.args.top t) n u.1 in
     record { held = u.0; within = k.0; same = c.loop-self.invariant.same ∙ k.1 }
 
 pub returns : goal.returns
 returns g c =
-    let t = meets c.self.invariant c.self.view_is c.loop-self.here c.args.top c.slot_of-end.result c.loop-self.invariant.held c.slot_of-end.ensures ∙ not-false (c.loop-self.here == c.slot_of-end.result) (sym c.ne.ensures ∙ c.loop-self-test.false) in
+    let t = meets c.self.invariant.tree c.self.view_is c.loop-self.here c.args.top c.place_of.result c.slot.result c.slot-end.result c.loop-self.invariant.held c.place_of.ensures c.slot.ensures c.slot-end.ensures ∙ not-false (c.slot.result == c.slot-end.result) (sym c.ne.ensures ∙ c.loop-self-test.false) in
     sym (c.loop-self.invariant.same ∙ tree-top c.sound.ensures c.args.top (called c.self.inside.links c.loop-self.here) c.loop-self.invariant.within (eqb-true (called c.self.inside.links c.loop-self.here) c.args.top t))

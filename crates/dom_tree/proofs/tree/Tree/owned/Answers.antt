@@ -1,10 +1,15 @@
 -- The count in the slot is that of the nodes, as long as there are no strays.
-use Rattle.dom_tree.proofs.Trees.{slot-held}
+use Rattle.std.proofs.Common.{refl}
+use Rattle.dom_tree.proofs.Places.{place-held, slot-led}
 use Rattle.dom_tree.proofs.OwnedSteps.{owned-read}
+use Rattle.dom_links.specs.Placed.{slot_of}
 use Rattle.dom_tree.proofs.tree.Tree.owned.Goals as goal
 
-pub slot_of-slot-requires : goal.slot_of-slot-requires
-slot_of-slot-requires g c = slot-held c.self.invariant c.self.view_is c.args.id c.requires
+pub place_of-place-requires : goal.place_of-place-requires
+place_of-place-requires g c = place-held c.self.invariant c.self.view_is c.args.id c.requires
+
+pub value-requires : goal.value-requires
+value-requires g c = c.place_of-place.ensures.placed c.place_of-place.result refl
 
 pub returns : goal.returns
-returns g c = owned-read c.self.invariant c.self.view_is c.if-self.false c.args.id c.slot_of-slot.result c.slot_of-slot.ensures c.value.result.now _ c.behind-self.view_is c.value.ensures
+returns g c = owned-read c.self.invariant.tree c.self.view_is c.if-self.false c.args.id (slot_of c.self.inside.links c.place_of-place.result) (slot-led c.place_of-place.ensures) c.value.result.now _ c.behind-self.view_is c.value.ensures

@@ -1,6 +1,6 @@
 -- A parent, or one number after another.
 use Rattle.std.proofs.Common.{◌≡◌, sym, ◌∙◌, arith, tests, rules}
-use Rattle.dom_tree.proofs.Trees.{made-is}
+use Rattle.dom_tree.proofs.Places.{made-read}
 use Rattle.dom_tree.proofs.Referring.{refers-none, refers-one, none-from}
 use Rattle.dom_tree.proofs.tree.Tree.refers.Goals as goal
 
@@ -13,7 +13,7 @@ returns-then-refers_from g c =
 
 pub returns : goal.returns
 returns g c =
-    let made : c.len-number-end.result ≡ c.args.self.now.made = c.len-number-end.ensures ∙ made-is c.self.invariant c.self.view_is in
+    let made : c.len-number-end.result ≡ c.args.self.now.made = c.len-number-end.ensures ∙ made-read c.self.invariant c.self.view_is in
     let e : c.loop-number.number ≡ c.args.self.now.made = omega arith in
     refers-none c.sound.ensures c.args.top (sym c.parent.ensures ∙ none-from c.parent.result (sym c.is_some.ensures ∙ c.if-is_some.false)) (λ m lt. c.loop-number.invariant m (omega (arith, lt, e)))
 

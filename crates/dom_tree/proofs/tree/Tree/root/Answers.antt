@@ -3,31 +3,32 @@ use Rattle.std.proofs.Common.{ap, sym, ◌∙◌}
 use Rattle.dom_model.specs.Forests.Forest.{root_of}
 use Rattle.dom_model.proofs.Forests.Above.{above}
 use Rattle.dom_model.proofs.Forests.ToTheRoot.{shorter, root-above, root-is}
-use Rattle.dom_tree.proofs.Trees.{slot-held}
-use Rattle.dom_tree.proofs.Steps.{called, begins, stands, up, topmost}
+use Rattle.dom_tree.proofs.Places.{place-held}
+use Rattle.dom_tree.specs.Places.{called}
+use Rattle.dom_tree.proofs.Steps.{begins, stands, up, topmost, led}
 use Rattle.dom_tree.proofs.tree.Tree.root.Goals as goal
 
-pub slot_of-top-requires : goal.slot_of-top-requires
-slot_of-top-requires g c = slot-held c.self.invariant c.self.view_is c.args.id c.requires
+pub place_of-top-requires : goal.place_of-top-requires
+place_of-top-requires g c = place-held c.self.invariant c.self.view_is c.args.id c.requires
 
 pub loop-above-init : goal.loop-above-init
 loop-above-init g c =
-    let b = begins c.self.invariant c.self.view_is c.args.id c.slot_of-top.result c.slot_of-top.ensures in
+    let b = begins c.self.invariant.tree c.self.view_is c.args.id c.place_of-top.result c.place_of-top.ensures in
     record { held = b.0; same = ap (root_of c.args.self.now.forest) b.1 }
 
 pub loop-above-smaller : goal.loop-above-smaller
 loop-above-smaller g c =
-    let u = up c.self.invariant c.self.view_is c.sound-2.ensures c.loop-above.top c.loop-above.invariant.held c.in-Some.above (sym c.in-Some.is ∙ c.parent.ensures) in
-    shorter c.args.self.now.forest (called c.self.inside.links c.loop-above.top) (called c.self.inside.links c.in-Some.above) (above c.sound.ensures _ _ (stands c.self.invariant c.self.view_is c.loop-above.top c.loop-above.invariant.held) u.1)
+    let u = up c.self.invariant.tree c.self.view_is c.sound-2.ensures c.loop-above.top c.loop-above.invariant.held c.in-Some.above (led c.in-Some.is c.parent.ensures) in
+    shorter c.args.self.now.forest (called c.self.inside.links c.loop-above.top) (called c.self.inside.links c.in-Some.above) (above c.sound.ensures _ _ (stands c.self.invariant.tree c.self.view_is c.loop-above.top c.loop-above.invariant.held) u.1)
 
 pub loop-above-preserved : goal.loop-above-preserved
 loop-above-preserved g c =
-    let u = up c.self.invariant c.self.view_is c.sound-2.ensures c.loop-above.top c.loop-above.invariant.held c.in-Some.above (sym c.in-Some.is ∙ c.parent.ensures) in
-    let a = above c.sound.ensures _ _ (stands c.self.invariant c.self.view_is c.loop-above.top c.loop-above.invariant.held) u.1 in
+    let u = up c.self.invariant.tree c.self.view_is c.sound-2.ensures c.loop-above.top c.loop-above.invariant.held c.in-Some.above (led c.in-Some.is c.parent.ensures) in
+    let a = above c.sound.ensures _ _ (stands c.self.invariant.tree c.self.view_is c.loop-above.top c.loop-above.invariant.held) u.1 in
     record { held = u.0; same = root-above c.args.self.now.forest _ _ a ∙ c.loop-above.invariant.same }
 
 pub returns : goal.returns
 returns g c =
-    let h = stands c.self.invariant c.self.view_is c.loop-above.top c.loop-above.invariant.held in
-    let t = topmost c.self.invariant c.self.view_is c.sound-2.ensures c.loop-above.top c.loop-above.invariant.held (sym c.in_default.is ∙ c.parent.ensures) in
+    let h = stands c.self.invariant.tree c.self.view_is c.loop-above.top c.loop-above.invariant.held in
+    let t = topmost c.self.invariant.tree c.self.view_is c.sound-2.ensures c.loop-above.top c.loop-above.invariant.held (led c.in_default.is c.parent.ensures) in
     rw c.number_of.ensures (sym (root-is c.sound.ensures _ h t) ∙ c.loop-above.invariant.same)

@@ -1,13 +1,13 @@
 -- The root of where the walk stands is the root of where it began.
 use Rattle.std.proofs.Common.{◌≡◌, length}
-use Rattle.dom_model.specs.Forests.Arena.{IsHeld}
+use Rattle.dom_links.specs.Placed.{IsPlaced}
 use Rattle.dom_model.specs.Forests.Forest.{root_of, ancestors}
-use Rattle.dom_tree.proofs.Steps.{called}
+use Rattle.dom_tree.specs.Places.{called}
 use Rattle.dom_tree.proofs.tree.Tree.root.Given as goal
 
 abbrev pub invariant-loop-above : goal.invariant-loop-above
 invariant-loop-above g l = record {
-  held : IsHeld l.self-inside.links l.top;
+  held : IsPlaced l.self-inside.links l.top;
   same : root_of l.self.forest (called l.self-inside.links l.top) ≡ root_of l.self.forest l.fn.id;
 }
 

@@ -1,0 +1,16 @@
+-- The tree of where the walk stands ends where the first one ends.
+use Rattle.std.proofs.Common.{◌≡◌}
+use Rattle.dom_model.specs.PlainLists.Lists.{last_of}
+use Rattle.dom_links.specs.Placed.{IsPlaced}
+use Rattle.dom_model.specs.Forests.Forest.{size, tree_at, inclusive_descendants}
+use Rattle.dom_tree.specs.Places.{called}
+use Rattle.dom_tree.proofs.at.At.last_inside.Given as goal
+
+abbrev pub invariant-loop-last : goal.invariant-loop-last
+invariant-loop-last g l = record {
+  held : IsPlaced l.self-inside.links.now l.place;
+  same : last_of (inclusive_descendants l.self.tree.forest (called l.self-inside.links.now l.place)) ≡ last_of (inclusive_descendants l.self.tree.forest l.self.node);
+}
+
+abbrev pub decreases-loop-last : goal.decreases-loop-last
+decreases-loop-last g l = size (tree_at (called l.self-inside.links.now l.place) l.self.tree.forest)

@@ -1,0 +1,204 @@
+//! A handle to a node, from which a walk goes to those around it (DOM Standard, "Trees").
+
+ghost use Rattle.std.specs.Prelude.{◌≡◌, Some, IfSome, true};
+ghost use Rattle.std.specs.Option.{ForSome};
+ghost use Rattle.dom_model.specs.PlainLists.Lists.{among, after, head_of, last_of};
+ghost use Rattle.dom_model.specs.Forests.Forest.{HasNode, entry_in, parent_of, children_of, next_of, previous_of, ancestors, inclusive_descendants, IsForest};
+
+use crate::item::Item;
+use crate::nearby::{self, number_of, place_of};
+use crate::node_id::NodeId;
+use crate::tree::Tree;
+use dom_kinds::Label;
+use dom_links::{Place, Store};
+use dom_pages::Pages;
+use std::marker::Model;
+
+/// A node of a tree that is lent. Its number was looked up once: from here each step goes straight to the node beside, above or below it.
+#[derive(Drop)]
+pub struct At<'a, X> {
+    links: &'a Store<Item<X>>,
+    table: &'a Pages<Place>,
+    place: Place,
+}
+
+impl<'a, X> Model for At<'a, X> {
+    ghost use Rattle.std.specs.Prelude.{length};
+    ghost use Rattle.dom_tree.specs.Spelled.{shown};
+    ghost use Rattle.dom_tree.specs.Slots.{nodes_alone};
+    ghost use Rattle.dom_tree.specs.Places.{slots_in, called};
+    ghost use Rattle.dom_tree.specs.Spots.{Spot, spot_code, IsSpot};
+
+    ghost Value = { Spot X };
+
+    ghost coded = { spot_code X.code };
+
+    ghost view = { λ a. record {
+      tree = record { forest = shown (nodes_alone a.links.now.arena) (slots_in a.links.now a.table.now.items); made = length (slots_in a.links.now a.table.now.items) };
+      node = called a.links.now a.place;
+    } };
+
+    ghost invariant = { λ a. IsSpot a.links.now a.table.now.items a.place };
+}
+
+impl<X> Tree<X> {
+    /// A node, to walk from.
+    pub fn at(&self, id: NodeId) -> At<'_, X>
+        requires { HasNode self.now.forest id }
+        ensures tree { result.tree ≡ self.now }
+        ensures node { result.node ≡ id }
+    {
+        At {
+            links: &self.links,
+            table: &self.table,
+            place: place_of(&self.links, &self.table, id),
+        }
+    }
+}
+
+impl<'a, X> At<'a, X> {
+    ghost use Rattle.dom_tree.specs.Spots.{node_at};
+
+    /// A law: what the tree keeps, and that the node is there.
+    pub fn sound(&self)
+        ensures forest { IsForest self.now.tree }
+        ensures there { HasNode self.now.tree.forest self.now.node }
+    {
+        let _ = &self.place;
+    }
+
+    /// The number of the node.
+    pub fn number(&self) -> NodeId
+        ensures { result ≡ self.now.node }
+    {
+        number_of(self.links, self.place)
+    }
+
+    /// The label of the node.
+    pub fn label(&self) -> &Label
+        ensures { IfSome (entry_in self.now.tree.forest self.now.node) (λ e. result.now ≡ e.value.label) }
+    {
+        let item = self.links.value(self.place);
+        &item.label
+    }
+
+    /// The parent; none for a root.
+    pub fn parent(&self) -> Option<At<'a, X>>
+        ensures tree { ForSome result (λ a. a.tree ≡ self.now.tree) }
+        ensures node { node_at result ≡ parent_of self.now.tree.forest self.now.node }
+    {
+        self.links.sound();
+        let place = nearby::parent(self.links, self.place)?;
+        Some(At {
+            links: self.links,
+            table: self.table,
+            place,
+        })
+    }
+
+    /// The first child.
+    pub fn first(&self) -> Option<At<'a, X>>
+        ensures tree { ForSome result (λ a. a.tree ≡ self.now.tree) }
+        ensures node { node_at result ≡ head_of (children_of self.now.tree.forest self.now.node) }
+    {
+        self.links.sound();
+        let place = nearby::first(self.links, self.place)?;
+        Some(At {
+            links: self.links,
+            table: self.table,
+            place,
+        })
+    }
+
+    /// The last child.
+    pub fn last(&self) -> Option<At<'a, X>>
+        ensures tree { ForSome result (λ a. a.tree ≡ self.now.tree) }
+        ensures node { node_at result ≡ last_of (children_of self.now.tree.forest self.now.node) }
+    {
+        self.links.sound();
+        let place = nearby::last(self.links, self.place)?;
+        Some(At {
+            links: self.links,
+            table: self.table,
+            place,
+        })
+    }
+
+    /// The next sibling; none for a root.
+    pub fn next(&self) -> Option<At<'a, X>>
+        ensures tree { ForSome result (λ a. a.tree ≡ self.now.tree) }
+        ensures node { node_at result ≡ next_of self.now.tree.forest self.now.node }
+    {
+        self.links.sound();
+        let place = nearby::next(self.links, self.place)?;
+        Some(At {
+            links: self.links,
+            table: self.table,
+            place,
+        })
+    }
+
+    /// The previous sibling; none for a root.
+    pub fn prev(&self) -> Option<At<'a, X>>
+        ensures tree { ForSome result (λ a. a.tree ≡ self.now.tree) }
+        ensures node { node_at result ≡ previous_of self.now.tree.forest self.now.node }
+    {
+        self.links.sound();
+        let place = nearby::prev(self.links, self.place)?;
+        Some(At {
+            links: self.links,
+            table: self.table,
+            place,
+        })
+    }
+
+    /// The node that follows in tree order, among the inclusive descendants of `top`.
+    pub fn next_inside(&self, top: NodeId) -> Option<At<'a, X>>
+        requires { among top (ancestors self.now.node self.now.tree.forest) ≡ true }
+        ensures tree { ForSome result (λ a. a.tree ≡ self.now.tree) }
+        ensures node { node_at result ≡ after self.now.node (inclusive_descendants self.now.tree.forest top) }
+    {
+        self.sound();
+        self.links.sound();
+        let links = self.links;
+        let table = self.table;
+        if let Some(place) = nearby::first(links, self.place) {
+            return Some(At {
+                links,
+                table,
+                place,
+            });
+        }
+        let mut here = self.place;
+        while number_of(links, here) != top {
+            if let Some(place) = nearby::next(links, here) {
+                return Some(At {
+                    links,
+                    table,
+                    place,
+                });
+            }
+            here = nearby::parent(links, here).unwrap();
+        }
+        None
+    }
+
+    /// The last of the inclusive descendants in tree order.
+    pub fn last_inside(&self) -> At<'a, X>
+        ensures tree { result.tree ≡ self.now.tree }
+        ensures node { Some result.node ≡ last_of (inclusive_descendants self.now.tree.forest self.now.node) }
+    {
+        self.sound();
+        self.links.sound();
+        let links = self.links;
+        let mut place = self.place;
+        while let Some(last) = nearby::last(links, place) {
+            place = last;
+        }
+        At {
+            links,
+            table: self.table,
+            place,
+        }
+    }
+}

@@ -1,0 +1,102 @@
+//! From one place to another: what the store's links lead to.
+
+ghost use Rattle.std.specs.Prelude.{◌≡◌, Some, option_map};
+ghost use Rattle.std.specs.Option.{ForSome};
+ghost use Rattle.dom_model.specs.PlainLists.Lists.{head_of, last_of};
+ghost use Rattle.dom_model.specs.Forests.Arena.{entry_at, parent_in, children_in, next_in, previous_in};
+ghost use Rattle.dom_links.specs.Placed.{slot_of, IsPlaced};
+ghost use Rattle.dom_tree.specs.Spelled.{slot_in, slot_for};
+ghost use Rattle.dom_tree.specs.Places.{slots_in, called, Leads, ArePlaced, IsListed};
+
+use crate::item::Item;
+use crate::node_id::NodeId;
+use dom_links::{Link, Place, Store};
+use dom_pages::Pages;
+
+/// The place of a number, where the table has one.
+pub(crate) fn place_at<X>(links: &Store<Item<X>>, table: &Pages<Place>, id: NodeId) -> Option<Place>
+    requires { ArePlaced links.now table.now.items }
+    ensures { Leads links.now result (slot_in (slots_in links.now table.now.items) id) }
+{
+    let _ = links;
+    table.get(id.number() as usize)
+}
+
+/// The place of a number that the table has.
+pub(crate) fn place_of<X>(links: &Store<Item<X>>, table: &Pages<Place>, id: NodeId) -> Place
+    requires { IsListed links.now table.now.items id }
+    ensures { Leads links.now (Some result) (slot_in (slots_in links.now table.now.items) id) }
+{
+    let _ = links;
+    table.get(id.number() as usize).unwrap()
+}
+
+/// Leads to the place of a number, where there is one.
+pub(crate) fn link_to<X>(links: &Store<Item<X>>, table: &Pages<Place>, id: Option<NodeId>) -> Link
+    requires { ForSome id (IsListed links.now table.now.items) }
+    ensures { Leads links.now result (slot_for (slots_in links.now table.now.items) id) }
+{
+    match id {
+        Some(id) => Link::to(place_of(links, table, id)),
+        None => Link::none(),
+    }
+}
+
+/// The number of the node at a place.
+pub(crate) fn number_of<X>(links: &Store<Item<X>>, place: Place) -> NodeId
+    requires { IsPlaced links.now place }
+    ensures { result ≡ called links.now place }
+{
+    links.value(place).number
+}
+
+/// The number of the node that a link leads to.
+pub(crate) fn named<X>(links: &Store<Item<X>>, link: Link) -> Option<NodeId>
+    requires { ForSome link (IsPlaced links.now) }
+    ensures { result ≡ option_map (called links.now) link }
+{
+    match link.get() {
+        Some(place) => Some(number_of(links, place)),
+        None => None,
+    }
+}
+
+/// The place of the parent.
+pub(crate) fn parent<X>(links: &Store<Item<X>>, place: Place) -> Option<Place>
+    requires { IsPlaced links.now place }
+    ensures { Leads links.now result (parent_in (entry_at links.now.arena (slot_of links.now place))) }
+{
+    links.parent(place).get()
+}
+
+/// The place of the first child.
+pub(crate) fn first<X>(links: &Store<Item<X>>, place: Place) -> Option<Place>
+    requires { IsPlaced links.now place }
+    ensures { Leads links.now result (head_of (children_in (entry_at links.now.arena (slot_of links.now place)))) }
+{
+    links.first(place).get()
+}
+
+/// The place of the last child.
+pub(crate) fn last<X>(links: &Store<Item<X>>, place: Place) -> Option<Place>
+    requires { IsPlaced links.now place }
+    ensures { Leads links.now result (last_of (children_in (entry_at links.now.arena (slot_of links.now place)))) }
+{
+    links.last(place).get()
+}
+
+/// The place of the next sibling.
+pub(crate) fn next<X>(links: &Store<Item<X>>, place: Place) -> Option<Place>
+    requires { IsPlaced links.now place }
+    ensures { Leads links.now result (next_in (entry_at links.now.arena) (slot_of links.now place)) }
+{
+    links.next(place).get()
+}
+
+/// The place of the previous sibling.
+pub(crate) fn prev<X>(links: &Store<Item<X>>, place: Place) -> Option<Place>
+    requires { IsPlaced links.now place }
+    ensures { Leads links.now result (previous_in (entry_at links.now.arena) (slot_of links.now place)) }
+{
+    links.prev(place).get()
+}
