@@ -4,6 +4,7 @@ use Rattle.dom_model.specs.Worlds.World.{World}
 use Rattle.dom_model.specs.Commands.Command.{Command}
 use Rattle.dom_model.specs.Commands.Reply as model
 use Rattle.dom_model.specs.Commands.Answer.{Step, answer}
+use Rattle.dom_session.specs.declared.reply.Reply.{Reply}
 use Rattle.dom_wire.specs.Sessions.{StandsFor, reply_view}
 use Rattle.dom_c.specs.Statuses.{status_of, out_of_memory, closed}
 use Rattle.dom_c.specs.declared.kept.Kept.{Kept}
@@ -48,3 +49,10 @@ StepsIn step (Some old) (Some new) status = Steps (step old) old new status
 -- what a call for a command does
 abbrev pub Answers : Handle → Handle → Result Command ℕ → ℕ → Type 0
 Answers old new c status = StepsIn (λ kept. step_for kept c) old.slot.kept new.slot.kept status
+
+-- what is kept once a reply was, and once memory was wanting
+abbrev pub with_reply : Kept → Reply → Kept
+with_reply k reply = record { session = k.session; reply = Some reply; line = k.line; limit = k.limit; ended = k.ended; alloc = k.alloc }
+
+abbrev pub at_end : Kept → Kept
+at_end k = record { session = k.session; reply = k.reply; line = k.line; limit = k.limit; ended = true; alloc = k.alloc }

@@ -12,4 +12,5 @@ pub mod Reading
 pub mod Rows
 pub mod Records
 pub mod Nearby
+pub mod Counting
 pub mod Version

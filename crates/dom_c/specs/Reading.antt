@@ -47,9 +47,9 @@ count_in (Records rs) = Some (length rs)
 count_in (Notified ts) = Some (length ts)
 count_in _ = None
 
-abbrev pub number_at : ℕ → Answer → Option ℕ
-number_at i (Numbers ns) = slice_get ns i
-number_at i _ = None
+abbrev pub listed_number : ℕ → Answer → Option ℕ
+listed_number i (Numbers ns) = slice_get ns i
+listed_number i _ = None
 
 -- the numbers of an answer
 abbrev pub numbers_in : Answer → Option (List ℕ)

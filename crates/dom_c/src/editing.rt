@@ -19,11 +19,7 @@ pub extern "C" fn hp_insert_before(handle: &mut Handle, parent: u32, node: u32, 
     ensures { Answers handle.old handle.new
         (Ok (InsertBefore parent node (number_or_none child))) result }
 {
-    handle.take(Ok(Command::Editing(Editing::InsertBefore(
-        NodeId::new(parent),
-        NodeId::new(node),
-        node_or_none(child),
-    ))))
+    handle.edit(Editing::InsertBefore(NodeId::new(parent), NodeId::new(node), node_or_none(child)))
 }
 
 /// Appends a node to the children of a parent.
@@ -31,7 +27,7 @@ pub extern "C" fn hp_insert_before(handle: &mut Handle, parent: u32, node: u32, 
 pub extern "C" fn hp_append_child(handle: &mut Handle, parent: u32, node: u32) -> u8
     ensures { Answers handle.old handle.new (Ok (AppendChild parent node)) result }
 {
-    handle.take(Ok(Command::Editing(Editing::AppendChild(NodeId::new(parent), NodeId::new(node)))))
+    handle.edit(Editing::AppendChild(NodeId::new(parent), NodeId::new(node)))
 }
 
 /// Adopts a node into a document.
@@ -39,7 +35,7 @@ pub extern "C" fn hp_append_child(handle: &mut Handle, parent: u32, node: u32) -
 pub extern "C" fn hp_adopt_node(handle: &mut Handle, document: u32, node: u32) -> u8
     ensures { Answers handle.old handle.new (Ok (AdoptNode document node)) result }
 {
-    handle.take(Ok(Command::Editing(Editing::AdoptNode(NodeId::new(document), NodeId::new(node)))))
+    handle.edit(Editing::AdoptNode(NodeId::new(document), NodeId::new(node)))
 }
 
 /// Puts a node in place of a child.
@@ -47,11 +43,7 @@ pub extern "C" fn hp_adopt_node(handle: &mut Handle, document: u32, node: u32) -
 pub extern "C" fn hp_replace_child(handle: &mut Handle, parent: u32, node: u32, child: u32) -> u8
     ensures { Answers handle.old handle.new (Ok (ReplaceChild parent node child)) result }
 {
-    handle.take(Ok(Command::Editing(Editing::ReplaceChild(
-        NodeId::new(parent),
-        NodeId::new(node),
-        NodeId::new(child),
-    ))))
+    handle.edit(Editing::ReplaceChild(NodeId::new(parent), NodeId::new(node), NodeId::new(child)))
 }
 
 /// Removes a child.
@@ -59,7 +51,7 @@ pub extern "C" fn hp_replace_child(handle: &mut Handle, parent: u32, node: u32, 
 pub extern "C" fn hp_remove_child(handle: &mut Handle, parent: u32, child: u32) -> u8
     ensures { Answers handle.old handle.new (Ok (RemoveChild parent child)) result }
 {
-    handle.take(Ok(Command::Editing(Editing::RemoveChild(NodeId::new(parent), NodeId::new(child)))))
+    handle.edit(Editing::RemoveChild(NodeId::new(parent), NodeId::new(child)))
 }
 
 /// Removes a node from its parent, where it has one.
@@ -67,7 +59,7 @@ pub extern "C" fn hp_remove_child(handle: &mut Handle, parent: u32, child: u32) 
 pub extern "C" fn hp_remove(handle: &mut Handle, node: u32) -> u8
     ensures { Answers handle.old handle.new (Ok (Remove node)) result }
 {
-    handle.take(Ok(Command::Editing(Editing::Remove(NodeId::new(node)))))
+    handle.edit(Editing::Remove(NodeId::new(node)))
 }
 
 /// Puts a node, or with `HP_NONE` none, in place of all children.
@@ -76,10 +68,7 @@ pub extern "C" fn hp_replace_children(handle: &mut Handle, parent: u32, node: u3
     ensures { Answers handle.old handle.new
         (Ok (ReplaceChildren parent (number_or_none node))) result }
 {
-    handle.take(Ok(Command::Editing(Editing::ReplaceChildren(
-        NodeId::new(parent),
-        node_or_none(node),
-    ))))
+    handle.edit(Editing::ReplaceChildren(NodeId::new(parent), node_or_none(node)))
 }
 
 /// Joins Text nodes below a node that stand side by side, and drops empty ones.
@@ -117,5 +106,5 @@ pub extern "C" fn hp_set_text_content(
 pub extern "C" fn hp_discard(handle: &mut Handle, node: u32) -> u8
     ensures { Answers handle.old handle.new (Ok (Discard node)) result }
 {
-    handle.take(Ok(Command::Editing(Editing::Discard(NodeId::new(node)))))
+    handle.edit(Editing::Discard(NodeId::new(node)))
 }

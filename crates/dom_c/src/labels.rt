@@ -38,9 +38,9 @@ pub(crate) fn name_part(label: &Label, part: u8) -> Option<&[u8]>
     ensures { option_map (λ name. name.now) result ≡ name_part part label.now }
 {
     match part {
-        0 => own_name(label.kind, label.name.as_str()),
-        1 => doctype_id(label.kind, label.public_id.as_str()),
-        2 => doctype_id(label.kind, label.system_id.as_str()),
+        0 => own_name(label.kind, label.name()),
+        1 => doctype_id(label.kind, label.public_id()),
+        2 => doctype_id(label.kind, label.system_id()),
         _ => None,
     }
 }

@@ -6,6 +6,8 @@ pub mod asking;
 pub mod attributes;
 pub mod contents;
 pub mod copying;
+pub mod counting;
+pub mod direct;
 pub mod editing;
 pub mod fault;
 pub mod filters;

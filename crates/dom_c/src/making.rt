@@ -2,7 +2,7 @@
 
 ghost use Rattle.std.specs.Prelude.{◌≡◌, Ok};
 ghost use Rattle.dom_model.specs.Commands.Command.{NewDocument, CreateElement, CreateText, CreateComment, CreatePI, CreateDoctype, CreateFragment};
-ghost use Rattle.dom_wire.specs.Sessions.{command_view};
+ghost use Rattle.dom_session.specs.Views.{making_view};
 ghost use Rattle.dom_c.specs.Answers.{Answers};
 ghost use Rattle.dom_c.specs.Reads.{Reads, name_in, then_make};
 ghost use Rattle.dom_c.specs.Told.{told, number_told};
@@ -11,7 +11,6 @@ use crate::fault::Fault;
 use crate::handle::Handle;
 use crate::reading::{name_of, units_of};
 use dom_session::{Making, NodeId};
-use dom_wire::Command;
 use std::alloc::Global;
 
 /// Makes a Document.
@@ -20,16 +19,16 @@ pub extern "C" fn hp_new_document(handle: &mut Handle, document: &mut u32) -> u8
     ensures answers { Answers handle.old handle.new (Ok NewDocument) result }
     ensures told { document.new ≡ number_told (told handle.new result) document.old }
 {
-    handle.take_number(Ok(Command::Making(Making::NewDocument)), document)
+    handle.make(Ok(Making::NewDocument), document)
 }
 
 // Reads the arguments of `hp_create_element`.
-fn read_create_element(alloc: Global, document: u32, name: &[u8]) -> Result<Command, Fault>
-    ensures { Reads command_view result
+fn read_create_element(alloc: Global, document: u32, name: &[u8]) -> Result<Making, Fault>
+    ensures { Reads making_view result
         (then_make (name_in name.now) (λ name. Ok (CreateElement document name))) }
 {
     let name = name_of(alloc, name)?;
-    Ok(Command::Making(Making::CreateElement(NodeId::new(document), name)))
+    Ok(Making::CreateElement(NodeId::new(document), name))
 }
 
 /// Makes an Element of that name.
@@ -45,16 +44,16 @@ pub extern "C" fn hp_create_element(
         (then_make (name_in name.now) (λ name. Ok (CreateElement document name))) result }
     ensures told { element.new ≡ number_told (told handle.new result) element.old }
 {
-    handle.take_number(read_create_element(alloc, document, name), element)
+    handle.make(read_create_element(alloc, document, name), element)
 }
 
 // Reads the arguments of `hp_create_text`.
-fn read_create_text(alloc: Global, document: u32, data: &[u16]) -> Result<Command, Fault>
-    ensures { Reads command_view result
+fn read_create_text(alloc: Global, document: u32, data: &[u16]) -> Result<Making, Fault>
+    ensures { Reads making_view result
         (Ok (CreateText document data.now)) }
 {
     let data = units_of(alloc, data)?;
-    Ok(Command::Making(Making::CreateText(NodeId::new(document), data)))
+    Ok(Making::CreateText(NodeId::new(document), data))
 }
 
 /// Makes a Text of that data.
@@ -69,16 +68,16 @@ pub extern "C" fn hp_create_text(
     ensures answers { Answers handle.old handle.new (Ok (CreateText document data.now)) result }
     ensures told { text.new ≡ number_told (told handle.new result) text.old }
 {
-    handle.take_number(read_create_text(alloc, document, data), text)
+    handle.make(read_create_text(alloc, document, data), text)
 }
 
 // Reads the arguments of `hp_create_comment`.
-fn read_create_comment(alloc: Global, document: u32, data: &[u16]) -> Result<Command, Fault>
-    ensures { Reads command_view result
+fn read_create_comment(alloc: Global, document: u32, data: &[u16]) -> Result<Making, Fault>
+    ensures { Reads making_view result
         (Ok (CreateComment document data.now)) }
 {
     let data = units_of(alloc, data)?;
-    Ok(Command::Making(Making::CreateComment(NodeId::new(document), data)))
+    Ok(Making::CreateComment(NodeId::new(document), data))
 }
 
 /// Makes a Comment of that data.
@@ -93,7 +92,7 @@ pub extern "C" fn hp_create_comment(
     ensures answers { Answers handle.old handle.new (Ok (CreateComment document data.now)) result }
     ensures told { comment.new ≡ number_told (told handle.new result) comment.old }
 {
-    handle.take_number(read_create_comment(alloc, document, data), comment)
+    handle.make(read_create_comment(alloc, document, data), comment)
 }
 
 // Reads the arguments of `hp_create_pi`.
@@ -102,13 +101,13 @@ fn read_create_pi(
     document: u32,
     target: &[u8],
     data: &[u16],
-) -> Result<Command, Fault>
-    ensures { Reads command_view result
+) -> Result<Making, Fault>
+    ensures { Reads making_view result
         (then_make (name_in target.now) (λ target. Ok (CreatePI document target data.now))) }
 {
     let target = name_of(alloc, target)?;
     let data = units_of(alloc, data)?;
-    Ok(Command::Making(Making::CreatePI(NodeId::new(document), target, data)))
+    Ok(Making::CreatePI(NodeId::new(document), target, data))
 }
 
 /// Makes a ProcessingInstruction of that target and data.
@@ -125,7 +124,7 @@ pub extern "C" fn hp_create_pi(
         (then_make (name_in target.now) (λ target. Ok (CreatePI document target data.now))) result }
     ensures told { instruction.new ≡ number_told (told handle.new result) instruction.old }
 {
-    handle.take_number(read_create_pi(alloc, document, target, data), instruction)
+    handle.make(read_create_pi(alloc, document, target, data), instruction)
 }
 
 // Reads the arguments of `hp_create_doctype`.
@@ -135,14 +134,15 @@ fn read_create_doctype(
     name: &[u8],
     public_id: &[u8],
     system_id: &[u8],
-) -> Result<Command, Fault>
-    ensures { Reads command_view result
-        (then_make (name_in name.now) (λ name. then_make (name_in public_id.now) (λ public_id. then_make (name_in system_id.now) (λ system_id. Ok (CreateDoctype document name public_id system_id))))) }
+) -> Result<Making, Fault>
+    ensures { Reads making_view result
+        (then_make (name_in name.now) (λ name. then_make (name_in public_id.now)
+        (λ public_id. then_make (name_in system_id.now) (λ system_id. Ok (CreateDoctype document name public_id system_id))))) }
 {
     let name = name_of(alloc, name)?;
     let public_id = name_of(alloc, public_id)?;
     let system_id = name_of(alloc, system_id)?;
-    Ok(Command::Making(Making::CreateDoctype(NodeId::new(document), name, public_id, system_id)))
+    Ok(Making::CreateDoctype(NodeId::new(document), name, public_id, system_id))
 }
 
 /// Makes a DocumentType of that name, with its public and its system id.
@@ -157,10 +157,11 @@ pub extern "C" fn hp_create_doctype(
     doctype: &mut u32,
 ) -> u8
     ensures answers { Answers handle.old handle.new
-        (then_make (name_in name.now) (λ name. then_make (name_in public_id.now) (λ public_id. then_make (name_in system_id.now) (λ system_id. Ok (CreateDoctype document name public_id system_id))))) result }
+        (then_make (name_in name.now) (λ name. then_make (name_in public_id.now)
+        (λ public_id. then_make (name_in system_id.now) (λ system_id. Ok (CreateDoctype document name public_id system_id))))) result }
     ensures told { doctype.new ≡ number_told (told handle.new result) doctype.old }
 {
-    handle.take_number(
+    handle.make(
         read_create_doctype(alloc, document, name, public_id, system_id),
         doctype,
     )
@@ -172,8 +173,5 @@ pub extern "C" fn hp_create_fragment(handle: &mut Handle, document: u32, fragmen
     ensures answers { Answers handle.old handle.new (Ok (CreateFragment document)) result }
     ensures told { fragment.new ≡ number_told (told handle.new result) fragment.old }
 {
-    handle.take_number(
-        Ok(Command::Making(Making::CreateFragment(NodeId::new(document)))),
-        fragment,
-    )
+    handle.make(Ok(Making::CreateFragment(NodeId::new(document))), fragment)
 }

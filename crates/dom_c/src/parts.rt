@@ -4,7 +4,7 @@ ghost use Rattle.std.specs.Prelude.{◌≡◌, List, ℕ, Option, length, option
 ghost use Rattle.dom_wire.specs.Sessions.{answer_view};
 ghost use Rattle.dom_c.specs.Told.{last_of};
 ghost use Rattle.dom_session.specs.Links.{laid_over};
-ghost use Rattle.dom_c.specs.Reading.{look_up_status, looked_up, or_before, laid_or_before, count_in, numbers_in, number_at};
+ghost use Rattle.dom_c.specs.Reading.{look_up_status, looked_up, or_before, laid_or_before, count_in, numbers_in, listed_number};
 
 use crate::handle::Handle;
 use crate::kept::Kept;
@@ -50,7 +50,7 @@ fn lay_over(numbers: &[u32], into: &mut [u32])
 }
 
 fn number_of(answer: &Answer, index: usize) -> Option<u32>
-    ensures { result ≡ number_at index (answer_view answer.now) }
+    ensures { result ≡ listed_number index (answer_view answer.now) }
 {
     match answer {
         Answer::Numbers(numbers) => numbers.as_slice().get(index).copied(),
@@ -77,8 +77,8 @@ impl Kept {
         }
     }
 
-    fn number_at(&self, index: usize) -> Option<u32>
-        ensures { result ≡ option_and_then (number_at index) (last_of self.now) }
+    fn listed_number(&self, index: usize) -> Option<u32>
+        ensures { result ≡ option_and_then (listed_number index) (last_of self.now) }
     {
         match &self.reply {
             Some(Reply::Done(answer)) => number_of(answer, index),
@@ -114,8 +114,8 @@ pub extern "C" fn hp_count(handle: &mut Handle, count: &mut usize) -> u8
 #[unsafe(no_mangle)]
 pub extern "C" fn hp_number_at(handle: &mut Handle, index: usize, number: &mut u32) -> u8
     ensures kept { handle.new.slot.kept ≡ handle.old.slot.kept }
-    ensures status { result ≡ look_up_status handle.old (number_at index) }
-    ensures number { number.new ≡ or_before (looked_up handle.old (number_at index)) number.old }
+    ensures status { result ≡ look_up_status handle.old (listed_number index) }
+    ensures number { number.new ≡ or_before (looked_up handle.old (listed_number index)) number.old }
 {
     if !handle.is_open {
         return HP_CLOSED;
@@ -124,7 +124,7 @@ pub extern "C" fn hp_number_at(handle: &mut Handle, index: usize, number: &mut u
     if kept.ended {
         return HP_OUT_OF_MEMORY;
     }
-    match kept.number_at(index) {
+    match kept.listed_number(index) {
         Some(found) => {
             *number = found;
             HP_OK

@@ -96,8 +96,8 @@ fn write_order(answer: &Answer, order: &mut i8)
 }
 
 impl Kept {
-    // Writes a number.
-    fn write_number(&self, status: u8, number: &mut u32)
+    /// Writes a number.
+    pub(crate) fn write_number(&self, status: u8, number: &mut u32)
         ensures { number.new ≡ number_told (told_of self.now status) number.old }
     {
         if status == HP_OK
@@ -118,8 +118,8 @@ impl Kept {
         }
     }
 
-    // Writes a number, or `HP_NONE`.
-    fn write_maybe_number(&self, status: u8, number: &mut u32)
+    /// Writes a number, or `HP_NONE`.
+    pub(crate) fn write_maybe_number(&self, status: u8, number: &mut u32)
         ensures { number.new ≡ maybe_number_told (told_of self.now status) number.old }
     {
         if status == HP_OK
@@ -173,22 +173,6 @@ impl Handle {
         let status = self.take(command);
         if self.is_open {
             self.slot.lend().kept.write_count(status, count);
-        }
-        status
-    }
-
-    /// Takes a command. Writes a number, or `HP_NONE`.
-    pub(crate) fn take_maybe_number(
-        &mut self,
-        command: Result<Command, Fault>,
-        number: &mut u32,
-    ) -> u8
-        ensures answers { (c : Result PlainCommand ℕ) → Reads command_view command c → Answers self.old self.new c result }
-        ensures told { number.new ≡ maybe_number_told (told self.new result) number.old }
-    {
-        let status = self.take(command);
-        if self.is_open {
-            self.slot.lend().kept.write_maybe_number(status, number);
         }
         status
     }

@@ -14,7 +14,7 @@ use Rattle.dom_edit.specs.declared.world.World.{World}
 use Rattle.dom_edit.specs.Whole.{CoversAhead, Follows, unwatched}
 use Rattle.dom_edit.proofs.Following.{keeps-unwatched}
 use Rattle.dom_clone.specs.declared.waiting.Waiting.{Waiting}
-use Rattle.dom_clone.specs.Leaving.{LeavesAll}
+use Rattle.dom_edit.specs.Leaving.{LeavesAll}
 use Rattle.dom_clone.proofs.Under.{follows-same}
 use Rattle.dom_clone.proofs.Partial.{IsCopying, with_trees}
 
@@ -37,7 +37,7 @@ left-same v = record {
   static_ranges = refl;
   iterators = refl;
   walkers = refl;
-  watched = λ x o. o;
+  observers = refl;
 }
 
 pub left-covered : (old new : World) → CoversAhead old new → LeavesAll old new
@@ -52,7 +52,7 @@ left-covered old new c =
       static_ranges = refl;
       iterators = refl;
       walkers = refl;
-      watched = λ x o. o;
+      observers = refl;
     })
 
 pub left-then : (a b c : World) → LeavesAll a b → LeavesAll b c → LeavesAll a c
@@ -65,12 +65,12 @@ left-then a b c l k = record {
   static_ranges = k.static_ranges ∙ l.static_ranges;
   iterators = k.iterators ∙ l.iterators;
   walkers = k.walkers ∙ l.walkers;
-  watched = λ x o. k.watched x (l.watched x o);
+  observers = k.observers ∙ l.observers;
 }
 
 -- trees beside those that were there
-left-trees : (old new : World) (g : Forest Content) → EachNode (IsLater old) g → old.tree.made ≤ new.tree.made → Follows old new (with_trees g new.tree.made) → LeavesAll old new
-left-trees old new g numbers made f =
+left-trees : (old new : World) (g : Forest Content) → EachNode (IsLater old) g → old.tree.made ≤ new.tree.made → Follows old new (with_trees g new.tree.made) → new.observers ≡ old.observers → LeavesAll old new
+left-trees old new g numbers made f observers =
     let k = f.keeps (unwatched old) (keeps-unwatched old) in
     record {
       trees = g;
@@ -81,18 +81,19 @@ left-trees old new g numbers made f =
       static_ranges = sym k.static_ranges;
       iterators = sym k.iterators;
       walkers = sym k.walkers;
-      watched = λ x o. f.watches (record (unwatched old) { observing = x }) (record { forest = refl; made = refl; ranges = refl; static_ranges = refl; iterators = refl; walkers = refl }) o;
+      observers = observers;
     }
 
 -- one more root
-pub left-made : (old new : World) (d : ℕ) (label : Label) (body : Content) → Follows old new (made_node d label body) → LeavesAll old new
-left-made old new d label body f =
+pub left-made : (old new : World) (d : ℕ) (label : Label) (body : Content) → new.observers ≡ old.observers → Follows old new (made_node d label body) → LeavesAll old new
+left-made old new d label body observers f =
     left-trees old new one (omega arith, tt, tt) (omega (arith, more))
     (follows-same old new (made_node d label body) (with_trees one new.tree.made)
     (λ w k.
     ap (λ (c : ℕ). record w { forest = beside w.forest (node (record { number = c; document = d; label = label; body = body }) empty empty); made = c + 1 }) k.made
     ∙ ap (λ (c : ℕ). with_trees one c w) more)
     f)
+    observers
   where
     one : Forest Content
     one = node (record { number = old.tree.made; document = d; label = label; body = body }) empty empty
@@ -101,5 +102,5 @@ left-made old new d label body f =
     more = (f.keeps (unwatched old) (keeps-unwatched old)).made
 
 -- a copy that is being made
-pub left-copying : (old : World) (n d : ℕ) (now : World) {ws : List (Waiting ℕ)} → IsCopying old n d now ws → LeavesAll old now
-left-copying old n d now i = left-trees old now i.copies i.from i.grows i.follows
+pub left-copying : (old : World) (n d : ℕ) (now : World) {ws : List (Waiting ℕ)} → IsCopying old n d now ws → now.observers ≡ old.observers → LeavesAll old now
+left-copying old n d now i observers = left-trees old now i.copies i.from i.grows i.follows observers

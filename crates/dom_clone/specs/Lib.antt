@@ -1,4 +1,3 @@
 pub mod Growing
-pub mod Leaving
 pub mod Meeting
 pub mod Waits

@@ -13,7 +13,7 @@ ghost use Rattle.dom_tree.specs.Standing.{MayStand};
 ghost use Rattle.dom_edit.specs.Whole.{IsWhole, Follows};
 ghost use Rattle.dom_edit.specs.Refusals.{check_adopt, IsRefused};
 ghost use Rattle.dom_clone.specs.Growing.{made_under};
-ghost use Rattle.dom_clone.specs.Leaving.{LeavesAll};
+ghost use Rattle.dom_edit.specs.Leaving.{LeavesAll};
 
 use crate::waiting::{Waiting, wait_for};
 use dom_edit::{Content, Refusal, World, document_in};
@@ -127,7 +127,8 @@ fn copy_node(
     requires document_kind { ForSome document (λ d. is_of_kind Document world.old.tree.forest d ≡ true) }
     requires own_document { document ≡ None → is_of_kind Document world.old.tree.forest node ≡ true }
     ensures number { IfOk result (λ id. id ≡ world.old.tree.made) }
-    ensures copied { IfSome (entry_in world.old.tree.forest node) (λ e. OnOk result (Follows world.old world.new (made_node (unwrap_or document world.old.tree.made) e.value.label e.value.body))) }
+    ensures copied { IfSome (entry_in world.old.tree.forest node)
+        (λ e. OnOk result (Follows world.old world.new (made_node (unwrap_or document world.old.tree.made) e.value.label e.value.body))) }
     ensures left { LeavesAll world.old world.new }
     ensures whole { IsWhole world.new }
 {
@@ -149,8 +150,10 @@ fn copy_under(
     requires room { world.old.tree.made < 4294967295 }
     requires kinds { MayStand world.old.tree.forest parent node }
     ensures number { IfOk result (λ id. id ≡ world.old.tree.made) }
-    ensures copied { IfSome (entry_in world.old.tree.forest parent) (λ p. IfSome (entry_in world.old.tree.forest node) (λ e. OnOk result (Follows world.old world.new (made_under parent p.value.document e.value)))) }
+    ensures copied { IfSome (entry_in world.old.tree.forest parent)
+        (λ p. IfSome (entry_in world.old.tree.forest node) (λ e. OnOk result (Follows world.old world.new (made_under parent p.value.document e.value)))) }
     ensures failed { OnErr result (LeavesAll world.old world.new) }
+    ensures observers { world.new.observers ≡ world.old.observers }
     ensures whole { IsWhole world.new }
 {
     let document = document_in(&world.tree, parent);

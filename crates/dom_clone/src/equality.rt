@@ -67,13 +67,13 @@ fn agree(tree: &Tree<Content>, left: NodeId, right: NodeId) -> bool
         return false;
     }
     match label.kind {
-        Kind::Element => label.name == other.name && same_attributes(tree, left, right),
+        Kind::Element => label.name() == other.name() && same_attributes(tree, left, right),
         Kind::Text | Kind::Comment => same_text(tree, left, right),
-        Kind::ProcessingInstruction => label.name == other.name && same_text(tree, left, right),
+        Kind::ProcessingInstruction => label.name() == other.name() && same_text(tree, left, right),
         Kind::DocumentType => {
-            label.name == other.name
-                && label.public_id == other.public_id
-                && label.system_id == other.system_id
+            label.name() == other.name()
+                && label.public_id() == other.public_id()
+                && label.system_id() == other.system_id()
         }
         Kind::Document | Kind::DocumentFragment => true,
     }
@@ -83,7 +83,8 @@ fn agree(tree: &Tree<Content>, left: NodeId, right: NodeId) -> bool
 fn same_attributes(tree: &Tree<Content>, left: NodeId, right: NodeId) -> bool
     requires left_held { HasNode tree.now.forest left }
     requires right_held { HasNode tree.now.forest right }
-    ensures { IfSome (entry_in tree.now.forest left) (λ l. IfSome (entry_in tree.now.forest right) (λ r. result ≡ same_attributes l.value.body.attributes r.value.body.attributes)) }
+    ensures { IfSome (entry_in tree.now.forest left)
+        (λ l. IfSome (entry_in tree.now.forest right) (λ r. result ≡ same_attributes l.value.body.attributes r.value.body.attributes)) }
 {
     let body = tree.body(left);
     let other = tree.body(right);
@@ -94,7 +95,8 @@ fn same_attributes(tree: &Tree<Content>, left: NodeId, right: NodeId) -> bool
 fn same_text(tree: &Tree<Content>, left: NodeId, right: NodeId) -> bool
     requires left_held { HasNode tree.now.forest left }
     requires right_held { HasNode tree.now.forest right }
-    ensures { IfSome (entry_in tree.now.forest left) (λ l. IfSome (entry_in tree.now.forest right) (λ r. result ≡ bytes_eq l.value.body.text r.value.body.text)) }
+    ensures { IfSome (entry_in tree.now.forest left)
+        (λ l. IfSome (entry_in tree.now.forest right) (λ r. result ≡ bytes_eq l.value.body.text r.value.body.text)) }
 {
     let body = tree.body(left);
     let other = tree.body(right);

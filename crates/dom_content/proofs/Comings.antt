@@ -77,7 +77,7 @@ goes low a b step f d x out s =
         rising = λ n q l e. d.rising n q l (ap (λ (g : Forest Content). parent_of g n) k.forest ∙ e);
         ends = s.ends low out;
       };
-      there = s.held;
+      there = λ m h. subst (λ (g : Forest Content). 0 < occurs m g) k.forest (x.there m h);
       kinds = λ test m h. ap (λ (g : Forest Content). kind_passes test g m) (sym k.forest) ∙ x.kinds test m h;
       children = s.children;
     }

@@ -4,12 +4,13 @@ use Rattle.std.proofs.Common.{◌≡◌, ℕ, ap, sym, ◌∙◌, subst}
 use Rattle.dom_model.specs.Forests.Forest.{Forest, HasNode, entry_in}
 use Rattle.dom_model.specs.Worlds.World.{Content}
 use Rattle.dom_model.specs.TokenText.Originals.{label_in}
-use Rattle.dom_model.proofs.Forests.Entries.{occurs-HasNode}
+use Rattle.dom_model.proofs.Forests.Entries.{HasNode-occurs, occurs-HasNode}
 use Rattle.dom_model.proofs.Worlds.Measured.{entry-beside}
 use Rattle.dom_edit.specs.declared.world.World.{World}
 use Rattle.dom_edit.specs.Keeping.{KeepsLabels}
 use Rattle.dom_edit.proofs.NodesKept.{nodes-same}
-use Rattle.dom_clone.specs.Leaving.{LeavesAll}
+use Rattle.dom_edit.specs.Leaving.{LeavesAll}
+use Rattle.dom_content.specs.Paths.{StillHeld}
 
 -- the tree is as it was
 pub labels-same : (a b : World) → b.tree ≡ a.tree → KeepsLabels a b
@@ -24,3 +25,7 @@ labels-left a b l =
       held = λ n h. subst (λ e. IsSome e) (sym (same n h)) h;
       labels = λ n h. ap label_in (same n h);
     }
+
+-- each node that was there is there
+pub still-held : (a b : World) → KeepsLabels a b → StillHeld a b
+still-held a b k m h = occurs-HasNode b.tree.forest m (k.held m (HasNode-occurs a.tree.forest m h))

@@ -6,19 +6,18 @@ use Rattle.std.proofs.lemmas.List.{drop_more, take_min}
 use Rattle.std.proofs.lemmas.Result.{on_ok_weaker}
 use Rattle.dom_model.specs.Forests.Kinds.{is_character_data}
 use Rattle.dom_model.specs.Forests.Forest.{Node, Forest, empty, node, occurs, size, tree_at, map_nodes, entry_in, HasNode}
-use Rattle.dom_model.specs.Forests.Texts.{substring, spliced}
+use Rattle.dom_model.specs.Forests.Texts.{substring}
 use Rattle.dom_model.specs.Worlds.World as model
 use Rattle.dom_model.specs.Worlds.World.{Content, no_content}
 use Rattle.dom_model.specs.Worlds.Making.{made_node}
 use Rattle.dom_model.specs.Forests.Nodes.{kind_passes, entry_has}
 use Rattle.dom_model.specs.MutationAlgorithms.Insertable.{IsInsertable}
 use Rattle.dom_model.specs.MutationAlgorithms.Editing.{append, nodes_of, document_in, node_document}
-use Rattle.dom_model.specs.DataAndCopies.Data.{content_in, cut_count, data_of, with_data, replace_data}
+use Rattle.dom_model.specs.DataAndCopies.Data.{content_in, data_of, with_data}
 use Rattle.dom_model.specs.DataAndCopies.Clones.{alone_of, original, with_copies, clone_node}
 use Rattle.dom_model.specs.RangesAndContents.Contents.{new_fragment, clone_with, cut_if, units_into, child_into, children_into}
 use Rattle.dom_model.proofs.Forests.Entries.{occurs-HasNode, HasNode-occurs}
 use Rattle.dom_model.proofs.Forests.Standing.{Tree, tree_of}
-use Rattle.dom_model.proofs.Worlds.SameShape.{IsAlike, with_node-alike, occurs-alike}
 use Rattle.dom_model.proofs.MutationAlgorithms.Extending.{Extends, extends-beside, put_by_insert}
 use Rattle.dom_model.proofs.Soundness.SoundAppending.{clone_copy, clone_with_copy, fragment_made}
 use Rattle.dom_model.proofs.Counting.CountsKept.{append-kept}
@@ -79,9 +78,6 @@ data-extended a b step moved f e m h = ap (λ (g : Forest Content). (content_in 
 held-new : (a b : World) (step : model.World → model.World) (n : ℕ) → Follows a b step → 0 < occurs n (step (unwatched a)).forest → HasNode b.tree.forest n
 held-new a b step n f h = HasNode-occurs b.tree.forest n (subst (λ (g : Forest Content). 0 < occurs n g) (sym (forest-after a b step f)) h)
 
-pub held-still : (a b : World) → StillHeld a b → (n : ℕ) → HasNode a.tree.forest n → HasNode b.tree.forest n
-held-still a b s n h = HasNode-occurs b.tree.forest n (s n (occurs-HasNode a.tree.forest n h))
-
 pub data-fragment : (a b : World) (d : ℕ) → Follows a b (new_fragment d) → DataStays a b
 data-fragment a b d f = data-extended a b (new_fragment d) [] f (extends-beside a.tree.forest _)
 
@@ -117,16 +113,6 @@ module _ (a b : World) (h : IsWhole a) (parent n : ℕ) (c : IsInsertable a.tree
 
   pub data-appended : DataStays a b
   data-appended = data-extended a b (append n parent) (nodes_of (unwatched a) n) f put
-
-pub still-cut : (a b : World) (n offset count : ℕ) → Follows a b (replace_data n offset count []) → StillHeld a b
-still-cut a b n offset count f m h =
-    subst (λ (g : Forest Content). 0 < occurs m g) (sym (forest-after a b (replace_data n offset count []) f)) (subst (λ x. 0 < x) (sym (occurs-alike alike m)) h)
-  where
-    w : model.World
-    w = unwatched a
-
-    alike : IsAlike w.forest (replace_data n offset count [] w).forest
-    alike = with_node-alike (with_data (spliced offset (cut_count (length (data_of w n)) offset count) [] (data_of w n))) (λ x. refl) n w.forest
 
 -- a node with data is there
 pub data-there : (f : Forest Content) (n : ℕ) → kind_passes is_character_data f n ≡ true → 0 < occurs n f

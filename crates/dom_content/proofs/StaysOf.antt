@@ -31,18 +31,18 @@ use Rattle.dom_edit.specs.Whole.{IsWhole, Follows, unwatched}
 use Rattle.dom_edit.proofs.Following.{keeps-unwatched}
 use Rattle.dom_edit.specs.Inserting.{IsUnreferred}
 use Rattle.dom_edit.proofs.PlacedWorlds.{sound-unwatched}
-use Rattle.dom_content.specs.Paths.{StillHeld, EndsStayOut, Stays}
+use Rattle.dom_content.specs.Paths.{EndsStayOut, Stays}
 use Rattle.dom_content.specs.Coming.{IsRising}
 use Rattle.dom_content.proofs.EndsOut.{rooted-there, live-there, AreUnder, under-append, under-beside, under-replaced}
 
 -- One step after another.
 
 pub stays-none : (a : World) → Stays a a
-stays-none a = record { held = λ m h. h; children = λ m h. h; ends = λ low h. h }
+stays-none a = record { children = λ m h. h; ends = λ low h. h }
 
 pub stays-then : (a b c : World) → Stays a b → Stays b c → Stays a c
 stays-then a b c s t =
-    record { held = λ m h. t.held m (s.held m h); children = λ m h. t.children m (s.children m h); ends = λ low h. t.ends low (s.ends low h) }
+    record { children = λ m h. t.children m (s.children m h); ends = λ low h. t.ends low (s.ends low h) }
 
 -- From a step of the definitions.
 
@@ -67,7 +67,6 @@ stays-beside a b step g f forest ranges =
     let e : b.tree.forest ≡ beside a.tree.forest g = sym k.forest ∙ forest in
     let x : Extends a.tree.forest b.tree.forest [] = subst (λ (t : Forest Content). Extends a.tree.forest t []) (sym e) (extends-beside a.tree.forest g) in
     record {
-      held = x.there;
       children = children-stay a.tree.forest b.tree.forest (λ m q p. rw (x.parents m (parent-there a.tree.forest m q p) refl ∙ p) refl);
       ends = λ low h. ends-after (λ root. root < low) a b step f (under-beside (λ root. root < low) (unwatched a) (step (unwatched a)) g forest ranges h);
     }
@@ -82,13 +81,12 @@ pub stays-copied : (a b : World) (units : List ℕ) (n : ℕ) → Follows a b (c
 stays-copied a b units n f = stays-beside a b (clone_with units n) _ f refl refl
 
 -- units are cut
-pub stays-cut : (a b : World) (n offset count : ℕ) → StillHeld a b → Follows a b (replace_data n offset count []) → Stays a b
-stays-cut a b n offset count held f =
+pub stays-cut : (a b : World) (n offset count : ℕ) → Follows a b (replace_data n offset count []) → Stays a b
+stays-cut a b n offset count f =
     let w = unwatched a in
     let k = f.keeps w (keeps-unwatched a) in
     let alike : IsAlike w.forest (replace_data n offset count [] w).forest = with_node-alike (with_data (spliced offset (cut_count (length (data_of w n)) offset count) [] (data_of w n))) (λ x. refl) n w.forest in
     record {
-      held = held;
       children = children-stay a.tree.forest b.tree.forest (λ m q p. rw (ap (λ (g : Forest Content). parent_of g m) (sym k.forest) ∙ parent-alike alike m ∙ p) refl);
       ends = λ low h. ends-after (λ root. root < low) a b (replace_data n offset count []) f (under-replaced (λ root. root < low) n offset count w h);
     }
@@ -143,7 +141,6 @@ module _ (a b : World) (h : IsWhole a) (parent n : ℕ) (c : IsInsertable a.tree
 
     stays-put : Stays a b
     stays-put = record {
-      held = λ m k. subst (λ (g : Forest Content). 0 < occurs m g) (sym forest) (put.extends.there m k);
       children = children-stay a.tree.forest b.tree.forest children-put;
       ends = ends-put;
     }

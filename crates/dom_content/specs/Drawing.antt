@@ -59,4 +59,5 @@ abbrev pub drawn_by : Bool → ℕ → Point → Point → Parts → World → W
 drawn_by moves into start end parts = parts_drawn moves into (record { start = start; end = end }) parts.first.items parts.contained.items parts.last.items
 
 abbrev pub filled_by : Bool → Bool → ℕ → Point → Point → Parts → World → World
-filled_by moves one_data into start end parts = filled moves one_data into (record { start = start; end = end }) parts.first.items parts.contained.items parts.last.items
+filled_by moves one_data into start end parts =
+    filled moves one_data into (record { start = start; end = end }) parts.first.items parts.contained.items parts.last.items

@@ -13,7 +13,8 @@ use Rattle.dom_model.specs.DataAndCopies.Clones.{clone_node}
 use Rattle.dom_model.specs.RangesAndContents.Contents.{new_fragment, children_into}
 use Rattle.dom_ranges.specs.Tables.{live_nodes}
 use Rattle.dom_edit.specs.declared.world.World.{World}
-use Rattle.dom_edit.specs.Whole.{Keeps, unwatched}
+use Rattle.dom_edit.specs.Leaving.{LeavesAll, AreNewer}
+use Rattle.dom_edit.specs.Whole.{IsWhole, Keeps, unwatched}
 use Rattle.dom_content.specs.declared.partial.Partial.{Partial}
 
 -- in a world that it keeps, no number is left beyond the last one when the step is done
@@ -44,9 +45,8 @@ pub record StandsUnder (passes : ℕ → Type 0) (f : Forest Content) (n : ℕ) 
 abbrev pub EndsStayOut : ℕ → World → Type 0
 EndsStayOut low v = (m : ℕ) → 0 < hits m (live_nodes v.ranges) → StandsUnder (λ root. root < low) v.tree.forest m
 
--- what each step leaves: the nodes are held still, each under a parent where it was under one, and ends that stay out of new trees still do
+-- what each step leaves: a node stands under a parent where it stood under one, and ends that stay out of new trees still do
 pub record Stays (old new : World) : Type 0 where
-  pub held : StillHeld old new
   pub children : (m : ℕ) → IsSome (parent_of old.tree.forest m) → IsSome (parent_of new.tree.forest m)
   pub ends : (low : ℕ) → EndsStayOut low old → EndsStayOut low new
 
@@ -70,3 +70,12 @@ closed_one moves p w = append p.inner p.copy (children_into moves p.inner p.chil
 abbrev pub closed : Bool → List Partial → model.World → model.World
 closed moves [] w = w
 closed moves (p ∷ ps) w = closed_one moves p (closed moves ps w)
+
+-- the numbers of copies that are not finished, and of the further fragments
+abbrev pub numbers_of_copies : List Partial → List ℕ
+numbers_of_copies [] = []
+numbers_of_copies (p ∷ ps) = p.copy ∷ p.inner ∷ numbers_of_copies ps
+
+-- a copy was begun for a fragment: what was left as it was, and is older than that, is older than the copy and its further fragment
+abbrev pub IsBegunFor : ℕ → World → Partial → Type 0
+IsBegunFor into v p = (a : World) → IsWhole a → AreNewer a (into ∷ []) → LeavesAll a v → AreNewer a (p.copy ∷ p.inner ∷ [])

@@ -1,6 +1,6 @@
 //! Contents that go into a fragment, moved or copied (DOM Standard, "Interface Range", extractContents, cloneContents).
 
-ghost use Rattle.std.specs.Prelude.{◌≡◌, ◌-◌, ◌==◌, ◌≤◌, ◌||◌, ◌++◌, [], length, true, None, IfOk, OnOk, IsSome};
+ghost use Rattle.std.specs.Prelude.{◌≡◌, ◌-◌, ◌==◌, ◌≤◌, ◌||◌, ◌++◌, [], ◌∷◌, length, true, false, None, IfOk, OnOk, IsSome};
 ghost use Rattle.std.specs.Result.{IfErr};
 ghost use Rattle.dom_model.specs.declared.Kind.TheVariants.{DocumentType};
 ghost use Rattle.dom_model.specs.Forests.Forest.{HasNode};
@@ -15,6 +15,7 @@ ghost use Rattle.dom_edit.specs.Inserting.{AreThere};
 ghost use Rattle.dom_model.specs.TokenText.Edits.{extract_edits, clone_contents_edits};
 ghost use Rattle.dom_edit.specs.Whole.{IsWhole, Follows, unwatched};
 ghost use Rattle.dom_edit.specs.Keeping.{KeepsLabels};
+ghost use Rattle.dom_edit.specs.Leaving.{LeavesAll, LeavesOlder};
 ghost use Rattle.dom_edit.specs.Markers.{StandByEdits};
 ghost use Rattle.dom_edit.specs.Refusals.{IsRefused};
 ghost use Rattle.dom_content.specs.Left.{IsLeftOf, HoldsBetween, MovesBetween, CopiesBetween};
@@ -88,6 +89,7 @@ fn draw_units(
     requires room { HasRoom world.old (units_into moves into start.node start.offset (end.offset - start.offset)) }
     ensures drawn { OnOk result (Follows world.old world.new (units_into moves into start.node start.offset (end.offset - start.offset))) }
     ensures stays { OnOk result (Stays world.old world.new) }
+    ensures left { moves ≡ false → LeavesOlder (into ∷ []) world.old world.new }
     ensures kept { KeepsLabels world.old world.new }
     ensures whole { IsWhole world.new }
 {
@@ -112,6 +114,7 @@ fn draw_parts(
     requires room { HasRoom world.old (drawn_by moves into start end parts.now) }
     ensures drawn { OnOk result (Follows world.old world.new (drawn_by moves into start end parts.now)) }
     ensures stays { OnOk result (Stays world.old world.new) }
+    ensures left { moves ≡ false → LeavesOlder (into ∷ []) world.old world.new }
     ensures kept { KeepsLabels world.old world.new }
     ensures whole { IsWhole world.new }
 {
@@ -132,14 +135,17 @@ fn fill(
 ) -> Result<(), AllocError>
     requires whole { IsWhole world.old }
     requires start_held { HasNode world.old.tree.forest start.node }
-    requires within { in_one_data world.old.tree.forest (record { start = start; end = end }) ≡ true → start.offset ≤ length (data_of (unwatched world.old) start.node) }
+    requires within { in_one_data world.old.tree.forest (record { start = start; end = end }) ≡ true →
+        start.offset ≤ length (data_of (unwatched world.old) start.node) }
     requires ahead { (start.node == end.node) ≡ true → start.offset ≤ end.offset }
     requires may { MayDraw world.old into (parts.now.first.items ++ (parts.now.contained.items ++ parts.now.last.items)) }
     requires first_way { IsPathTo world.old.tree.forest start.offset parts.now.first.items }
     requires last_way { IsPathTo world.old.tree.forest 0 parts.now.last.items }
     requires room { HasRoom world.old (filled_by moves (in_one_data world.old.tree.forest (record { start = start; end = end })) into start end parts.now) }
-    ensures drawn { OnOk result (Follows world.old world.new (filled_by moves (in_one_data world.old.tree.forest (record { start = start; end = end })) into start end parts.now)) }
+    ensures drawn { OnOk result (Follows world.old world.new
+        (filled_by moves (in_one_data world.old.tree.forest (record { start = start; end = end })) into start end parts.now)) }
     ensures stays { OnOk result (Stays world.old world.new) }
+    ensures left { moves ≡ false → LeavesOlder (into ∷ []) world.old world.new }
     ensures kept { KeepsLabels world.old world.new }
     ensures whole { IsWhole world.new }
 {
@@ -169,6 +175,7 @@ fn draw(
     ensures number { IfOk result (λ id. id ≡ world.old.tree.made) }
     ensures drawn { OnOk result (Follows world.old world.new (contents_drawn moves (record { start = start; end = end }))) }
     ensures stays { OnOk result (Stays world.old world.new) }
+    ensures left { moves ≡ false → LeavesAll world.old world.new }
     ensures kept { KeepsLabels world.old world.new }
     ensures whole { IsWhole world.new }
 {
@@ -257,7 +264,8 @@ pub fn extract_checked(
 
 /// Copies what lies in a live range into a new fragment, which it answers.
 ///
-/// A doctype that lies in it is refused with `HierarchyRequestError`, before a node is made.
+/// A doctype that lies in it is refused with `HierarchyRequestError`, before a node is made. Whatever comes of it, also where memory was wanting
+/// half-way, all nodes, ranges, iterators, walkers, registrations and records that were there are as they were.
 pub fn clone_contents(world: &mut World, alloc: Global, range: RangeId) -> Result<NodeId, Refusal>
     requires whole { IsWhole world.old }
     requires held { IsSome (range_in world.old.ranges range) }
@@ -269,6 +277,7 @@ pub fn clone_contents(world: &mut World, alloc: Global, range: RangeId) -> Resul
     ensures held { IfOk result (λ id. HoldsBetween world.old world.new range id) }
     ensures copied { IfOk result (λ id. CopiesBetween world.old world.new range id) }
     ensures refused { IfErr result (λ e. IsRefused e (check_extract range (unwatched world.old)) world.old world.new) }
+    ensures left { LeavesAll world.old world.new }
     ensures kept { KeepsLabels world.old world.new }
     ensures whole { IsWhole world.new }
 {

@@ -8,7 +8,8 @@ ghost use Rattle.dom_model.specs.Forests.Nodes.{kind_passes};
 ghost use Rattle.dom_model.specs.RangesAndContents.Contents.{children_into, copy_into};
 ghost use Rattle.dom_edit.specs.Whole.{IsWhole, Keeps, Follows};
 ghost use Rattle.dom_edit.specs.Keeping.{KeepsLabels};
-ghost use Rattle.dom_content.specs.Paths.{HasRoom, Stays, DataStays, opened, inner_of, closed_one, closed};
+ghost use Rattle.dom_edit.specs.Leaving.{LeavesOlder};
+ghost use Rattle.dom_content.specs.Paths.{HasRoom, Stays, DataStays, opened, inner_of, closed_one, closed, IsBegunFor, numbers_of_copies};
 ghost use Rattle.dom_content.specs.Coming.{MayDraw, MayClose};
 
 use crate::pieces::{children_into, copy_of, new_fragment, put_last};
@@ -59,6 +60,8 @@ pub(crate) fn open_partial(
     ensures opened { OnOk result (Follows world.old world.new (opened into node)) }
     ensures stays { OnOk result (Stays world.old world.new) }
     ensures texts { OnOk result (DataStays world.old world.new) }
+    ensures begun { IfOk result (IsBegunFor into world.old) }
+    ensures left { LeavesOlder (into ∷ []) world.old world.new }
     ensures kept { KeepsLabels world.old world.new }
     ensures whole { IsWhole world.new }
 {
@@ -85,6 +88,7 @@ fn close_partial(
     requires room { HasRoom world.old (closed_one moves partial.now) }
     ensures closed { OnOk result (Follows world.old world.new (closed_one moves partial.now)) }
     ensures stays { OnOk result (Stays world.old world.new) }
+    ensures left { moves ≡ false → LeavesOlder (partial.now.copy ∷ partial.now.inner ∷ []) world.old world.new }
     ensures kept { KeepsLabels world.old world.new }
     ensures whole { IsWhole world.new }
 {
@@ -104,6 +108,7 @@ pub(crate) fn close_all(
     requires room { HasRoom world.old (closed moves partials.items) }
     ensures closed { OnOk result (Follows world.old world.new (closed moves partials.items)) }
     ensures stays { OnOk result (Stays world.old world.new) }
+    ensures left { moves ≡ false → LeavesOlder (numbers_of_copies partials.items) world.old world.new }
     ensures kept { KeepsLabels world.old world.new }
     ensures whole { IsWhole world.new }
 {
@@ -129,6 +134,7 @@ pub(crate) fn copy_into(
     requires room { HasRoom world.old (copy_into into node (λ inner v. children_into moves inner children.items v)) }
     ensures copied { OnOk result (Follows world.old world.new (copy_into into node (λ inner v. children_into moves inner children.items v))) }
     ensures stays { OnOk result (Stays world.old world.new) }
+    ensures left { moves ≡ false → LeavesOlder (into ∷ []) world.old world.new }
     ensures kept { KeepsLabels world.old world.new }
     ensures whole { IsWhole world.new }
 {

@@ -1,6 +1,6 @@
 //! The pieces of contents that go into a fragment: units of a node, and children, moved or copied (DOM Standard, "Interface Range").
 
-ghost use Rattle.std.specs.Prelude.{◌≡◌, ◌≤◌, ◌∷◌, [], length, true, None, IsSome, IfOk, OnOk};
+ghost use Rattle.std.specs.Prelude.{◌≡◌, ◌≤◌, ◌∷◌, [], length, true, false, None, IsSome, IfOk, OnOk};
 ghost use Rattle.dom_model.specs.declared.Kind.TheVariants.{Document};
 ghost use Rattle.dom_model.specs.Forests.Forest.{HasNode, entry_in, parent_of};
 ghost use Rattle.dom_model.specs.Forests.Kinds.{is_character_data};
@@ -14,6 +14,7 @@ ghost use Rattle.dom_model.specs.RangesAndContents.Contents.{new_fragment, clone
 ghost use Rattle.dom_edit.specs.Inserting.{IsUnreferred};
 ghost use Rattle.dom_edit.specs.Whole.{IsWhole, Follows, unwatched};
 ghost use Rattle.dom_edit.specs.Keeping.{KeepsLabels};
+ghost use Rattle.dom_edit.specs.Leaving.{LeavesAll, LeavesOlder, IsFragmentOrRoot};
 ghost use Rattle.dom_content.specs.Paths.{HasRoom, Stays, KindsStay, DataStays};
 ghost use Rattle.dom_content.specs.Coming.{MayDraw};
 
@@ -40,15 +41,11 @@ pub(crate) fn new_fragment(
     ensures made_held { OnOk result (HasNode world.new.tree.forest world.old.tree.made) }
     ensures stays { OnOk result (Stays world.old world.new) }
     ensures texts { OnOk result (DataStays world.old world.new) }
+    ensures left { LeavesAll world.old world.new }
     ensures kept { KeepsLabels world.old world.new }
     ensures whole { IsWhole world.new }
 {
-    let label = Label {
-        kind: Kind::DocumentFragment,
-        name: String::new(alloc),
-        public_id: String::new(alloc),
-        system_id: String::new(alloc),
-    };
+    let label = Label::named(Kind::DocumentFragment, String::new(alloc));
     let content = Content {
         text: Units::new(alloc),
         attrs: Attrs::new(alloc),
@@ -70,6 +67,7 @@ pub(crate) fn put_last(
     ensures stays { OnOk result (Stays world.old world.new) }
     ensures kinds { OnOk result (KindsStay world.old world.new) }
     ensures texts { OnOk result (DataStays world.old world.new) }
+    ensures left { IsFragmentOrRoot world.old.tree.forest node → LeavesOlder (parent ∷ node ∷ []) world.old world.new }
     ensures kept { KeepsLabels world.old world.new }
     ensures whole { IsWhole world.new }
 {
@@ -110,6 +108,8 @@ pub(crate) fn copy_of(
     ensures stays { OnOk result (Stays world.old world.new) }
     ensures kinds { OnOk result (KindsStay world.old world.new) }
     ensures texts { OnOk result (DataStays world.old world.new) }
+    ensures root { OnOk result (parent_of world.new.tree.forest world.old.tree.made ≡ None) }
+    ensures left { LeavesAll world.old world.new }
     ensures kept { KeepsLabels world.old world.new }
     ensures whole { IsWhole world.new }
 {
@@ -149,6 +149,8 @@ fn copy_with(
     ensures stays { OnOk result (Stays world.old world.new) }
     ensures kinds { OnOk result (KindsStay world.old world.new) }
     ensures texts { OnOk result (DataStays world.old world.new) }
+    ensures root { OnOk result (parent_of world.new.tree.forest world.old.tree.made ≡ None) }
+    ensures left { LeavesAll world.old world.new }
     ensures kept { KeepsLabels world.old world.new }
     ensures whole { IsWhole world.new }
 {
@@ -173,6 +175,7 @@ fn cut_if(
     requires within { offset ≤ length (data_of (unwatched world.old) node) }
     ensures cut { OnOk result (Follows world.old world.new (cut_if moves node offset count)) }
     ensures stays { OnOk result (Stays world.old world.new) }
+    ensures left { moves ≡ false → world.new ≡ world.old }
     ensures kept { KeepsLabels world.old world.new }
     ensures whole { IsWhole world.new }
 {
@@ -199,6 +202,7 @@ pub(crate) fn units_into(
     requires room { HasRoom world.old (units_into moves into node offset count) }
     ensures drawn { OnOk result (Follows world.old world.new (units_into moves into node offset count)) }
     ensures stays { OnOk result (Stays world.old world.new) }
+    ensures left { moves ≡ false → LeavesOlder (into ∷ []) world.old world.new }
     ensures kept { KeepsLabels world.old world.new }
     ensures whole { IsWhole world.new }
 {
@@ -222,6 +226,7 @@ pub(crate) fn child_into(
     requires room { HasRoom world.old (child_into moves into node) }
     ensures drawn { OnOk result (Follows world.old world.new (child_into moves into node)) }
     ensures stays { OnOk result (Stays world.old world.new) }
+    ensures left { moves ≡ false → LeavesOlder (into ∷ []) world.old world.new }
     ensures kept { KeepsLabels world.old world.new }
     ensures whole { IsWhole world.new }
 {
@@ -245,6 +250,7 @@ pub(crate) fn children_into(
     requires room { HasRoom world.old (children_into moves into nodes.now) }
     ensures drawn { OnOk result (Follows world.old world.new (children_into moves into nodes.now)) }
     ensures stays { OnOk result (Stays world.old world.new) }
+    ensures left { moves ≡ false → LeavesOlder (into ∷ []) world.old world.new }
     ensures kept { KeepsLabels world.old world.new }
     ensures whole { IsWhole world.new }
 {

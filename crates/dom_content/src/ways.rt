@@ -11,7 +11,8 @@ ghost use Rattle.dom_model.specs.DataAndCopies.Data.{content_in};
 ghost use Rattle.dom_model.specs.RangesAndContents.Contents.{tail_into, head_into};
 ghost use Rattle.dom_edit.specs.Whole.{IsWhole, Keeps, Follows};
 ghost use Rattle.dom_edit.specs.Keeping.{KeepsLabels};
-ghost use Rattle.dom_content.specs.Paths.{HasRoom, Stays, DataStays, opened, inner_of, entered};
+ghost use Rattle.dom_edit.specs.Leaving.{LeavesOlder};
+ghost use Rattle.dom_content.specs.Paths.{HasRoom, Stays, DataStays, opened, inner_of, entered, IsBegunFor};
 ghost use Rattle.dom_content.specs.Coming.{MayDraw, IsPathTo};
 
 use crate::children::{children_ahead, children_from, children_past, children_until};
@@ -50,6 +51,8 @@ fn open_tail(
     ensures opened { OnOk result (Follows world.old world.new (opened into node)) }
     ensures stays { OnOk result (Stays world.old world.new) }
     ensures texts { OnOk result (DataStays world.old world.new) }
+    ensures begun { IfOk result (IsBegunFor into world.old) }
+    ensures left { LeavesOlder (into ∷ []) world.old world.new }
     ensures kept { KeepsLabels world.old world.new }
     ensures whole { IsWhole world.new }
 {
@@ -73,6 +76,7 @@ fn tail_of_last(
     requires room { HasRoom world.old (tail_into moves into offset (node ∷ [])) }
     ensures drawn { OnOk result (Follows world.old world.new (tail_into moves into offset (node ∷ []))) }
     ensures stays { OnOk result (Stays world.old world.new) }
+    ensures left { moves ≡ false → LeavesOlder (into ∷ []) world.old world.new }
     ensures kept { KeepsLabels world.old world.new }
     ensures whole { IsWhole world.new }
 {
@@ -100,6 +104,7 @@ fn tail_along(
     requires room { HasRoom world.old (tail_into moves into offset (first ∷ below.now)) }
     ensures drawn { OnOk result (Follows world.old world.new (tail_into moves into offset (first ∷ below.now))) }
     ensures stays { OnOk result (Stays world.old world.new) }
+    ensures left { moves ≡ false → LeavesOlder (into ∷ []) world.old world.new }
     ensures kept { KeepsLabels world.old world.new }
     ensures whole { IsWhole world.new }
 {
@@ -131,6 +136,7 @@ pub(crate) fn tail_into(
     requires room { HasRoom world.old (tail_into moves into offset path.now) }
     ensures drawn { OnOk result (Follows world.old world.new (tail_into moves into offset path.now)) }
     ensures stays { OnOk result (Stays world.old world.new) }
+    ensures left { moves ≡ false → LeavesOlder (into ∷ []) world.old world.new }
     ensures kept { KeepsLabels world.old world.new }
     ensures whole { IsWhole world.new }
 {
@@ -159,6 +165,8 @@ fn open_head(
     ensures children { IfOk result (λ p. p.children.items ≡ []) }
     ensures entered { OnOk result (Follows world.old world.new (entered moves into node next)) }
     ensures stays { OnOk result (Stays world.old world.new) }
+    ensures begun { IfOk result (IsBegunFor into world.old) }
+    ensures left { moves ≡ false → LeavesOlder (into ∷ []) world.old world.new }
     ensures kept { KeepsLabels world.old world.new }
     ensures whole { IsWhole world.new }
 {
@@ -183,6 +191,7 @@ fn head_of_last(
     requires room { HasRoom world.old (head_into moves into offset (node ∷ [])) }
     ensures drawn { OnOk result (Follows world.old world.new (head_into moves into offset (node ∷ []))) }
     ensures stays { OnOk result (Stays world.old world.new) }
+    ensures left { moves ≡ false → LeavesOlder (into ∷ []) world.old world.new }
     ensures kept { KeepsLabels world.old world.new }
     ensures whole { IsWhole world.new }
 {
@@ -209,6 +218,7 @@ fn head_along(
     requires room { HasRoom world.old (head_into moves into offset (first ∷ below.now)) }
     ensures drawn { OnOk result (Follows world.old world.new (head_into moves into offset (first ∷ below.now))) }
     ensures stays { OnOk result (Stays world.old world.new) }
+    ensures left { moves ≡ false → LeavesOlder (into ∷ []) world.old world.new }
     ensures kept { KeepsLabels world.old world.new }
     ensures whole { IsWhole world.new }
 {
@@ -240,6 +250,7 @@ pub(crate) fn head_into(
     requires room { HasRoom world.old (head_into moves into offset path.now) }
     ensures drawn { OnOk result (Follows world.old world.new (head_into moves into offset path.now)) }
     ensures stays { OnOk result (Stays world.old world.new) }
+    ensures left { moves ≡ false → LeavesOlder (into ∷ []) world.old world.new }
     ensures kept { KeepsLabels world.old world.new }
     ensures whole { IsWhole world.new }
 {

@@ -38,7 +38,10 @@ pub(crate) fn splice_data(
 ) -> Result<(), AllocError>
     requires held { HasNode tree.old.forest node }
     requires within { offset + count ≤ length (content_in (entry_in tree.old.forest node)).text }
-    ensures ok { OnOk result (tree.new ≡ record tree.old { forest = with_node node (with_data (spliced offset count added.now (content_in (entry_in tree.old.forest node)).text)) tree.old.forest }) }
+    ensures ok { OnOk result (tree.new ≡ record tree.old {
+      forest = with_node node
+          (with_data (spliced offset count added.now (content_in (entry_in tree.old.forest node)).text)) tree.old.forest;
+    }) }
     ensures fits { OnOk result (length (spliced offset count added.now (content_in (entry_in tree.old.forest node)).text) < 2 ^ 64) }
     ensures err { OnErr result (tree.new ≡ tree.old) }
 {
@@ -66,7 +69,10 @@ pub(crate) fn set_in(
     value: Units,
 ) -> Result<(), AllocError>
     requires held { HasNode tree.old.forest node }
-    ensures ok { OnOk result (tree.new ≡ record tree.old { forest = with_node node (with_attributes (with_attribute (string_bytes name) value (content_in (entry_in tree.old.forest node)).attributes)) tree.old.forest }) }
+    ensures ok { OnOk result (tree.new ≡ record tree.old {
+      forest = with_node node
+          (with_attributes (with_attribute (string_bytes name) value (content_in (entry_in tree.old.forest node)).attributes)) tree.old.forest;
+    }) }
     ensures err { OnErr result (tree.new ≡ tree.old) }
 {
     tree.sound();
@@ -78,7 +84,10 @@ pub(crate) fn set_in(
 // Takes an attribute of a node out.
 pub(crate) fn remove_in(tree: &mut Tree<Content>, node: NodeId, name: &str)
     requires held { HasNode tree.old.forest node }
-    ensures { tree.new ≡ record tree.old { forest = with_node node (with_attributes (without_attribute name.now (content_in (entry_in tree.old.forest node)).attributes)) tree.old.forest } }
+    ensures { tree.new ≡ record tree.old {
+      forest = with_node node
+          (with_attributes (without_attribute name.now (content_in (entry_in tree.old.forest node)).attributes)) tree.old.forest;
+    } }
 {
     tree.sound();
     let content = tree.body_mut(node);

@@ -29,12 +29,7 @@ pub(crate) fn make_text(
     ensures kept { KeepsLabels world.old world.new }
     ensures whole { IsWhole world.new }
 {
-    let label = Label {
-        kind: Kind::Text,
-        name: String::new(alloc),
-        public_id: String::new(alloc),
-        system_id: String::new(alloc),
-    };
+    let label = Label::named(Kind::Text, String::new(alloc));
     let content = Content {
         text,
         attrs: Attrs::new(alloc),

@@ -11,6 +11,7 @@ pub mod Beginning
 pub mod Adopting
 pub mod Naming
 pub mod LabelsKept
+pub mod LeftAlone
 pub mod InsertedNodes
 pub mod ReplacedNodes
 pub mod NodesKept

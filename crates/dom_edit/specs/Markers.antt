@@ -9,5 +9,7 @@ use Rattle.dom_edit.specs.Whole.{unwatched}
 -- After an edit each end of each live range stands where the edits of the token text put its marker; released ranges and those never made have
 -- none. And without markers each node's tokens are those that the edits leave. The edits are told by the world before.
 pub record StandByEdits (old new : World) (edits : model.World → List Edit) : Type 0 where
-  pub gaps : (r : ℕ) (side : Bool) → gap_among r side (all_on_texts (edits (unwatched old)) (texts_of (unwatched old))) ≡ option_map (end_of side) (range_at (unwatched new) r)
-  pub tokens : (n : ℕ) → unmarked (tokens_among n (all_on_texts (edits (unwatched old)) (texts_of (unwatched old)))) ≡ unmarked (tokens_among n (texts_of (unwatched new)))
+  pub gaps : (r : ℕ) (side : Bool) → gap_among r side (all_on_texts (edits (unwatched old)) (texts_of (unwatched old)))
+      ≡ option_map (end_of side) (range_at (unwatched new) r)
+  pub tokens : (n : ℕ) → unmarked (tokens_among n (all_on_texts (edits (unwatched old)) (texts_of (unwatched old))))
+      ≡ unmarked (tokens_among n (texts_of (unwatched new)))

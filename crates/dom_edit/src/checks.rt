@@ -16,7 +16,8 @@ use dom_tree::{NodeId, Tree};
 
 // Whether a kind may stand nowhere under the other: a Document, a Text under a Document, a doctype under anything else.
 fn is_misplaced(parent: Kind, kind: Kind) -> bool
-    ensures { result ≡ (is_kind Document kind || ((is_kind Text kind && is_kind Document parent) || (is_kind DocumentType kind && not (is_kind Document parent)))) }
+    ensures { result ≡ (is_kind Document kind
+        || ((is_kind Text kind && is_kind Document parent) || (is_kind DocumentType kind && not (is_kind Document parent)))) }
 {
     match kind {
         Kind::Document => true,
@@ -46,7 +47,8 @@ fn check(tree: &Tree<Content>, parent: NodeId, node: NodeId, place: Place) -> Re
     requires parent_held { HasNode tree.now.forest parent }
     requires node_held { HasNode tree.now.forest node }
     requires child_held { ForSome (child_of place) (λ c. HasNode tree.now.forest c) }
-    ensures { MatchResult result (λ _. first_refusal (conditions_at place tree.now.forest parent node) ≡ None) (λ e. first_refusal (conditions_at place tree.now.forest parent node) ≡ Some e) }
+    ensures { MatchResult result (λ _. first_refusal (conditions_at place tree.now.forest parent node) ≡ None)
+        (λ e. first_refusal (conditions_at place tree.now.forest parent node) ≡ Some e) }
 {
     tree.sound();
     let above = tree.label(parent).kind;

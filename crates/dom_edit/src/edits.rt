@@ -2,7 +2,7 @@
 //!
 //! Each adjusts the live ranges, moves the iterators, makes transient registrations and queues its records, as the standard says.
 
-ghost use Rattle.std.specs.Prelude.{◌≡◌, true, false, None, OnOk};
+ghost use Rattle.std.specs.Prelude.{◌≡◌, [], ◌∷◌, true, false, None, OnOk};
 ghost use Rattle.std.specs.Option.{ForSome};
 ghost use Rattle.std.specs.Result.{IfErr};
 ghost use Rattle.dom_model.specs.declared.Kind.TheVariants.{Document};
@@ -16,6 +16,7 @@ ghost use Rattle.dom_model.specs.TokenText.Edits.{insert_edits, pre_insert_edits
 ghost use Rattle.dom_edit.specs.Inserting.{IsUnreferred};
 ghost use Rattle.dom_edit.specs.Whole.{IsWhole, Follows, Moves};
 ghost use Rattle.dom_edit.specs.Keeping.{KeepsNodes};
+ghost use Rattle.dom_edit.specs.Leaving.{LeavesOlder, IsFragmentOrRoot};
 ghost use Rattle.dom_edit.specs.Markers.{StandByEdits};
 ghost use Rattle.dom_edit.specs.Refusals.{check_remove_child, check_only_child, check_adopt, IsRefused};
 
@@ -103,7 +104,8 @@ impl World {
 
     /// Inserts a node, or the children of a fragment, as [`World::insert`] does, where no end of a live range stands inside the node.
     ///
-    /// The children of a fragment then leave it in the same time at any depth: no end is asked whether it stands inside them.
+    /// The children of a fragment then leave it in the same time at any depth: no end is asked whether it stands inside them. What is older than
+    /// a new root and the new parent under which it comes in last is left as it was, also where memory was wanting half-way.
     pub fn insert_unreferred(
         &mut self,
         alloc: Global,
@@ -116,6 +118,7 @@ impl World {
         requires unreferred { IsUnreferred self.old node }
         ensures inserted { OnOk result (Follows self.old self.new (insert false node parent child)) }
         ensures markers { OnOk result (StandByEdits self.old self.new (insert_edits node parent child)) }
+        ensures left { child ≡ None → IsFragmentOrRoot self.old.tree.forest node → LeavesOlder (parent ∷ node ∷ []) self.old self.new }
         ensures kept { KeepsNodes self.old self.new }
         ensures whole { IsWhole self.new }
     {

@@ -1,12 +1,13 @@
 //! Nodes come in under a parent, from wherever they stand (DOM Standard, "Mutation algorithms", insert).
 
-ghost use Rattle.std.specs.Prelude.{◌≡◌, [], IfOk, OnOk, true, false};
+ghost use Rattle.std.specs.Prelude.{◌≡◌, [], ◌∷◌, None, IfOk, OnOk, true, false};
 ghost use Rattle.dom_model.specs.Forests.Forest.{HasNode, children_of};
 ghost use Rattle.dom_model.specs.MutationAlgorithms.Editing.{remove_all, freed, previous_to, insert_all, insert};
 ghost use Rattle.dom_model.specs.MutationAlgorithms.Insertable.{IsInsertable};
 ghost use Rattle.dom_edit.specs.Inserting.{AreThere, IsUnreferred, listed, entering, IsOpen};
 ghost use Rattle.dom_edit.specs.Whole.{IsWhole, Follows};
 ghost use Rattle.dom_edit.specs.Keeping.{KeepsNodes};
+ghost use Rattle.dom_edit.specs.Leaving.{LeavesOlder, IsFragmentOrRoot};
 
 use crate::content::Content;
 use crate::world::World;
@@ -96,6 +97,7 @@ impl World {
         requires nodes { nodes.now ≡ children_of self.old.tree.forest parent }
         requires unreferred { IsUnreferred self.old parent }
         ensures removed { OnOk result (Follows self.old self.new (remove_all nodes.now)) }
+        ensures left { LeavesOlder (parent ∷ []) self.old self.new }
         ensures kept { KeepsNodes self.old self.new }
         ensures whole { IsWhole self.new }
     {
@@ -133,6 +135,7 @@ impl World {
         requires nodes { nodes.now ≡ entering self.old.tree.forest node }
         requires unreferred { IsUnreferred self.old node }
         ensures freed { OnOk result (Follows self.old self.new (freed node nodes.now)) }
+        ensures left { IsFragmentOrRoot self.old.tree.forest node → LeavesOlder (node ∷ []) self.old self.new }
         ensures kept { KeepsNodes self.old self.new }
         ensures whole { IsWhole self.new }
     {
@@ -155,6 +158,7 @@ impl World {
         requires whole { IsWhole self.old }
         requires ready { IsOpen self.old.tree.forest parent child nodes.now }
         ensures inserted { OnOk result (Follows self.old self.new (insert_all suppressed parent child nodes.now)) }
+        ensures left { child ≡ None → LeavesOlder (parent ∷ nodes.now) self.old self.new }
         ensures kept { KeepsNodes self.old self.new }
         ensures whole { IsWhole self.new }
     {
@@ -206,6 +210,7 @@ impl World {
         requires nodes { nodes.now ≡ entering self.old.tree.forest node }
         requires unreferred { IsUnreferred self.old node }
         ensures inserted { OnOk result (Follows self.old self.new (insert false node parent child)) }
+        ensures left { child ≡ None → IsFragmentOrRoot self.old.tree.forest node → LeavesOlder (parent ∷ node ∷ []) self.old self.new }
         ensures kept { KeepsNodes self.old self.new }
         ensures whole { IsWhole self.new }
     {

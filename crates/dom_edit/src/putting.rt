@@ -6,7 +6,8 @@ ghost use Rattle.dom_model.specs.Soundness.Owners.{IsOwnedWell};
 ghost use Rattle.dom_edit.specs.Inserting.{placed_in, all_placed, with_room, IsOpen};
 ghost use Rattle.dom_edit.specs.Whole.{IsWhole, Follows};
 ghost use Rattle.dom_edit.specs.Keeping.{KeepsNodes};
-ghost use Rattle.std.specs.Prelude.{Some, [], ◌∷◌};
+ghost use Rattle.dom_edit.specs.Leaving.{LeavesOlder};
+ghost use Rattle.std.specs.Prelude.{Some, None, [], ◌∷◌};
 
 use crate::content::Content;
 use crate::world::World;
@@ -47,7 +48,9 @@ impl World {
     fn make_room(&mut self, parent: NodeId, child: Option<NodeId>, nodes: &[NodeId])
         requires whole { IsWhole self.old }
         requires ready { IsOpen self.old.tree.forest parent child nodes.now }
-        ensures { self.new ≡ record self.old { ranges = record self.old.ranges { ranges = with_room self.old.tree.forest parent child (length nodes.now) self.old.ranges.ranges } } }
+        ensures { self.new ≡ record self.old {
+          ranges = record self.old.ranges { ranges = with_room self.old.tree.forest parent child (length nodes.now) self.old.ranges.ranges };
+        } }
     {
         let Some(child) = child else {
             return;
@@ -66,6 +69,7 @@ impl World {
         requires whole { IsWhole self.old }
         requires ready { IsOpen self.old.tree.forest parent child nodes.now }
         ensures placed { Follows self.old self.new (λ w. put_all parent child nodes.now (gap_before parent child (length nodes.now) w)) }
+        ensures left { child ≡ None → LeavesOlder (parent ∷ nodes.now) self.old self.new }
         ensures kept { KeepsNodes self.old self.new }
         ensures whole { IsWhole self.new }
     {

@@ -1,12 +1,14 @@
 //! A node leaves its parent (DOM Standard, "Mutation algorithms", remove).
 
-ghost use Rattle.std.specs.Prelude.{◌≡◌, true, Some, OnOk, IsSome, IfSome};
-ghost use Rattle.dom_model.specs.Forests.Forest.{HasNode, parent_of, cut};
+ghost use Rattle.std.specs.Prelude.{◌≡◌, [], ◌∷◌, true, Some, None, OnOk, IsSome, IfSome};
+ghost use Rattle.dom_model.specs.Forests.Forest.{HasNode, parent_of, ancestors, cut};
 ghost use Rattle.dom_model.specs.MutationAlgorithms.PreRemoval.{pre_removed_all};
 ghost use Rattle.dom_model.specs.MutationAlgorithms.Editing.{taken_out, transients_made, remove};
 ghost use Rattle.dom_edit.specs.Inserting.{IsUnreferred};
 ghost use Rattle.dom_edit.specs.Whole.{IsWhole, Follows, Moves};
 ghost use Rattle.dom_edit.specs.Keeping.{KeepsNodes};
+ghost use Rattle.dom_edit.specs.Leaving.{LeavesOlder};
+ghost use Rattle.dom_observe.specs.Held.{NamesNoneOf};
 
 use crate::world::World;
 use dom_tree::NodeId;
@@ -30,7 +32,10 @@ impl World {
     fn cut_out(&mut self, node: NodeId)
         requires held { HasNode self.old.tree.forest node }
         requires child { IsSome (parent_of self.old.tree.forest node) }
-        ensures { self.new ≡ record self.old { tree = record self.old.tree { forest = cut node self.old.tree.forest }; iterators = pre_removed_all self.old.tree.forest node self.old.iterators } }
+        ensures { self.new ≡ record self.old {
+          tree = record self.old.tree { forest = cut node self.old.tree.forest };
+          iterators = pre_removed_all self.old.tree.forest node self.old.iterators;
+        } }
     {
         self.find_index(node);
         self.iterators.removing(&self.tree, node);
@@ -56,6 +61,7 @@ impl World {
         requires node_held { HasNode self.old.tree.forest node }
         ensures made { OnOk result (Follows self.old self.new (transients_made node parent)) }
         ensures parts { self.new ≡ record self.old { observers = self.new.observers } }
+        ensures quiet { NamesNoneOf (ancestors parent self.old.tree.forest) self.old.observers → self.new ≡ self.old }
         ensures whole { IsWhole self.new }
     {
         if self.observers.is_idle() {
@@ -75,6 +81,7 @@ impl World {
         requires held { HasNode self.old.tree.forest node }
         ensures removed { OnOk result (Follows self.old self.new (remove suppressed node)) }
         ensures moved { Moves self.old self.new (remove suppressed node) }
+        ensures root { parent_of self.old.tree.forest node ≡ None → self.new ≡ self.old }
         ensures kept { KeepsNodes self.old self.new }
         ensures whole { IsWhole self.new }
     {
@@ -101,6 +108,7 @@ impl World {
         requires unreferred { IsUnreferred self.old parent }
         ensures removed { OnOk result (Follows self.old self.new (remove true node)) }
         ensures ranges { self.new.ranges ≡ self.old.ranges }
+        ensures left { LeavesOlder (parent ∷ node ∷ []) self.old self.new }
         ensures kept { KeepsNodes self.old self.new }
         ensures whole { IsWhole self.new }
     {

@@ -58,12 +58,7 @@ impl World {
     pub fn new(alloc: Global) -> Result<World, AllocError>
         ensures { IfOk result (λ world. Shows world first_world) }
     {
-        let label = Label {
-            kind: Kind::Document,
-            name: String::new(alloc),
-            public_id: String::new(alloc),
-            system_id: String::new(alloc),
-        };
+        let label = Label::named(Kind::Document, String::new(alloc));
         let content = Content::of_text(alloc, Units::new(alloc));
         let mut world = World::empty(alloc);
         let _ = world.make(alloc, label, content, None)?;
@@ -86,6 +81,7 @@ impl World {
         ensures made { OnOk result (Follows self.old self.new (made_node (unwrap_or document self.old.tree.made) label content)) }
         ensures kept { OnErr result (CoversAhead self.old self.new) }
         ensures labelled { KeepsLabels self.old self.new }
+        ensures parts { self.new ≡ record self.old { tree = self.new.tree; ranges = self.new.ranges } }
         ensures whole { IsWhole self.new }
     {
         // each call on a world takes the allocator; here the parts have it

@@ -1,5 +1,6 @@
 pub mod Again
 pub mod Agreeing
+pub mod Alone
 pub mod Asked
 pub mod Counting
 pub mod EndedOnes
@@ -24,6 +25,9 @@ pub mod OwnKeys
 pub mod Owning
 pub mod QueueLists
 pub mod Queued
+pub mod QueuesCounted
+pub mod Quiet
+pub mod Registered
 pub mod Releasing
 pub mod Rosters
 pub mod Sounding

@@ -7,6 +7,10 @@ pub on_ok : {A E : Type 0} (r : Result A E) {P Q : Type 0} → OnOk r P → (P �
 on_ok (Ok x) h f = f h
 on_ok (Err e) h f = h
 
+pub on_both : {A E : Type 0} (r : Result A E) {P O Q : Type 0} → OnOk r P → OnOk r O → (P → O → Q) → OnOk r Q
+on_both (Ok x) h o f = f h o
+on_both (Err e) h o f = h
+
 pub both_ok : {A E : Type 0} (r : Result A E) {P Q : A → Type 0} {O : Type 0} → IfOk r P → OnOk r O → ((x : A) → P x → O → Q x) → IfOk r Q
 both_ok (Ok x) h o f = f x h o
 both_ok (Err e) h o f = h

@@ -33,7 +33,7 @@ all_found u P Q each (k ∷ keys) h = go (u k) refl (all_found u P Q each keys h
     go (Some r) e rest = (each k r h.0 e, rest)
 
 -- one that is under a key passes
-any_found : (u : ℕ → Option Registration) (p : Registration → Bool) (key : ℕ) (s : Registration) → u key ≡ Some s → p s ≡ true → (keys : List ℕ) → among key keys ≡ true → list_any p (filter_map u keys) ≡ true
+pub any_found : (u : ℕ → Option Registration) (p : Registration → Bool) (key : ℕ) (s : Registration) → u key ≡ Some s → p s ≡ true → (keys : List ℕ) → among key keys ≡ true → list_any p (filter_map u keys) ≡ true
 any_found u p key s is on [] there = absurd (true≢false (sym there))
 any_found u p key s is on (k ∷ keys) there = go (same_or k key) (u k) refl (any_found u p key s is on keys)
   where
@@ -46,7 +46,7 @@ any_found u p key s is on (k ∷ keys) there = go (same_or k key) (u k) refl (an
     go (apart ne t) None f rest = let w = rw t at there in rest w
     go (apart ne t) (Some r) f rest = let w = rw t at there in ap (λ b. p r || b) (rest w) ∙ or_true (p r)
 
-itself : (m : ℕ) → (m == m) ≡ true
+pub itself : (m : ℕ) → (m == m) ≡ true
 itself m = elim (same_or m m) [ same e t ↦ t | apart ne t ↦ absurd (ne refl) ]
 
 module _ {A : Type 0} (table : Slab held.Registration) (entries : List (ℕ × Vec ℕ A)) (queues : List (Option (List Record))) (pending : List ℕ)

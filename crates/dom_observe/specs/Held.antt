@@ -1,6 +1,6 @@
 -- What observers name: the nodes of registrations and of the records that wait, and the observers of registrations and of the pending list.
-use Rattle.std.specs.Prelude.{◌≡◌, ℕ, true, List, [], ◌∷◌, ◌++◌, length, map, flat_map, Option, IsSome, is_some, unwrap_or}
-use Rattle.dom_model.specs.PlainLists.Lists.{among}
+use Rattle.std.specs.Prelude.{◌≡◌, ℕ, ◌<◌, true, false, List, [], ◌∷◌, ◌++◌, length, map, flat_map, Option, IsSome, is_some, unwrap_or}
+use Rattle.dom_model.specs.PlainLists.Lists.{hits, among}
 use Rattle.dom_model.specs.Forests.Forest.{Forest, HasNode}
 use Rattle.dom_model.specs.Worlds.World.{Registration, Mutation}
 use Rattle.dom_model.specs.MutationObservers.Record.{Record}
@@ -25,6 +25,10 @@ nodes_of_mutation m = m.target ∷ (m.added ++ (m.removed ++ (if_any m.previous 
 pub record NamesHeld {X : Type 0} (f : Forest X) (o : Watchers) : Type 0 where
   pub nodes : (n : ℕ) → among n (named o) ≡ true → HasNode f n
   pub observers : (i : ℕ) → among i (watching o) ≡ true → IsSome (queue_in o i)
+
+-- none of these nodes is named
+abbrev pub NamesNoneOf : List ℕ → Watchers → Type 0
+NamesNoneOf ns o = (n : ℕ) → 0 < hits n ns → among n (named o) ≡ false
 
 -- after a step only those nodes are named that were named before, and these; and each observer is there
 pub record NamesOnly (these : List ℕ) (old new : Watchers) : Type 0 where

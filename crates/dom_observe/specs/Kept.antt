@@ -24,7 +24,8 @@ AllThere there os = AllByRecursion (λ o. there o ≡ true) os
 
 -- each key has a registration on its node, of an observer that is there, and no node is listed without a key; the pending observers
 -- are there, and those that are not pending have empty queues
-pub record IsKept {A : Type 0} (table : Slab Registration) (entries : List (ℕ × Vec ℕ A)) (queues : List (Option (List Record))) (pending : List ℕ) : Type 0 where
+pub record IsKept {A : Type 0} (table : Slab Registration) (entries : List (ℕ × Vec ℕ A)) (queues : List (Option (List Record)))
+    (pending : List ℕ) : Type 0 where
   pub unique : IsDistinct nat_eq (keys_of entries)
   pub stand : AllStand (at table) (has_queue queues) (listed entries)
   pub full : HaveKeys (listed entries)
@@ -41,7 +42,8 @@ HaveOnce lists = (i key : ℕ) → hits key (slice_index_or lists i []) ≤ 1
 
 -- Each node has the keys of the registrations on it, and each observer those of its own, lasting and transient ones apart, each once; and no
 -- others. Only some observers have transient ones, all of whom are there.
-pub record IsIndexed (under : ℕ → Option model.Registration) (lists : List (ℕ × List ℕ)) (lasts passes : List (List ℕ)) (some : List ℕ) (there : ℕ → Bool) : Type 0 where
+pub record IsIndexed (under : ℕ → Option model.Registration) (lists : List (ℕ × List ℕ)) (lasts passes : List (List ℕ)) (some : List ℕ)
+    (there : ℕ → Bool) : Type 0 where
   pub placed : Placed under lists
   pub lasting : Owned lasts_for under lasts
   pub passing : Owned passes_for under passes

@@ -27,4 +27,5 @@ module _ {S : Type 0} where
   abbrev pub AlsoNotes : ℕ → ℕ → Option (IndexSet Origin S) → Option (IndexSet Origin S) → Type 0
   AlsoNotes o n None noted' = noted' ≡ None
   AlsoNotes o n (Some noted) None = ⊥
-  AlsoNotes o n (Some noted) (Some noted') = (origin : Origin) → is_noted noted' origin ≡ (is_noted noted origin || same_origin (record { observer = o; node = n }) origin)
+  AlsoNotes o n (Some noted) (Some noted') = (origin : Origin) →
+      is_noted noted' origin ≡ (is_noted noted origin || same_origin (record { observer = o; node = n }) origin)

@@ -134,7 +134,8 @@ abbrev pub deep_at : (ℕ → Option model.Registration) → ℕ → Bool
 deep_at under key = option_map_or (λ (r : model.Registration). r.options.subtree) (under key) false
 
 -- a registration came in last among those of its node, under a key that was vacant
-pub record Added (under : ℕ → Option model.Registration) (lists : List (ℕ × List ℕ)) (r : model.Registration) (under' : ℕ → Option model.Registration) (lists' : List (ℕ × List ℕ)) : Type 0 where
+pub record Added (under : ℕ → Option model.Registration) (lists : List (ℕ × List ℕ)) (r : model.Registration) (under' : ℕ → Option model.Registration)
+    (lists' : List (ℕ × List ℕ)) : Type 0 where
   pub key : ℕ
   pub vacant : under key ≡ None
   pub here : under' key ≡ Some r

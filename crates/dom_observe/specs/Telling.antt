@@ -1,10 +1,12 @@
 -- Whom a mutation interests, one registration after another.
-use Rattle.std.specs.Prelude.{ℕ, ◌==◌, Bool, List, [], ◌∷◌, filter, filter_map, if◌then◌else◌, Option, None, Some}
+use Rattle.std.specs.Prelude.{◌≡◌, ℕ, ◌==◌, ◌||◌, Bool, List, [], ◌∷◌, filter, filter_map, if◌then◌else◌, Option, None, Some}
 use Rattle.std.specs.List.{list_any}
 use Rattle.std.specs.Option.{option_and_then}
+use Rattle.std.specs.Map.{keys_of}
 use Rattle.dom_model.specs.declared.RecordType.{RecordType}
 use Rattle.dom_model.specs.Worlds.World.{Registration, Mutation}
 use Rattle.dom_model.specs.MutationObservers.Record.{Record}
+use Rattle.dom_model.specs.PlainLists.LastOnce.{with_last, with_all_last}
 use Rattle.dom_model.specs.MutationObservers.Records.{asks_old_value, record_with}
 use Rattle.dom_observe.specs.Registrations.{concerns}
 
@@ -19,6 +21,10 @@ listener_under under what target name key = option_and_then (listener_of what ta
 abbrev pub listeners : (ℕ → Option Registration) → RecordType → ℕ → Option (List ℕ) → List ℕ → List (ℕ × Bool)
 listeners under what target name keys = filter_map (listener_under under what target name) keys
 
+-- whom a mutation makes listen
+abbrev pub listeners_to : (ℕ → Option Registration) → Mutation → List ℕ → List (ℕ × Bool)
+listeners_to under m keys = listeners under m.type m.target m.name keys
+
 -- one of these asks, where there is any
 abbrev pub asked_by : List (ℕ × Bool) → Option Bool
 asked_by [] = None
@@ -32,3 +38,13 @@ flag_of p ls = asked_by (filter (λ (l : ℕ × Bool). l.0 == p) ls)
 abbrev pub delivered : Mutation → Option Bool → List Record
 delivered m None = []
 delivered m (Some asks) = record_with m (if asks then m.old_value else None) ∷ []
+
+-- a listener, with one more; none where that is another observer
+abbrev pub joined : Option (ℕ × Bool) → ℕ × Bool → Option (ℕ × Bool)
+joined None l = Some l
+joined (Some only) l = if only.0 == l.0 then Some (only.0, only.1 || l.1) else None
+
+-- all these listeners are one
+pub record IsOnly (only : ℕ × Bool) (ls : List (ℕ × Bool)) : Type 0 where
+  pub flags : (p : ℕ) → flag_of p ls ≡ (if only.0 == p then Some only.1 else None)
+  pub pends : (ps : List ℕ) → with_all_last ps (keys_of ls) ≡ with_last ps only.0

@@ -97,11 +97,16 @@ pub(crate) fn add_transients(
     requires live { (n : ℕ) → AllLive (at table.old) (on n (listed nodes.old.entries)) }
     requires standing { AllLive (at table.old) standing.now }
     requires there { AllByRecursion (Stands (at table.old) (is_there roster.old)) standing.now }
-    ensures ok { OnOk result ((n : ℕ) → found table.new (on n (listed nodes.new.entries)) ≡ with_added_transients node (found table.old standing.now) n (found table.old (on n (listed nodes.old.entries)))) }
-    ensures all_stand { (p : ℕ → Bool) → AllByRecursion (Stands (at table.old) p) standing.now → AllStand (at table.old) p (listed nodes.old.entries) → AllStand (at table.new) p (listed nodes.new.entries) }
-    ensures names { (p : ℕ → Bool) → p node ≡ false → AllByRecursion (λ key. names_one p (at table.old key) ≡ false) standing.now → NamesNone p (at table.old) (listed nodes.old.entries) → NamesNone p (at table.new) (listed nodes.new.entries) }
+    ensures ok { OnOk result ((n : ℕ) → found table.new (on n (listed nodes.new.entries))
+        ≡ with_added_transients node (found table.old standing.now) n (found table.old (on n (listed nodes.old.entries)))) }
+    ensures all_stand { (p : ℕ → Bool) → AllByRecursion (Stands (at table.old) p) standing.now → AllStand (at table.old) p (listed nodes.old.entries) →
+        AllStand (at table.new) p (listed nodes.new.entries) }
+    ensures names { (p : ℕ → Bool) → p node ≡ false → AllByRecursion (λ key. names_one p (at table.old key) ≡ false) standing.now →
+        NamesNone p (at table.old) (listed nodes.old.entries) → NamesNone p (at table.new) (listed nodes.new.entries) }
     ensures full { HaveKeys (listed nodes.old.entries) → HaveKeys (listed nodes.new.entries) }
-    ensures indexed { (lasts : List (List ℕ)) (p : ℕ → Bool) → AllByRecursion (Stands (at table.old) p) standing.now → IsIndexed (at table.old) (listed nodes.old.entries) lasts (passing_by roster.old) fleeting.old.keys p → IsIndexed (at table.new) (listed nodes.new.entries) lasts (passing_by roster.new) fleeting.new.keys p }
+    ensures indexed { (lasts : List (List ℕ)) (p : ℕ → Bool) → AllByRecursion (Stands (at table.old) p) standing.now →
+        IsIndexed (at table.old) (listed nodes.old.entries) lasts (passing_by roster.old) fleeting.old.keys p →
+        IsIndexed (at table.new) (listed nodes.new.entries) lasts (passing_by roster.new) fleeting.new.keys p }
     ensures sources { HaveSources (at table.old) → HaveSources (at table.new) }
     ensures agree { Agree (at table.old) → Agree (at table.new) }
     ensures lasting { lasting_by roster.new ≡ lasting_by roster.old }
@@ -122,23 +127,23 @@ pub(crate) fn add_transients(
 }
 
 // The keys of the registrations that stand on the inclusive ancestors of a node, from the node upwards.
-pub(crate) fn standing<X>(
+pub(crate) fn find_standing<X>(
     nodes: &IndexMap<u32, Vec<usize>>,
     tree: &Tree<X>,
     node: NodeId,
-    alloc: Global,
-) -> Result<Vec<usize>, AllocError>
+    keys: &mut Vec<usize>,
+) -> Result<(), AllocError>
     requires { HasNode tree.now.forest node }
-    ensures { IfOk result (λ keys. keys.items ≡ flat_map (λ n. on n (listed nodes.now.entries)) (ancestors node tree.now.forest)) }
+    ensures { OnOk result (keys.new.items ≡ flat_map (λ n. on n (listed nodes.now.entries)) (ancestors node tree.now.forest)) }
 {
     tree.sound();
-    let mut keys = Vec::new(alloc);
+    keys.clear();
     let mut here = node;
     loop {
         keys.extend_from_slice(keys_on(nodes, here))?;
         match tree.parent(here) {
             Some(parent) => here = parent,
-            None => return Ok(keys),
+            None => return Ok(()),
         }
     }
 }
@@ -170,24 +175,25 @@ fn push_deep(
 }
 
 // The keys of the registrations with subtree that stand on the inclusive ancestors of a node, from the node upwards.
-pub(crate) fn standing_deep<X>(
+pub(crate) fn find_standing_deep<X>(
     table: &Slab<Registration>,
     nodes: &IndexMap<u32, Vec<usize>>,
     tree: &Tree<X>,
     node: NodeId,
-    alloc: Global,
-) -> Result<Vec<usize>, AllocError>
+    keys: &mut Vec<usize>,
+) -> Result<(), AllocError>
     requires { HasNode tree.now.forest node }
-    ensures { IfOk result (λ keys. keys.items ≡ flat_map (λ n. filter (deep_at (at table.now)) (on n (listed nodes.now.entries))) (ancestors node tree.now.forest)) }
+    ensures { OnOk result (keys.new.items
+        ≡ flat_map (λ n. filter (deep_at (at table.now)) (on n (listed nodes.now.entries))) (ancestors node tree.now.forest)) }
 {
     tree.sound();
-    let mut keys = Vec::new(alloc);
+    keys.clear();
     let mut here = node;
     loop {
-        push_deep(&mut keys, table, keys_on(nodes, here))?;
+        push_deep(keys, table, keys_on(nodes, here))?;
         match tree.parent(here) {
             Some(parent) => here = parent,
-            None => return Ok(keys),
+            None => return Ok(()),
         }
     }
 }

@@ -64,8 +64,10 @@ fn end_keys_on(
     ending: &Ending,
 ) -> bool
     requires { IsUnique nat_eq nodes.old }
-    ensures left { (k : ℕ) → at table.new k ≡ (if among k (on node (listed nodes.old.entries)) then left_after ending.now (at table.old k) else at table.old k) }
-    ensures kept { (n : ℕ) → on n (listed nodes.new.entries) ≡ (if n == node then filter (is_live (at table.new)) (on n (listed nodes.old.entries)) else on n (listed nodes.old.entries)) }
+    ensures left { (k : ℕ) → at table.new k
+        ≡ (if among k (on node (listed nodes.old.entries)) then left_after ending.now (at table.old k) else at table.old k) }
+    ensures kept { (n : ℕ) → on n (listed nodes.new.entries)
+        ≡ (if n == node then filter (is_live (at table.new)) (on n (listed nodes.old.entries)) else on n (listed nodes.old.entries)) }
     ensures others { (n : ℕ) → n ≢ node → lookup (nat_eq n) (listed nodes.new.entries) ≡ lookup (nat_eq n) (listed nodes.old.entries) }
     ensures bare { result ≡ true → on node (listed nodes.new.entries) ≡ [] }
     ensures some { result ≡ false → (keys : List ℕ) → lookup (nat_eq node) (listed nodes.new.entries) ≡ Some keys → keys ≢ [] }
@@ -85,8 +87,10 @@ fn end_on(
     ending: &Ending,
 )
     requires { IsUnique nat_eq nodes.old }
-    ensures left { (k : ℕ) → at table.new k ≡ (if among k (on node (listed nodes.old.entries)) then left_after ending.now (at table.old k) else at table.old k) }
-    ensures kept { (n : ℕ) → on n (listed nodes.new.entries) ≡ (if n == node then filter (is_live (at table.new)) (on n (listed nodes.old.entries)) else on n (listed nodes.old.entries)) }
+    ensures left { (k : ℕ) → at table.new k
+        ≡ (if among k (on node (listed nodes.old.entries)) then left_after ending.now (at table.old k) else at table.old k) }
+    ensures kept { (n : ℕ) → on n (listed nodes.new.entries)
+        ≡ (if n == node then filter (is_live (at table.new)) (on n (listed nodes.old.entries)) else on n (listed nodes.old.entries)) }
     ensures full { HaveKeys (listed nodes.old.entries) → HaveKeys (listed nodes.new.entries) }
     ensures unique { IsUnique nat_eq nodes.new }
 {

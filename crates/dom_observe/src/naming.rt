@@ -57,7 +57,8 @@ pub(crate) fn is_told<X>(
 ) -> bool
     requires held { HasNode tree.now.forest top }
     requires there { AllThere (is_there roster.now) pending.now.keys }
-    ensures { result ≡ list_any (λ o. list_any (λ m. among m (inclusive_descendants tree.now.forest top)) (flat_map nodes_of_record (records_of roster.now o))) pending.now.keys }
+    ensures { result ≡ list_any
+        (λ o. list_any (λ m. among m (inclusive_descendants tree.now.forest top)) (flat_map nodes_of_record (records_of roster.now o))) pending.now.keys }
 {
     for observer in pending.as_slice() {
         if roster.get(*observer).queue.names_inside(tree, top) {

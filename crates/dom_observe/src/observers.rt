@@ -1,19 +1,20 @@
 //! The observers of a tree: their registrations, their queues and the pending list.
 
-ghost use Rattle.std.specs.Prelude.{◌≡◌, ℕ, ◌<◌, [], ◌∷◌, ◌++◌, length, slice_get, slice_set, Some, None, IsSome, is_some, IfOk, OnOk, OnErr, true};
+ghost use Rattle.std.specs.Prelude.{◌≡◌, ℕ, ◌<◌, [], ◌∷◌, ◌++◌, length, count_by, slice_get, slice_set, Some, None, IsSome, is_some, IfOk, OnOk, OnErr, true};
 ghost use Rattle.dom_model.specs.Forests.Forest.{HasNode, ancestors, inclusive_descendants};
 ghost use Rattle.dom_model.specs.PlainLists.Lists.{among};
 ghost use Rattle.dom_model.specs.MutationAlgorithms.Discarding.{observed_nodes};
 ghost use Rattle.dom_model.specs.Worlds.World.{Observing};
 ghost use Rattle.dom_model.specs.MutationObservers.Observing.{standing_on, noted, with_transients};
 ghost use Rattle.dom_model.specs.MutationObservers.Records.{queue_of, observed, with_observer, records_taken, disconnected, released_observer, told, after_notify};
-ghost use Rattle.dom_observe.specs.Held.{named, nodes_of_mutation, NamesOnly, SameObservers};
+ghost use Rattle.dom_observe.specs.Held.{named, nodes_of_mutation, NamesNoneOf, NamesOnly, SameObservers};
 ghost use Rattle.std.specs.List.{list_any};
 ghost use Rattle.dom_observe.specs.Notifying.{told_of};
+ghost use Rattle.dom_observe.specs.Once.{once};
 ghost use Rattle.dom_observe.specs.Sound.{IsSound};
 ghost use Rattle.dom_observe.specs.Watchers.{queue_in, Watches};
 
-use crate::adding::{add, add_transients, standing, standing_deep};
+use crate::adding::{add, add_transients, find_standing, find_standing_deep};
 use crate::ending::{end_all, end_own, end_transients};
 use crate::naming::{is_named, is_told};
 use crate::notifying::gather;
@@ -24,7 +25,7 @@ use crate::record::{Mutation, Record};
 use crate::registration::{Ended, Ending, Lifetime, Registration};
 use crate::roster::Roster;
 use crate::table::{keys_on, own_key, set_options};
-use crate::telling::{listen, tell};
+use crate::telling::tell;
 use dom_tree::{NodeId, Tree};
 use indexmap::{IndexMap, IndexSet};
 use slab::Slab;
@@ -35,7 +36,7 @@ use std::rc::Rc;
 /// Observers, who is registered on which node, and the records that wait for them.
 ///
 /// It takes memory for each registration, for each record and the nodes that it names, and none for a node that nobody observes, nor for an
-/// observer that was released.
+/// observer that was released. Room for the registrations that stand above a node is kept from one change to the next.
 #[derive(Drop)]
 pub struct Observers {
     table: Slab<Registration>,
@@ -46,6 +47,8 @@ pub struct Observers {
     // the observers that may have transient registrations
     fleeting: IndexSet<ObserverId>,
     pending: IndexSet<ObserverId>,
+    // the keys of the registrations that stood above a node that was last asked for, so that the next change has room for them
+    standing: Vec<usize>,
     alloc: Global,
 }
 
@@ -64,7 +67,9 @@ impl Model for Observers {
       pending = o.pending.keys;
     } };
 
-    ghost invariant = { λ o. IsKept o.table o.nodes.entries (queues_by o.roster) o.pending.keys × IsIndexed (at o.table) (listed o.nodes.entries) (lasting_by o.roster) (passing_by o.roster) o.fleeting.keys (has_queue (queues_by o.roster)) × HaveSources (at o.table) × Agree (at o.table) };
+    ghost invariant = { λ o. IsKept o.table o.nodes.entries (queues_by o.roster) o.pending.keys
+        × IsIndexed (at o.table) (listed o.nodes.entries) (lasting_by o.roster) (passing_by o.roster) o.fleeting.keys (has_queue (queues_by o.roster))
+        × HaveSources (at o.table) × Agree (at o.table) };
 }
 
 impl Observers {
@@ -78,6 +83,7 @@ impl Observers {
             roster: Roster::new(alloc),
             fleeting: IndexSet::new(alloc),
             pending: IndexSet::new(alloc),
+            standing: Vec::new(alloc),
             alloc,
         }
     }
@@ -109,6 +115,21 @@ impl Observers {
         ensures { result ≡ length self.now.queues }
     {
         self.roster.made()
+    }
+
+    /// How many observers there are, without those that were released, in constant time.
+    pub fn count(&self) -> usize
+        ensures count { result ≡ count_by is_some self.now.queues }
+        ensures watched { (x : Observing) → Watches self.now x → result ≡ count_by is_some x.places }
+    {
+        self.roster.count()
+    }
+
+    /// How many registrations there are, the transient ones with them, in constant time. Those that are equal in every field are one.
+    pub fn registrations(&self) -> usize
+        ensures { (x : Observing) → Watches self.now x → result ≡ length (once x.registrations) }
+    {
+        self.table.len()
     }
 
     /// Whether there is such an observer: it was made, and not released.
@@ -241,7 +262,8 @@ impl Observers {
     /// Leaves transient registrations on a node that is taken from its parent, of those with subtree on the parent's inclusive
     /// ancestors ("remove").
     ///
-    /// One that would be equal to another on the node is not made. Where none of those has subtree nothing is noted. After an error some of them may be missing.
+    /// One that would be equal to another on the node is not made. Where none of those has subtree nothing is noted. After an error some of them may be missing,
+    /// but where none of those ancestors is named nothing has changed.
     pub fn transients<X>(
         &mut self,
         tree: &Tree<X>,
@@ -252,9 +274,10 @@ impl Observers {
         ensures left { OnOk result ((x : Observing) → Watches self.old x → Watches self.new (with_transients node (ancestors parent tree.now.forest) x)) }
         ensures names { NamesOnly (node ∷ []) self.old self.new }
         ensures made { SameObservers self.old self.new }
+        ensures quiet { NamesNoneOf (ancestors parent tree.now.forest) self.old → self.new ≡ self.old }
     {
-        let standing = standing_deep(&self.table, &self.nodes, tree, parent, self.alloc)?;
-        if standing.is_empty() {
+        find_standing_deep(&self.table, &self.nodes, tree, parent, &mut self.standing)?;
+        if self.standing.is_empty() {
             return Ok(());
         }
         add_transients(
@@ -262,7 +285,7 @@ impl Observers {
             &mut self.nodes,
             &mut self.roster,
             &mut self.fleeting,
-            standing.as_slice(),
+            self.standing.as_slice(),
             node,
             self.alloc,
         )
@@ -271,26 +294,30 @@ impl Observers {
     /// Queues a record of a mutation for each observer that it interests ("queue a mutation record").
     ///
     /// Call it before the tree changes further: the ancestors of the target are those that stand now. After an error some observers may have their record
-    /// and others not.
+    /// and others not, but where none of those ancestors is named nothing has changed.
     pub fn queue<X>(&mut self, tree: &Tree<X>, mutation: &Mutation<'_>) -> Result<(), AllocError>
         requires { HasNode tree.now.forest mutation.now.target }
-        ensures queued { OnOk result ((x : Observing) → Watches self.old x → Watches self.new (noted (record (mutation.now) { standing = standing_on (ancestors mutation.now.target tree.now.forest) x.registrations }) x)) }
+        ensures queued { OnOk result ((x : Observing) → Watches self.old x →
+            Watches self.new (noted (record (mutation.now) { standing = standing_on (ancestors mutation.now.target tree.now.forest) x.registrations }) x)) }
         ensures names { NamesOnly (nodes_of_mutation mutation.now) self.old self.new }
         ensures made { SameObservers self.old self.new }
+        ensures quiet { NamesNoneOf (ancestors mutation.now.target tree.now.forest) self.old → self.new ≡ self.old }
     {
         if self.nodes.is_empty() {
             return Ok(());
         }
-        let standing = standing(&self.nodes, tree, mutation.target, self.alloc)?;
-        let question = mutation.question();
-        let heard = listen(
+        find_standing(&self.nodes, tree, mutation.target, &mut self.standing)?;
+        if self.standing.is_empty() {
+            return Ok(());
+        }
+        tell(
             &self.table,
-            standing.as_slice(),
-            &question,
+            self.standing.as_slice(),
+            &mut self.roster,
             &mut self.pending,
+            mutation,
             self.alloc,
-        )?;
-        tell(&mut self.roster, &heard, mutation, self.alloc)
+        )
     }
 
     /// Tells the pending observers their records, and ends every transient registration ("notify mutation observers").
@@ -321,7 +348,8 @@ impl Observers {
     /// of a pending observer in the same way, by the nodes that its records name.
     pub fn refers<X>(&self, tree: &Tree<X>, top: NodeId) -> bool
         requires { HasNode tree.now.forest top }
-        ensures observed { (x : Observing) → Watches self.now x → result ≡ list_any (λ m. among m (inclusive_descendants tree.now.forest top)) (observed_nodes x) }
+        ensures observed { (x : Observing) → Watches self.now x →
+            result ≡ list_any (λ m. among m (inclusive_descendants tree.now.forest top)) (observed_nodes x) }
         ensures named { result ≡ list_any (λ m. among m (inclusive_descendants tree.now.forest top)) (named self.now) }
     {
         is_named(tree, top, &self.nodes) || is_told(tree, top, &self.roster, &self.pending)

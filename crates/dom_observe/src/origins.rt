@@ -15,7 +15,7 @@ use slab::Slab;
 use std::alloc::{AllocError, Global};
 
 // Up to so many questions are answered by going through the keys of the node.
-const FEW: usize = 8;
+const FEW: usize = 16;
 
 // What a transient registration comes from: the observer's registration on the node of that number.
 #[derive(Clone, Copy, Debug, PartialEq, Eq, Hash)]

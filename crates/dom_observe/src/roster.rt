@@ -1,6 +1,6 @@
 //! What is kept of each observer, for as long as it is there.
 
-ghost use Rattle.std.specs.Prelude.{◌≡◌, ◌<◌, ◌++◌, ◌∷◌, [], length, Some, None, IsSome, is_some, IfOk, OnOk, OnErr, slice_set};
+ghost use Rattle.std.specs.Prelude.{◌≡◌, ◌<◌, ◌++◌, ◌∷◌, [], length, count_by, Some, None, IsSome, is_some, IfOk, OnOk, OnErr, slice_set};
 ghost use Rattle.std.specs.Borrow.{sem};
 ghost use Rattle.dom_slots.specs.Slotted.{slot_at};
 ghost use Rattle.dom_observe.specs.Roster.{observer_at, keys_by, queues_by};
@@ -78,6 +78,14 @@ impl Roster {
         ensures { result ≡ length self.now }
     {
         self.slots.made() as usize
+    }
+
+    // How many are there.
+    pub fn count(&self) -> usize
+        ensures { result ≡ count_by is_some self.now }
+    {
+        self.slots.sound();
+        self.slots.count()
     }
 
     // Whether an observer is there.

@@ -1,6 +1,6 @@
 //! Who is told of a mutation, and with which record (DOM Standard, "queue a mutation record").
 
-ghost use Rattle.std.specs.Prelude.{◌≡◌, ℕ, Bool, false, ◌==◌, [], ◌∷◌, ◌++◌, ◌||◌, true, if◌then◌else◌, map, unwrap_or, nat_eq, None, Some, IfOk, OnOk, OnErr};
+ghost use Rattle.std.specs.Prelude.{◌≡◌, ℕ, Bool, false, ◌==◌, [], ◌∷◌, ◌++◌, ◌||◌, true, if◌then◌else◌, map, unwrap_or, nat_eq, None, Some, IfSome, IfOk, OnOk, OnErr};
 ghost use Rattle.std.specs.List.{AllByRecursion, list_any};
 ghost use Rattle.std.specs.Map.{lookup, keys_of};
 ghost use Rattle.indexmap.specs.IndexMap.{get, IsUnique};
@@ -12,7 +12,7 @@ ghost use Rattle.dom_observe.specs.Held.{nodes_of_mutation};
 ghost use Rattle.dom_observe.specs.Kept.{AllThere};
 ghost use Rattle.dom_observe.specs.Naming.{TellsOnly};
 ghost use Rattle.dom_observe.specs.Roster.{keys_by, queues_by, is_there, records_of};
-ghost use Rattle.dom_observe.specs.Telling.{listener_under, listeners, flag_of, delivered};
+ghost use Rattle.dom_observe.specs.Telling.{listener_under, listeners, listeners_to, flag_of, joined, IsOnly, delivered};
 
 use crate::observer_id::ObserverId;
 use crate::record::{Mutation, Record};
@@ -41,7 +41,8 @@ fn listener_at(
 
 // Notes an interested observer, once; it asks for the old value where one of its registrations does.
 fn note(heard: &mut IndexMap<u32, bool>, observer: ObserverId, asks: bool) -> Result<(), AllocError>
-    ensures ok { OnOk result ((p : ℕ) → get nat_eq heard.new p ≡ (if observer == p then Some (unwrap_or (get nat_eq heard.old p) false || asks) else get nat_eq heard.old p)) }
+    ensures ok { OnOk result ((p : ℕ) → get nat_eq heard.new p
+        ≡ (if observer == p then Some (unwrap_or (get nat_eq heard.old p) false || asks) else get nat_eq heard.old p)) }
     ensures there { (p : ℕ → Bool) → p observer ≡ true → AllThere p (keys_of heard.old.entries) → OnOk result (AllThere p (keys_of heard.new.entries)) }
     ensures unique { IsUnique nat_eq heard.new }
 {
@@ -49,6 +50,39 @@ fn note(heard: &mut IndexMap<u32, bool>, observer: ObserverId, asks: bool) -> Re
     let asked = heard.get(&number).copied().unwrap_or(false);
     heard.insert(number, asked || asks)?;
     Ok(())
+}
+
+// A listener, with one more; none where that is another observer.
+fn joined(
+    only: Option<(ObserverId, bool)>,
+    listener: (ObserverId, bool),
+) -> Option<(ObserverId, bool)>
+    ensures { result ≡ joined only listener }
+{
+    let (observer, asks) = listener;
+    match only {
+        None => Some((observer, asks)),
+        Some((first, asked)) if first == observer => Some((first, asked || asks)),
+        Some(_) => None,
+    }
+}
+
+// The observer that the registrations under the keys make interested, and whether it asks for the old value; none where there are several, or there is none.
+fn only_listener(
+    table: &Slab<Registration>,
+    standing: &[usize],
+    question: &Question<'_>,
+) -> Option<(ObserverId, bool)>
+    ensures only { IfSome result (λ only. IsOnly only (listeners (at table.now) question.now.what question.now.target (text_of question.now.name) standing.now)) }
+    ensures known { IfSome result (λ only. (p : ℕ → Bool) → AllByRecursion (Stands (at table.now) p) standing.now → p only.0 ≡ true) }
+{
+    let mut only = None;
+    for key in standing {
+        if let Some(listener) = listener_at(table, *key, question) {
+            only = Some(joined(only, listener)?);
+        }
+    }
+    only
 }
 
 // Puts an observer on the pending list, where it is not there yet.
@@ -64,15 +98,17 @@ pub(crate) fn pend(
 }
 
 // The observers that the registrations under the keys make interested, which become pending in their order.
-pub(crate) fn listen(
+fn listen(
     table: &Slab<Registration>,
     standing: &[usize],
     question: &Question<'_>,
     pending: &mut IndexSet<ObserverId>,
     alloc: Global,
 ) -> Result<IndexMap<u32, bool>, AllocError>
-    ensures heard { IfOk result (λ heard. (p : ℕ) → get nat_eq heard p ≡ flag_of p (listeners (at table.now) question.now.what question.now.target (text_of question.now.name) standing.now)) }
-    ensures pending { OnOk result (pending.new.keys ≡ with_all_last pending.old.keys (keys_of (listeners (at table.now) question.now.what question.now.target (text_of question.now.name) standing.now))) }
+    ensures heard { IfOk result (λ heard. (p : ℕ) →
+        get nat_eq heard p ≡ flag_of p (listeners (at table.now) question.now.what question.now.target (text_of question.now.name) standing.now)) }
+    ensures pending { OnOk result (pending.new.keys
+        ≡ with_all_last pending.old.keys (keys_of (listeners (at table.now) question.now.what question.now.target (text_of question.now.name) standing.now))) }
     ensures stay { (p : ℕ) → among p pending.old.keys ≡ true → among p pending.new.keys ≡ true }
     ensures there { (p : ℕ → Bool) → AllByRecursion (Stands (at table.now) p) standing.now → AllThere p pending.old.keys → AllThere p pending.new.keys }
     ensures known { IfOk result (λ heard. (p : ℕ → Bool) → AllByRecursion (Stands (at table.now) p) standing.now → AllThere p (keys_of heard.entries)) }
@@ -99,8 +135,32 @@ fn deliver(roster: &mut Roster, observer: u32, told: Record) -> Result<(), Alloc
     kept.queue.push(told)
 }
 
+// Puts a record of the mutation last in the queue of a listener, who becomes pending.
+fn tell_one(
+    roster: &mut Roster,
+    pending: &mut IndexSet<ObserverId>,
+    listener: (ObserverId, bool),
+    mutation: &Mutation<'_>,
+    alloc: Global,
+) -> Result<(), AllocError>
+    requires { is_there roster.old listener.0 ≡ true }
+    ensures told { OnOk result ((p : ℕ) → records_of roster.new p
+        ≡ records_of roster.old p ++ delivered mutation.now (if listener.0 == p then Some listener.1 else None)) }
+    ensures pending { OnOk result (pending.new.keys ≡ with_last pending.old.keys listener.0) }
+    ensures stay { (p : ℕ) → among p pending.old.keys ≡ true → among p pending.new.keys ≡ true }
+    ensures there { (p : ℕ → Bool) → p listener.0 ≡ true → AllThere p pending.old.keys → AllThere p pending.new.keys }
+    ensures others { (p : ℕ) → among p pending.new.keys ≡ false → records_of roster.new p ≡ records_of roster.old p }
+    ensures err { OnErr result (roster.new ≡ roster.old) }
+    ensures keys { keys_by roster.new ≡ keys_by roster.old }
+{
+    let (observer, asks) = listener;
+    let told = mutation.record(alloc, asks)?;
+    pend(pending, observer)?;
+    deliver(roster, observer.number(), told)
+}
+
 // Puts a record of the mutation last in the queue of each listener.
-pub(crate) fn tell(
+fn tell_each(
     roster: &mut Roster,
     heard: &IndexMap<u32, bool>,
     mutation: &Mutation<'_>,
@@ -120,4 +180,34 @@ pub(crate) fn tell(
         }
     }
     Ok(())
+}
+
+// Puts a record of the mutation last in the queue of each observer that the registrations under the keys make interested. They become pending in their order.
+//
+// One observer alone, as in most changes, is found by going through them, with no map of who listens.
+pub(crate) fn tell(
+    table: &Slab<Registration>,
+    standing: &[usize],
+    roster: &mut Roster,
+    pending: &mut IndexSet<ObserverId>,
+    mutation: &Mutation<'_>,
+    alloc: Global,
+) -> Result<(), AllocError>
+    requires { AllByRecursion (Stands (at table.now) (is_there roster.old)) standing.now }
+    ensures told { OnOk result ((p : ℕ) → records_of roster.new p
+        ≡ records_of roster.old p ++ delivered mutation.now (flag_of p (listeners_to (at table.now) mutation.now standing.now))) }
+    ensures pending { OnOk result (pending.new.keys
+        ≡ with_all_last pending.old.keys (keys_of (listeners_to (at table.now) mutation.now standing.now))) }
+    ensures stay { (p : ℕ) → among p pending.old.keys ≡ true → among p pending.new.keys ≡ true }
+    ensures there { (p : ℕ → Bool) → AllByRecursion (Stands (at table.now) p) standing.now → AllThere p pending.old.keys → AllThere p pending.new.keys }
+    ensures others { (p : ℕ) → among p pending.new.keys ≡ false → records_of roster.new p ≡ records_of roster.old p }
+    ensures names { TellsOnly (nodes_of_mutation mutation.now) (queues_by roster.old) (queues_by roster.new) }
+    ensures keys { keys_by roster.new ≡ keys_by roster.old }
+{
+    let question = mutation.question();
+    if let Some(listener) = only_listener(table, standing, &question) {
+        return tell_one(roster, pending, listener, mutation, alloc);
+    }
+    let heard = listen(table, standing, &question, pending, alloc)?;
+    tell_each(roster, &heard, mutation, alloc)
 }

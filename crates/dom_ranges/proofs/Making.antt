@@ -1,5 +1,5 @@
 -- What the calls that make, release and move ranges leave in order.
-use Rattle.std.proofs.Common.{◌≡◌, ℕ, ◌+◌, ◌-◌, ◌≤◌, ◌<◌, ◌^◌, List, [], ◌∷◌, ◌++◌, length, get_or, set, take, Option, Some, None, refl, sym, ap, subst, ◌∙◌, arith, length-append, length-set}
+use Rattle.std.proofs.Common.{◌≡◌, ℕ, ◌+◌, ◌-◌, ◌≤◌, ◌<◌, ◌^◌, List, [], ◌∷◌, ◌++◌, length, count_by, get_or, set, take, Option, Some, None, is_some, refl, sym, ap, subst, ◌∙◌, arith, length-append, length-set}
 use Rattle.std.proofs.lemmas.Grind.{get_or_default_zero}
 use Rattle.std.proofs.lemmas.List.{length-take-le}
 use Rattle.std.specs.Prelude.{swap_remove}
@@ -9,7 +9,7 @@ use Rattle.dom_ranges.specs.Chained.{Heads, cover_of, points_of, HasChains}
 use Rattle.dom_ranges.specs.Tables.{RangeTable, live_nodes, paired, IsPaired, live_count, by_slot, slot_at, range_in_slot, without_slot, HaveSlots, IsInOrder}
 use Rattle.dom_ranges.proofs.Steps.{points-length, same-length}
 use Rattle.dom_ranges.proofs.Slots.{slots-none, slots-added, ranges-added, slots-written, ranges-written, held-live, slot-there, moves, slots-released, ranges-released, idle-none}
-use Rattle.dom_ranges.proofs.Pairs.{paired-length, paired-append, IsPaired-append, live-set, live-append, written-ranges, written-paired, left-ranges, left-paired, ranges-are, covered-is}
+use Rattle.dom_ranges.proofs.Pairs.{paired-length, paired-append, IsPaired-append, live-counted, live-set, live-append, written-ranges, written-paired, left-ranges, left-paired, ranges-are, covered-is}
 
 -- as many ranges as slots
 pub many : (t : List End) (heads : Heads) (slots : List (Option ℕ)) (numbers : List ℕ) → IsInOrder t heads slots numbers → length (paired (points_of t)) ≡ length numbers
@@ -170,8 +170,11 @@ order-kept t heads slots numbers k t' heads' same chains =
 
 -- there are as many slots as live ranges, and no more than numbers
 module _ (t : List End) (heads : Heads) (slots : List (Option ℕ)) (numbers : List ℕ) (k : IsInOrder t heads slots numbers) (v : RangeTable) (view : record { ranges = by_slot (paired (points_of t)) slots; covered = cover_of heads } ≡ v) where
-  pub slots-live : length numbers ≡ live_count v.ranges
+  slots-live : length numbers ≡ live_count v.ranges
   slots-live = k.counted ∙ ap live_count (sym (ranges-are t heads slots numbers k v view))
+
+  pub ranges-counted : length numbers ≡ count_by is_some v.ranges
+  ranges-counted = slots-live ∙ live-counted v.ranges
 
   pub fewer : length numbers ≤ length v.ranges
   fewer = omega (arith, slots-live, live-few v.ranges)

@@ -1,6 +1,7 @@
 -- Ranges are pairs of ends: what a change of the ends is to the ranges.
-use Rattle.std.proofs.Common.{◌≡◌, ℕ, zero, suc, ◌+◌, ◌<◌, if◌then◌else◌, List, [], ◌∷◌, ◌++◌, length, map, get_or, set, take, Option, Some, None, IsSome, is_some, option_map, refl, sym, ap, subst, ◌∙◌, arith}
+use Rattle.std.proofs.Common.{◌≡◌, ℕ, zero, suc, ◌+◌, ◌<◌, if◌then◌else◌, List, [], ◌∷◌, ◌++◌, length, map, count_by, cond, get_or, set, take, Option, Some, None, IsSome, is_some, option_map, refl, sym, ap, subst, ◌∙◌, arith}
 use Rattle.std.proofs.lemmas.Bool.{false≢true}
+use Rattle.std.proofs.lemmas.List.Sums.{sum_by-cons}
 use Rattle.dom_model.specs.Worlds.World.{Point, Range}
 use Rattle.dom_model.specs.BoundaryPoints.Points.{moved_range, map_ranges}
 use Rattle.dom_ranges.specs.declared.chains.End.{End}
@@ -96,6 +97,11 @@ IsPaired-take (suc l) (x ∷ []) k = absurd k
 IsPaired-take (suc l) (x ∷ y ∷ rest) k = (k.0, IsPaired-take l rest k.1)
 
 -- the count of live ranges
+pub live-counted : (rs : List (Option Range)) → live_count rs ≡ count_by is_some rs
+live-counted [] = refl
+live-counted (None ∷ rs) = omega (arith, live-counted rs, sum_by-cons (λ o. cond (is_some o) 1 0) None rs)
+live-counted (Some r ∷ rs) = omega (arith, live-counted rs, sum_by-cons (λ o. cond (is_some o) 1 0) (Some r) rs)
+
 pub live-set : (rs : List (Option Range)) (r : ℕ) (x : Option Range) → IsSome (get_or rs r None) → suc (live_count (set rs r x)) ≡ (if is_some x then 1 else 0) + live_count rs
 live-set [] r x h = absurd (false≢true h)
 live-set (None ∷ rs) zero x h = absurd (false≢true h)

@@ -1,12 +1,12 @@
 -- What holds of the live ranges at any time, read off their ends.
-use Rattle.std.proofs.Common.{◌≡◌, ℕ, ◌≤◌, ◌^◌, List, Option, Some, None, is_some, refl, sym, ap, ◌∙◌, arith}
+use Rattle.std.proofs.Common.{◌≡◌, ℕ, ◌≤◌, ◌^◌, List, count_by, Option, Some, None, is_some, refl, sym, ap, ◌∙◌, arith}
 use Rattle.std.proofs.lemmas.Bool.{false≢true}
 use Rattle.dom_ranges.specs.declared.chains.End.{End}
 use Rattle.dom_ranges.specs.Chained.{Heads, covers, cover_of, head_at, points_of}
 use Rattle.dom_ranges.specs.Tables.{RangeTable, IsCovered, AreCovered, live_count, paired, by_slot, IsInOrder}
 use Rattle.dom_ranges.proofs.Covers.{head-covers}
 use Rattle.dom_ranges.proofs.EndsAsked.{stands-told}
-use Rattle.dom_ranges.proofs.Pairs.{ranges-are, covered-is}
+use Rattle.dom_ranges.proofs.Pairs.{live-counted, ranges-are, covered-is}
 use Rattle.dom_ranges.proofs.Standing.{heads-tell}
 
 module _ (t : List End) (heads : Heads) (slots : List (Option ℕ)) (numbers : List ℕ) (k : IsInOrder t heads slots numbers) (v : RangeTable) (view : record { ranges = by_slot (paired (points_of t)) slots; covered = cover_of heads } ≡ v) where
@@ -19,5 +19,5 @@ module _ (t : List End) (heads : Heads) (slots : List (Option ℕ)) (numbers : L
       go (Some first) e = ap (λ cs. covers cs n) (covered-is t heads slots numbers k v view) ∙ head-covers heads n first e
 
   -- each live range has a slot
-  pub slots-few : live_count v.ranges ≤ 2 ^ 32
-  slots-few = let c = k.counted ∙ sym (ap live_count (ranges-are t heads slots numbers k v view)) in omega (arith, c, k.long, k.small)
+  pub slots-few : count_by is_some v.ranges ≤ 2 ^ 32
+  slots-few = let c = k.counted ∙ sym (ap live_count (ranges-are t heads slots numbers k v view)) in omega (arith, c, live-counted v.ranges, k.long, k.small)

@@ -48,7 +48,8 @@ pub record MoveAsMarkersByAll (w : World) (es : List Edit) (moved : List (Option
 -- for them all
 abbrev pub MoveWhereSeveralNodesComeIn : Type 0
 MoveWhereSeveralNodesComeIn =
-    (w : World) → IsSound w → (ns : List ℕ) (parent : ℕ) (child : Option ℕ) → 0 < occurs parent w.forest → ArePlaceable w.forest parent ns → IsChildOf w.forest parent child →
+    (w : World) → IsSound w → (ns : List ℕ) (parent : ℕ) (child : Option ℕ) → 0 < occurs parent w.forest → ArePlaceable w.forest parent ns →
+    IsChildOf w.forest parent child →
     MoveAsMarkersByAll w (insertions parent (index_before w parent child) ns) (map_ranges (after_gap parent (index_before w parent child) (length ns)) w.ranges)
 
 -- a node leaves its parent
@@ -77,7 +78,8 @@ MoveWhereATextIsSplit =
 -- Text, the merge, and the removal of the second Text
 abbrev pub MoveWhereTextsAreJoined : Type 0
 MoveWhereTextsAreJoined =
-    (w : World) → IsSound w → (n next parent : ℕ) → parent_of w.forest n ≡ Some parent → parent_of w.forest next ≡ Some parent → index_of w.forest next ≡ index_of w.forest n + 1 →
+    (w : World) → IsSound w → (n next parent : ℕ) → parent_of w.forest n ≡ Some parent → parent_of w.forest next ≡ Some parent →
+    index_of w.forest next ≡ index_of w.forest n + 1 →
     is_of_kind Text w.forest n ≡ true → is_of_kind Text w.forest next ≡ true →
     MoveAsMarkers w (Merge n next)
     (map_ranges (after_removal (inclusive_descendants w.forest next) parent (index_of w.forest next))

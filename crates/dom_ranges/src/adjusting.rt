@@ -131,7 +131,10 @@ impl Ranges {
     pub fn removing<X>(&mut self, tree: &Tree<X>, node: NodeId)
         requires held { HasNode tree.now.forest node }
         requires parent { IsSomeAnd (parent_of tree.now.forest node) (IsCovered self.old) }
-        ensures { IfSome (parent_of tree.now.forest node) (λ p. self.new ≡ record self.old { ranges = map_ranges (after_removal (inclusive_descendants tree.now.forest node) p (index_of tree.now.forest node)) self.old.ranges }) }
+        ensures { IfSome (parent_of tree.now.forest node)
+            (λ p. self.new ≡ record self.old {
+              ranges = map_ranges (after_removal (inclusive_descendants tree.now.forest node) p (index_of tree.now.forest node)) self.old.ranges;
+            }) }
     {
         let parent = tree.parent(node).unwrap();
         let steps = self.steps(tree, node);

@@ -40,7 +40,8 @@ impl Chains {
     pub(crate) fn gather<X>(&mut self, tree: &Tree<X>, top: NodeId, to: Point)
         requires covered { covers (cover_of self.old.heads.items) to.node ≡ true }
         requires chains { HasChains self.old.table.items self.old.heads.items }
-        ensures points { points_of self.new.table.items ≡ map (λ (o : Option PointValue). option_map (moved_in (inclusive_descendants tree.now.forest top) to) o) (points_of self.old.table.items) }
+        ensures points { points_of self.new.table.items
+            ≡ map (λ (o : Option PointValue). option_map (moved_in (inclusive_descendants tree.now.forest top) to) o) (points_of self.old.table.items) }
         ensures chains { HasChains self.new.table.items self.new.heads.items }
         ensures covered { cover_of self.new.heads.items ≡ cover_of self.old.heads.items }
     {

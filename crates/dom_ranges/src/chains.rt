@@ -164,7 +164,8 @@ impl Chains {
     // Writes an end that comes before all in the chain of its node.
     fn settle(&mut self, id: EndId, point: Point)
         requires { id < length self.old.table.items }
-        ensures table { self.new.table.items ≡ slice_set self.old.table.items id (record { point = Some point; prev = None; next = head_at self.old.heads.items point.node }) }
+        ensures table { self.new.table.items
+            ≡ slice_set self.old.table.items id (record { point = Some point; prev = None; next = head_at self.old.heads.items point.node }) }
         ensures heads { self.new.heads.items ≡ self.old.heads.items }
     {
         let next = self.head(node_of(&point));
@@ -223,7 +224,8 @@ impl Chains {
         requires covered { covers (cover_of self.old.heads.items) point.node ≡ true }
         requires chains { HasChains self.old.table.items self.old.heads.items }
         ensures points { points_of self.new.table.items ≡ slice_set (points_of self.old.table.items) id (Some point) }
-        ensures chains { Rechains (moved_from id (point_at self.old.table.items id) point.node) self.old.table.items self.old.heads.items self.new.table.items self.new.heads.items }
+        ensures chains { Rechains (moved_from id (point_at self.old.table.items id) point.node)
+            self.old.table.items self.old.heads.items self.new.table.items self.new.heads.items }
         ensures covered { cover_of self.new.heads.items ≡ cover_of self.old.heads.items }
     {
         let from = self.point(id);
@@ -239,7 +241,8 @@ impl Chains {
     pub(crate) fn shift(&mut self, node: NodeId, shift: &Shift)
         requires chains { HasChains self.old.table.items self.old.heads.items }
         requires within { MovesWithin node (shifted shift.now) self.old.table.items (cover_of self.old.heads.items) }
-        ensures points { points_of self.new.table.items ≡ map (λ (o : Option PointValue). option_map (on_node node (shifted shift.now)) o) (points_of self.old.table.items) }
+        ensures points { points_of self.new.table.items
+            ≡ map (λ (o : Option PointValue). option_map (on_node node (shifted shift.now)) o) (points_of self.old.table.items) }
         ensures chains { HasChains self.new.table.items self.new.heads.items }
         ensures covered { cover_of self.new.heads.items ≡ cover_of self.old.heads.items }
     {

@@ -1,12 +1,12 @@
 //! Live ranges: making, reading and releasing them.
 
-ghost use Rattle.std.specs.Prelude.{◌≡◌, ◌+◌, ◌^◌, ◌<◌, ◌≤◌, [], ◌∷◌, ◌++◌, length, slice_set, Some, None, IsSome, is_some, true, false, IfOk, OnOk, OnErr};
+ghost use Rattle.std.specs.Prelude.{◌≡◌, ◌+◌, ◌^◌, ◌<◌, ◌≤◌, [], ◌∷◌, ◌++◌, length, count_by, slice_set, Some, None, IsSome, is_some, true, false, IfOk, OnOk, OnErr};
 ghost use Rattle.std.specs.List.{list_any};
 ghost use Rattle.dom_model.specs.PlainLists.Lists.{among};
 ghost use Rattle.dom_model.specs.Forests.Forest.{HasNode, inclusive_descendants};
 ghost use Rattle.dom_model.specs.Worlds.World.{Range};
 ghost use Rattle.dom_ranges.specs.Chained.{covers, covered_to, uncovered};
-ghost use Rattle.dom_ranges.specs.Tables.{IsCovered, AreCovered, range_in, slot_at, live_nodes, live_count, IsRangeIn};
+ghost use Rattle.dom_ranges.specs.Tables.{IsCovered, AreCovered, range_in, slot_at, live_nodes, IsRangeIn};
 
 use crate::chains::Chains;
 use crate::numbers::{RangeId, RangeSlot};
@@ -133,9 +133,9 @@ impl Ranges {
         self.slots.len() as u64
     }
 
-    /// How many ranges are live: there is one slot to each, so this tells how much memory their ends take.
-    pub fn slots(&self) -> usize
-        ensures { result ≡ live_count self.now.ranges }
+    /// How many ranges are live, in constant time: there is one slot to each, so this tells how much memory their ends take.
+    pub fn count(&self) -> usize
+        ensures { result ≡ count_by is_some self.now.ranges }
     {
         self.numbers.len()
     }
@@ -199,7 +199,7 @@ impl Ranges {
     /// [`Ranges::stands_in`] answers yes, [`Ranges::is_covered`] does too. And each live range has two ends in a table of at most 2 ^ 33.
     pub fn sound(&self)
         ensures covered { AreCovered self.now }
-        ensures few { live_count self.now.ranges ≤ 2 ^ 32 }
+        ensures few { count_by is_some self.now.ranges ≤ 2 ^ 32 }
     {
         let _ = &self.chains;
     }

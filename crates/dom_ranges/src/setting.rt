@@ -32,7 +32,8 @@ impl Ranges {
         requires covered { IsCovered self.old p.node }
         requires stands { ForSome (range_in self.old r) (StandsIn tree.old.forest) }
         ensures refusal { result ≡ refused (check_point X.length tree.old.forest p) }
-        ensures set { OnOk result (IfSome (range_in self.old r) (λ range. self.new ≡ record self.old { ranges = slice_set self.old.ranges r (Some (start_set tree.old.forest p range)) })) }
+        ensures set { OnOk result (IfSome (range_in self.old r)
+            (λ range. self.new ≡ record self.old { ranges = slice_set self.old.ranges r (Some (start_set tree.old.forest p range)) })) }
         ensures markers { OnOk result (StandByEdits (IsMeasuredAs X.length tree.old.forest) self.old self.new (start_edits r p)) }
         ensures unchanged { OnErr result (self.new ≡ self.old) }
         ensures kept { tree.new ≡ tree.old }
@@ -59,7 +60,8 @@ impl Ranges {
         requires covered { IsCovered self.old p.node }
         requires stands { ForSome (range_in self.old r) (StandsIn tree.old.forest) }
         ensures refusal { result ≡ refused (check_point X.length tree.old.forest p) }
-        ensures set { OnOk result (IfSome (range_in self.old r) (λ range. self.new ≡ record self.old { ranges = slice_set self.old.ranges r (Some (end_set tree.old.forest p range)) })) }
+        ensures set { OnOk result (IfSome (range_in self.old r)
+            (λ range. self.new ≡ record self.old { ranges = slice_set self.old.ranges r (Some (end_set tree.old.forest p range)) })) }
         ensures markers { OnOk result (StandByEdits (IsMeasuredAs X.length tree.old.forest) self.old self.new (end_edits r p)) }
         ensures unchanged { OnErr result (self.new ≡ self.old) }
         ensures kept { tree.new ≡ tree.old }
@@ -80,7 +82,8 @@ impl Ranges {
         requires node { HasNode tree.now.forest node }
         requires covered { ForSome (parent_of tree.now.forest node) (IsCovered self.old) }
         ensures refusal { result ≡ refused (check_parent tree.now.forest node) }
-        ensures set { OnOk result (IfSome (around tree.now.forest node) (λ range. self.new ≡ record self.old { ranges = slice_set self.old.ranges r (Some range) })) }
+        ensures set { OnOk result (IfSome (around tree.now.forest node)
+            (λ range. self.new ≡ record self.old { ranges = slice_set self.old.ranges r (Some range) })) }
         ensures markers { OnOk result (StandByEdits (IsNestedAs tree.now.forest) self.old self.new (command_edits (SelectNode r node))) }
         ensures unchanged { OnErr result (self.new ≡ self.old) }
     {
@@ -140,7 +143,8 @@ impl Ranges {
     /// Both ends become the start, or the end.
     pub fn collapse(&mut self, r: RangeId, to_start: bool)
         requires { IsSome (range_in self.old r) }
-        ensures set { IfSome (range_in self.old r) (λ range. self.new ≡ record self.old { ranges = slice_set self.old.ranges r (Some (collapsed to_start range)) }) }
+        ensures set { IfSome (range_in self.old r)
+            (λ range. self.new ≡ record self.old { ranges = slice_set self.old.ranges r (Some (collapsed to_start range)) }) }
         ensures markers { StandByEdits IsAny self.old self.new (command_edits (Collapse r to_start)) }
     {
         let (start, end) = self.ends(r);

@@ -1,6 +1,6 @@
 //! Static ranges (DOM Standard, "Interface StaticRange").
 
-ghost use Rattle.std.specs.Prelude.{◌≡◌, ◌<◌, nat_le, [], ◌∷◌, ◌++◌, length, flat_map, slice_set, Some, None, IsSome, is_some, IfSome, IfOk, OnOk, OnErr};
+ghost use Rattle.std.specs.Prelude.{◌≡◌, ◌<◌, nat_le, [], ◌∷◌, ◌++◌, length, count_by, flat_map, slice_set, Some, None, IsSome, is_some, IfSome, IfOk, OnOk, OnErr};
 ghost use Rattle.std.specs.List.{list_any};
 ghost use Rattle.std.specs.Option.{ForSome};
 ghost use Rattle.dom_model.specs.PlainLists.Lists.{among};
@@ -143,6 +143,14 @@ impl Statics {
         ensures { result ≡ length self.now }
     {
         self.slots.made()
+    }
+
+    /// How many there are, without those that were released, in constant time.
+    pub fn count(&self) -> usize
+        ensures { result ≡ count_by is_some self.now }
+    {
+        self.slots.sound();
+        self.slots.count()
     }
 
     // The range of a number; none where it was released, or was never given out.

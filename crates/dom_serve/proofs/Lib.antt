@@ -1,5 +1,6 @@
 pub mod Texts
 pub mod Calls
+pub mod ByLine
 pub mod Lines
 pub mod Growth
 pub mod Fed

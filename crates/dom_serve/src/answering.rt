@@ -7,6 +7,7 @@ ghost use Rattle.dom_model.specs.Commands.Table.{whole_table};
 ghost use Rattle.dom_model.specs.Commands.Output.{output_of};
 ghost use Rattle.dom_wire.specs.Sessions.{bounds_of};
 ghost use Rattle.dom_serve.specs.Calls.{IsWritten, HasPassedOn, HasAnswered};
+ghost use Rattle.dom_serve.specs.ByLine.{IsWrittenByLine};
 ghost use Rattle.dom_serve.specs.Serves.{IsTold, Serves};
 ghost use Rattle.dom_serve.specs.Tells.{is_write_fault};
 ghost use Rattle.dom_serve.specs.Server.{Stands, Concludes};
@@ -37,6 +38,7 @@ fn conclude<W: Sink>(server: &mut Server, writer: &mut W) -> Result<Summary, Fau
         Concludes b bytes (W.taken writer.old) (W.taken writer.new) result }
     ensures passed { is_write_fault result ≡ false →
         HasAnswered W.is_passed_on writer.old server.old.lines writer.new server.new.lines }
+    ensures by_line { IsWrittenByLine W.taken W.is_passed_on (is_write_fault result) writer.old writer.new }
     ensures writer { IsWritten W.works W.fails (is_write_fault result) writer.old writer.new }
 {
     match server.finish(writer) {
@@ -78,6 +80,7 @@ fn serve_all<R: Source, W: Sink>(
         IsTold R.gives R.fails R.left b turns reader.old reader.new (W.taken writer.old) (W.taken writer.new) result }
     ensures at_end { OnOk result (IsAtEnd (R.left reader.new)) }
     ensures passed { is_write_fault result ≡ false → HasPassedOn W.is_passed_on writer.old writer.new }
+    ensures by_line { IsWrittenByLine W.taken W.is_passed_on (is_write_fault result) writer.old writer.new }
     ensures writer { IsWritten W.works W.fails (is_write_fault result) writer.old writer.new }
 {
     for _turn in 0..turns {

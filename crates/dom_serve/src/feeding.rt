@@ -4,6 +4,7 @@ ghost use Rattle.std.specs.Prelude.{◌≡◌, ℕ, ◌+◌, ◌<◌, ◌≤◌,
 ghost use Rattle.dom_model.specs.Commands.Answer.{Bounds};
 ghost use Rattle.dom_wire.specs.Sessions.{bounds_of};
 ghost use Rattle.dom_serve.specs.Calls.{HasAnswered, IsWritten};
+ghost use Rattle.dom_serve.specs.ByLine.{IsWrittenByLine};
 ghost use Rattle.dom_serve.specs.Tells.{is_write_fault};
 ghost use Rattle.dom_serve.specs.Server.{EndsNoLine, Stands, Fed, Finishes};
 
@@ -52,6 +53,7 @@ impl Server {
             Fed b bytes (bytes ++ 10 ∷ []) self.new (W.taken writer.old) (W.taken writer.new) result }
         ensures lines { self.new.lines ≤ self.old.lines + 1 }
         ensures passed { is_write_fault result ≡ false → W.is_passed_on writer.new ≡ true }
+        ensures by_line { IsWrittenByLine W.taken W.is_passed_on (is_write_fault result) writer.old writer.new }
         ensures writer { IsWritten W.works W.fails (is_write_fault result) writer.old writer.new }
     {
         if let Err(fault) = answer(
@@ -77,6 +79,7 @@ impl Server {
         ensures lines { self.new.lines ≡ self.old.lines }
         ensures passed { is_write_fault result ≡ false →
             HasAnswered W.is_passed_on writer.old self.old.lines writer.new self.new.lines }
+        ensures by_line { IsWrittenByLine W.taken W.is_passed_on (is_write_fault result) writer.old writer.new }
         ensures writer { IsWritten W.works W.fails (is_write_fault result) writer.old writer.new }
     {
         if self.too_long {
@@ -102,6 +105,7 @@ impl Server {
         ensures lines { self.new.lines ≤ self.old.lines + 1 }
         ensures passed { is_write_fault result ≡ false →
             HasAnswered W.is_passed_on writer.old self.old.lines writer.new self.new.lines }
+        ensures by_line { IsWrittenByLine W.taken W.is_passed_on (is_write_fault result) writer.old writer.new }
         ensures writer { IsWritten W.works W.fails (is_write_fault result) writer.old writer.new }
     {
         self.keep(rest, writer)?;
@@ -116,6 +120,7 @@ impl Server {
         ensures lines { self.new.lines ≤ self.old.lines + length piece.now }
         ensures passed { is_write_fault result ≡ false →
             HasAnswered W.is_passed_on writer.old self.old.lines writer.new self.new.lines }
+        ensures by_line { IsWrittenByLine W.taken W.is_passed_on (is_write_fault result) writer.old writer.new }
         ensures writer { IsWritten W.works W.fails (is_write_fault result) writer.old writer.new }
     {
         let mut rest = piece;
@@ -133,6 +138,7 @@ impl Server {
             Finishes b bytes self.new (W.taken writer.old) (W.taken writer.new) result }
         ensures passed { is_write_fault result ≡ false →
             HasAnswered W.is_passed_on writer.old self.old.lines writer.new self.new.lines }
+        ensures by_line { IsWrittenByLine W.taken W.is_passed_on (is_write_fault result) writer.old writer.new }
         ensures writer { IsWritten W.works W.fails (is_write_fault result) writer.old writer.new }
     {
         if self.too_long {

@@ -6,6 +6,7 @@ ghost use Rattle.dom_wire.specs.Sessions.{StandsFor};
 ghost use Rattle.dom_wire.specs.Sessions.{reply_view};
 ghost use Rattle.dom_wire.specs.Reads.{Reads};
 ghost use Rattle.dom_serve.specs.Calls.{IsWritten};
+ghost use Rattle.dom_serve.specs.ByLine.{IsLine, IsWrittenByLine};
 ghost use Rattle.dom_serve.specs.Tells.{is_write_fault};
 ghost use Rattle.dom_serve.specs.Server.{held_command, held_step, Takes, Prints, Answers};
 
@@ -53,6 +54,7 @@ fn reply_text(
     kept: &[u8],
     too_long: bool,
 ) -> Result<Vec<u8>, AllocError>
+    ensures line { IfOk result (λ text. IsLine text.items) }
     ensures prints { IfOk result (λ text. (w : World) → StandsFor session.old w →
         Prints (held_step session.old.bounds kept.now too_long w) text.items session.new) }
     ensures bounds { session.new.bounds ≡ session.old.bounds }
@@ -75,6 +77,7 @@ pub(crate) fn answer<W: Sink>(
         Answers (held_step session.old.bounds kept.now too_long w) session.new (W.taken writer.old) (W.taken writer.new) result }
     ensures bounds { session.new.bounds ≡ session.old.bounds }
     ensures passed { is_write_fault result ≡ false → W.is_passed_on writer.new ≡ true }
+    ensures by_line { IsWrittenByLine W.taken W.is_passed_on (is_write_fault result) writer.old writer.new }
     ensures writer { IsWritten W.works W.fails (is_write_fault result) writer.old writer.new }
 {
     match reply_text(alloc, session, kept, too_long) {

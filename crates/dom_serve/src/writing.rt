@@ -3,6 +3,7 @@
 ghost use Rattle.std.specs.Prelude.{◌≡◌, true, false, OnOk, is_err};
 ghost use Rattle.dom_model.specs.Commands.Printed.{out_of_memory_line};
 ghost use Rattle.dom_serve.specs.Calls.{IsWritten};
+ghost use Rattle.dom_serve.specs.ByLine.{IsLine, IsWrittenByLine};
 ghost use Rattle.dom_serve.specs.Writes.{Writes};
 ghost use Rattle.dom_serve.specs.Tells.{is_write};
 ghost use Rattle.dom_serve.specs.Server.{SaysWant};
@@ -42,7 +43,8 @@ pub fn write_line<W: Sink>(writer: &mut W, bytes: &[u8]) -> Result<(), Failed>
 }
 
 fn out_of_memory_text() -> &'static [u8]
-    ensures { result.now ≡ out_of_memory_line }
+    ensures text { result.now ≡ out_of_memory_line }
+    ensures line { IsLine result.now }
 {
     OUT_OF_MEMORY
 }
@@ -51,6 +53,7 @@ fn out_of_memory_text() -> &'static [u8]
 pub(crate) fn write_out_of_memory<W: Sink>(writer: &mut W) -> Fault
     ensures written { SaysWant (W.taken writer.old) (W.taken writer.new) result }
     ensures passed { is_write result ≡ false → W.is_passed_on writer.new ≡ true }
+    ensures by_line { IsWrittenByLine W.taken W.is_passed_on (is_write result) writer.old writer.new }
     ensures writer { IsWritten W.works W.fails (is_write result) writer.old writer.new }
 {
     match write_line(writer, out_of_memory_text()) {

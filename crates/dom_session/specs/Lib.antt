@@ -6,3 +6,4 @@ pub mod Bounding
 pub mod Printing
 pub mod Codes
 pub mod Links
+pub mod InUse

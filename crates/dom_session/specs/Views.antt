@@ -41,7 +41,8 @@ making_view (CreateElement document name) = model_command.CreateElement document
 making_view (CreateText document text) = model_command.CreateText document text
 making_view (CreateComment document text) = model_command.CreateComment document text
 making_view (CreatePI document target text) = model_command.CreatePI document (string_bytes target) text
-making_view (CreateDoctype document name public_id system_id) = model_command.CreateDoctype document (string_bytes name) (string_bytes public_id) (string_bytes system_id)
+making_view (CreateDoctype document name public_id system_id) =
+    model_command.CreateDoctype document (string_bytes name) (string_bytes public_id) (string_bytes system_id)
 making_view (CreateFragment document) = model_command.CreateFragment document
 
 abbrev pub editing_view : Editing → model_command.Command

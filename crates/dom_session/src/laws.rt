@@ -32,7 +32,8 @@ pub fn observers_apart()
     ensures without_discard { (erased : ℕ → Bool) → (b : Bounds) → (cs : List Command) → makes_no_discard cs ≡ true →
         replies_to b first_world (without_observers erased cs) ≡ replies_without_observers erased cs (replies_to b first_world cs) }
     ensures with_discard { (erased : ℕ → Bool) → (b : Bounds) → (cs : List Command) →
-        replies_to_discards (without_observers erased cs) (replies_to b first_world (without_observers erased cs)) ≡ replies_to_discards cs (replies_to b first_world cs) →
+        replies_to_discards (without_observers erased cs) (replies_to b first_world (without_observers erased cs))
+        ≡ replies_to_discards cs (replies_to b first_world cs) →
         replies_to b first_world (without_observers erased cs) ≡ replies_without_observers erased cs (replies_to b first_world cs) }
 {}
 
@@ -70,7 +71,8 @@ pub fn refused_commands_leave()
 /// A law: a refused command can be left out of a list of commands, and every other reply stays as it is; and so a line that is refused,
 /// by its form or by its command. Of the bytes of the input a refused line goes with its newline, and of the output its reply (ours).
 pub fn refused_commands_can_go()
-    ensures commands { (b : Bounds) → (cs : List Command) → (c : Command) → (ds : List Command) → is_refusal (answer b (world_past b first_world cs) c).reply ≡ true →
+    ensures commands { (b : Bounds) → (cs : List Command) → (c : Command) → (ds : List Command) →
+        is_refusal (answer b (world_past b first_world cs) c).reply ≡ true →
         replies_to b first_world (cs ++ ds) ≡ remove (replies_to b first_world (cs ++ c ∷ ds)) (length cs) }
     ensures lines { (table : List Row) → (b : Bounds) → (before : List (List ℕ)) → (line : List ℕ) → (after : List (List ℕ)) →
         is_refusal (line_step table b (world_after table b first_world before) line).reply ≡ true →
@@ -84,7 +86,8 @@ pub fn refused_commands_can_go()
 /// (ours; the first world has a Document, whose number the limit must allow).
 pub fn numbers_stay_within()
     ensures as_asked { (b : Bounds) → (cs : List Command) → (c : Command) →
-        AreAtMost (counts_of (answer b (world_past b first_world cs) c).world) (plus (counts_of (world_past b first_world cs)) (asked (world_past b first_world cs) c)) }
+        AreAtMost (counts_of (answer b (world_past b first_world cs) c).world)
+        (plus (counts_of (world_past b first_world cs)) (asked (world_past b first_world cs) c)) }
     ensures limited { (b : Bounds) → (cs : List Command) → 1 ≤ b.numbers → AreAtMost (counts_of (world_past b first_world cs)) (of_each b.numbers) }
 {}
 

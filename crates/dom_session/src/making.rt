@@ -2,7 +2,6 @@
 
 ghost use Rattle.std.specs.Prelude.{◌≡◌, ◌≤◌, IfOk, option_map, string_bytes};
 ghost use Rattle.dom_model.specs.Worlds.World.{document_label};
-ghost use Rattle.dom_model.specs.Commands.Answer.{named};
 ghost use Rattle.dom_model.specs.Commands.AnswerMaking.{doctype_label, closes_instruction};
 ghost use Rattle.dom_model.specs.Commands.Command.{NewDocument, CreateElement, CreateText, CreateComment, CreatePI, CreateDoctype, CreateFragment};
 ghost use Rattle.dom_session.specs.Views.{making_view, reply_view};
@@ -24,19 +23,7 @@ use std::alloc::{AllocError, Global};
 pub(crate) fn document_label(alloc: Global) -> Label
     ensures { result ≡ document_label }
 {
-    label(alloc, Kind::Document, String::new(alloc))
-}
-
-// A label with a name and no ids.
-fn label(alloc: Global, kind: Kind, name: String) -> Label
-    ensures { result ≡ named kind (string_bytes name) }
-{
-    Label {
-        kind,
-        name,
-        public_id: String::new(alloc),
-        system_id: String::new(alloc),
-    }
+    Label::named(Kind::Document, String::new(alloc))
 }
 
 // Why a document may not get a new node.
@@ -94,7 +81,7 @@ pub(crate) fn create_element(
     let body = Content::of_text(alloc, Units::new(alloc));
     let id = world.make(
         alloc,
-        label(alloc, Kind::Element, name),
+        Label::named(Kind::Element, name),
         body,
         Some(document),
     )?;
@@ -116,7 +103,7 @@ pub(crate) fn create_text(
     if let Some(reply) = refusal(world, numbers, document) {
         return Ok(reply);
     }
-    let label = label(alloc, Kind::Text, String::new(alloc));
+    let label = Label::named(Kind::Text, String::new(alloc));
     let id = world.make(alloc, label, Content::of_text(alloc, text), Some(document))?;
     Ok(Reply::Done(Answer::Number(id.number())))
 }
@@ -136,7 +123,7 @@ pub(crate) fn create_comment(
     if let Some(reply) = refusal(world, numbers, document) {
         return Ok(reply);
     }
-    let label = label(alloc, Kind::Comment, String::new(alloc));
+    let label = Label::named(Kind::Comment, String::new(alloc));
     let id = world.make(alloc, label, Content::of_text(alloc, text), Some(document))?;
     Ok(Reply::Done(Answer::Number(id.number())))
 }
@@ -177,7 +164,7 @@ pub(crate) fn create_instruction(
     if closes_instruction(text.units()) {
         return Ok(Reply::Dom(DomError::InvalidCharacterError));
     }
-    let label = label(alloc, Kind::ProcessingInstruction, target);
+    let label = Label::named(Kind::ProcessingInstruction, target);
     let id = world.make(alloc, label, Content::of_text(alloc, text), Some(document))?;
     Ok(Reply::Done(Answer::Number(id.number())))
 }
@@ -194,7 +181,8 @@ pub(crate) fn create_doctype(
 ) -> Result<Reply, AllocError>
     requires numbers { numbers ≤ 4294967295 }
     requires shown { IsShown world.old }
-    ensures step { IfOk result (IsStep world.old world.new (numbered numbers) (CreateDoctype document (string_bytes name) (string_bytes public_id) (string_bytes system_id))) }
+    ensures step { IfOk result (IsStep world.old world.new (numbered numbers)
+        (CreateDoctype document (string_bytes name) (string_bytes public_id) (string_bytes system_id))) }
 {
     if let Some(reply) = refusal(world, numbers, document) {
         return Ok(reply);
@@ -202,12 +190,7 @@ pub(crate) fn create_doctype(
     if !is_doctype_name(name.as_str()) {
         return Ok(Reply::Dom(DomError::InvalidCharacterError));
     }
-    let label = Label {
-        kind: Kind::DocumentType,
-        name,
-        public_id,
-        system_id,
-    };
+    let label = Label::doctype(alloc, name, public_id, system_id)?;
     let body = Content::of_text(alloc, Units::new(alloc));
     let id = world.make(alloc, label, body, Some(document))?;
     Ok(Reply::Done(Answer::Number(id.number())))
@@ -227,7 +210,7 @@ pub(crate) fn create_fragment(
     if let Some(reply) = refusal(world, numbers, document) {
         return Ok(reply);
     }
-    let label = label(alloc, Kind::DocumentFragment, String::new(alloc));
+    let label = Label::named(Kind::DocumentFragment, String::new(alloc));
     let body = Content::of_text(alloc, Units::new(alloc));
     let id = world.make(alloc, label, body, Some(document))?;
     Ok(Reply::Done(Answer::Number(id.number())))

@@ -4,15 +4,20 @@ ghost use Rattle.std.specs.Prelude.{◌≡◌, ℕ, ◌≤◌, true, false, IsEr
 ghost use Rattle.dom_model.specs.Worlds.World.{World as PlainWorld, first_world};
 ghost use Rattle.dom_model.specs.Forests.Forest.{children_of};
 ghost use Rattle.dom_model.specs.Commands.Reply.{is_refusal};
-ghost use Rattle.dom_session.specs.Views.{command_view, reply_view};
+ghost use Rattle.dom_session.specs.Views.{command_view, making_view, editing_view, traversing_view, reply_view};
 ghost use Rattle.dom_session.specs.Stands.{StandsFor, IsAnswered};
 ghost use Rattle.dom_session.specs.Bounding.{bounds_of};
+ghost use Rattle.dom_session.specs.InUse.{in_use_of};
 ghost use Rattle.dom_session.specs.Links.{links_in, first_child_in, last_child_in, child_in, count_in, laid_over};
 
 use crate::answering::answered;
-use crate::command::Command;
+use crate::command::{Command, Editing, Making, Traversing};
+use crate::editing::edit_tree;
+use crate::in_use::{self, Counts};
 use crate::links::{self, Links};
+use crate::making::make_nodes;
 use crate::reply::Reply;
+use crate::traversing::traverse;
 use dom_edit::World;
 use dom_model::OwnError;
 use dom_tree::NodeId;
@@ -100,6 +105,66 @@ impl Session {
         }
     }
 
+    /// Answers a command that makes a node as `apply` does, with less to hand on.
+    pub fn make(&mut self, command: Making) -> Result<Reply, Ended>
+        ensures answers { IfOk result
+            (λ reply. (w : PlainWorld) → StandsFor self.old w → IsAnswered reply w self.old self.new (making_view command)) }
+        ensures refused { IfOk result (λ reply. is_refusal (reply_view reply) ≡ true → self.new ≡ self.old) }
+        ensures open { OnOk result (self.new.ended ≡ false) }
+        ensures ended { OnErr result (self.new.ended ≡ true) }
+        ensures stays_ended { self.old.ended ≡ true → IsErr result }
+        ensures bounds { self.new.bounds ≡ self.old.bounds }
+    {
+        if self.ended {
+            return Err(Ended);
+        }
+        let Ok(reply) = make_nodes(&mut self.world, self.limits.numbers, self.alloc, command) else {
+            self.ended = true;
+            return Err(Ended);
+        };
+        Ok(reply)
+    }
+
+    /// Answers a command that changes where nodes stand as `apply` does, with less to hand on.
+    pub fn edit(&mut self, command: Editing) -> Result<Reply, Ended>
+        ensures answers { IfOk result
+            (λ reply. (w : PlainWorld) → StandsFor self.old w → IsAnswered reply w self.old self.new (editing_view command)) }
+        ensures refused { IfOk result (λ reply. is_refusal (reply_view reply) ≡ true → self.new ≡ self.old) }
+        ensures open { OnOk result (self.new.ended ≡ false) }
+        ensures ended { OnErr result (self.new.ended ≡ true) }
+        ensures stays_ended { self.old.ended ≡ true → IsErr result }
+        ensures bounds { self.new.bounds ≡ self.old.bounds }
+    {
+        if self.ended {
+            return Err(Ended);
+        }
+        let Ok(reply) = edit_tree(&mut self.world, self.alloc, command) else {
+            self.ended = true;
+            return Err(Ended);
+        };
+        Ok(reply)
+    }
+
+    /// Answers a command on an iterator or a walker as `apply` does, with less to hand on.
+    pub fn traverse(&mut self, command: Traversing) -> Result<Reply, Ended>
+        ensures answers { IfOk result
+            (λ reply. (w : PlainWorld) → StandsFor self.old w → IsAnswered reply w self.old self.new (traversing_view command)) }
+        ensures refused { IfOk result (λ reply. is_refusal (reply_view reply) ≡ true → self.new ≡ self.old) }
+        ensures open { OnOk result (self.new.ended ≡ false) }
+        ensures ended { OnErr result (self.new.ended ≡ true) }
+        ensures stays_ended { self.old.ended ≡ true → IsErr result }
+        ensures bounds { self.new.bounds ≡ self.old.bounds }
+    {
+        if self.ended {
+            return Err(Ended);
+        }
+        let Ok(reply) = traverse(&mut self.world, self.limits.numbers, command) else {
+            self.ended = true;
+            return Err(Ended);
+        };
+        Ok(reply)
+    }
+
     /// What a node is, and what stands around it, in constant time. No command is applied, and no memory taken.
     pub fn links(&self, node: NodeId) -> Result<Links, OwnError>
         ensures { (w : PlainWorld) → StandsFor self.now w → result ≡ links_in w.forest node }
@@ -135,5 +200,12 @@ impl Session {
         ensures copied { (w : PlainWorld) → StandsFor self.now w → into.new ≡ laid_over (children_of w.forest node) into.old }
     {
         links::copy_children(&self.world.tree, node, into)
+    }
+
+    /// How many there are of each kind of object, in constant time. No command is applied, and no memory taken.
+    pub fn in_use(&self) -> Counts
+        ensures { (w : PlainWorld) → StandsFor self.now w → result ≡ in_use_of w }
+    {
+        in_use::in_use(&self.world)
     }
 }

@@ -9,7 +9,7 @@ use Rattle.std.proofs.lemmas.List.Sums.{count_by-le-length}
 use Rattle.dom_model.specs.MutationAlgorithms.Discarding.{nodes_unless_released}
 use Rattle.dom_slots.specs.Slotted.{slot_at, slots_left, by_slot, Fit}
 use Rattle.dom_slots.proofs.Entries.{length-by_slot, item_at-by_slot, by_slot-map, item_within, is_some-by_slot, by_slot-pushed, by_slot-set, by_slot-released}
-use Rattle.dom_slots.proofs.Live.{live-by_slot}
+use Rattle.dom_slots.proofs.Live.{live-by_slot, count_by-by_slot}
 use Rattle.dom_slots.proofs.Places.{slice_get_some, length-swap_remove}
 
 module _ {A : Type 0} (slots : List (Option ℕ)) (items : List A) (view : List (Option A)) (is : by_slot slots items ≡ view) (n e : ℕ) (same : e ≡ n) where
@@ -95,6 +95,10 @@ module _ {A : Type 0} {slots : List (Option ℕ)} {numbers : List ℕ} (fit : Fi
   -- there are no more items than numbers
   pub items-few : count_by is_some slots ≡ length numbers → length items ≤ length view
   items-few live = omega (arith, live, long, count_by-le-length is_some slots, entry-count slots items view is)
+
+  -- as many entries are there as numbers have a slot
+  pub entries-counted : length numbers ≡ count_by is_some view
+  entries-counted = sym long ∙ sym (count_by-by_slot fit items long) ∙ ap (count_by is_some) is
 
   -- one more, with the next number
   pub entry-more : (slots0 slots' : List (Option ℕ)) (numbers0 : List ℕ) (items' : List A) (a : A) → slots0 ≡ slots → numbers0 ≡ numbers → slots' ≡ slots0 ++ Some (length numbers0) ∷ [] → items' ≡ items ++ a ∷ [] → by_slot slots' items' ≡ view ++ Some a ∷ []

@@ -15,6 +15,7 @@ pub mod PassedTrees
 pub mod Referring
 pub mod SeatSteps
 pub mod SeatsFreed
+pub mod Spots
 pub mod Spreading
 pub mod Stances
 pub mod StepsOff

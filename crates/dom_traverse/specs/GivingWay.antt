@@ -14,7 +14,9 @@ stepped_at node step i = if i.reference == node then step i else i
 -- each iterator that has its reference at a node has taken a step, and the others have or stayed
 pub record GaveWay (step : Iterator → Iterator) (node : ℕ) (old new : List Iterator) : Type 0 where
   pub long : length new ≡ length old
-  pub each : (k : ℕ) (i : Iterator) → k < length old → (slice_index_or new k i ≡ step (slice_index_or old k i)) ⊎ ((slice_index_or new k i ≡ slice_index_or old k i) × ((slice_index_or old k i).reference ≡ node → ⊥))
+  pub each : (k : ℕ) (i : Iterator) → k < length old →
+      (slice_index_or new k i ≡ step (slice_index_or old k i)) ⊎ ((slice_index_or new k i ≡ slice_index_or old k i)
+      × ((slice_index_or old k i).reference ≡ node → ⊥))
 
 -- each iterator is at its reference, or waits
 pub record StandOrWait (is : List Iterator) (nodes : List (Option ℕ)) : Type 0 where

@@ -2,7 +2,7 @@
 
 use crate::judge::Judge;
 use dom_model::Verdict;
-use dom_tree::{NodeId, Tree};
+use dom_tree::{At, NodeId};
 
 // From which end a walk comes to a list of children.
 #[derive(Clone, Copy, PartialEq, Eq)]
@@ -30,74 +30,74 @@ pub struct Course {
 
 impl Side {
     ghost use Rattle.std.specs.Prelude.{◌≡◌};
-    ghost use Rattle.dom_model.specs.Forests.Forest.{HasNode};
+    ghost use Rattle.std.specs.Option.{ForSome};
+    ghost use Rattle.dom_tree.specs.Spots.{node_at};
     ghost use Rattle.dom_traverse.specs.Courses.{child_on, sibling_on};
 
     // The child that comes first from this end.
-    pub fn child<X>(self, tree: &Tree<X>, node: NodeId) -> Option<NodeId>
-        requires { HasNode tree.now.forest node }
-        ensures { result ≡ child_on self tree.now.forest node }
+    pub fn child<'a, X>(self, node: &At<'a, X>) -> Option<At<'a, X>>
+        ensures tree { ForSome result (λ a. a.tree ≡ node.now.tree) }
+        ensures node { node_at result ≡ child_on self node.now.tree.forest node.now.node }
     {
         match self {
-            Side::First => tree.first(node),
-            Side::Last => tree.last(node),
+            Side::First => node.first(),
+            Side::Last => node.last(),
         }
     }
 
     // The sibling that comes after a node from this end.
-    pub fn sibling<X>(self, tree: &Tree<X>, node: NodeId) -> Option<NodeId>
-        requires { HasNode tree.now.forest node }
-        ensures { result ≡ sibling_on self tree.now.forest node }
+    pub fn sibling<'a, X>(self, node: &At<'a, X>) -> Option<At<'a, X>>
+        ensures tree { ForSome result (λ a. a.tree ≡ node.now.tree) }
+        ensures node { node_at result ≡ sibling_on self node.now.tree.forest node.now.node }
     {
         match self {
-            Side::First => tree.next(node),
-            Side::Last => tree.prev(node),
+            Side::First => node.next(),
+            Side::Last => node.prev(),
         }
     }
 }
 
 impl Course {
-    ghost use Rattle.std.specs.Prelude.{◌≡◌, ◌≢◌, None, IfSome};
+    ghost use Rattle.std.specs.Prelude.{◌≡◌, ◌≢◌, None};
+    ghost use Rattle.std.specs.Option.{ForSome};
     ghost use Rattle.dom_model.specs.declared.Verdict.TheVariants.{Accept};
-    ghost use Rattle.dom_model.specs.Forests.Forest.{HasNode};
     ghost use Rattle.dom_model.specs.Traversal.Filters.{verdict_on};
     ghost use Rattle.dom_model.specs.Traversal.WalkSteps.{at, ended, at_or};
+    ghost use Rattle.dom_tree.specs.Spots.{node_at};
     ghost use Rattle.dom_traverse.specs.Courses.{blocks, stops, child_on, way_into, past_in, Ending, LeadsTo, GoesOnTo, found_from};
 
     // Whether the walk does not go past the node.
-    fn is_over(&self, node: NodeId) -> bool
-        ensures { result ≡ blocks self.now.limit self.now.root node }
+    fn is_over<X>(&self, node: &At<'_, X>) -> bool
+        ensures { result ≡ blocks self.now.limit self.now.root node.now.node }
     {
-        self.limit == Limit::Root && node == self.root
+        self.limit == Limit::Root && node.number() == self.root
     }
 
     // Whether the walk does not go up past the node from what is under it.
-    fn stops_at<X>(&self, tree: &Tree<X>, filter: &Judge, node: NodeId) -> bool
-        requires { HasNode tree.now.forest node }
-        ensures { result ≡ stops self.now.limit tree.now.forest filter.now self.now.root self.now.current node }
+    fn stops_at<X>(&self, filter: &Judge, node: &At<'_, X>) -> bool
+        ensures { result ≡ stops self.now.limit node.now.tree.forest filter.now self.now.root self.now.current node.now.node }
     {
+        let number = node.number();
         match self.limit {
             Limit::Root => false,
-            Limit::Current => node == self.root || node == self.current,
-            Limit::Accepted => node == self.root || filter.accepts(tree, node),
+            Limit::Current => number == self.root || number == self.current,
+            Limit::Accepted => number == self.root || filter.accepts(node),
         }
     }
 
     // The sibling that follows a node, or the nearest of its ancestors that has one, within the limit.
-    pub fn past<X>(&self, tree: &Tree<X>, filter: &Judge, node: NodeId) -> Option<NodeId>
-        requires held { HasNode tree.now.forest node }
-        requires ends { Ending tree.now.forest filter.now self.now (past_in tree.now.forest filter.now self.now node) }
-        ensures there { IfSome result (HasNode tree.now.forest) }
-        ensures leads { LeadsTo tree.now.forest filter.now self.now (past_in tree.now.forest filter.now self.now node) (at_or result (ended None)) }
+    pub fn past<'a, X>(&self, filter: &Judge, node: At<'a, X>) -> Option<At<'a, X>>
+        requires { Ending node.tree.forest filter.now self.now (past_in node.tree.forest filter.now self.now node.node) }
+        ensures tree { ForSome result (λ a. a.tree ≡ node.entry.tree) }
+        ensures leads { LeadsTo node.entry.tree.forest filter.now self.now (past_in node.entry.tree.forest filter.now self.now node.entry.node) (at_or (node_at result) (ended None)) }
     {
-        tree.sound();
         let mut here = node;
-        while !self.is_over(here) {
-            if let Some(sibling) = self.side.sibling(tree, here) {
+        while !self.is_over(&here) {
+            if let Some(sibling) = self.side.sibling(&here) {
                 return Some(sibling);
             }
-            here = tree.parent(here)?;
-            if self.stops_at(tree, filter, here) {
+            here = here.parent()?;
+            if self.stops_at(filter, &here) {
                 return None;
             }
         }
@@ -105,52 +105,42 @@ impl Course {
     }
 
     // The child by which the walk goes into a node, where there is one and the node is skipped.
-    fn way_into<X>(&self, tree: &Tree<X>, verdict: Verdict, node: NodeId) -> Option<NodeId>
-        requires { HasNode tree.now.forest node }
-        ensures { result ≡ way_into verdict (child_on self.now.side tree.now.forest node) }
+    fn way_into<'a, X>(&self, verdict: Verdict, node: &At<'a, X>) -> Option<At<'a, X>>
+        ensures tree { ForSome result (λ a. a.tree ≡ node.now.tree) }
+        ensures node { node_at result ≡ way_into verdict (child_on self.now.side node.now.tree.forest node.now.node) }
     {
         match verdict {
-            Verdict::Skip => self.side.child(tree, node),
+            Verdict::Skip => self.side.child(node),
             Verdict::Accept | Verdict::Reject => None,
         }
     }
 
     // From a node that is not accepted, into it or else past it.
-    fn onward<X>(
-        &self,
-        tree: &Tree<X>,
-        filter: &Judge,
-        verdict: Verdict,
-        node: NodeId,
-    ) -> Option<NodeId>
-        requires held { HasNode tree.now.forest node }
-        requires verdict { verdict ≡ verdict_on tree.now.forest filter.now node }
+    fn onward<'a, X>(&self, filter: &Judge, verdict: Verdict, node: At<'a, X>) -> Option<At<'a, X>>
+        requires verdict { verdict ≡ verdict_on node.tree.forest filter.now node.node }
         requires not_accepted { verdict ≢ Accept }
-        requires ends { Ending tree.now.forest filter.now self.now (at node) }
-        ensures there { IfSome result (HasNode tree.now.forest) }
-        ensures leads { GoesOnTo tree.now.forest filter.now self.now (at node) (at_or result (ended None)) }
+        requires ends { Ending node.tree.forest filter.now self.now (at node.node) }
+        ensures tree { ForSome result (λ a. a.tree ≡ node.entry.tree) }
+        ensures leads { GoesOnTo node.entry.tree.forest filter.now self.now (at node.entry.node) (at_or (node_at result) (ended None)) }
     {
-        tree.sound();
-        if let Some(child) = self.way_into(tree, verdict, node) {
+        if let Some(child) = self.way_into(verdict, &node) {
             return Some(child);
         }
-        self.past(tree, filter, node)
+        self.past(filter, node)
     }
 
     // The first accepted node that the walk comes to, from a node on.
-    pub fn run<X>(&self, tree: &Tree<X>, filter: &Judge, node: NodeId) -> Option<NodeId>
-        requires held { HasNode tree.now.forest node }
-        requires ends { Ending tree.now.forest filter.now self.now (at node) }
-        ensures { result ≡ found_from tree.now.forest filter.now self.now (at node) }
+    pub fn run<X>(&self, filter: &Judge, node: At<'_, X>) -> Option<NodeId>
+        requires { Ending node.tree.forest filter.now self.now (at node.node) }
+        ensures { result ≡ found_from node.entry.tree.forest filter.now self.now (at node.entry.node) }
     {
-        tree.sound();
         let mut here = node;
         loop {
-            let verdict = filter.judge(tree, here);
+            let verdict = filter.judge(&here);
             if verdict == Verdict::Accept {
-                return Some(here);
+                return Some(here.number());
             }
-            here = self.onward(tree, filter, verdict, here)?;
+            here = self.onward(filter, verdict, here)?;
         }
     }
 }

@@ -4,10 +4,11 @@ ghost use Rattle.std.specs.Prelude.{◌≡◌, ◌==◌, not, ◌&&◌};
 ghost use Rattle.std.specs.Option.{ForSome};
 ghost use Rattle.dom_model.specs.PlainLists.Lists.{among};
 ghost use Rattle.dom_model.specs.Forests.Forest.{HasNode, inclusive_descendants};
+ghost use Rattle.dom_tree.specs.Spots.{node_at};
 ghost use Rattle.dom_traverse.specs.Exits.{IsExit};
 
 use crate::inside::{past_inside, previous_inside};
-use dom_tree::{NodeId, Tree};
+use dom_tree::{At, NodeId, Tree};
 
 // The nodes to which references inside a node go that is to be removed, in iterators of one root: on, or else back.
 #[derive(Clone, Copy, Drop)]
@@ -28,6 +29,16 @@ fn loses<X>(tree: &Tree<X>, root: NodeId, node: NodeId) -> bool
     node != root && tree.is_ancestor(root, node)
 }
 
+// The number of a node, where there is one.
+fn number<X>(node: Option<At<'_, X>>) -> Option<NodeId>
+    ensures { result ≡ node_at node.entry }
+{
+    match node {
+        Some(node) => Some(node.number()),
+        None => None,
+    }
+}
+
 impl Exit {
     // What is found for a root.
     fn of<X>(tree: &Tree<X>, node: NodeId, root: NodeId) -> Exit
@@ -45,12 +56,13 @@ impl Exit {
         }
         tree.sound();
         let following = past_inside(tree, root, node);
-        let preceding = previous_inside(tree, root, node);
+        let here = tree.at(node);
+        let preceding = previous_inside(&here, root);
         Exit {
             root,
             loses: true,
             following,
-            preceding,
+            preceding: number(preceding),
         }
     }
 

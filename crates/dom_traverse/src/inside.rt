@@ -1,25 +1,27 @@
 //! Tree order inside a node: what comes before a node there, and what comes after all of it (DOM Standard, "Trees").
 
 ghost use Rattle.std.specs.Prelude.{◌≡◌, true};
+ghost use Rattle.std.specs.Option.{ForSome};
 ghost use Rattle.dom_model.specs.PlainLists.Lists.{among, before, head_of};
 ghost use Rattle.dom_model.specs.Forests.Forest.{HasNode, ancestors, inclusive_descendants};
 ghost use Rattle.dom_model.specs.MutationAlgorithms.PreRemoval.{following_outside};
+ghost use Rattle.dom_tree.specs.Spots.{node_at};
 
-use dom_tree::{NodeId, Tree};
+use dom_tree::{At, NodeId, Tree};
 
 // The node that precedes in tree order, among the inclusive descendants of `top`.
-pub(crate) fn previous_inside<X>(tree: &Tree<X>, top: NodeId, node: NodeId) -> Option<NodeId>
-    requires held { HasNode tree.now.forest node }
-    requires under { among top (ancestors node tree.now.forest) ≡ true }
-    ensures { result ≡ before node (inclusive_descendants tree.now.forest top) }
+pub(crate) fn previous_inside<'a, X>(node: &At<'a, X>, top: NodeId) -> Option<At<'a, X>>
+    requires { among top (ancestors node.now.node node.now.tree.forest) ≡ true }
+    ensures tree { ForSome result (λ a. a.tree ≡ node.now.tree) }
+    ensures node { node_at result ≡ before node.now.node (inclusive_descendants node.now.tree.forest top) }
 {
-    tree.sound();
-    if node == top {
+    node.sound();
+    if node.number() == top {
         return None;
     }
-    match tree.prev(node) {
-        Some(sibling) => Some(tree.last_inside(sibling)),
-        None => tree.parent(node),
+    match node.prev() {
+        Some(sibling) => Some(sibling.last_inside()),
+        None => node.parent(),
     }
 }
 

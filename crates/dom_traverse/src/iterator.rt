@@ -43,10 +43,10 @@ fn next_accepted<X>(tree: &Tree<X>, filter: &Judge, root: NodeId, node: NodeId) 
     ensures { result ≡ find (accepts tree.now.forest filter.now) (past node (inclusive_descendants tree.now.forest root)) }
 {
     tree.sound();
-    let mut here = node;
-    while let Some(next) = tree.next_inside(root, here) {
-        if filter.accepts(tree, next) {
-            return Some(next);
+    let mut here = tree.at(node);
+    while let Some(next) = here.next_inside(root) {
+        if filter.accepts(&next) {
+            return Some(next.number());
         }
         here = next;
     }
@@ -65,10 +65,10 @@ fn previous_accepted<X>(
     ensures { result ≡ find (accepts tree.now.forest filter.now) (reverse (up_to node (inclusive_descendants tree.now.forest root))) }
 {
     tree.sound();
-    let mut here = node;
-    while let Some(previous) = previous_inside(tree, root, here) {
-        if filter.accepts(tree, previous) {
-            return Some(previous);
+    let mut here = tree.at(node);
+    while let Some(previous) = previous_inside(&here, root) {
+        if filter.accepts(&previous) {
+            return Some(previous.number());
         }
         here = previous;
     }
@@ -106,7 +106,7 @@ impl NodeIterator {
         ensures { result ≡ next_found tree.now.forest self.now }
     {
         tree.sound();
-        if self.before && self.filter.accepts(tree, self.reference) {
+        if self.before && self.filter.accepts_number(tree, self.reference) {
             return Some(self.reference);
         }
         next_accepted(tree, &self.filter, self.root, self.reference)
@@ -118,7 +118,7 @@ impl NodeIterator {
         ensures { result ≡ previous_found tree.now.forest self.now }
     {
         tree.sound();
-        if !self.before && self.filter.accepts(tree, self.reference) {
+        if !self.before && self.filter.accepts_number(tree, self.reference) {
             return Some(self.reference);
         }
         previous_accepted(tree, &self.filter, self.root, self.reference)

@@ -9,7 +9,7 @@ ghost use Rattle.dom_traverse.specs.Judging.{known_or, AreRulesByName};
 use crate::filter::{Filter, Rule};
 use dom_kinds::{Kind, NodeType};
 use dom_model::Verdict;
-use dom_tree::{NodeId, Tree};
+use dom_tree::{At, NodeId, Tree};
 use std::alloc::{AllocError, Global};
 use std::collections::BTreeMap;
 use std::marker::Model;
@@ -36,7 +36,8 @@ impl Model for Judge {
 
 // Puts a rule among the verdicts, where none is known for its name.
 fn note(verdicts: &mut BTreeMap<String, Verdict>, rule: &Rule) -> Result<(), AllocError>
-    ensures { OnOk result ((name : List ℕ) (others : AVerdict) → known_or verdicts.new others name ≡ known_or verdicts.old (if bytes_eq rule.now.name name then rule.now.verdict else others) name) }
+    ensures { OnOk result ((name : List ℕ) (others : AVerdict) →
+        known_or verdicts.new others name ≡ known_or verdicts.old (if bytes_eq rule.now.name name then rule.now.verdict else others) name) }
 {
     if verdicts.contains_key(rule.name.as_str()) {
         return Ok(());
@@ -77,11 +78,11 @@ impl Judge {
     }
 
     // What the filter says of a node.
-    pub fn judge<X>(&self, tree: &Tree<X>, node: NodeId) -> Verdict
-        requires { HasNode tree.now.forest node }
-        ensures { result ≡ verdict_on tree.now.forest self.now node }
+    pub fn judge<X>(&self, node: &At<'_, X>) -> Verdict
+        ensures { result ≡ verdict_on node.now.tree.forest self.now node.now.node }
     {
-        let label = tree.label(node);
+        node.sound();
+        let label = node.label();
         if self.shows(label.kind) {
             self.ruled(label.node_name())
         } else {
@@ -90,19 +91,25 @@ impl Judge {
     }
 
     // Whether the filter accepts a node.
-    pub fn accepts<X>(&self, tree: &Tree<X>, node: NodeId) -> bool
+    pub fn accepts<X>(&self, node: &At<'_, X>) -> bool
+        ensures { result ≡ accepts node.now.tree.forest self.now node.now.node }
+    {
+        self.judge(node) == Verdict::Accept
+    }
+
+    // Whether the filter accepts the node of a number.
+    pub fn accepts_number<X>(&self, tree: &Tree<X>, node: NodeId) -> bool
         requires { HasNode tree.now.forest node }
         ensures { result ≡ accepts tree.now.forest self.now node }
     {
-        self.judge(tree, node) == Verdict::Accept
+        self.accepts(&tree.at(node))
     }
 
     // Whether the filter rejects a node.
-    pub fn rejects<X>(&self, tree: &Tree<X>, node: NodeId) -> bool
-        requires { HasNode tree.now.forest node }
-        ensures { result ≡ rejects tree.now.forest self.now node }
+    pub fn rejects<X>(&self, node: &At<'_, X>) -> bool
+        ensures { result ≡ rejects node.now.tree.forest self.now node.now.node }
     {
-        self.judge(tree, node) == Verdict::Reject
+        self.judge(node) == Verdict::Reject
     }
 
     // Whether nodes of the kind are shown.

@@ -1,6 +1,6 @@
 //! The tree walkers of a session, by number (DOM Standard, "Interface TreeWalker").
 
-ghost use Rattle.std.specs.Prelude.{◌≡◌, ℕ, ◌<◌, [], ◌∷◌, ◌++◌, length, slice_set, Some, None, IsSome, is_some, IfSome, IfOk, OnOk, OnErr};
+ghost use Rattle.std.specs.Prelude.{◌≡◌, ℕ, ◌<◌, [], ◌∷◌, ◌++◌, length, count_by, slice_set, Some, None, IsSome, is_some, IfSome, IfOk, OnOk, OnErr};
 ghost use Rattle.std.specs.List.{list_any, flat_map};
 ghost use Rattle.std.specs.Option.{ForSome};
 ghost use Rattle.dom_model.specs.PlainLists.Lists.{among};
@@ -103,6 +103,14 @@ impl Walkers {
         ensures { result ≡ length self.now }
     {
         self.slots.made()
+    }
+
+    /// How many walkers there are, without those that were released, in constant time.
+    pub fn count(&self) -> usize
+        ensures { result ≡ count_by is_some self.now }
+    {
+        self.slots.sound();
+        self.slots.count()
     }
 
     /// Whether there is such a walker, and it was not released.

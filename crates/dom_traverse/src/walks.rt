@@ -9,7 +9,7 @@ ghost use Rattle.dom_traverse.specs.Ends.{Descends, IsEnd};
 
 use crate::course::{Course, Limit, Side};
 use crate::judge::Judge;
-use dom_tree::{NodeId, Tree};
+use dom_tree::{At, NodeId, Tree};
 
 // `parentNode()`.
 pub(crate) fn parent_node<X>(
@@ -22,11 +22,11 @@ pub(crate) fn parent_node<X>(
     ensures { result ≡ parent_by_steps tree.now.forest filter.now root current }
 {
     tree.sound();
-    let mut here = current;
-    while here != root {
-        here = tree.parent(here)?;
-        if filter.accepts(tree, here) {
-            return Some(here);
+    let mut here = tree.at(current);
+    while here.number() != root {
+        here = here.parent()?;
+        if filter.accepts(&here) {
+            return Some(here.number());
         }
     }
     None
@@ -50,8 +50,8 @@ pub(crate) fn child<X>(
         side,
         limit: Limit::Current,
     };
-    let child = side.child(tree, current)?;
-    course.run(tree, filter, child)
+    let child = side.child(&tree.at(current))?;
+    course.run(filter, child)
 }
 
 // `nextSibling()` or `previousSibling()`.
@@ -75,8 +75,8 @@ pub(crate) fn sibling<X>(
         side,
         limit: Limit::Accepted,
     };
-    let sibling = course.past(tree, filter, current)?;
-    course.run(tree, filter, sibling)
+    let sibling = course.past(filter, tree.at(current))?;
+    course.run(filter, sibling)
 }
 
 // `nextNode()`.
@@ -96,24 +96,24 @@ pub(crate) fn next_node<X>(
         side: Side::First,
         limit: Limit::Root,
     };
-    if let Some(child) = tree.first(current) {
-        return course.run(tree, filter, child);
+    let here = tree.at(current);
+    if let Some(child) = here.first() {
+        return course.run(filter, child);
     }
-    let next = course.past(tree, filter, current)?;
-    course.run(tree, filter, next)
+    let next = course.past(filter, here)?;
+    course.run(filter, next)
 }
 
 // Down through last children, as long as no node is rejected.
-fn end_of<X>(tree: &Tree<X>, filter: &Judge, node: NodeId) -> NodeId
-    requires { HasNode tree.now.forest node }
-    ensures there { HasNode tree.now.forest result }
-    ensures descends { Descends tree.now.forest filter.now node result }
-    ensures end { IsEnd tree.now.forest filter.now result }
+fn end_of<'a, X>(filter: &Judge, node: At<'a, X>) -> At<'a, X>
+    ensures tree { result.tree ≡ node.entry.tree }
+    ensures descends { Descends node.entry.tree.forest filter.now node.entry.node result.node }
+    ensures end { IsEnd node.entry.tree.forest filter.now result.node }
 {
-    tree.sound();
+    node.sound();
     let mut here = node;
-    while !filter.rejects(tree, here) {
-        match tree.last(here) {
+    while !filter.rejects(&here) {
+        match here.last() {
             Some(last) => here = last,
             None => return here,
         }
@@ -135,22 +135,22 @@ pub(crate) fn previous_node<X>(
     if current == root {
         return None;
     }
-    let mut here = current;
+    let mut here = tree.at(current);
     loop {
-        if let Some(sibling) = tree.prev(here) {
-            here = end_of(tree, filter, sibling);
-            if filter.accepts(tree, here) {
-                return Some(here);
+        if let Some(sibling) = here.prev() {
+            here = end_of(filter, sibling);
+            if filter.accepts(&here) {
+                return Some(here.number());
             }
         } else {
-            if here == root {
+            if here.number() == root {
                 return None;
             }
-            here = tree.parent(here)?;
-            if filter.accepts(tree, here) {
-                return Some(here);
+            here = here.parent()?;
+            if filter.accepts(&here) {
+                return Some(here.number());
             }
-            if here == root {
+            if here.number() == root {
                 return None;
             }
         }

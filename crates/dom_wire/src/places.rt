@@ -65,9 +65,9 @@ fn write_ids_and_type(label: &Label, writer: &mut Writer) -> Result<(), AllocErr
 {
     if let Kind::DocumentType = label.kind {
         writer.key("public")?;
-        writer.string(label.public_id.as_str())?;
+        writer.string(label.public_id())?;
         writer.key("system")?;
-        writer.string(label.system_id.as_str())?;
+        writer.string(label.system_id())?;
     }
     writer.key("type")?;
     writer.u64(u64::from(label.kind.number()))?;

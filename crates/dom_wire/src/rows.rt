@@ -93,6 +93,6 @@ fn write_ids(label: &Label, writer: &mut Writer) -> Result<(), AllocError>
     ensures { Adds result writer.old writer.new
         (string label.now.public_id ∷ string label.now.system_id ∷ []) }
 {
-    writer.string(label.public_id.as_str())?;
-    writer.string(label.system_id.as_str())
+    writer.string(label.public_id())?;
+    writer.string(label.system_id())
 }

@@ -56,7 +56,8 @@ fn leaves_element(world: &World, start: Point, end: Point, parent: NodeId) -> bo
     requires end_held { HasNode world.now.tree.forest end.node }
     requires start_root { root_of world.now.tree.forest parent ≡ root_of world.now.tree.forest start.node }
     requires end_root { root_of world.now.tree.forest parent ≡ root_of world.now.tree.forest end.node }
-    ensures { result ≡ list_any (λ m. is_left_element (unwatched world.now) (record { start = start; end = end }) m) (children_of world.now.tree.forest parent) }
+    ensures { result ≡ list_any (λ m. is_left_element (unwatched world.now) (record { start = start; end = end }) m)
+        (children_of world.now.tree.forest parent) }
 {
     world.tree.sound();
     for child in world.tree.children(parent) {
@@ -163,7 +164,8 @@ fn is_deep(tree: &Tree<Content>, common: NodeId, start: NodeId, end: NodeId) -> 
 // Whether a node is a Document, a doctype or a fragment: none of them can be the new parent.
 fn is_invalid_parent(tree: &Tree<Content>, node: NodeId) -> bool
     requires held { HasNode tree.now.forest node }
-    ensures { result ≡ (is_of_kind Document tree.now.forest node || (is_of_kind DocumentType tree.now.forest node || is_of_kind DocumentFragment tree.now.forest node)) }
+    ensures { result ≡ (is_of_kind Document tree.now.forest node
+        || (is_of_kind DocumentType tree.now.forest node || is_of_kind DocumentFragment tree.now.forest node)) }
 {
     tree.is_of_kind(node, Kind::Document)
         || tree.is_of_kind(node, Kind::DocumentType)
@@ -187,7 +189,8 @@ pub fn can_surround(world: &World, range: RangeId, node: NodeId) -> Result<(), D
     requires whole { IsWhole world.now }
     requires held { IsSome (range_in world.now.ranges range) }
     requires node_held { HasNode world.now.tree.forest node }
-    ensures { MatchResult result (λ _. check_whole_surround range node (unwatched world.now) ≡ None) (λ e. check_whole_surround range node (unwatched world.now) ≡ Some e) }
+    ensures { MatchResult result (λ _. check_whole_surround range node (unwatched world.now) ≡ None)
+        (λ e. check_whole_surround range node (unwatched world.now) ≡ Some e) }
 {
     let (start, end) = world.ranges.ends(range);
     let common = common(&world.tree, start.node, end.node);

@@ -12,6 +12,7 @@ ghost use Rattle.dom_model.specs.RangesAndContents.Wrapping.{insert_node, is_tex
 ghost use Rattle.dom_model.specs.TokenText.Edits.{insert_node_edits};
 ghost use Rattle.dom_ranges.specs.Tables.{range_in};
 ghost use Rattle.dom_edit.specs.Whole.{IsWhole, Keeps, Follows, unwatched};
+ghost use Rattle.dom_edit.specs.Keeping.{KeepsLabels};
 ghost use Rattle.dom_edit.specs.Markers.{StandByEdits};
 ghost use Rattle.dom_edit.specs.Refusals.{IsRefused};
 ghost use Rattle.dom_wrap.specs.Outcomes.{left_by, index_before, HasRoom, IsPlaceable, MayEndAt, MayTake};
@@ -76,7 +77,8 @@ fn check(world: &World, start: Point, node: NodeId) -> Result<(), DomError>
     requires start_held { HasNode world.now.tree.forest start.node }
     requires node_held { HasNode world.now.tree.forest node }
     ensures start { OnOk result (check_start (unwatched world.now) start node ≡ None) }
-    ensures insert { OnOk result (checks.check_insert world.now.tree.forest (parent_at (unwatched world.now) start) node (reference_at (unwatched world.now) start) ≡ None) }
+    ensures insert { OnOk result (checks.check_insert world.now.tree.forest (parent_at (unwatched world.now) start) node
+        (reference_at (unwatched world.now) start) ≡ None) }
     ensures refused { IfErr result (λ e. (r : ℕ) → refusal_in (inserted_at r node start (unwatched world.now)) ≡ Some e) }
 {
     check_start(world, start, node)?;
@@ -97,6 +99,7 @@ fn reference_after(
     requires room { is_text (unwatched world.old) start.node ≡ true → world.old.tree.made < 4294967295 }
     ensures reference { IfOk result (λ reference. reference ≡ reference_after (unwatched world.old) start) }
     ensures split { OnOk result (Follows world.old world.new (split_at start)) }
+    ensures kept { KeepsLabels world.old world.new }
     ensures whole { IsWhole world.new }
 {
     let Point { node, offset } = start;
@@ -150,6 +153,7 @@ fn end_if_collapsed(world: &mut World, range: RangeId, end: Point)
     requires whole { IsWhole world.old }
     requires sound { MayEndAt world.old range end }
     ensures ended { Follows world.old world.new (end_if_collapsed range end) }
+    ensures kept { KeepsLabels world.old world.new }
     ensures whole { IsWhole world.new }
 {
     if !world.ranges.holds(range) {
@@ -176,6 +180,7 @@ fn place(
     requires placeable { IsPlaceable world.old range node parent reference }
     ensures allowed { OnOk result ((w : PlainWorld) → Keeps world.old w → refusal_in (placed_at range node parent reference w) ≡ None) }
     ensures placed { OnOk result (Follows world.old world.new (λ w. left_by (placed_at range node parent reference w) w)) }
+    ensures kept { KeepsLabels world.old world.new }
     ensures whole { IsWhole world.new }
 {
     // the checker covers no variable of this type that is passed by value twice
@@ -208,6 +213,7 @@ pub(crate) fn insert_at_start(
     requires room { HasRoom world.old range }
     ensures allowed { OnOk result (refusal_in (insert_node range node (unwatched world.old)) ≡ None) }
     ensures inserted { OnOk result (Follows world.old world.new (λ w. left_by (insert_node range node w) w)) }
+    ensures kept { KeepsLabels world.old world.new }
     ensures whole { IsWhole world.new }
 {
     let (start, _) = world.ranges.ends(range);
@@ -232,6 +238,7 @@ pub fn insert_node(
     ensures inserted { OnOk result (Follows world.old world.new (λ w. left_by (insert_node range node w) w)) }
     ensures markers { OnOk result (StandByEdits world.old world.new (insert_node_edits range node)) }
     ensures refused { IfErr result (λ e. IsRefused e (refusal_in (insert_node range node (unwatched world.old))) world.old world.new) }
+    ensures kept { KeepsLabels world.old world.new }
     ensures whole { IsWhole world.new }
 {
     let (start, _) = world.ranges.ends(range);

@@ -9,6 +9,7 @@ ghost use Rattle.dom_model.specs.RangesAndContents.Wrapping.{surround, try_selec
 ghost use Rattle.dom_model.specs.TokenText.Edits.{surround_edits};
 ghost use Rattle.dom_ranges.specs.Tables.{range_in};
 ghost use Rattle.dom_edit.specs.Whole.{IsWhole, Follows, unwatched};
+ghost use Rattle.dom_edit.specs.Keeping.{KeepsLabels};
 ghost use Rattle.dom_edit.specs.Markers.{StandByEdits};
 ghost use Rattle.dom_edit.specs.Refusals.{IsRefused};
 ghost use Rattle.dom_wrap.specs.Outcomes.{left_by, put_around, HasRoom, Passes, MayTake};
@@ -26,6 +27,7 @@ fn remove_children(world: &mut World, alloc: Global, parent: NodeId) -> Result<(
     requires whole { IsWhole world.old }
     requires held { HasNode world.old.tree.forest parent }
     ensures removed { OnOk result (Follows world.old world.new (replace_all None parent)) }
+    ensures kept { KeepsLabels world.old world.new }
     ensures whole { IsWhole world.new }
 {
     if world.tree.first(parent).is_none() {
@@ -41,6 +43,7 @@ fn select(world: &mut World, range: RangeId, node: NodeId)
     requires node_held { HasNode world.old.tree.forest node }
     requires allowed { check_parent world.old.tree.forest node ≡ None }
     ensures selected { Passes world.old world.new (try_select range node) }
+    ensures kept { KeepsLabels world.old world.new }
     ensures whole { IsWhole world.new }
 {
     world.ranges.select_checked(&world.tree, range, node);
@@ -61,6 +64,7 @@ fn put_around(
     requires allowed { MayTake world.old (put_around range node fragment) }
     requires room { HasRoom world.old range }
     ensures put { OnOk result (Passes world.old world.new (put_around range node fragment)) }
+    ensures kept { KeepsLabels world.old world.new }
     ensures whole { IsWhole world.new }
 {
     insert_at_start(world, alloc, range, node)?;
@@ -82,6 +86,7 @@ fn surround_allowed(
     requires room { (left_by (surround range node (unwatched world.old)) (unwatched world.old)).made ≤ 4294967295 }
     requires allowed { check_whole_surround range node (unwatched world.old) ≡ None }
     ensures surrounded { OnOk result (Follows world.old world.new (λ w. left_by (surround range node w) w)) }
+    ensures kept { KeepsLabels world.old world.new }
     ensures whole { IsWhole world.new }
 {
     let fragment = extract_checked(world, alloc, range)?;
@@ -106,6 +111,7 @@ pub fn surround(
     ensures surrounded { OnOk result (Follows world.old world.new (λ w. left_by (surround range node w) w)) }
     ensures markers { OnOk result (StandByEdits world.old world.new (surround_edits range node)) }
     ensures refused { IfErr result (λ e. IsRefused e (check_whole_surround range node (unwatched world.old)) world.old world.new) }
+    ensures kept { KeepsLabels world.old world.new }
     ensures whole { IsWhole world.new }
 {
     if let Err(error) = can_surround(world, range, node) {

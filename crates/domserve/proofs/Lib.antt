@@ -1,4 +1,5 @@
 pub mod Faults
 pub mod Reading
+pub mod Said
 pub mod Told
 pub mod Words

@@ -6,14 +6,14 @@ mod running;
 #[cfg(test)]
 mod tests;
 
-use dom_serve::{FromRead, ToWrite};
+use dom_serve::{FromRead, ToWrite, write_line};
 pub use running::{fault_text, run};
 use std::env;
-use std::io::{ErrorKind, Write};
+use std::io::ErrorKind;
 use std::process::ExitCode;
 
 fn main(rt: HostRuntime) -> ExitCode {
-    let mut errors = rt.stderr();
+    let mut errors = ToWrite::new(rt.stderr());
     let words: Vec<String> = match env::args(&rt) {
         Ok(args) => match args.collect(rt.alloc()) {
             Ok(words) => words,
@@ -23,7 +23,8 @@ fn main(rt: HostRuntime) -> ExitCode {
             if let ErrorKind::OutOfMemory = error.kind() {
                 return ExitCode::from(running::without_memory(&mut errors));
             }
-            let _ = errors.write_all(
+            let _ = write_line(
+                &mut errors,
                 b"error: invalid UTF-8 was detected in one or more arguments\n",
             );
             return ExitCode::from(2);

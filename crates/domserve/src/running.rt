@@ -1,17 +1,18 @@
 //! Serving as the words ask, and the status.
 
-ghost use Rattle.std.specs.Prelude.{◌≡◌, ◌≢◌, ◌≤◌, ℕ, List, [], true, ◌⊎◌, IfSome, map};
+ghost use Rattle.std.specs.Prelude.{◌≡◌, ◌≢◌, ◌≤◌, ◌^◌, ℕ, List, [], true, Err, ◌⊎◌, IfSome, map};
 ghost use Rattle.std.specs.Io.KnownBytes.{Appends};
 ghost use Rattle.dom_serve.specs.Calls.{HasPassedOn, IsRead, IsWritten};
 ghost use Rattle.dom_serve.specs.Limits.{bounds_of};
+ghost use Rattle.dom_serve.specs.Serves.{Serves};
 ghost use Rattle.domserve.specs.CommandLine.{asks_for_help, bounds_asked, faults_in, has_mistake};
-ghost use Rattle.domserve.specs.Statuses.{IsInRange, text_of, status_of, IsServed, TellsFailure};
+ghost use Rattle.dom_serve.specs.declared.fault.Fault.TheVariants as faults;
+ghost use Rattle.domserve.specs.Statuses.{IsInRange, text_of, status_of, IsServed, SaysLine, IsCutOff, IsWantAhead, TellsFailure, TellsFault};
 
 use crate::options::{Refusal, limits_from};
 use dom_serve::{Failed, Fault, Limits, Sink, Source, serve, write_line};
 use std::alloc::Global;
 use std::convert::AsStr;
-use std::io::Write;
 
 /// What is said of a fault on standard error, without its newline.
 pub fn fault_text(fault: &Fault) -> &'static str
@@ -34,29 +35,34 @@ fn fault_status(fault: &Fault) -> u8
     }
 }
 
-/// Says a text on standard error; that this fails is not told.
-fn say<E: Write>(errors: &mut E, text: &str) {
-    let _ = errors.write_all(text.as_bytes());
-    let _ = errors.flush();
+/// Says a text on a line of its own; that this fails is not told.
+fn say_line<E: Sink>(errors: &mut E, text: &[u8])
+    ensures { SaysLine E.taken E.works E.fails text.now errors.old errors.new }
+{
+    if let Err(Failed) = write_line(errors, text) {
+        return;
+    }
+    let _ = write_line(errors, b"\n");
 }
 
 /// Says the fault, and gives its status.
-fn faulted<E: Write>(errors: &mut E, fault: &Fault) -> u8
-    ensures { result ≡ status_of fault.now }
+fn faulted<E: Sink>(errors: &mut E, fault: &Fault) -> u8
+    ensures status { result ≡ status_of fault.now }
+    ensures says { SaysLine E.taken E.works E.fails (text_of fault.now) errors.old errors.new }
 {
-    say(errors, fault_text(fault));
-    say(errors, "\n");
+    say_line(errors, fault_text(fault).as_bytes());
     fault_status(fault)
 }
 
 /// Says that memory was wanting, and gives its status.
-pub(crate) fn without_memory<E: Write>(errors: &mut E) -> u8
-    ensures { result ≡ 1 }
+pub(crate) fn without_memory<E: Sink>(errors: &mut E) -> u8
+    ensures status { result ≡ 1 }
+    ensures says { SaysLine E.taken E.works E.fails (text_of faults.Memory) errors.old errors.new }
 {
     faulted(errors, &Fault::Memory)
 }
 
-fn served<R: Source, W: Sink, E: Write>(
+fn served<R: Source, W: Sink, E: Sink>(
     alloc: Global,
     limits: Limits,
     reader: &mut R,
@@ -67,6 +73,8 @@ fn served<R: Source, W: Sink, E: Write>(
     ensures range { (result ≤ 1) ⊎ (result ≡ 3) }
     ensures served { result ≡ 0 → IfSome (R.left reader.old) (IsServed (bounds_of limits) (W.taken writer.old) (W.taken writer.new)) }
     ensures silent { result ≡ 0 → errors.new ≡ errors.old }
+    ensures told { result ≢ 0 → TellsFault result (λ fault. SaysLine E.taken E.works E.fails (text_of fault) errors.old errors.new) (λ fault.
+        Serves R.gives R.fails R.left W.works W.fails W.taken W.is_passed_on (bounds_of limits) (2 ^ 40) reader.old reader.new writer.old writer.new (Err fault)) }
     ensures passed { result ≢ 3 → HasPassedOn W.is_passed_on writer.old writer.new }
     ensures reader { TellsFailure result (λ failed. IsRead R.gives R.fails failed reader.old reader.new) }
     ensures writer { TellsFailure result (λ failed. IsWritten W.works W.fails failed writer.old writer.new) }
@@ -77,10 +85,12 @@ fn served<R: Source, W: Sink, E: Write>(
     }
 }
 
-fn helped<W: Sink, E: Write>(text: &str, writer: &mut W, errors: &mut E) -> u8
+fn helped<W: Sink, E: Sink>(text: &str, writer: &mut W, errors: &mut E) -> u8
     ensures range { (result ≡ 0) ⊎ (result ≡ 3) }
     ensures helped { result ≡ 0 → Appends (W.taken writer.old) (W.taken writer.new) text.now }
     ensures silent { result ≡ 0 → errors.new ≡ errors.old }
+    ensures told { result ≢ 0 → TellsFault result (λ fault. SaysLine E.taken E.works E.fails (text_of fault) errors.old errors.new)
+        (IsCutOff W.taken W.works W.fails writer.old writer.new) }
     ensures passed { result ≢ 3 → HasPassedOn W.is_passed_on writer.old writer.new }
     ensures writer { TellsFailure result (λ failed. IsWritten W.works W.fails failed writer.old writer.new) }
 {
@@ -93,7 +103,7 @@ fn helped<W: Sink, E: Write>(text: &str, writer: &mut W, errors: &mut E) -> u8
 /// Serves the reader to the writer as the words ask, the program's name first, and gives the program's status: 0 at the end
 /// of the input or after help, 1 for want of memory, 2 where the words are refused, 3 where a read, a write or a flush
 /// failed or the input was too long. What went wrong is said on `errors`.
-pub fn run<S: AsStr, R: Source, W: Sink, E: Write>(
+pub fn run<S: AsStr, R: Source, W: Sink, E: Sink>(
     alloc: Global,
     words: &[S],
     reader: &mut R,
@@ -119,6 +129,16 @@ pub fn run<S: AsStr, R: Source, W: Sink, E: Write>(
     // At status 0 nothing was said on `errors`.
     ensures silent { result ≡ 0 → errors.new ≡ errors.old }
 
+    // At status 1 and 3 the text of a fault of that status was said whole, on a line, or, where a write or a flush of `errors` failed, a front of it.
+    // Serving came to that fault at the limits that the words ask for, and read and wrote what it tells of it; or the words ask for help, which could
+    // not be written; or memory was wanting before anything was read or written.
+    ensures told { result ≢ 0 → result ≢ 2 → TellsFault result (λ fault. SaysLine E.taken E.works E.fails (text_of fault) errors.old errors.new) (λ fault.
+        ((faults_in (map S.text words.now) ≡ []) × Serves R.gives R.fails R.left W.works W.fails W.taken W.is_passed_on
+        (bounds_asked (map S.text words.now)) (2 ^ 40) reader.old reader.new writer.old writer.new (Err fault))
+        ⊎ (((asks_for_help (faults_in (map S.text words.now)) ≡ true) × (reader.new ≡ reader.old)
+        × IsCutOff W.taken W.works W.fails writer.old writer.new fault)
+        ⊎ IsWantAhead reader.old reader.new writer.old writer.new fault)) }
+
     // Unless the status is 3, all that was written has been passed on.
     ensures passed { result ≢ 3 → HasPassedOn W.is_passed_on writer.old writer.new }
 
@@ -130,7 +150,7 @@ pub fn run<S: AsStr, R: Source, W: Sink, E: Write>(
         Ok(limits) => served(alloc, limits, reader, writer, errors),
         Err(Refusal::Help(text)) => helped(&text, writer, errors),
         Err(Refusal::Mistake(text)) => {
-            say(errors, &text);
+            let _ = write_line(errors, text.as_bytes());
             2
         }
         Err(Refusal::Memory) => without_memory(errors),

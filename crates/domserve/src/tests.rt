@@ -33,7 +33,7 @@ impl Write for FailingWriter {
 fn serves_the_reader(rt: HostRuntime) -> Result<(), Fail> {
     let mut reader = FromRead::new(&b"\n[1]\n"[..]);
     let mut writer = ToWrite::new(Vec::new(rt.alloc()));
-    let mut errors = Vec::new(rt.alloc());
+    let mut errors = ToWrite::new(Vec::new(rt.alloc()));
     let status = run(
         rt.alloc(),
         ["domserve"].as_slice(),
@@ -42,7 +42,7 @@ fn serves_the_reader(rt: HostRuntime) -> Result<(), Fail> {
         &mut errors,
     );
     assert_eq!(rt; status, 0);
-    assert_eq!(rt; errors.is_empty(), true);
+    assert_eq!(rt; errors.into_inner().is_empty(), true);
     let written = writer.into_inner();
     let wanted = b"{\"error\":\"bad-json\"}\n{\"error\":\"bad-command\"}\n";
     assert_eq!(rt; written.as_slice(), wanted.as_slice());
@@ -53,7 +53,7 @@ fn serves_the_reader(rt: HostRuntime) -> Result<(), Fail> {
 fn gives_help(rt: HostRuntime) -> Result<(), Fail> {
     let mut reader = FromRead::new(&b"\n"[..]);
     let mut writer = ToWrite::new(Vec::new(rt.alloc()));
-    let mut errors = Vec::new(rt.alloc());
+    let mut errors = ToWrite::new(Vec::new(rt.alloc()));
     let status = run(
         rt.alloc(),
         ["domserve", "--help"].as_slice(),
@@ -62,7 +62,7 @@ fn gives_help(rt: HostRuntime) -> Result<(), Fail> {
         &mut errors,
     );
     assert_eq!(rt; status, 0);
-    assert_eq!(rt; errors.is_empty(), true);
+    assert_eq!(rt; errors.into_inner().is_empty(), true);
     let written = String::from_utf8(writer.into_inner())?;
     assert!(rt; written.as_str().starts_with("Keeps documents"));
     assert!(rt; written.as_str().contains("--line <BYTES>"));
@@ -74,7 +74,7 @@ fn gives_help(rt: HostRuntime) -> Result<(), Fail> {
 fn help_that_is_not_written_is_a_fault(rt: HostRuntime) -> Result<(), Fail> {
     let mut reader = FromRead::new(&b"\n"[..]);
     let mut writer = ToWrite::new(FailingWriter);
-    let mut errors = Vec::new(rt.alloc());
+    let mut errors = ToWrite::new(Vec::new(rt.alloc()));
     let status = run(
         rt.alloc(),
         ["domserve", "--help"].as_slice(),
@@ -83,7 +83,10 @@ fn help_that_is_not_written_is_a_fault(rt: HostRuntime) -> Result<(), Fail> {
         &mut errors,
     );
     assert_eq!(rt; status, 3);
-    assert_eq!(rt; errors.as_slice(), b"domserve: write failed\n".as_slice());
+    assert_eq!(rt;
+        errors.into_inner().as_slice(),
+        b"domserve: write failed\n".as_slice()
+    );
     Ok(())
 }
 
@@ -91,7 +94,7 @@ fn help_that_is_not_written_is_a_fault(rt: HostRuntime) -> Result<(), Fail> {
 fn status_of(rt: &HostRuntime, option: &str, value: &str) -> Result<u8, Fail> {
     let mut reader = FromRead::new(FailingReader);
     let mut writer = ToWrite::new(Vec::new(rt.alloc()));
-    let mut errors = Vec::new(rt.alloc());
+    let mut errors = ToWrite::new(Vec::new(rt.alloc()));
     let words = ["domserve", option, value];
     let status = run(
         rt.alloc(),
@@ -100,7 +103,7 @@ fn status_of(rt: &HostRuntime, option: &str, value: &str) -> Result<u8, Fail> {
         &mut writer,
         &mut errors,
     );
-    if errors.is_empty() || !writer.into_inner().is_empty() {
+    if errors.into_inner().is_empty() || !writer.into_inner().is_empty() {
         return Ok(9);
     }
     Ok(status)
@@ -120,7 +123,7 @@ fn refuses_words(rt: HostRuntime) -> Result<(), Fail> {
 fn takes_a_line_limit(rt: HostRuntime) -> Result<(), Fail> {
     let mut reader = FromRead::new(&b"[ ]\n[1]"[..]);
     let mut writer = ToWrite::new(Vec::new(rt.alloc()));
-    let mut errors = Vec::new(rt.alloc());
+    let mut errors = ToWrite::new(Vec::new(rt.alloc()));
     let status = run(
         rt.alloc(),
         ["domserve", "--line", "2", "--numbers", "1"].as_slice(),
@@ -139,7 +142,7 @@ fn takes_a_line_limit(rt: HostRuntime) -> Result<(), Fail> {
 fn a_failed_read_is_a_fault(rt: HostRuntime) -> Result<(), Fail> {
     let mut reader = FromRead::new(FailingReader);
     let mut writer = ToWrite::new(Vec::new(rt.alloc()));
-    let mut errors = Vec::new(rt.alloc());
+    let mut errors = ToWrite::new(Vec::new(rt.alloc()));
     let status = run(
         rt.alloc(),
         ["domserve"].as_slice(),
@@ -148,7 +151,10 @@ fn a_failed_read_is_a_fault(rt: HostRuntime) -> Result<(), Fail> {
         &mut errors,
     );
     assert_eq!(rt; status, 3);
-    assert_eq!(rt; errors.as_slice(), b"domserve: read failed\n".as_slice());
+    assert_eq!(rt;
+        errors.into_inner().as_slice(),
+        b"domserve: read failed\n".as_slice()
+    );
     assert_eq!(rt; writer.into_inner().is_empty(), true);
     Ok(())
 }
@@ -157,7 +163,7 @@ fn a_failed_read_is_a_fault(rt: HostRuntime) -> Result<(), Fail> {
 fn a_failed_write_is_a_fault(rt: HostRuntime) -> Result<(), Fail> {
     let mut reader = FromRead::new(&b"\n"[..]);
     let mut writer = ToWrite::new(FailingWriter);
-    let mut errors = Vec::new(rt.alloc());
+    let mut errors = ToWrite::new(Vec::new(rt.alloc()));
     let status = run(
         rt.alloc(),
         ["domserve"].as_slice(),
@@ -166,7 +172,10 @@ fn a_failed_write_is_a_fault(rt: HostRuntime) -> Result<(), Fail> {
         &mut errors,
     );
     assert_eq!(rt; status, 3);
-    assert_eq!(rt; errors.as_slice(), b"domserve: write failed\n".as_slice());
+    assert_eq!(rt;
+        errors.into_inner().as_slice(),
+        b"domserve: write failed\n".as_slice()
+    );
     Ok(())
 }
 
@@ -174,7 +183,7 @@ fn a_failed_write_is_a_fault(rt: HostRuntime) -> Result<(), Fail> {
 fn errors_that_are_not_written_are_ignored(rt: HostRuntime) {
     let mut reader = FromRead::new(FailingReader);
     let mut writer = ToWrite::new(Vec::new(rt.alloc()));
-    let mut errors = FailingWriter;
+    let mut errors = ToWrite::new(FailingWriter);
     let status = run(
         rt.alloc(),
         ["domserve"].as_slice(),

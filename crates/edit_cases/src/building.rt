@@ -33,12 +33,7 @@ pub(crate) fn name(alloc: Global, text: &str) -> Result<String, AllocError> {
 pub(crate) fn label(alloc: Global, kind: Kind) -> Label
     ensures { result.kind ≡ kind }
 {
-    Label {
-        kind,
-        name: String::new(alloc),
-        public_id: String::new(alloc),
-        system_id: String::new(alloc),
-    }
+    Label::named(kind, String::new(alloc))
 }
 
 /// Data without attributes.

@@ -18,12 +18,7 @@ fn made(
     document: Option<NodeId>,
 ) -> Result<NodeId, AllocError> {
     assert!(rt; tree.made() < 4294967295);
-    let label = Label {
-        kind,
-        name: String::new(alloc),
-        public_id: String::new(alloc),
-        system_id: String::new(alloc),
-    };
+    let label = Label::named(kind, String::new(alloc));
     let content = Content {
         text: Units::new(alloc),
         attrs: Attrs::new(alloc),

@@ -75,12 +75,7 @@ fn made(
     } else {
         Kind::Document
     };
-    let label = Label {
-        kind,
-        name: String::new(alloc),
-        public_id: String::new(alloc),
-        system_id: String::new(alloc),
-    };
+    let label = Label::named(kind, String::new(alloc));
     let content = Content {
         text: Units::new(alloc),
         attrs: Attrs::new(alloc),

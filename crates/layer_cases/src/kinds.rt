@@ -74,12 +74,9 @@ fn numbers_and_names(rt: HostRuntime) {
 
 // The label of a doctype with a public id.
 fn doctype(alloc: Global) -> Result<Label, AllocError> {
-    Ok(Label {
-        kind: Kind::DocumentType,
-        name: String::from_str(alloc, "html")?,
-        public_id: String::from_str(alloc, "é")?,
-        system_id: String::new(alloc),
-    })
+    let name = String::from_str(alloc, "html")?;
+    let public_id = String::from_str(alloc, "é")?;
+    Label::doctype(alloc, name, public_id, String::new(alloc))
 }
 
 #[test]
@@ -87,8 +84,8 @@ fn copied_label(rt: HostRuntime) -> Result<(), Fail> {
     let label = doctype(rt.alloc())?;
     let copy = label.try_clone(rt.alloc())?;
     assert!(rt; copy.kind == Kind::DocumentType);
-    assert!(rt; copy.name.as_str() == "html");
-    assert!(rt; copy.public_id.as_str() == "é");
-    assert!(rt; copy.system_id.as_str() == "");
+    assert!(rt; copy.name() == "html");
+    assert!(rt; copy.public_id() == "é");
+    assert!(rt; copy.system_id() == "");
     Ok(())
 }

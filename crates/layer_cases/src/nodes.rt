@@ -11,22 +11,12 @@ use std::process::Abort;
 
 /// A label with a name and no ids.
 pub(crate) fn named(alloc: Global, kind: Kind, name: &str) -> Result<Label, AllocError> {
-    Ok(Label {
-        kind,
-        name: String::from_str(alloc, name)?,
-        public_id: String::new(alloc),
-        system_id: String::new(alloc),
-    })
+    Ok(Label::named(kind, String::from_str(alloc, name)?))
 }
 
 /// A label with no name.
 pub(crate) fn nameless(alloc: Global, kind: Kind) -> Label {
-    Label {
-        kind,
-        name: String::new(alloc),
-        public_id: String::new(alloc),
-        system_id: String::new(alloc),
-    }
+    Label::named(kind, String::new(alloc))
 }
 
 /// Makes a node in the document of a tree, or a document of its own.

@@ -36,6 +36,16 @@ fn room_for_nodes(rt: HostRuntime) -> Result<(), Fail> {
     Ok(())
 }
 
+// Room in more nodes than a document of the other tests has, at one call.
+#[test]
+fn room_for_five_million_nodes(rt: HostRuntime) -> Result<(), Fail> {
+    let mut ranges = Ranges::new(rt.alloc());
+    ranges.cover(5_000_001)?;
+    assert!(rt; ranges.is_covered(NodeId::new(5_000_000)));
+    assert!(rt; !ranges.is_covered(NodeId::new(5_000_001)));
+    Ok(())
+}
+
 // Covers a thousand nodes, and tries once more where the growth is refused.
 fn cover_at_last(ranges: &mut Ranges) -> Result<(), AllocError> {
     match ranges.cover(1000) {

@@ -42,7 +42,7 @@ fn two_of_three(
         let _ = new_iterator(iterators, root, filter(alloc, &[])?)?;
     }
     release(rt, iterators, IteratorId::new(0));
-    assert_eq!(rt; iterators.made(), 3);
+    assert_eq!(rt; (iterators.made(), iterators.count()), (3, 2));
     Ok(())
 }
 
@@ -189,7 +189,7 @@ fn other_walks_on(rt: &impl Abort, walkers: &mut Walkers, tree: &Tree<()>) {
     assert!(rt; !refers(rt, walkers, tree, 2) && refers(rt, walkers, tree, 1));
     release_walker(rt, walkers, second);
     assert!(rt; !refers(rt, walkers, tree, 1));
-    assert_eq!(rt; walkers.made(), 2);
+    assert_eq!(rt; (walkers.made(), walkers.count()), (2, 0));
 }
 
 #[test]

@@ -31,7 +31,7 @@ fn come_and_go(rt: &impl Abort, ranges: &mut Ranges, tree: &Tree<Units>) -> Resu
     for n in 1..201 {
         comes_and_goes(rt, ranges, tree, n)?;
     }
-    assert_eq!(rt; (ranges.made(), ranges.slots()), (201, 1));
+    assert_eq!(rt; (ranges.made(), ranges.count()), (201, 1));
     Ok(())
 }
 
@@ -70,7 +70,7 @@ fn takes_its_turn(
 
 // Of three thousand ranges the last ten are live, each where its number says.
 fn expect_last_ten(rt: &impl Abort, ranges: &Ranges) {
-    assert_eq!(rt; (ranges.made(), ranges.slots()), (3_000, 10));
+    assert_eq!(rt; (ranges.made(), ranges.count()), (3_000, 10));
     assert!(rt; !ranges.holds(RangeId::new(0)) && !ranges.holds(RangeId::new(2_989)));
     for n in 2_990..3_000 {
         let (start, end) = by_number(n);
@@ -140,7 +140,7 @@ fn make_in_slots(
     make_all(rt, ranges, tree, &later())?;
     assert!(rt; !ranges.holds(RangeId::new(0)) && !ranges.holds(RangeId::new(1)));
     expect_all(rt, ranges, 2, &later());
-    assert_eq!(rt; ranges.slots(), 3);
+    assert_eq!(rt; ranges.count(), 3);
     Ok(())
 }
 

@@ -171,7 +171,7 @@ fn come_and_go(rt: &impl Abort, statics: &mut Statics) -> Result<(), AllocError>
         release(rt, statics, n);
     }
     lies(rt, statics, 0, at(0, 1), at(0, 2));
-    assert_eq!(rt; statics.made(), 1_000_001);
+    assert_eq!(rt; (statics.made(), statics.count()), (1_000_001, 1));
     Ok(())
 }
 

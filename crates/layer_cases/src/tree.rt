@@ -208,7 +208,7 @@ fn is_first(rt: &impl Abort, tree: &mut Tree<u32>, a: NodeId, b: NodeId) -> bool
     assert!(rt; tree.holds(b));
     assert!(rt; tree.parent(a).is_some());
     assert_eq!(rt; tree.parent(a), tree.parent(b));
-    tree.found_before(a, b)
+    tree.found_comes_before(a, b)
 }
 
 // The children are 301, 300 and so on, down to 2.

@@ -21,12 +21,7 @@ pub(crate) fn nothing() -> RawOptions {
 
 /// A label of a Text, which these tests ask nothing of.
 pub(crate) fn label(alloc: Global) -> Label {
-    Label {
-        kind: Kind::Text,
-        name: String::new(alloc),
-        public_id: String::new(alloc),
-        system_id: String::new(alloc),
-    }
+    Label::named(Kind::Text, String::new(alloc))
 }
 
 /// An observer watches a node.

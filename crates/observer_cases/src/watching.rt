@@ -463,8 +463,10 @@ impl Scene for AReleasedOneIsToldNothing {
         leave(rt, observers, tree)?;
         changed(rt, observers, tree, alloc, node)?;
         assert!(rt; is_named(rt, observers, tree, top) && is_named(rt, observers, tree, node));
+        assert_eq!(rt; (observers.count(), observers.registrations()), (1, 2));
         release(rt, observers, ObserverId::new(0));
         assert!(rt; observers.is_idle() && observers.pending(0).is_none());
+        assert_eq!(rt; (observers.count(), observers.registrations()), (0, 0));
         assert!(rt; !is_named(rt, observers, tree, top) && !is_named(rt, observers, tree, node));
         if change(rt, observers, tree, alloc, node, "c").is_err() {
             change(rt, observers, tree, alloc, node, "c")?;

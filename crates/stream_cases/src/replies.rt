@@ -11,12 +11,7 @@ use std::cmp::Ordering;
 use std::test::Fail;
 
 fn label(alloc: Global, kind: Kind, name: &str) -> Result<Label, AllocError> {
-    Ok(Label {
-        kind,
-        name: String::from_str(alloc, name)?,
-        public_id: String::new(alloc),
-        system_id: String::new(alloc),
-    })
+    Ok(Label::named(kind, String::from_str(alloc, name)?))
 }
 
 fn row(alloc: Global, depth: usize, number: u32, label: Label, text: Units) -> TreeRow {

@@ -21,12 +21,7 @@ use std::alloc::{AllocError, Global};
 fn named(alloc: Global, kind: Kind, name: &str) -> Result<Label, AllocError>
     ensures { IfOk result (λ label. label ≡ named kind name.now) }
 {
-    Ok(Label {
-        kind,
-        name: String::from_str(alloc, name)?,
-        public_id: String::new(alloc),
-        system_id: String::new(alloc),
-    })
+    Ok(Label::named(kind, String::from_str(alloc, name)?))
 }
 
 /// A Document with an element in it.

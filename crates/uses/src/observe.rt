@@ -15,7 +15,8 @@ use std::alloc::AllocError;
 /// Makes an observer that is told what changes among the children of a node, and of all nodes below it.
 pub fn watch_children(observers: &mut Observers, node: NodeId) -> Result<ObserverId, AllocError>
     requires room { length observers.old.queues < 4294967295 }
-    ensures observes { IfOk result (λ id. (x : Observing) → Watches observers.old x → Watches observers.new (observed id node children_below (with_observer x))) }
+    ensures observes { IfOk result (λ id. (x : Observing) → Watches observers.old x →
+        Watches observers.new (observed id node children_below (with_observer x))) }
 {
     let options = Options {
         child_list: true,
@@ -40,7 +41,9 @@ pub fn tell_and_take<X>(
 ) -> Result<Vec<Record>, AllocError>
     requires held { IsSome (queue_in observers.old observer) }
     requires target { HasNode tree.now.forest change.now.target }
-    ensures records { IfOk result (λ records. (x : Observing) → Watches observers.old x → records.items ≡ queue_of observer (noted (record (change.now) { standing = standing_on (ancestors change.now.target tree.now.forest) x.registrations }) x)) }
+    ensures records { IfOk result (λ records. (x : Observing) → Watches observers.old x →
+        records.items ≡ queue_of observer
+        (noted (record (change.now) { standing = standing_on (ancestors change.now.target tree.now.forest) x.registrations }) x)) }
 {
     observers.queue(tree, change)?;
     Ok(observers.take(observer))

@@ -1,3 +1,5 @@
+use Rattle.std.proofs.Common.{ap}
+use Rattle.dom_edit.specs.declared.world.World.{World}
 use Rattle.dom_clone.proofs.Left.{left-same, left-covered, left-made, either-way}
 use Rattle.dom_clone.proofs.copying.copy_node.Goals as goal
 
@@ -10,5 +12,5 @@ returns-in_err-content-clause-left c = left-same c.args.world.now
 pub returns-clause-left : goal.returns-clause-left
 returns-clause-left c =
     either-way c.make.result c.make.ensures.made c.make.ensures.kept
-    (left-made c.args.world.now c.make.new.self _ _ _)
+    (left-made c.args.world.now c.make.new.self _ _ _ (ap (λ (w : World). w.observers) c.make.ensures.parts))
     (left-covered c.args.world.now c.make.new.self)

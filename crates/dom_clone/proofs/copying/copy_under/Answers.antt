@@ -42,3 +42,9 @@ pub returns-clause-whole : goal.returns-clause-whole
 returns-clause-whole c =
     let m = copy-may_go c.args.world.now c.copy_node.new.world c.requires.whole c.args.node c.args.parent c.document_in-document.result c.requires.held c.requires.parent_held c.requires.kinds c.document_in-document.ensures.document c.in_ok-copy.ensures.copied in
     rw (c.put.ensures, c.in_ok-copy.ensures.number) (put-whole c.copy_node.new.world c.in_ok-copy.ensures.whole c.args.parent c.args.world.now.tree.made c.document_in-document.result m)
+
+pub returns-in_err-copy-clause-observers : goal.returns-in_err-copy-clause-observers
+returns-in_err-copy-clause-observers c = c.copy_node.ensures.left.observers
+
+pub returns-clause-observers : goal.returns-clause-observers
+returns-clause-observers c = c.copy_node.ensures.left.observers

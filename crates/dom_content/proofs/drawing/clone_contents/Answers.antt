@@ -1,5 +1,6 @@
 -- The range is in order, and what its parts say is said of the live range.
-use Rattle.std.proofs.Common.{false, sym, ◌∙◌, subst}
+use Rattle.std.proofs.Common.{false, refl, sym, ◌∙◌, subst}
+use Rattle.dom_clone.proofs.Left.{left-same}
 use Rattle.std.proofs.lemmas.Result.{err_from_is_err_and}
 use Rattle.dom_model.specs.Worlds.World.{Range}
 use Rattle.dom_model.specs.RangesAndContents.Contents.{contents_drawn, clone_contents}
@@ -55,3 +56,12 @@ pub returns-clause-copied : goal.returns-clause-copied
 returns-clause-copied c =
     subst (λ id. CopiesBetween c.args.world.now c.draw.new.world c.args.range id) (sym c.in_ok-fragment.ensures.number)
     (copied-cloned c.args.world.now c.draw.new.world c.args.range c.requires.whole (returns-clause-allowed c) (returns-clause-cloned c))
+
+pub returns-in_err-parts-clause-left : goal.returns-in_err-parts-clause-left
+returns-in_err-parts-clause-left c = left-same c.args.world.now
+
+pub returns-in_err-fragment-clause-left : goal.returns-in_err-fragment-clause-left
+returns-in_err-fragment-clause-left c = c.draw.ensures.left refl
+
+pub returns-clause-left : goal.returns-clause-left
+returns-clause-left c = c.draw.ensures.left refl

@@ -2,7 +2,7 @@
 use Rattle.std.proofs.Common.{refl, ap}
 use Rattle.dom_content.specs.Drawing.{in_one_data}
 use Rattle.dom_content.proofs.RangeTexts.{ahead-of}
-use Rattle.dom_content.proofs.PieceSteps.{held-still}
+use Rattle.dom_content.proofs.OlderLeft.{own-newer}
 use Rattle.dom_content.proofs.StaysOf.{stays-then}
 use Rattle.dom_content.proofs.DrawnContents.{document-is, one-same, follows-drawn, room-fragment, room-filled}
 use Rattle.dom_content.proofs.PartsComing.{may-fill}
@@ -17,7 +17,7 @@ new_fragment-requires-clause-room c =
     refl c.requires.room
 
 pub fill-requires-clause-start_held : goal.fill-requires-clause-start_held
-fill-requires-clause-start_held c = held-still c.args.world.now c.new_fragment.new.world c.in_ok-fragment.ensures.stays.held c.args.start.node c.requires.range.starts.there
+fill-requires-clause-start_held c = c.in_ok-fragment.ensures.kept.held c.args.start.node c.requires.range.starts.there
 
 pub fill-requires-clause-ahead : goal.fill-requires-clause-ahead
 fill-requires-clause-ahead c = λ h. ahead-of c.args.world.now.tree.forest (record { start = c.args.start; end = c.args.end }) c.args.start c.args.end c.requires.range refl refl h
@@ -76,3 +76,12 @@ returns-clause-drawn c =
 
 pub returns-clause-stays : goal.returns-clause-stays
 returns-clause-stays c = stays-then c.args.world.now c.new_fragment.new.world c.fill.new.world c.in_ok-fragment.ensures.stays c.in_ok-fill.ensures.stays
+
+pub returns-in_err-fragment-clause-left : goal.returns-in_err-fragment-clause-left
+returns-in_err-fragment-clause-left c still = c.new_fragment.ensures.left
+
+pub returns-in_err-fill-clause-left : goal.returns-in_err-fill-clause-left
+returns-in_err-fill-clause-left c still = c.fill.ensures.left still c.args.world.now c.requires.whole (own-newer c.args.world.now c.in_ok-fragment.fragment c.in_ok-fragment.ensures.number) c.new_fragment.ensures.left
+
+pub returns-clause-left : goal.returns-clause-left
+returns-clause-left c still = c.fill.ensures.left still c.args.world.now c.requires.whole (own-newer c.args.world.now c.in_ok-fragment.fragment c.in_ok-fragment.ensures.number) c.new_fragment.ensures.left

@@ -101,3 +101,12 @@ returns-clause-stays c =
     let end = c.children_into.new.world in
     on_ok_weaker c.head_into.result
     (λ s. stays-then v mid c.head_into.new.world c.in_ok-tail_into.ensures.stays (stays-then mid end c.head_into.new.world c.in_ok-children_into.ensures.stays s)) c.head_into.ensures.stays
+
+pub returns-in_err-tail_into-clause-left : goal.returns-in_err-tail_into-clause-left
+returns-in_err-tail_into-clause-left c = c.tail_into.ensures.left
+
+pub returns-in_err-children_into-clause-left : goal.returns-in_err-children_into-clause-left
+returns-in_err-children_into-clause-left c still a h newer l = c.children_into.ensures.left still a h newer (c.tail_into.ensures.left still a h newer l)
+
+pub returns-clause-left : goal.returns-clause-left
+returns-clause-left c still a h newer l = c.head_into.ensures.left still a h newer (c.children_into.ensures.left still a h newer (c.tail_into.ensures.left still a h newer l))

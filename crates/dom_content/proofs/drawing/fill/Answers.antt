@@ -12,3 +12,6 @@ draw_units-requires-clause-within c = c.requires.within (sym c.if-is_in_one_data
 
 pub returns-then-eq-clause-stays : goal.returns-then-eq-clause-stays
 returns-then-eq-clause-stays c = stays-none c.args.world.now
+
+pub returns-then-eq-clause-left : goal.returns-then-eq-clause-left
+returns-then-eq-clause-left c still a h newer l = l

@@ -1,8 +1,11 @@
 -- One after another is finished.
-use Rattle.std.proofs.Common.{◌<◌, ◌≤◌, length, refl, arith, ⊎_elim}
+use Rattle.std.proofs.Common.{◌<◌, ◌≤◌, [], ◌∷◌, ◌++◌, length, refl, arith, ⊎_elim}
 use Rattle.std.proofs.lemmas.Bool.{cases_lt, false≢true}
 use Rattle.dom_edit.proofs.NodesKept.{labels-then}
+use Rattle.dom_edit.specs.Leaving.{AreNewer}
+use Rattle.dom_content.specs.Paths.{numbers_of_copies}
 use Rattle.dom_content.proofs.LabelsKept.{labels-same}
+use Rattle.dom_content.proofs.OlderLeft.{front-newer, last-newer}
 use Rattle.dom_content.proofs.PathSteps.{closing-first, closing-last, closing-room, closing-next, closing-end, no_partials, fewer}
 use Rattle.dom_content.proofs.partial.close_all.Goals as goal
 
@@ -10,6 +13,7 @@ pub loop-partial-init : goal.loop-partial-init
 loop-partial-init c = record {
   closing = closing-first c.args.world.now c.args.moves c.args.partials.items c.requires.whole c.requires.may c.requires.room;
   kept = labels-same c.args.world.now c.args.world.now refl;
+  left = λ still a h newer l. (newer, l);
 }
 
 pub close_partial-requires-clause-whole : goal.close_partial-requires-clause-whole
@@ -31,6 +35,10 @@ loop-partial-preserved c = record {
   closing = closing-next c.args.world.now c.loop-partial.world c.args.moves c.args.partials.items c.pop.new.self.items c.in-Some.partial (rw c.in-Some.ensures.items at c.loop-partial.invariant.closing)
       c.close_partial.new.world c.in_ok-close_partial.ensures.closed c.in_ok-close_partial.ensures.stays c.in_ok-close_partial.ensures.whole;
   kept = labels-then c.args.world.now c.loop-partial.world c.close_partial.new.world c.loop-partial.invariant.kept c.in_ok-close_partial.ensures.kept;
+  left = λ still a h newer l.
+      let k = c.loop-partial.invariant.left still a h newer l in
+      let all : AreNewer a (numbers_of_copies (c.pop.new.self.items ++ c.in-Some.partial ∷ [])) = rw c.in-Some.ensures.items at k.0 in
+      (front-newer a c.pop.new.self.items c.in-Some.partial all, c.in_ok-close_partial.ensures.left still a h (last-newer a c.pop.new.self.items c.in-Some.partial all) k.1);
 }
 
 pub returns-clause-closed : goal.returns-clause-closed
@@ -47,3 +55,12 @@ returns-clause-stays c = c.loop-partial.invariant.closing.still
 
 pub returns-clause-whole : goal.returns-clause-whole
 returns-clause-whole c = c.loop-partial.invariant.closing.whole
+
+pub returns-in_err-close_partial-clause-left : goal.returns-in_err-close_partial-clause-left
+returns-in_err-close_partial-clause-left c still a h newer l =
+    let k = c.loop-partial.invariant.left still a h newer l in
+    let all : AreNewer a (numbers_of_copies (c.pop.new.self.items ++ c.in-Some.partial ∷ [])) = rw c.in-Some.ensures.items at k.0 in
+    c.close_partial.ensures.left still a h (last-newer a c.pop.new.self.items c.in-Some.partial all) k.1
+
+pub returns-clause-left : goal.returns-clause-left
+returns-clause-left c still a h newer l = (c.loop-partial.invariant.left still a h newer l).1

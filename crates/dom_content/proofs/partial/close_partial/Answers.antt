@@ -1,4 +1,6 @@
 -- The children go in, and then the fragment into the copy.
+use Rattle.std.proofs.Common.{sym, ◌∙◌, arith}
+use Rattle.std.proofs.lemmas.Bool.{false≢true}
 use Rattle.std.proofs.lemmas.Result.{on_ok_weaker}
 use Rattle.dom_content.proofs.StaysOf.{stays-then}
 use Rattle.dom_content.proofs.Comings.{inner-holder, unfinished-goes, goes-children, may-finish, finish-unreferred}
@@ -42,3 +44,17 @@ returns-clause-closed c =
 
 pub returns-clause-stays : goal.returns-clause-stays
 returns-clause-stays c = on_ok_weaker c.put_last.result (stays-then c.args.world.now c.children_into.new.world c.put_last.new.world c.in_ok-children_into.ensures.stays) c.put_last.ensures.stays
+
+pub returns-in_err-children_into-clause-left : goal.returns-in_err-children_into-clause-left
+returns-in_err-children_into-clause-left c still a h newer l = c.children_into.ensures.left still a h (λ m i. newer m (omega arith)) l
+
+pub returns-clause-left : goal.returns-clause-left
+returns-clause-left c still a h newer l =
+    let v = c.args.world.now in
+    let p = c.args.partial.now in
+    let m = c.requires.may in
+    let drawn = rw c.deref.ensures.value at c.in_ok-children_into.ensures.drawn in
+    let g = goes-children v c.requires.whole m.low m.rising p.inner (inner-holder m.low v.tree.forest p m.parts.0) c.args.moves p.children.items m.parts.0.children c.children_into.new.world drawn c.in_ok-children_into.ensures.stays in
+    let fragment = (unfinished-goes m.low v c.children_into.new.world g p m.parts.0).inner in
+    let filled = c.children_into.ensures.left still a h (λ n i. newer n (omega arith)) l in
+    c.put_last.ensures.left (λ plain. absurd (false≢true (sym plain ∙ fragment))) a h newer filled

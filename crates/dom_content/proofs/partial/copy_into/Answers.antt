@@ -39,3 +39,9 @@ returns-clause-copied c =
 
 pub returns-clause-stays : goal.returns-clause-stays
 returns-clause-stays c = on_ok_weaker c.close_partial.result (stays-then c.args.world.now c.open_partial.new.world c.close_partial.new.world c.in_ok-partial.ensures.stays) c.close_partial.ensures.stays
+
+pub returns-in_err-partial-clause-left : goal.returns-in_err-partial-clause-left
+returns-in_err-partial-clause-left c still a h newer l = c.open_partial.ensures.left a h newer l
+
+pub returns-clause-left : goal.returns-clause-left
+returns-clause-left c still a h newer l = c.close_partial.ensures.left still a h (c.in_ok-partial.ensures.begun a h newer l) (c.open_partial.ensures.left a h newer l)

@@ -1,6 +1,10 @@
 -- A copy is put, and a further fragment is made.
-use Rattle.std.proofs.Common.{false}
+use Rattle.std.proofs.Common.{[], ◌∷◌, false, arith}
+use Rattle.dom_model.proofs.Forests.Climbing.{hits-first}
+use Rattle.dom_edit.proofs.LeftAlone.{newer-two}
+use Rattle.dom_clone.proofs.Left.{left-then}
 use Rattle.dom_content.proofs.PieceSteps.{data-then}
+use Rattle.dom_content.proofs.LabelsKept.{still-held}
 use Rattle.dom_content.proofs.StaysOf.{stays-then}
 use Rattle.dom_content.proofs.Comings.{first-old, may-put_copy, copy-unreferred}
 use Rattle.dom_content.proofs.PathSteps.{room-copy, room-inner, inner-is, follows-opened, document-stays}
@@ -22,7 +26,7 @@ put_last-requires-clause-unreferred c =
 
 pub new_fragment-requires-clause-document_kind : goal.new_fragment-requires-clause-document_kind
 new_fragment-requires-clause-document_kind c =
-    document-stays c.args.world.now c.copy_of.new.world c.put_last.new.world c.document_in-document.result c.in_ok-copy.ensures.stays.held c.in_ok-copy.ensures.kinds c.in_ok-put_last.ensures.kinds c.document_in-document.ensures.kind
+    document-stays c.args.world.now c.copy_of.new.world c.put_last.new.world c.document_in-document.result (still-held c.args.world.now c.copy_of.new.world c.in_ok-copy.ensures.kept) c.in_ok-copy.ensures.kinds c.in_ok-put_last.ensures.kinds c.document_in-document.ensures.kind
 
 pub new_fragment-requires-clause-room : goal.new_fragment-requires-clause-room
 new_fragment-requires-clause-room c =
@@ -46,5 +50,45 @@ returns-clause-stays c =
 
 pub returns-clause-texts : goal.returns-clause-texts
 returns-clause-texts c =
-    data-then c.args.world.now c.copy_of.new.world c.new_fragment.new.world c.in_ok-copy.ensures.stays.held c.in_ok-copy.ensures.texts
-    (data-then c.copy_of.new.world c.put_last.new.world c.new_fragment.new.world c.in_ok-put_last.ensures.stays.held c.in_ok-put_last.ensures.texts c.in_ok-inner.ensures.texts)
+    data-then c.args.world.now c.copy_of.new.world c.new_fragment.new.world (still-held c.args.world.now c.copy_of.new.world c.in_ok-copy.ensures.kept) c.in_ok-copy.ensures.texts
+    (data-then c.copy_of.new.world c.put_last.new.world c.new_fragment.new.world (still-held c.copy_of.new.world c.put_last.new.world c.in_ok-put_last.ensures.kept) c.in_ok-put_last.ensures.texts c.in_ok-inner.ensures.texts)
+
+pub returns-in_err-copy-clause-left : goal.returns-in_err-copy-clause-left
+returns-in_err-copy-clause-left c a h newer l = left-then a c.args.world.now c.copy_of.new.world l c.copy_of.ensures.left
+
+pub returns-in_err-put_last-clause-left : goal.returns-in_err-put_last-clause-left
+returns-in_err-put_last-clause-left c a h newer l =
+    let v = c.args.world.now in
+    let m = left-then a v c.copy_of.new.world l c.copy_of.ensures.left in
+    let begun = l.made in
+    let two = newer-two a h c.args.into c.in_ok-copy.copy (newer c.args.into (hits-first c.args.into [])) (omega (arith, begun, c.in_ok-copy.ensures.number)) in
+    let put = c.put_last.ensures.left (λ _. rw c.in_ok-copy.ensures.number c.in_ok-copy.ensures.root) a h two m in
+    put
+
+pub returns-in_err-inner-clause-left : goal.returns-in_err-inner-clause-left
+returns-in_err-inner-clause-left c a h newer l =
+    let v = c.args.world.now in
+    let m = left-then a v c.copy_of.new.world l c.copy_of.ensures.left in
+    let begun = l.made in
+    let two = newer-two a h c.args.into c.in_ok-copy.copy (newer c.args.into (hits-first c.args.into [])) (omega (arith, begun, c.in_ok-copy.ensures.number)) in
+    let put = c.put_last.ensures.left (λ _. rw c.in_ok-copy.ensures.number c.in_ok-copy.ensures.root) a h two m in
+    left-then a c.put_last.new.world c.new_fragment.new.world put c.new_fragment.ensures.left
+
+pub returns-clause-left : goal.returns-clause-left
+returns-clause-left c a h newer l =
+    let v = c.args.world.now in
+    let m = left-then a v c.copy_of.new.world l c.copy_of.ensures.left in
+    let begun = l.made in
+    let two = newer-two a h c.args.into c.in_ok-copy.copy (newer c.args.into (hits-first c.args.into [])) (omega (arith, begun, c.in_ok-copy.ensures.number)) in
+    let put = c.put_last.ensures.left (λ _. rw c.in_ok-copy.ensures.number c.in_ok-copy.ensures.root) a h two m in
+    left-then a c.put_last.new.world c.new_fragment.new.world put c.new_fragment.ensures.left
+
+pub returns-clause-begun : goal.returns-clause-begun
+returns-clause-begun c a h newer l =
+    let v = c.args.world.now in
+    let m = left-then a v c.copy_of.new.world l c.copy_of.ensures.left in
+    let begun = l.made in
+    let two = newer-two a h c.args.into c.in_ok-copy.copy (newer c.args.into (hits-first c.args.into [])) (omega (arith, begun, c.in_ok-copy.ensures.number)) in
+    let put = c.put_last.ensures.left (λ _. rw c.in_ok-copy.ensures.number c.in_ok-copy.ensures.root) a h two m in
+    let grown = put.made in
+    newer-two a h c.in_ok-copy.copy c.in_ok-inner.inner (omega (arith, begun, c.in_ok-copy.ensures.number)) (omega (arith, grown, c.in_ok-inner.ensures.number))

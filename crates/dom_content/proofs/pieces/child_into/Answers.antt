@@ -1,11 +1,15 @@
 -- The node itself, or its copy.
-use Rattle.std.proofs.Common.{[], true, subst, sym}
+use Rattle.std.proofs.Common.{[], ◌∷◌, true, subst, sym, arith}
 use Rattle.std.proofs.lemmas.Result.{on_ok_weaker}
 use Rattle.std.specs.Prelude.{OnOk}
 use Rattle.dom_model.specs.RangesAndContents.Contents.{child_into}
 use Rattle.dom_edit.specs.Whole.{Follows}
 use Rattle.dom_content.specs.Paths.{HasRoom}
 use Rattle.dom_content.proofs.PieceSteps.{room-child, follows-child}
+use Rattle.dom_model.proofs.Forests.Climbing.{hits-first}
+use Rattle.dom_edit.proofs.LeftAlone.{newer-two}
+use Rattle.dom_clone.proofs.Left.{left-then}
+use Rattle.dom_content.proofs.OlderLeft.{no_moves}
 use Rattle.dom_content.proofs.StaysOf.{stays-then}
 use Rattle.dom_content.proofs.Comings.{first-old, may-put, may-put_copy, copy-unreferred}
 use Rattle.dom_content.proofs.pieces.child_into.Goals as goal
@@ -43,3 +47,18 @@ returns-clause-drawn c =
 
 pub returns-clause-stays : goal.returns-clause-stays
 returns-clause-stays c = on_ok_weaker c.put_last.result (stays-then c.args.world.now c.copy_of.new.world c.put_last.new.world c.in_ok-copy.ensures.stays) c.put_last.ensures.stays
+
+pub returns-then-moves-clause-left : goal.returns-then-moves-clause-left
+returns-then-moves-clause-left c still = no_moves c.args.moves c.if-moves.true still
+
+pub returns-in_err-copy-clause-left : goal.returns-in_err-copy-clause-left
+returns-in_err-copy-clause-left c still a h newer l = left-then a c.args.world.now c.copy_of.new.world l c.copy_of.ensures.left
+
+pub returns-clause-left : goal.returns-clause-left
+returns-clause-left c still a h newer l =
+    let v = c.args.world.now in
+    let m = left-then a v c.copy_of.new.world l c.copy_of.ensures.left in
+    let begun = l.made in
+    let two = newer-two a h c.args.into c.in_ok-copy.copy (newer c.args.into (hits-first c.args.into [])) (omega (arith, begun, c.in_ok-copy.ensures.number)) in
+    let put = c.put_last.ensures.left (λ _. rw c.in_ok-copy.ensures.number c.in_ok-copy.ensures.root) a h two m in
+    put

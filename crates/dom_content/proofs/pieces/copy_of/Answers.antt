@@ -2,6 +2,7 @@
 use Rattle.std.proofs.lemmas.Result.{on_ok_weaker}
 use Rattle.dom_content.proofs.LabelsKept.{labels-left}
 use Rattle.dom_content.proofs.PieceSteps.{room-clone, kinds-clone, data-clone, clone-held}
+use Rattle.dom_content.proofs.OlderLeft.{root-clone}
 use Rattle.dom_content.proofs.StaysOf.{stays-clone}
 use Rattle.dom_content.proofs.pieces.copy_of.Goals as goal
 
@@ -22,3 +23,9 @@ returns-clause-texts c = on_ok_weaker c.clone_node.result (data-clone c.args.wor
 
 pub returns-clause-kept : goal.returns-clause-kept
 returns-clause-kept c = labels-left c.args.world.now c.clone_node.new.world c.clone_node.ensures.left
+
+pub returns-clause-root : goal.returns-clause-root
+returns-clause-root c = on_ok_weaker c.clone_node.result (root-clone c.args.world.now c.clone_node.new.world c.requires.whole c.args.deep c.args.node) c.clone_node.ensures.cloned
+
+pub returns-clause-left : goal.returns-clause-left
+returns-clause-left c = c.clone_node.ensures.left

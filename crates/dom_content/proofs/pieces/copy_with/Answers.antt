@@ -1,7 +1,10 @@
 -- The copy is there beside all others.
-use Rattle.std.proofs.Common.{rules}
+use Rattle.std.proofs.Common.{ap, rules}
 use Rattle.std.proofs.lemmas.Result.{on_ok_weaker}
 use Rattle.dom_content.proofs.PieceSteps.{room-copied, follows-copied, kinds-copied, data-copied, copied-held}
+use Rattle.dom_edit.specs.declared.world.World.{World}
+use Rattle.dom_clone.proofs.Left.{left-same, left-covered, left-made, either-way}
+use Rattle.dom_content.proofs.OlderLeft.{root-part}
 use Rattle.dom_content.proofs.StaysOf.{stays-copied}
 use Rattle.dom_content.proofs.pieces.copy_with.Goals as goal
 
@@ -24,3 +27,18 @@ returns-clause-kinds c = on_ok_weaker c.make.result (kinds-copied c.args.world.n
 
 pub returns-clause-texts : goal.returns-clause-texts
 returns-clause-texts c = on_ok_weaker c.make.result (data-copied c.args.world.now c.make.new.self c.args.units c.args.node) (returns-clause-copied c)
+
+pub returns-clause-root : goal.returns-clause-root
+returns-clause-root c = on_ok_weaker c.make.result (root-part c.args.world.now c.make.new.self c.requires.whole c.args.units c.args.node) (returns-clause-copied c)
+
+pub returns-in_err-label-clause-left : goal.returns-in_err-label-clause-left
+returns-in_err-label-clause-left c = left-same c.args.world.now
+
+pub returns-in_err-attrs-clause-left : goal.returns-in_err-attrs-clause-left
+returns-in_err-attrs-clause-left c = left-same c.args.world.now
+
+pub returns-clause-left : goal.returns-clause-left
+returns-clause-left c =
+    either-way c.make.result c.make.ensures.made c.make.ensures.kept
+    (left-made c.args.world.now c.make.new.self _ _ _ (ap (λ (w : World). w.observers) c.make.ensures.parts))
+    (left-covered c.args.world.now c.make.new.self)

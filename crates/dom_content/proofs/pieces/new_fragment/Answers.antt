@@ -1,5 +1,7 @@
 -- The fragment is there beside all others.
-use Rattle.std.proofs.Common.{[], rules}
+use Rattle.std.proofs.Common.{[], ap, rules}
+use Rattle.dom_edit.specs.declared.world.World.{World}
+use Rattle.dom_clone.proofs.Left.{left-covered, left-made, either-way}
 use Rattle.std.specs.Prelude.{OnOk}
 use Rattle.dom_model.specs.declared.Kind.TheVariants.{DocumentFragment}
 use Rattle.dom_model.specs.Worlds.World.{no_content}
@@ -26,3 +28,9 @@ returns-clause-stays c = on_ok_weaker c.make.result (stays-fragment c.args.world
 
 pub returns-clause-texts : goal.returns-clause-texts
 returns-clause-texts c = on_ok_weaker c.make.result (data-fragment c.args.world.now c.make.new.self c.args.document) (returns-clause-made c)
+
+pub returns-clause-left : goal.returns-clause-left
+returns-clause-left c =
+    either-way c.make.result (returns-clause-made c) c.make.ensures.kept
+    (left-made c.args.world.now c.make.new.self c.args.document (named DocumentFragment []) no_content (ap (λ (w : World). w.observers) c.make.ensures.parts))
+    (left-covered c.args.world.now c.make.new.self)

@@ -1,4 +1,5 @@
 -- What is put stays, and so do all others.
+use Rattle.std.proofs.Common.{refl}
 use Rattle.std.proofs.lemmas.Result.{on_ok_weaker}
 use Rattle.dom_content.proofs.PieceSteps.{kinds-appended, data-appended}
 use Rattle.dom_content.proofs.StaysOf.{stays-appended}
@@ -16,3 +17,6 @@ returns-clause-kinds c =
 pub returns-clause-texts : goal.returns-clause-texts
 returns-clause-texts c =
     on_ok_weaker c.insert_unreferred.result (data-appended c.args.world.now c.insert_unreferred.new.self c.requires.whole c.args.parent c.args.node c.requires.allowed) c.insert_unreferred.ensures.inserted
+
+pub returns-clause-left : goal.returns-clause-left
+returns-clause-left c = c.insert_unreferred.ensures.left refl

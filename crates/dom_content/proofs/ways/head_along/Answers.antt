@@ -4,7 +4,8 @@ use Rattle.std.proofs.lemmas.Result.{on_ok_weaker}
 use Rattle.dom_model.specs.RangesAndContents.Contents.{head_into}
 use Rattle.dom_edit.proofs.NodesKept.{labels-then}
 use Rattle.dom_content.proofs.LabelsKept.{labels-same}
-use Rattle.dom_content.specs.Paths.{entered}
+use Rattle.dom_content.proofs.OlderLeft.{first-newer, rest-newer, more-newer}
+use Rattle.dom_content.specs.Paths.{entered, numbers_of_copies}
 use Rattle.dom_content.proofs.PathSteps.{down-first, down-first_old, down-held, down-may, down-room, down-next, down-close, down-close_room, down-end, down-more, down-last}
 use Rattle.dom_content.proofs.PathHeads.{head-enters, head-down}
 use Rattle.dom_content.proofs.StaysOf.{stays-then}
@@ -16,6 +17,7 @@ loop-next-init c = record {
   down = rw c.new-partials.ensures.items
       (down-first c.args.world.now c.args.moves 0 (λ i ns. head_into c.args.moves i c.args.offset ns) c.args.into (c.args.first ∷ c.args.below.now) c.requires.whole c.requires.may c.requires.way c.requires.room);
   kept = labels-same c.args.world.now c.args.world.now refl;
+  left = λ still a h newer l. (rw c.new-partials.ensures.items newer, l);
 }
 
 pub open_head-requires-clause-whole : goal.open_head-requires-clause-whole
@@ -65,6 +67,12 @@ loop-next-preserved c =
           (head-down v c.args.moves c.loop-next.here c.args.offset n c.next-item.result more p c.in_ok-partial.ensures.copy c.in_ok-partial.ensures.inner c.in_ok-partial.ensures.children)
           c.in_ok-partial.ensures.entered c.in_ok-partial.ensures.stays c.in_ok-partial.ensures.whole g u way);
       kept = labels-then c.args.world.now c.loop-next.world c.open_head.new.world c.loop-next.invariant.kept c.in_ok-partial.ensures.kept;
+      left = λ still a h newer l.
+          let k = c.loop-next.invariant.left still a h newer l in
+          let copies = numbers_of_copies c.loop-next.partials.items in
+          let here = first-newer a c.loop-next.here copies k.0 in
+          let two = c.in_ok-partial.ensures.begun a h here k.1 in
+          (rw c.in_ok-push.ensures.ok (more-newer a c.loop-next.partials.items p (rest-newer a c.loop-next.here copies k.0) two), c.open_head.ensures.left still a h here k.1);
     }
 
 pub head_of_last-requires-clause-whole : goal.head_of_last-requires-clause-whole
@@ -121,3 +129,31 @@ pub returns-clause-kept : goal.returns-clause-kept
 returns-clause-kept c =
     labels-then c.args.world.now c.loop-next.world c.close_all.new.world c.loop-next.invariant.kept
     (labels-then c.loop-next.world c.head_of_last.new.world c.close_all.new.world c.in_ok-head_of_last.ensures.kept c.close_all.ensures.kept)
+
+pub returns-in_err-partial-clause-left : goal.returns-in_err-partial-clause-left
+returns-in_err-partial-clause-left c still a h newer l =
+    let k = c.loop-next.invariant.left still a h newer l in
+    let copies = numbers_of_copies c.loop-next.partials.items in
+    let here = first-newer a c.loop-next.here copies k.0 in
+    c.open_head.ensures.left still a h here k.1
+
+pub returns-in_err-push-clause-left : goal.returns-in_err-push-clause-left
+returns-in_err-push-clause-left c still a h newer l =
+    let k = c.loop-next.invariant.left still a h newer l in
+    let copies = numbers_of_copies c.loop-next.partials.items in
+    let here = first-newer a c.loop-next.here copies k.0 in
+    c.open_head.ensures.left still a h here k.1
+
+pub returns-in_err-head_of_last-clause-left : goal.returns-in_err-head_of_last-clause-left
+returns-in_err-head_of_last-clause-left c still a h newer l =
+    let k = c.loop-next.invariant.left still a h newer l in
+    let copies = numbers_of_copies c.loop-next.partials.items in
+    let here = first-newer a c.loop-next.here copies k.0 in
+    c.head_of_last.ensures.left still a h here k.1
+
+pub returns-clause-left : goal.returns-clause-left
+returns-clause-left c still a h newer l =
+    let k = c.loop-next.invariant.left still a h newer l in
+    let copies = numbers_of_copies c.loop-next.partials.items in
+    let here = first-newer a c.loop-next.here copies k.0 in
+    c.close_all.ensures.left still a h (rest-newer a c.loop-next.here copies k.0) (c.head_of_last.ensures.left still a h here k.1)

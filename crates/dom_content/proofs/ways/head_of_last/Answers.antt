@@ -48,3 +48,12 @@ returns-clause-drawn c =
     (follows-head_copy c.args.world.now c.args.moves c.args.into c.args.offset c.args.node (sym c.has_data.ensures ∙ c.if-has_data.false) c.in_ok-ahead.ahead.items c.in_ok-ahead.ensures
     c.copy_into.new.world)
     c.copy_into.ensures.copied
+
+pub returns-then-has_data-clause-left : goal.returns-then-has_data-clause-left
+returns-then-has_data-clause-left c = c.units_into.ensures.left
+
+pub returns-in_err-ahead-clause-left : goal.returns-in_err-ahead-clause-left
+returns-in_err-ahead-clause-left c still a h newer l = l
+
+pub returns-clause-left : goal.returns-clause-left
+returns-clause-left c = c.copy_into.ensures.left

@@ -1,5 +1,6 @@
 -- The copy is opened, and what comes before the next node goes in.
 use Rattle.std.proofs.Common.{[], ◌∷◌, sym, ◌∙◌, subst}
+use Rattle.dom_content.proofs.OlderLeft.{rest-newer}
 use Rattle.dom_model.specs.PlainLists.Lists.{up_to}
 use Rattle.dom_model.specs.Forests.Forest.{children_of}
 use Rattle.dom_model.proofs.RangesAndContents.DrawnPaths.{hits-up_to}
@@ -51,3 +52,18 @@ returns-clause-entered c =
 
 pub returns-clause-stays : goal.returns-clause-stays
 returns-clause-stays c = stays-then c.args.world.now c.open_partial.new.world c.children_into.new.world c.in_ok-partial.ensures.stays c.in_ok-children_into.ensures.stays
+
+pub returns-in_err-ahead-clause-left : goal.returns-in_err-ahead-clause-left
+returns-in_err-ahead-clause-left c still a h newer l = l
+
+pub returns-in_err-partial-clause-left : goal.returns-in_err-partial-clause-left
+returns-in_err-partial-clause-left c still a h newer l = c.open_partial.ensures.left a h newer l
+
+pub returns-in_err-children_into-clause-left : goal.returns-in_err-children_into-clause-left
+returns-in_err-children_into-clause-left c still a h newer l = c.children_into.ensures.left still a h (rest-newer a c.in_ok-partial.partial.copy (c.in_ok-partial.partial.inner ∷ []) (c.in_ok-partial.ensures.begun a h newer l)) (c.open_partial.ensures.left a h newer l)
+
+pub returns-clause-left : goal.returns-clause-left
+returns-clause-left c still a h newer l = c.children_into.ensures.left still a h (rest-newer a c.in_ok-partial.partial.copy (c.in_ok-partial.partial.inner ∷ []) (c.in_ok-partial.ensures.begun a h newer l)) (c.open_partial.ensures.left a h newer l)
+
+pub returns-clause-begun : goal.returns-clause-begun
+returns-clause-begun c = c.in_ok-partial.ensures.begun

@@ -19,3 +19,12 @@ open_partial-requires-clause-may c =
 
 pub returns-clause-children : goal.returns-clause-children
 returns-clause-children c = IfOk-weaker c.open_partial.result _ _ (λ p e. e ∙ c.in_ok-behind.ensures) c.open_partial.ensures.children
+
+pub returns-in_err-behind-clause-left : goal.returns-in_err-behind-clause-left
+returns-in_err-behind-clause-left c a h newer l = l
+
+pub returns-clause-left : goal.returns-clause-left
+returns-clause-left c = c.open_partial.ensures.left
+
+pub returns-clause-begun : goal.returns-clause-begun
+returns-clause-begun c = c.open_partial.ensures.begun

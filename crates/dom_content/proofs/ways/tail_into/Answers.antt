@@ -8,3 +8,6 @@ returns-in-None-clause-drawn c = grind (arith, common_steps)
 
 pub returns-in-None-clause-stays : goal.returns-in-None-clause-stays
 returns-in-None-clause-stays c = stays-none c.args.world.now
+
+pub returns-in-None-clause-left : goal.returns-in-None-clause-left
+returns-in-None-clause-left c still a h newer l = l

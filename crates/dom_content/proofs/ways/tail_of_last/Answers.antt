@@ -51,3 +51,12 @@ returns-clause-drawn c =
 
 pub units_into-requires-clause-within : goal.units_into-requires-clause-within
 units_into-requires-clause-within c = c.requires.way (sym c.has_data.ensures ∙ c.if-has_data.true)
+
+pub returns-then-has_data-clause-left : goal.returns-then-has_data-clause-left
+returns-then-has_data-clause-left c = c.units_into.ensures.left
+
+pub returns-in_err-behind-clause-left : goal.returns-in_err-behind-clause-left
+returns-in_err-behind-clause-left c still a h newer l = l
+
+pub returns-clause-left : goal.returns-clause-left
+returns-clause-left c = c.copy_into.ensures.left

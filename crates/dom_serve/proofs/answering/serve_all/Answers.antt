@@ -1,4 +1,5 @@
 use Rattle.std.proofs.Common.{◌≡◌, false, length, arith, refl, tests, rules}
+use Rattle.dom_serve.specs.ByLine.{PassesLine, CutsLine}
 use Rattle.dom_serve.specs.Tells.{is_write, is_write_fault}
 use Rattle.dom_serve.proofs.Calls.{IsWritten-none, IsWritten-more, HasAnswered-none, HasAnswered-more, HasAnswered-passed, HasAnswered-asked}
 use Rattle.dom_serve.proofs.Told.{so_far-none, so_far-more, told-read, told-too_long, told-concluded, told-fed, some-read, most-read, lines-more}
@@ -7,6 +8,7 @@ use Rattle.dom_serve.proofs.answering.serve_all.Goals as goal
 pub loop-turn-init : goal.loop-turn-init
 loop-turn-init g c = record {
   passed = HasAnswered-none g.W.Sink.is_passed_on c.args.writer.now 0 c.args.server.now.lines c.requires.lines;
+  by_line = IsWritten-none (PassesLine g.W.Sink.taken g.W.Sink.is_passed_on) (CutsLine g.W.Sink.taken) c.args.writer.now;
   writer = IsWritten-none g.W.Sink.works g.W.Sink.fails c.args.writer.now;
   lines = omega arith;
   size = c.requires.size;
@@ -35,6 +37,11 @@ returns-in-Ok-eq0-clause-writer g c =
     IsWritten-more g.W.Sink.works g.W.Sink.fails (is_write_fault c.conclude.result) c.args.writer.now c.loop-turn.writer c.conclude.new.writer c.loop-turn.invariant.writer
     c.conclude.ensures.writer
 
+pub returns-in-Ok-eq0-clause-by_line : goal.returns-in-Ok-eq0-clause-by_line
+returns-in-Ok-eq0-clause-by_line g c =
+    IsWritten-more (PassesLine g.W.Sink.taken g.W.Sink.is_passed_on) (CutsLine g.W.Sink.taken) (is_write_fault c.conclude.result) c.args.writer.now c.loop-turn.writer c.conclude.new.writer c.loop-turn.invariant.by_line
+    c.conclude.ensures.by_line
+
 pub returns-in-Err-feed_all-clause-told : goal.returns-in-Err-feed_all-clause-told
 returns-in-Err-feed_all-clause-told g c = λ b h.
     let p = c.loop-turn.invariant.so_far b h in
@@ -53,6 +60,11 @@ returns-in-Err-feed_all-clause-writer g c =
     IsWritten-more g.W.Sink.works g.W.Sink.fails (is_write c.in-Err-feed_all.fault) c.args.writer.now c.loop-turn.writer c.feed_all.new.writer c.loop-turn.invariant.writer
     c.in-Err-feed_all.ensures.writer
 
+pub returns-in-Err-feed_all-clause-by_line : goal.returns-in-Err-feed_all-clause-by_line
+returns-in-Err-feed_all-clause-by_line g c =
+    IsWritten-more (PassesLine g.W.Sink.taken g.W.Sink.is_passed_on) (CutsLine g.W.Sink.taken) (is_write c.in-Err-feed_all.fault) c.args.writer.now c.loop-turn.writer c.feed_all.new.writer c.loop-turn.invariant.by_line
+    c.in-Err-feed_all.ensures.by_line
+
 pub returns-in-Err-clause-passed : goal.returns-in-Err-clause-passed
 returns-in-Err-clause-passed g c = λ e.
     HasAnswered-passed g.W.Sink.is_passed_on c.args.writer.now c.loop-turn.writer 0 c.loop-turn.server.lines c.loop-turn.invariant.passed
@@ -67,6 +79,7 @@ loop-turn-preserved g c =
     record {
       passed = HasAnswered-more g.W.Sink.is_passed_on c.args.writer.now c.loop-turn.writer c.feed_all.new.writer 0 c.loop-turn.server.lines c.feed_all.new.self.lines
           c.loop-turn.invariant.passed (c.in_default.ensures.passed refl);
+      by_line = IsWritten-more (PassesLine g.W.Sink.taken g.W.Sink.is_passed_on) (CutsLine g.W.Sink.taken) false c.args.writer.now c.loop-turn.writer c.feed_all.new.writer c.loop-turn.invariant.by_line c.in_default.ensures.by_line;
       writer = IsWritten-more g.W.Sink.works g.W.Sink.fails false c.args.writer.now c.loop-turn.writer c.feed_all.new.writer c.loop-turn.invariant.writer c.in_default.ensures.writer;
       lines = lines-more c.loop-turn._turn _ _ c.in-Ok.n c.read_piece.new.buffer c.loop-turn.invariant.lines size c.in_default.ensures.lines;
       size = size;
@@ -93,6 +106,9 @@ returns-in-Err-clause-at_end g c = search (tests, rules)
 pub returns-in-Err-clause-writer : goal.returns-in-Err-clause-writer
 returns-in-Err-clause-writer g c = search (tests, rules)
 
+pub returns-in-Err-clause-by_line : goal.returns-in-Err-clause-by_line
+returns-in-Err-clause-by_line g c = search (tests, rules)
+
 pub returns-clause-told : goal.returns-clause-told
 returns-clause-told g c = λ b h.
     let p = c.loop-turn.invariant.so_far b h in
@@ -103,3 +119,6 @@ returns-clause-at_end g c = search (tests, rules)
 
 pub returns-clause-writer : goal.returns-clause-writer
 returns-clause-writer g c = search (tests, rules)
+
+pub returns-clause-by_line : goal.returns-clause-by_line
+returns-clause-by_line g c = search (tests, rules)

@@ -1,12 +1,14 @@
 use Rattle.std.proofs.Common.{◌≡◌, ◌*◌, ◌≤◌, false, [], length}
 use Rattle.dom_model.specs.Commands.Answer.{Bounds}
 use Rattle.dom_serve.specs.Calls.{HasAnswered, IsWritten}
+use Rattle.dom_serve.specs.ByLine.{IsWrittenByLine}
 use Rattle.dom_serve.specs.Server.{Stands, IsSoFar}
 use Rattle.dom_serve.proofs.answering.serve_all.Given as goal
 
 abbrev pub invariant-loop-turn : goal.invariant-loop-turn
 invariant-loop-turn g l = record {
   passed : HasAnswered g.W.Sink.is_passed_on l.fn.writer 0 l.writer l.server.lines;
+  by_line : IsWrittenByLine g.W.Sink.taken g.W.Sink.is_passed_on false l.fn.writer l.writer;
   writer : IsWritten g.W.Sink.works g.W.Sink.fails false l.fn.writer l.writer;
   lines : l.server.lines ≤ 65536 * l._turn;
   size : length l.buffer ≡ 65536;

@@ -8,6 +8,7 @@ returns-in-Ok g c = record {
   told = c.serve_all.ensures.told (bounds_of c.args.limits) c.in-Ok.ensures.stands;
   at_end = c.serve_all.ensures.at_end;
   passed_on = c.serve_all.ensures.passed;
+  by_line = c.serve_all.ensures.by_line;
   asked = c.serve_all.ensures.writer;
 }
 
@@ -17,5 +18,6 @@ returns-in-Err g c = record {
       (g.W.Sink.taken c.write_out_of_memory.new.writer) c.write_out_of_memory.result c.write_out_of_memory.ensures.written;
   at_end = tt;
   passed_on = λ e. inr (c.write_out_of_memory.ensures.passed e);
+  by_line = c.write_out_of_memory.ensures.by_line;
   asked = c.write_out_of_memory.ensures.writer;
 }

@@ -1,52 +1,79 @@
 -- One node after another.
-use Rattle.std.proofs.Common.{if◌then◌else◌, Some, refl, ap, sym, ◌∙◌}
+use Rattle.std.proofs.Common.{◌≡◌, true, if◌then◌else◌, Some, refl, ap, sym, ◌∙◌}
+use Rattle.dom_model.specs.PlainLists.Lists.{among, after}
+use Rattle.dom_model.specs.Forests.Forest.{Grove, ancestors, inclusive_descendants}
+use Rattle.dom_model.specs.Traversal.Filters.{accepts}
 use Rattle.dom_model.proofs.Traversal.IteratorSteps.{following_found, following-inside, following-fewer, following-end, following-on}
-use Rattle.dom_traverse.proofs.Descendants.{there-under}
+use Rattle.dom_tree.specs.Spots.{node_at}
+use Rattle.dom_traverse.proofs.Spots.{told}
 use Rattle.dom_traverse.proofs.iterator.next_accepted.Goals as goal
 
+pub at-here-requires : goal.at-here-requires
+at-here-requires g c = c.requires.held
+
 pub loop-next-init : goal.loop-next-init
-loop-next-init g c = record { there = c.requires.held; under = c.requires.under; same = refl }
+loop-next-init g c =
+    let f = c.args.tree.now.forest in
+    record {
+      tree = c.at-here.ensures.tree;
+      under = ap (λ n. among c.args.root (ancestors n f)) c.at-here.ensures.node ∙ c.requires.under;
+      same = ap (λ n. following_found f c.args.filter.now c.args.root n) (sym c.at-here.ensures.node);
+    }
 
-pub next_inside-requires-clause-held : goal.next_inside-requires-clause-held
-next_inside-requires-clause-held g c = c.loop-next.invariant.there
-
-pub next_inside-requires-clause-under : goal.next_inside-requires-clause-under
-next_inside-requires-clause-under g c = c.loop-next.invariant.under
-
-pub accepts-requires : goal.accepts-requires
-accepts-requires g c =
-    there-under c.args.tree.now.forest c.sound.ensures.once c.in-Some.next c.args.root
-    (following-inside c.args.tree.now.forest c.sound.ensures.once c.args.root c.loop-next.here c.in-Some.next (sym c.next_inside.ensures ∙ c.in-Some.is))
+pub next_inside-requires : goal.next_inside-requires
+next_inside-requires g c =
+    ap (λ (t : Grove g.row.X.Denot). among c.args.root (ancestors c.loop-next.here.node t.forest)) c.loop-next.invariant.tree ∙ c.loop-next.invariant.under
 
 pub returns-then-accepts : goal.returns-then-accepts
 returns-then-accepts g c =
     let f = c.args.tree.now.forest in
     let filter = c.args.filter.now in
     let root = c.args.root in
-    sym (c.loop-next.invariant.same
-    ∙ following-on f c.sound.ensures.once root filter c.loop-next.here c.in-Some.next (sym c.next_inside.ensures ∙ c.in-Some.is)
-    ∙ ap (λ v. if v then Some c.in-Some.next else following_found f filter root c.in-Some.next) (sym c.accepts.ensures ∙ c.if-accepts.true))
+    let here = c.loop-next.here.node in
+    let on : after here (inclusive_descendants f root) ≡ Some c.in-Some.next.node =
+    told c.loop-next.invariant.tree (λ (t : Grove g.row.X.Denot). after here (inclusive_descendants t.forest root)) c.next_inside.ensures.node ∙ ap node_at c.in-Some.is
+    in
+    let there = c.next_inside.ensures.tree c.in-Some.next c.in-Some.is ∙ c.loop-next.invariant.tree in
+    let v = told there (λ (t : Grove g.row.X.Denot). accepts t.forest filter c.in-Some.next.node) c.accepts.ensures ∙ c.if-accepts.true in
+    ap Some c.number.ensures
+    ∙ sym (c.loop-next.invariant.same
+    ∙ following-on f c.sound.ensures.once root filter here c.in-Some.next.node on
+    ∙ ap (λ b. if b then Some c.in-Some.next.node else following_found f filter root c.in-Some.next.node) v)
 
 pub loop-next-smaller : goal.loop-next-smaller
-loop-next-smaller g c = following-fewer c.args.tree.now.forest c.sound.ensures.once c.args.root c.loop-next.here c.in-Some.next (sym c.next_inside.ensures ∙ c.in-Some.is)
+loop-next-smaller g c =
+    let f = c.args.tree.now.forest in
+    let root = c.args.root in
+    let here = c.loop-next.here.node in
+    let on : after here (inclusive_descendants f root) ≡ Some c.in-Some.next.node =
+    told c.loop-next.invariant.tree (λ (t : Grove g.row.X.Denot). after here (inclusive_descendants t.forest root)) c.next_inside.ensures.node ∙ ap node_at c.in-Some.is
+    in
+    following-fewer f c.sound.ensures.once root here c.in-Some.next.node on
 
 pub loop-next-preserved : goal.loop-next-preserved
 loop-next-preserved g c =
     let f = c.args.tree.now.forest in
     let filter = c.args.filter.now in
     let root = c.args.root in
-    let on = sym c.next_inside.ensures ∙ c.in-Some.is in
-    let under = following-inside f c.sound.ensures.once root c.loop-next.here c.in-Some.next on in
+    let here = c.loop-next.here.node in
+    let on : after here (inclusive_descendants f root) ≡ Some c.in-Some.next.node =
+    told c.loop-next.invariant.tree (λ (t : Grove g.row.X.Denot). after here (inclusive_descendants t.forest root)) c.next_inside.ensures.node ∙ ap node_at c.in-Some.is
+    in
+    let there = c.next_inside.ensures.tree c.in-Some.next c.in-Some.is ∙ c.loop-next.invariant.tree in
+    let v = told there (λ (t : Grove g.row.X.Denot). accepts t.forest filter c.in-Some.next.node) c.accepts.ensures ∙ c.if-accepts.false in
     record {
-      there = there-under f c.sound.ensures.once c.in-Some.next root under;
-      under = under;
+      tree = there;
+      under = following-inside f c.sound.ensures.once root here c.in-Some.next.node on;
       same =
           c.loop-next.invariant.same
-          ∙ following-on f c.sound.ensures.once root filter c.loop-next.here c.in-Some.next on
-          ∙ ap (λ v. if v then Some c.in-Some.next else following_found f filter root c.in-Some.next) (sym c.accepts.ensures ∙ c.if-accepts.false);
+          ∙ following-on f c.sound.ensures.once root filter here c.in-Some.next.node on
+          ∙ ap (λ b. if b then Some c.in-Some.next.node else following_found f filter root c.in-Some.next.node) v;
     }
 
 pub returns : goal.returns
 returns g c =
-    sym (c.loop-next.invariant.same
-    ∙ following-end c.args.tree.now.forest c.sound.ensures.once c.args.root c.args.filter.now c.loop-next.here (sym c.next_inside.ensures ∙ c.in_default.is))
+    let f = c.args.tree.now.forest in
+    let root = c.args.root in
+    let here = c.loop-next.here.node in
+    let on = told c.loop-next.invariant.tree (λ (t : Grove g.row.X.Denot). after here (inclusive_descendants t.forest root)) c.next_inside.ensures.node ∙ ap node_at c.in_default.is in
+    sym (c.loop-next.invariant.same ∙ following-end f c.sound.ensures.once root c.args.filter.now here on)

@@ -1,52 +1,79 @@
 -- One node before another.
-use Rattle.std.proofs.Common.{if◌then◌else◌, Some, refl, ap, sym, ◌∙◌}
+use Rattle.std.proofs.Common.{◌≡◌, true, if◌then◌else◌, Some, refl, ap, sym, ◌∙◌}
+use Rattle.dom_model.specs.PlainLists.Lists.{among, before}
+use Rattle.dom_model.specs.Forests.Forest.{Grove, ancestors, inclusive_descendants}
+use Rattle.dom_model.specs.Traversal.Filters.{accepts}
 use Rattle.dom_model.proofs.Traversal.IteratorSteps.{preceding_found, preceding-inside, preceding-fewer, preceding-end, preceding-on}
-use Rattle.dom_traverse.proofs.Descendants.{there-under}
+use Rattle.dom_tree.specs.Spots.{node_at}
+use Rattle.dom_traverse.proofs.Spots.{told}
 use Rattle.dom_traverse.proofs.iterator.previous_accepted.Goals as goal
 
+pub at-here-requires : goal.at-here-requires
+at-here-requires g c = c.requires.held
+
 pub loop-previous-init : goal.loop-previous-init
-loop-previous-init g c = record { there = c.requires.held; under = c.requires.under; same = refl }
+loop-previous-init g c =
+    let f = c.args.tree.now.forest in
+    record {
+      tree = c.at-here.ensures.tree;
+      under = ap (λ n. among c.args.root (ancestors n f)) c.at-here.ensures.node ∙ c.requires.under;
+      same = ap (λ n. preceding_found f c.args.filter.now c.args.root n) (sym c.at-here.ensures.node);
+    }
 
-pub previous_inside-requires-clause-held : goal.previous_inside-requires-clause-held
-previous_inside-requires-clause-held g c = c.loop-previous.invariant.there
-
-pub previous_inside-requires-clause-under : goal.previous_inside-requires-clause-under
-previous_inside-requires-clause-under g c = c.loop-previous.invariant.under
-
-pub accepts-requires : goal.accepts-requires
-accepts-requires g c =
-    there-under c.args.tree.now.forest c.sound.ensures.once c.in-Some.previous c.args.root
-    (preceding-inside c.args.tree.now.forest c.sound.ensures.once c.args.root c.loop-previous.here c.in-Some.previous (sym c.previous_inside.ensures ∙ c.in-Some.is))
+pub previous_inside-requires : goal.previous_inside-requires
+previous_inside-requires g c =
+    ap (λ (t : Grove g.row.X.Denot). among c.args.root (ancestors c.loop-previous.here.node t.forest)) c.loop-previous.invariant.tree ∙ c.loop-previous.invariant.under
 
 pub returns-then-accepts : goal.returns-then-accepts
 returns-then-accepts g c =
     let f = c.args.tree.now.forest in
     let filter = c.args.filter.now in
     let root = c.args.root in
-    sym (c.loop-previous.invariant.same
-    ∙ preceding-on f c.sound.ensures.once root filter c.loop-previous.here c.in-Some.previous c.loop-previous.invariant.under (sym c.previous_inside.ensures ∙ c.in-Some.is)
-    ∙ ap (λ v. if v then Some c.in-Some.previous else preceding_found f filter root c.in-Some.previous) (sym c.accepts.ensures ∙ c.if-accepts.true))
+    let here = c.loop-previous.here.node in
+    let on : before here (inclusive_descendants f root) ≡ Some c.in-Some.previous.node =
+    told c.loop-previous.invariant.tree (λ (t : Grove g.row.X.Denot). before here (inclusive_descendants t.forest root)) c.previous_inside.ensures.node ∙ ap node_at c.in-Some.is
+    in
+    let there = c.previous_inside.ensures.tree c.in-Some.previous c.in-Some.is ∙ c.loop-previous.invariant.tree in
+    let v = told there (λ (t : Grove g.row.X.Denot). accepts t.forest filter c.in-Some.previous.node) c.accepts.ensures ∙ c.if-accepts.true in
+    ap Some c.number.ensures
+    ∙ sym (c.loop-previous.invariant.same
+    ∙ preceding-on f c.sound.ensures.once root filter here c.in-Some.previous.node c.loop-previous.invariant.under on
+    ∙ ap (λ b. if b then Some c.in-Some.previous.node else preceding_found f filter root c.in-Some.previous.node) v)
 
 pub loop-previous-smaller : goal.loop-previous-smaller
-loop-previous-smaller g c = preceding-fewer c.args.tree.now.forest c.sound.ensures.once c.args.root c.loop-previous.here c.in-Some.previous c.loop-previous.invariant.under (sym c.previous_inside.ensures ∙ c.in-Some.is)
+loop-previous-smaller g c =
+    let f = c.args.tree.now.forest in
+    let root = c.args.root in
+    let here = c.loop-previous.here.node in
+    let on : before here (inclusive_descendants f root) ≡ Some c.in-Some.previous.node =
+    told c.loop-previous.invariant.tree (λ (t : Grove g.row.X.Denot). before here (inclusive_descendants t.forest root)) c.previous_inside.ensures.node ∙ ap node_at c.in-Some.is
+    in
+    preceding-fewer f c.sound.ensures.once root here c.in-Some.previous.node c.loop-previous.invariant.under on
 
 pub loop-previous-preserved : goal.loop-previous-preserved
 loop-previous-preserved g c =
     let f = c.args.tree.now.forest in
     let filter = c.args.filter.now in
     let root = c.args.root in
-    let on = sym c.previous_inside.ensures ∙ c.in-Some.is in
-    let under = preceding-inside f c.sound.ensures.once root c.loop-previous.here c.in-Some.previous on in
+    let here = c.loop-previous.here.node in
+    let on : before here (inclusive_descendants f root) ≡ Some c.in-Some.previous.node =
+    told c.loop-previous.invariant.tree (λ (t : Grove g.row.X.Denot). before here (inclusive_descendants t.forest root)) c.previous_inside.ensures.node ∙ ap node_at c.in-Some.is
+    in
+    let there = c.previous_inside.ensures.tree c.in-Some.previous c.in-Some.is ∙ c.loop-previous.invariant.tree in
+    let v = told there (λ (t : Grove g.row.X.Denot). accepts t.forest filter c.in-Some.previous.node) c.accepts.ensures ∙ c.if-accepts.false in
     record {
-      there = there-under f c.sound.ensures.once c.in-Some.previous root under;
-      under = under;
+      tree = there;
+      under = preceding-inside f c.sound.ensures.once root here c.in-Some.previous.node on;
       same =
           c.loop-previous.invariant.same
-          ∙ preceding-on f c.sound.ensures.once root filter c.loop-previous.here c.in-Some.previous c.loop-previous.invariant.under on
-          ∙ ap (λ v. if v then Some c.in-Some.previous else preceding_found f filter root c.in-Some.previous) (sym c.accepts.ensures ∙ c.if-accepts.false);
+          ∙ preceding-on f c.sound.ensures.once root filter here c.in-Some.previous.node c.loop-previous.invariant.under on
+          ∙ ap (λ b. if b then Some c.in-Some.previous.node else preceding_found f filter root c.in-Some.previous.node) v;
     }
 
 pub returns : goal.returns
 returns g c =
-    sym (c.loop-previous.invariant.same
-    ∙ preceding-end c.args.tree.now.forest c.sound.ensures.once c.args.root c.args.filter.now c.loop-previous.here c.loop-previous.invariant.under (sym c.previous_inside.ensures ∙ c.in_default.is))
+    let f = c.args.tree.now.forest in
+    let root = c.args.root in
+    let here = c.loop-previous.here.node in
+    let on = told c.loop-previous.invariant.tree (λ (t : Grove g.row.X.Denot). before here (inclusive_descendants t.forest root)) c.previous_inside.ensures.node ∙ ap node_at c.in_default.is in
+    sym (c.loop-previous.invariant.same ∙ preceding-end f c.sound.ensures.once root c.args.filter.now here c.loop-previous.invariant.under on)

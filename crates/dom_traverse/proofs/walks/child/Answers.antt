@@ -1,27 +1,44 @@
 -- The walk begins at the child.
-use Rattle.std.proofs.Common.{rules, ◌≡◌, None, sym, ◌∙◌}
-use Rattle.dom_model.specs.Traversal.WalkSteps.{ended}
+use Rattle.std.proofs.Common.{rules, ◌≡◌, ℕ, None, ap, sym, ◌∙◌, subst}
+use Rattle.dom_model.specs.Forests.Forest.{Grove}
+use Rattle.dom_model.specs.Traversal.WalkSteps.{at, ended}
 use Rattle.dom_model.proofs.Forests.Entries.{occurs-HasNode}
-use Rattle.dom_traverse.specs.Courses.{child_on}
-use Rattle.dom_traverse.proofs.CourseSteps.{child_on-there}
+use Rattle.dom_tree.specs.Spots.{node_at}
+use Rattle.dom_traverse.specs.declared.course.Limit.TheVariants.{Current}
+use Rattle.dom_traverse.specs.declared.course.Course.{Course}
+use Rattle.dom_traverse.specs.Courses.{child_on, Ending, found_from}
+use Rattle.dom_traverse.proofs.Spots.{told_at}
 use Rattle.dom_traverse.proofs.WalkSteps.{child-walks, begin_none, begin_some}
 use Rattle.dom_traverse.proofs.walks.child.Goals as goal
 
 pub returns-in_err-child : goal.returns-in_err-child
 returns-in_err-child g c =
     let f = c.args.tree.now.forest in
+    let filter = c.args.filter.now in
+    let course : Course = record { root = c.args.root; current = c.args.current; side = c.args.side; limit = Current } in
+    let walks = child-walks f c.sound.ensures.once filter c.args.root c.args.current (occurs-HasNode f c.args.current c.requires) c.args.side in
+    let first = told_at c.at.ensures.tree c.at.ensures.node (λ (t : Grove g.row.X.Denot) (n : ℕ). child_on c.args.side t.forest n) c.child.ensures.node in
     let none : c.from_residual.result ≡ None = search rules in
-    none ∙ begin_none (child_on c.args.side f c.args.current) (child-walks f c.sound.ensures.once c.args.filter.now c.args.root c.args.current (occurs-HasNode f c.args.current c.requires) c.args.side) (sym c.child.ensures ∙ c.in_err-child.was)
+    none ∙ begin_none (child_on c.args.side f c.args.current) walks (first ∙ ap node_at c.in_err-child.was)
 
-pub run-requires-clause-held : goal.run-requires-clause-held
-run-requires-clause-held g c = child_on-there c.sound.ensures c.args.side c.args.current c.in_ok-child.child c.requires (sym c.child.ensures ∙ c.in_ok-child.was)
-
-pub run-requires-clause-ends : goal.run-requires-clause-ends
-run-requires-clause-ends g c =
+pub run-requires : goal.run-requires
+run-requires g c =
     let f = c.args.tree.now.forest in
-    (begin_some (child_on c.args.side f c.args.current) (ended None) c.in_ok-child.child (child-walks f c.sound.ensures.once c.args.filter.now c.args.root c.args.current (occurs-HasNode f c.args.current c.requires) c.args.side) (sym c.child.ensures ∙ c.in_ok-child.was)).ends
+    let filter = c.args.filter.now in
+    let course : Course = record { root = c.args.root; current = c.args.current; side = c.args.side; limit = Current } in
+    let walks = child-walks f c.sound.ensures.once filter c.args.root c.args.current (occurs-HasNode f c.args.current c.requires) c.args.side in
+    let first = told_at c.at.ensures.tree c.at.ensures.node (λ (t : Grove g.row.X.Denot) (n : ℕ). child_on c.args.side t.forest n) c.child.ensures.node in
+    let there = c.child.ensures.tree c.in_ok-child.child c.in_ok-child.was ∙ c.at.ensures.tree in
+    let on = begin_some (child_on c.args.side f c.args.current) (ended None) c.in_ok-child.child.node walks (first ∙ ap node_at c.in_ok-child.was) in
+    subst (λ (t : Grove g.row.X.Denot). Ending t.forest filter course (at c.in_ok-child.child.node)) (sym there) on.ends
 
 pub returns : goal.returns
 returns g c =
     let f = c.args.tree.now.forest in
-    c.run.ensures ∙ (begin_some (child_on c.args.side f c.args.current) (ended None) c.in_ok-child.child (child-walks f c.sound.ensures.once c.args.filter.now c.args.root c.args.current (occurs-HasNode f c.args.current c.requires) c.args.side) (sym c.child.ensures ∙ c.in_ok-child.was)).finds
+    let filter = c.args.filter.now in
+    let course : Course = record { root = c.args.root; current = c.args.current; side = c.args.side; limit = Current } in
+    let walks = child-walks f c.sound.ensures.once filter c.args.root c.args.current (occurs-HasNode f c.args.current c.requires) c.args.side in
+    let first = told_at c.at.ensures.tree c.at.ensures.node (λ (t : Grove g.row.X.Denot) (n : ℕ). child_on c.args.side t.forest n) c.child.ensures.node in
+    let there = c.child.ensures.tree c.in_ok-child.child c.in_ok-child.was ∙ c.at.ensures.tree in
+    let on = begin_some (child_on c.args.side f c.args.current) (ended None) c.in_ok-child.child.node walks (first ∙ ap node_at c.in_ok-child.was) in
+    c.run.ensures ∙ ap (λ (t : Grove g.row.X.Denot). found_from t.forest filter course (at c.in_ok-child.child.node)) there ∙ on.finds

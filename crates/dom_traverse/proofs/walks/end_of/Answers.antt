@@ -1,20 +1,50 @@
 -- One last child further down.
-use Rattle.std.proofs.Common.{◌≡◌, false, sym, ◌∙◌}
-use Rattle.dom_model.proofs.Forests.TreeOrder.Ending.{last-down}
+use Rattle.std.proofs.Common.{◌≡◌, true, false, refl, ap, ◌∙◌, inl, inr}
+use Rattle.dom_model.specs.PlainLists.Lists.{last_of}
+use Rattle.dom_model.specs.Forests.Forest.{Grove, children_of}
 use Rattle.dom_model.specs.Traversal.Filters.{rejects}
+use Rattle.dom_model.proofs.Forests.TreeOrder.Ending.{last-down}
+use Rattle.dom_tree.specs.Spots.{node_at}
 use Rattle.dom_traverse.specs.Ends.{begun, down}
+use Rattle.dom_traverse.proofs.Spots.{told}
 use Rattle.dom_traverse.proofs.walks.end_of.Goals as goal
 
 pub loop-here-init : goal.loop-here-init
-loop-here-init g c = record { there = c.requires; descends = begun }
+loop-here-init g c = record { tree = refl; there = c.sound.ensures.there; descends = begun }
 
 pub loop-here-smaller : goal.loop-here-smaller
-loop-here-smaller g c = (last-down c.sound.ensures c.loop-here.here c.in-Some.last c.loop-here.invariant.there (sym c.last.ensures ∙ c.in-Some.is)).1.0
+loop-here-smaller g c =
+    let f = c.args.node.tree.forest in
+    let here = c.loop-here.here.node in
+    let e = c.loop-here.invariant.tree in
+    let last = told e (λ (t : Grove g.row.X.Denot). last_of (children_of t.forest here)) c.last.ensures.node ∙ ap node_at c.in-Some.is in
+    let below = last-down c.sound.ensures.forest here c.in-Some.last.node c.loop-here.invariant.there last in
+    below.1.0
 
 pub loop-here-preserved : goal.loop-here-preserved
 loop-here-preserved g c =
-    let n : rejects c.args.tree.now.forest c.args.filter.now c.loop-here.here ≡ false = sym c.rejects.ensures ∙ c.loop-here-test.true in
+    let f = c.args.node.tree.forest in
+    let here = c.loop-here.here.node in
+    let e = c.loop-here.invariant.tree in
+    let last = told e (λ (t : Grove g.row.X.Denot). last_of (children_of t.forest here)) c.last.ensures.node ∙ ap node_at c.in-Some.is in
+    let below = last-down c.sound.ensures.forest here c.in-Some.last.node c.loop-here.invariant.there last in
+    let n : rejects f c.args.filter.now here ≡ false = told e (λ (t : Grove g.row.X.Denot). rejects t.forest c.args.filter.now here) c.rejects.ensures ∙ c.loop-here-test.true in
     record {
-      there = (last-down c.sound.ensures c.loop-here.here c.in-Some.last c.loop-here.invariant.there (sym c.last.ensures ∙ c.in-Some.is)).1.1;
-      descends = down c.loop-here.here c.in-Some.last c.loop-here.invariant.descends n (sym c.last.ensures ∙ c.in-Some.is);
+      tree = c.last.ensures.tree c.in-Some.last c.in-Some.is ∙ e;
+      there = below.1.1;
+      descends = down here c.in-Some.last.node c.loop-here.invariant.descends n last;
     }
+
+pub returns-in-None-clause-end : goal.returns-in-None-clause-end
+returns-in-None-clause-end g c =
+    let f = c.args.node.tree.forest in
+    let here = c.loop-here.here.node in
+    let e = c.loop-here.invariant.tree in
+    inr (told e (λ (t : Grove g.row.X.Denot). last_of (children_of t.forest here)) c.last.ensures.node ∙ ap node_at c.in-None.is)
+
+pub returns-clause-end : goal.returns-clause-end
+returns-clause-end g c =
+    let f = c.args.node.tree.forest in
+    let here = c.loop-here.here.node in
+    let e = c.loop-here.invariant.tree in
+    inl (told e (λ (t : Grove g.row.X.Denot). rejects t.forest c.args.filter.now here) c.rejects.ensures ∙ c.loop-here-test.false)

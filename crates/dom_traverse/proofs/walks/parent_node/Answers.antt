@@ -1,30 +1,84 @@
 -- One ancestor after another.
-use Rattle.std.proofs.Common.{◌==◌, ◌*◌, sym, ◌∙◌}
-use Rattle.std.proofs.lemmas.Bool.{not-true}
-use Rattle.dom_model.specs.Forests.Forest.{size}
+use Rattle.std.proofs.Common.{rules, ◌≡◌, ◌==◌, ◌*◌, true, false, Some, None, ap, sym, ◌∙◌, subst}
+use Rattle.std.proofs.lemmas.Bool.{not-true, not-false}
+use Rattle.dom_model.specs.Forests.Forest.{Grove, size, parent_of}
+use Rattle.dom_model.specs.Traversal.Filters.{accepts}
+use Rattle.dom_model.specs.Traversal.WalkSteps.{leaving, parent_step, parent_by_steps}
 use Rattle.dom_model.proofs.Forests.Entries.{occurs-HasNode}
-use Rattle.dom_model.proofs.Traversal.WalksEnd.{Walks-on, parent-walks}
-use Rattle.dom_traverse.proofs.Neighbors.{parent-there}
-use Rattle.dom_traverse.proofs.WalkSteps.{parent-on}
+use Rattle.dom_model.proofs.Traversal.WalksEnd.{Walks, Walks-on, parent-walks}
+use Rattle.dom_tree.specs.Spots.{node_at}
+use Rattle.dom_traverse.proofs.Spots.{told}
+use Rattle.dom_traverse.proofs.WalkSteps.{parent-top, parent-none, parent-accepted, parent-on}
 use Rattle.dom_traverse.proofs.walks.parent_node.Goals as goal
 
-pub loop-root-init : goal.loop-root-init
-loop-root-init g c = record { there = c.requires; walks = parent-walks c.args.tree.now.forest c.sound.ensures.once c.args.filter.now c.args.root c.args.current (occurs-HasNode c.args.tree.now.forest c.args.current c.requires) }
+pub at-here-requires : goal.at-here-requires
+at-here-requires g c = c.requires
 
-pub accepts-requires : goal.accepts-requires
-accepts-requires g c = parent-there c.sound.ensures c.loop-root.here c.in_ok-here.here c.loop-root.invariant.there (sym c.parent.ensures ∙ c.in_ok-here.was)
-
-pub loop-root-smaller : goal.loop-root-smaller
-loop-root-smaller g c =
-    let f = c.args.tree.now.forest in
-    (parent-on f c.args.filter.now c.args.root c.args.current (4 * size f) c.loop-root.here c.in_ok-here.here (not-true (c.loop-root.here == c.args.root) (sym c.ne.ensures ∙ c.loop-root-test.true)) (sym c.parent.ensures ∙ c.in_ok-here.was) (sym c.accepts.ensures ∙ c.if-accepts.false)).fewer c.loop-root.invariant.walks.ends
-
-pub loop-root-preserved : goal.loop-root-preserved
-loop-root-preserved g c =
+pub loop-here-init : goal.loop-here-init
+loop-here-init g c =
     let f = c.args.tree.now.forest in
     record {
-      there = parent-there c.sound.ensures c.loop-root.here c.in_ok-here.here c.loop-root.invariant.there (sym c.parent.ensures ∙ c.in_ok-here.was);
+      tree = c.at-here.ensures.tree;
       walks =
-          Walks-on c.loop-root.invariant.walks
-          (parent-on f c.args.filter.now c.args.root c.args.current (4 * size f) c.loop-root.here c.in_ok-here.here (not-true (c.loop-root.here == c.args.root) (sym c.ne.ensures ∙ c.loop-root-test.true)) (sym c.parent.ensures ∙ c.in_ok-here.was) (sym c.accepts.ensures ∙ c.if-accepts.false)).leads;
+          subst (λ n. Walks (parent_step f c.args.filter.now c.args.root c.args.current) (4 * size f) (leaving n) (parent_by_steps f c.args.filter.now c.args.root c.args.current)) (sym c.at-here.ensures.node)
+          (parent-walks f c.sound.ensures.once c.args.filter.now c.args.root c.args.current (occurs-HasNode f c.args.current c.requires));
     }
+
+pub returns-in_err-here : goal.returns-in_err-here
+returns-in_err-here g c =
+    let f = c.args.tree.now.forest in
+    let filter = c.args.filter.now in
+    let here = c.loop-here.here.node in
+    let e = c.loop-here.invariant.tree in
+    let off : (here == c.args.root) ≡ false = ap (λ m. m == c.args.root) (sym c.number.ensures) ∙ not-true (c.number.result == c.args.root) (sym c.ne.ensures ∙ c.loop-here-test.true) in
+    let above = told e (λ (t : Grove g.row.X.Denot). parent_of t.forest here) c.parent.ensures.node ∙ ap node_at c.in_err-here.was in
+    let none : c.from_residual.result ≡ None = search rules in
+    none ∙ (Walks-on c.loop-here.invariant.walks (parent-none f filter c.args.root c.args.current (4 * size f) here off above).leads).finds
+
+pub returns-then-accepts : goal.returns-then-accepts
+returns-then-accepts g c =
+    let f = c.args.tree.now.forest in
+    let filter = c.args.filter.now in
+    let here = c.loop-here.here.node in
+    let e = c.loop-here.invariant.tree in
+    let off : (here == c.args.root) ≡ false = ap (λ m. m == c.args.root) (sym c.number.ensures) ∙ not-true (c.number.result == c.args.root) (sym c.ne.ensures ∙ c.loop-here-test.true) in
+    let above = told e (λ (t : Grove g.row.X.Denot). parent_of t.forest here) c.parent.ensures.node ∙ ap node_at c.in_ok-here.was in
+    let there = c.parent.ensures.tree c.in_ok-here.here c.in_ok-here.was ∙ e in
+    let goes = told there (λ (t : Grove g.row.X.Denot). accepts t.forest filter c.in_ok-here.here.node) c.accepts.ensures in
+    ap Some c.number-then-accepts.ensures ∙ (Walks-on c.loop-here.invariant.walks (parent-accepted f filter c.args.root c.args.current (4 * size f) here c.in_ok-here.here.node off above (goes ∙ c.if-accepts.true)).leads).finds
+
+pub loop-here-smaller : goal.loop-here-smaller
+loop-here-smaller g c =
+    let f = c.args.tree.now.forest in
+    let filter = c.args.filter.now in
+    let here = c.loop-here.here.node in
+    let e = c.loop-here.invariant.tree in
+    let off : (here == c.args.root) ≡ false = ap (λ m. m == c.args.root) (sym c.number.ensures) ∙ not-true (c.number.result == c.args.root) (sym c.ne.ensures ∙ c.loop-here-test.true) in
+    let above = told e (λ (t : Grove g.row.X.Denot). parent_of t.forest here) c.parent.ensures.node ∙ ap node_at c.in_ok-here.was in
+    let there = c.parent.ensures.tree c.in_ok-here.here c.in_ok-here.was ∙ e in
+    let goes = told there (λ (t : Grove g.row.X.Denot). accepts t.forest filter c.in_ok-here.here.node) c.accepts.ensures in
+    (parent-on f filter c.args.root c.args.current (4 * size f) here c.in_ok-here.here.node off above (goes ∙ c.if-accepts.false)).fewer c.loop-here.invariant.walks.ends
+
+pub loop-here-preserved : goal.loop-here-preserved
+loop-here-preserved g c =
+    let f = c.args.tree.now.forest in
+    let filter = c.args.filter.now in
+    let here = c.loop-here.here.node in
+    let e = c.loop-here.invariant.tree in
+    let off : (here == c.args.root) ≡ false = ap (λ m. m == c.args.root) (sym c.number.ensures) ∙ not-true (c.number.result == c.args.root) (sym c.ne.ensures ∙ c.loop-here-test.true) in
+    let above = told e (λ (t : Grove g.row.X.Denot). parent_of t.forest here) c.parent.ensures.node ∙ ap node_at c.in_ok-here.was in
+    let there = c.parent.ensures.tree c.in_ok-here.here c.in_ok-here.was ∙ e in
+    let goes = told there (λ (t : Grove g.row.X.Denot). accepts t.forest filter c.in_ok-here.here.node) c.accepts.ensures in
+    record {
+      tree = there;
+      walks = Walks-on c.loop-here.invariant.walks (parent-on f filter c.args.root c.args.current (4 * size f) here c.in_ok-here.here.node off above (goes ∙ c.if-accepts.false)).leads;
+    }
+
+pub returns : goal.returns
+returns g c =
+    let f = c.args.tree.now.forest in
+    let filter = c.args.filter.now in
+    let here = c.loop-here.here.node in
+    let e = c.loop-here.invariant.tree in
+    let over : (here == c.args.root) ≡ true = ap (λ m. m == c.args.root) (sym c.number.ensures) ∙ not-false (c.number.result == c.args.root) (sym c.ne.ensures ∙ c.loop-here-test.false) in
+    (Walks-on c.loop-here.invariant.walks (parent-top f filter c.args.root c.args.current (4 * size f) here over).leads).finds

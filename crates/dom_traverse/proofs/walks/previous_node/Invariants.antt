@@ -1,6 +1,6 @@
 -- The walk goes on from past the node where it stands.
-use Rattle.std.proofs.Common.{◌*◌}
-use Rattle.dom_model.specs.Forests.Forest.{HasNode, size}
+use Rattle.std.proofs.Common.{◌≡◌, ◌*◌}
+use Rattle.dom_model.specs.Forests.Forest.{size}
 use Rattle.dom_model.specs.Traversal.WalkSteps.{back_past_node, previous_step, previous_by_steps}
 use Rattle.dom_model.specs.Traversal.Ending.{moves_left}
 use Rattle.dom_model.proofs.Traversal.WalksEnd.{Walks}
@@ -8,9 +8,9 @@ use Rattle.dom_traverse.proofs.walks.previous_node.Given as goal
 
 abbrev pub invariant-loop-sibling : goal.invariant-loop-sibling
 invariant-loop-sibling g l = record {
-  there : HasNode l.tree.forest l.here;
-  walks : Walks (previous_step l.tree.forest l.filter l.root l.fn.current) (4 * size l.tree.forest) (back_past_node l.tree.forest l.filter l.root l.fn.current l.here) (previous_by_steps l.tree.forest l.filter l.root l.fn.current);
+  tree : l.here.tree ≡ l.tree;
+  walks : Walks (previous_step l.tree.forest l.filter l.root l.fn.current) (4 * size l.tree.forest) (back_past_node l.tree.forest l.filter l.root l.fn.current l.here.node) (previous_by_steps l.tree.forest l.filter l.root l.fn.current);
 }
 
 abbrev pub decreases-loop-sibling : goal.decreases-loop-sibling
-decreases-loop-sibling g l = moves_left (previous_step l.tree.forest l.filter l.root l.fn.current) (4 * size l.tree.forest) (back_past_node l.tree.forest l.filter l.root l.fn.current l.here)
+decreases-loop-sibling g l = moves_left (previous_step l.tree.forest l.filter l.root l.fn.current) (4 * size l.tree.forest) (back_past_node l.tree.forest l.filter l.root l.fn.current l.here.node)

@@ -1,7 +1,8 @@
-use Rattle.std.proofs.Common.{sym, tests, rules, arith}
+use Rattle.std.proofs.Common.{refl, sym, tests, rules, arith}
 use Rattle.std.proofs.lemmas.Grind.{common_steps}
 use Rattle.dom_model.specs.Worlds.World.{Range}
 use Rattle.dom_edit.proofs.Leaving.{held-covered}
+use Rattle.dom_content.proofs.LabelsKept.{labels-same}
 use Rattle.dom_wrap.proofs.InsertedNode.{grown-range, set-done, follows-ended, whole-ended}
 use Rattle.dom_wrap.proofs.inserting.end_if_collapsed.Goals as goal
 
@@ -33,6 +34,11 @@ returns-then-eq-clause-whole c =
     let collapsed = sym c.if-eq.ensures in
     let is = set-done v c.requires.whole c.args.range c.args.end range e c.requires.sound collapsed c.set_end.new.self c.set_end.result c.set_end.ensures.refusal c.set_end.ensures.set in
     rw c.set_end.ensures.kept (whole-ended v c.requires.whole c.args.range c.args.end range e c.set_end.new.self is c.requires.sound collapsed)
+
+pub returns-then-eq-clause-kept : goal.returns-then-eq-clause-kept
+returns-then-eq-clause-kept c =
+    let v = c.args.world.now in
+    rw c.set_end.ensures.kept (labels-same v (record v { ranges = c.set_end.new.self }) refl)
 
 pub set_end-requires-clause-stands : goal.set_end-requires-clause-stands
 set_end-requires-clause-stands c = grind (arith, common_steps)

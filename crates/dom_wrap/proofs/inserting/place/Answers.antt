@@ -1,6 +1,7 @@
 use Rattle.std.proofs.Common.{false, tests, rules}
 use Rattle.dom_model.proofs.Forests.Entries.{HasNode-occurs, occurs-HasNode}
 use Rattle.dom_edit.proofs.InsertedNodes.{there-removed}
+use Rattle.dom_edit.proofs.NodesKept.{labels-then}
 use Rattle.dom_wrap.proofs.InsertedNode.{passes-out, placed-allowed, may-end, follows-placed}
 use Rattle.dom_wrap.proofs.inserting.place.Goals as goal
 
@@ -43,3 +44,9 @@ returns-clause-placed c =
 
 pub returns-clause-whole : goal.returns-clause-whole
 returns-clause-whole c = search (tests, rules)
+
+pub returns-clause-kept : goal.returns-clause-kept
+returns-clause-kept c =
+    let placed = c.insert_checked.new.self in
+    let behind = labels-then c.remove.new.self placed c.end_if_collapsed.new.world c.in_ok-insert_checked.ensures.kept.labelled c.end_if_collapsed.ensures.kept in
+    labels-then c.args.world.now c.remove.new.self c.end_if_collapsed.new.world c.in_ok-remove.ensures.kept.labelled behind

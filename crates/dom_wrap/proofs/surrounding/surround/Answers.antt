@@ -1,4 +1,5 @@
-use Rattle.std.proofs.Common.{tests, rules}
+use Rattle.std.proofs.Common.{refl, tests, rules}
+use Rattle.dom_content.proofs.LabelsKept.{labels-same}
 use Rattle.dom_wrap.proofs.Marking.{stand-by_surround}
 use Rattle.dom_wrap.proofs.surrounding.surround.Goals as goal
 
@@ -33,3 +34,9 @@ returns-clause-refused c = search (tests, rules)
 
 pub returns-clause-whole : goal.returns-clause-whole
 returns-clause-whole c = search (tests, rules)
+
+pub returns-in-Err-clause-kept : goal.returns-in-Err-clause-kept
+returns-in-Err-clause-kept c = labels-same c.args.world.now c.args.world.now refl
+
+pub returns-clause-kept : goal.returns-clause-kept
+returns-clause-kept c = c.surround_allowed.ensures.kept

@@ -4,6 +4,8 @@ use Rattle.dom_model.specs.MutationAlgorithms.Editing.{remove_all, freed, emptie
 use Rattle.dom_edit.proofs.Following.{follows-then}
 use Rattle.dom_edit.proofs.InsertedNodes.{entering-there, follows-as, freed-fragment}
 use Rattle.dom_edit.proofs.NodesKept.{none-there, stay-there, nodes-then, nodes-observed}
+use Rattle.dom_model.proofs.Forests.Climbing.{hits-first}
+use Rattle.dom_edit.proofs.LeftAlone.{quiet-above, same-left}
 use Rattle.dom_edit.proofs.Unreferred.{entering-fragment}
 use Rattle.dom_edit.proofs.world.World.free_unreferred.Goals as goal
 
@@ -54,3 +56,18 @@ pub returns-clause-kept : goal.returns-clause-kept
 returns-clause-kept c =
     nodes-then c.args.self.now c.remove_all_unreferred.new.self c.queue_tree_record.new.self c.remove_all_unreferred.ensures.kept
     (nodes-observed c.remove_all_unreferred.new.self c.queue_tree_record.new.self c.queue_tree_record.ensures.parts)
+
+pub returns-then-not-is_of_kind-clause-left : goal.returns-then-not-is_of_kind-clause-left
+returns-then-not-is_of_kind-clause-left c root a h newer l =
+    same-left a h c.args.self.now c.remove_node.new.self (c.remove_node.ensures.root (root (sym c.is_of_kind.ensures ∙ c.if-not-is_of_kind.true))) l
+
+pub returns-in_err-remove_all_unreferred-clause-left : goal.returns-in_err-remove_all_unreferred-clause-left
+returns-in_err-remove_all_unreferred-clause-left c root a h newer l = c.remove_all_unreferred.ensures.left a h newer l
+
+pub returns-clause-left : goal.returns-clause-left
+returns-clause-left c root a h newer l =
+    let n = c.args.node in
+    let mid = c.remove_all_unreferred.new.self in
+    let m = c.remove_all_unreferred.ensures.left a h newer l in
+    same-left a h mid c.queue_tree_record.new.self
+    (c.queue_tree_record.ensures.quiet (quiet-above a h mid m c.remove_all_unreferred.ensures.whole.forest.once n (newer n (hits-first n [])))) m

@@ -1,7 +1,9 @@
 use Rattle.std.proofs.Common.{tests, rules}
 use Rattle.std.proofs.lemmas.Result.{on_ok_weaker}
 use Rattle.dom_model.proofs.Forests.Entries.{HasNode-occurs}
+use Rattle.dom_model.proofs.Forests.Climbing.{hits-first}
 use Rattle.dom_edit.proofs.InsertedNodes.{follows-insert_all}
+use Rattle.dom_edit.proofs.LeftAlone.{quiet-above, same-left}
 use Rattle.dom_edit.proofs.NodesKept.{none-there, placeable-there, child-held, ahead-held, stay-there, stay-some, nodes-then, nodes-observed}
 use Rattle.dom_edit.proofs.world.World.insert_all.Goals as goal
 
@@ -40,3 +42,14 @@ returns-clause-kept c =
 
 pub returns-then-suppressed-clause-kept : goal.returns-then-suppressed-clause-kept
 returns-then-suppressed-clause-kept c = search (tests, rules)
+
+pub returns-then-suppressed-clause-left : goal.returns-then-suppressed-clause-left
+returns-then-suppressed-clause-left c last = c.place.ensures.left last
+
+pub returns-clause-left : goal.returns-clause-left
+returns-clause-left c last a h newer l =
+    let p = c.args.parent in
+    let mid = c.place.new.self in
+    let m = c.place.ensures.left last a h newer l in
+    same-left a h mid c.queue_tree_record.new.self
+    (c.queue_tree_record.ensures.quiet (quiet-above a h mid m c.place.ensures.whole.forest.once p (newer p (hits-first p c.args.nodes.now)))) m

@@ -1,5 +1,6 @@
 use Rattle.dom_edit.proofs.Leaving.{follows-idle}
-use Rattle.std.proofs.Common.{[], ◌∷◌, refl}
+use Rattle.std.proofs.Common.{[], ◌∷◌, refl, ap}
+use Rattle.dom_observe.specs.Watchers.{Watchers}
 use Rattle.dom_edit.proofs.NodesKept.{one-there}
 use Rattle.dom_edit.proofs.Named.{whole-named}
 use Rattle.dom_edit.proofs.world.World.make_transients.Goals as goal
@@ -13,3 +14,9 @@ returns-clause-whole c =
     let v = c.args.self.now in
     let n = c.args.node in
     whole-named v (record v { observers = c.transients.new.self }) (n ∷ []) refl c.requires.whole c.transients.ensures.names (one-there v.tree.forest n c.requires.node_held)
+
+pub returns-then-is_idle-clause-quiet : goal.returns-then-is_idle-clause-quiet
+returns-then-is_idle-clause-quiet c unnamed = refl
+
+pub returns-clause-quiet : goal.returns-clause-quiet
+returns-clause-quiet c unnamed = ap (λ (o : Watchers). record c.args.self.now { observers = o }) (c.transients.ensures.quiet unnamed)

@@ -11,6 +11,6 @@ make-requires-clause-whole c =
 pub returns : goal.returns
 returns c =
     let e = c.empty-world.ensures in
-    let body = c.of_text-content.ensures ∙ ap with_text c.new-4.ensures in
+    let body = c.of_text-content.ensures ∙ ap with_text c.new-2.ensures in
     shows-first c.empty-world.result c.make.new.self _ _ _ e.tree e.ranges e.statics e.iterators e.walkers e.observers
-    (ap (λ t. t.made) e.tree) (rw (c.new.ensures.bytes, c.new-2.ensures.bytes, c.new-3.ensures.bytes) refl) body c.in_ok-make.ensures.made c.in_ok-make.ensures.whole
+    (ap (λ t. t.made) e.tree) (rw (c.named-label.ensures, c.new.ensures.bytes) refl) body c.in_ok-make.ensures.made c.in_ok-make.ensures.whole

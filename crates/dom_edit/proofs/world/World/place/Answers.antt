@@ -1,7 +1,9 @@
-use Rattle.std.proofs.Common.{subst}
+use Rattle.std.proofs.Common.{None, ap, sym, ◌∙◌, subst}
 use Rattle.dom_edit.specs.declared.world.World.{World}
+use Rattle.dom_edit.specs.Leaving.{LeavesAll}
 use Rattle.dom_edit.specs.Whole.{IsWhole, Follows}
-use Rattle.dom_edit.proofs.PlacedWorlds.{placing, follows-placing, whole-placed, placed-is}
+use Rattle.dom_edit.proofs.LeftAlone.{placed-left}
+use Rattle.dom_edit.proofs.PlacedWorlds.{with_placed, placing, follows-placing, whole-placed, placed-is}
 use Rattle.dom_edit.proofs.InsertedNodes.{nodes-placed}
 use Rattle.dom_edit.proofs.world.World.place.Goals as goal
 
@@ -20,3 +22,11 @@ returns-clause-kept c =
     let v = c.args.self.now in
     let new : World = record c.make_room.new.self { tree = c.put_all.new.tree } in
     nodes-placed v new c.args.parent c.args.child c.args.nodes.now c.requires.whole c.requires.ready (returns-clause-placed c)
+
+pub returns-clause-left : goal.returns-clause-left
+returns-clause-left c last a h newer l =
+    let v = c.args.self.now in
+    let p = c.args.parent in
+    let ns = c.args.nodes.now in
+    let e = placed-is p c.args.child ns v c.make_room.new.self c.put_all.new.tree c.make_room.ensures c.put_all.ensures in
+    subst (LeavesAll a) (ap (λ b. with_placed p b ns v) (sym last) ∙ e) (placed-left a h p ns newer v l)

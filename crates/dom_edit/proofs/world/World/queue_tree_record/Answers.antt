@@ -1,4 +1,5 @@
-use Rattle.std.proofs.Common.{◌∷◌, ◌++◌, refl}
+use Rattle.std.proofs.Common.{◌∷◌, ◌++◌, refl, ap}
+use Rattle.dom_observe.specs.Watchers.{Watchers}
 use Rattle.dom_model.specs.MutationAlgorithms.Discarding.{if_any}
 use Rattle.dom_edit.proofs.Named.{there-told, whole-named}
 use Rattle.dom_edit.proofs.world.World.queue_tree_record.Goals as goal
@@ -10,3 +11,6 @@ returns-clause-whole c =
     let a = c.args in
     whole-named v (record v { observers = c.queue.new.self }) (a.target ∷ (a.added.now ++ (a.removed.now ++ (if_any a.previous ++ if_any a.next)))) refl c.requires.whole c.queue.ensures.names
     (there-told v.tree.forest a.target a.added.now a.removed.now a.previous a.next r.held r.added r.removed r.previous r.next)
+
+pub returns-clause-quiet : goal.returns-clause-quiet
+returns-clause-quiet c unnamed = ap (λ (o : Watchers). record c.args.self.now { observers = o }) (c.queue.ensures.quiet unnamed)

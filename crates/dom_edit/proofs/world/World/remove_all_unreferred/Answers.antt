@@ -1,10 +1,12 @@
 use Rattle.std.proofs.Common.{◌≡◌, ℕ, ◌+◌, true, List, [], ◌∷◌, ◌++◌, take, drop, refl, ap, sym, ◌∙◌, subst}
 use Rattle.std.proofs.lemmas.List.{take_more, drop_more}
 use Rattle.dom_model.specs.MutationAlgorithms.Editing.{remove, remove_all}
+use Rattle.dom_model.proofs.Forests.Climbing.{hits-first}
 use Rattle.dom_model.proofs.Forests.Indices.{child-parent, child-once}
 use Rattle.dom_edit.specs.Whole.{Follows}
 use Rattle.dom_edit.proofs.Following.{follows-none, follows-then}
 use Rattle.dom_edit.proofs.InsertedNodes.{remove_all-more, follows-as}
+use Rattle.dom_edit.proofs.LeftAlone.{newer-two, child-newer}
 use Rattle.dom_edit.proofs.Unreferred.{AreLeft, first-left, rest-left}
 use Rattle.dom_edit.proofs.NodesKept.{nodes-same, nodes-then}
 use Rattle.dom_edit.proofs.world.World.remove_all_unreferred.Goals as goal
@@ -22,6 +24,7 @@ loop-node-init c =
         once = λ m. child-once v.tree.forest c.requires.whole.forest.once m p;
       });
       kept = nodes-same v v refl;
+      older = λ a h newer l. l;
     }
 
 pub remove_unreferred-requires-clause-whole : goal.remove_unreferred-requires-clause-whole
@@ -55,7 +58,29 @@ loop-node-preserved c =
           (follows-then first v new (remove_all (take i xs)) (remove true n) c.loop-node.invariant.removed step);
       left = rest-left v new c.args.parent n (drop (i + 1) xs) (subst (AreLeft v c.args.parent) split c.loop-node.invariant.left) step c.in_ok-remove_unreferred.ensures.ranges c.in_ok-remove_unreferred.ensures.whole;
       kept = nodes-then first v new c.loop-node.invariant.kept c.in_ok-remove_unreferred.ensures.kept;
+      older = λ a h newer l.
+          let p = c.args.parent in
+          let m = c.loop-node.invariant.older a h newer l in
+          let above = newer p (hits-first p []) in
+          let e = first-left v p n (drop (i + 1) xs) (subst (AreLeft v p) split c.loop-node.invariant.left) in
+          c.in_ok-remove_unreferred.ensures.left a h (newer-two a h p n above (child-newer a h v m n p e above)) m;
     }
 
 pub returns-clause-whole : goal.returns-clause-whole
 returns-clause-whole c = c.loop-node.invariant.left.whole
+
+pub returns-in_err-remove_unreferred-clause-left : goal.returns-in_err-remove_unreferred-clause-left
+returns-in_err-remove_unreferred-clause-left c a h newer l =
+    let v = c.loop-node.self in
+    let p = c.args.parent in
+    let n = c.node-item.result in
+    let xs = c.args.nodes.now in
+    let i = c.loop-node.node-index in
+    let split : drop i xs ≡ n ∷ drop (i + 1) xs = drop_more xs i n c.loop-node-test.true ∙ ap (λ m. m ∷ drop (i + 1) xs) (sym c.node-item.is) in
+    let m = c.loop-node.invariant.older a h newer l in
+    let above = newer p (hits-first p []) in
+    let e = first-left v p n (drop (i + 1) xs) (subst (AreLeft v p) split c.loop-node.invariant.left) in
+    c.remove_unreferred.ensures.left a h (newer-two a h p n above (child-newer a h v m n p e above)) m
+
+pub returns-clause-left : goal.returns-clause-left
+returns-clause-left c = c.loop-node.invariant.older

@@ -1,5 +1,5 @@
-use Rattle.std.specs.Prelude.{Some}
-use Rattle.std.proofs.Common.{◌≡◌, true, false, tests, rules}
+use Rattle.std.specs.Prelude.{Some, None}
+use Rattle.std.proofs.Common.{◌≡◌, true, false, sym, ◌∙◌, tests, rules}
 use Rattle.std.proofs.lemmas.Result.{on_ok_weaker}
 use Rattle.dom_model.specs.Forests.Forest.{parent_of}
 use Rattle.dom_edit.proofs.Following.{follows-none}
@@ -103,3 +103,21 @@ returns-then-suppressed-clause-whole c = search (tests, rules)
 
 pub returns-clause-whole : goal.returns-clause-whole
 returns-clause-whole c = search (tests, rules)
+
+pub returns-clause-root : goal.returns-clause-root
+returns-clause-root c none =
+    let e : parent_of c.args.self.now.tree.forest c.args.node ≡ Some c.in-Some.parent = cc in
+    let d : None ≡ Some c.in-Some.parent = sym none ∙ e in
+    absurd (cc d)
+
+pub returns-then-suppressed-clause-root : goal.returns-then-suppressed-clause-root
+returns-then-suppressed-clause-root c none =
+    let e : parent_of c.args.self.now.tree.forest c.args.node ≡ Some c.in-Some.parent = cc in
+    let d : None ≡ Some c.in-Some.parent = sym none ∙ e in
+    absurd (cc d)
+
+pub returns-in_err-make_transients-clause-root : goal.returns-in_err-make_transients-clause-root
+returns-in_err-make_transients-clause-root c none =
+    let e : parent_of c.args.self.now.tree.forest c.args.node ≡ Some c.in-Some.parent = cc in
+    let d : None ≡ Some c.in-Some.parent = sym none ∙ e in
+    absurd (cc d)

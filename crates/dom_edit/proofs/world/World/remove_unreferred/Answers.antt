@@ -1,12 +1,14 @@
-use Rattle.std.proofs.Common.{true, refl, ap, ◌∙◌}
+use Rattle.std.proofs.Common.{[], ◌∷◌, true, refl, ap, ◌∙◌, arith}
 use Rattle.std.proofs.lemmas.Result.{on_ok_weaker}
 use Rattle.dom_model.specs.MutationAlgorithms.Editing.{taken_out}
+use Rattle.dom_model.proofs.Forests.Climbing.{hits-first}
 use Rattle.dom_model.proofs.Forests.Entries.{HasNode-occurs}
 use Rattle.dom_model.proofs.Forests.Indices.{parent-there}
 use Rattle.dom_edit.specs.declared.world.World.{World}
 use Rattle.dom_edit.specs.Whole.{Follows}
 use Rattle.dom_edit.proofs.Following.{follows-none}
 use Rattle.dom_edit.proofs.Leaving.{parent-held, held-taken, follows-cut_out, whole-taken, follows-removed}
+use Rattle.dom_edit.proofs.LeftAlone.{cut-left, quiet-above, same-left}
 use Rattle.dom_edit.proofs.Unreferred.{ends-stay}
 use Rattle.dom_edit.proofs.NodesKept.{nodes-then, nodes-observed, nodes-cut}
 use Rattle.dom_edit.proofs.world.World.remove_unreferred.Goals as goal
@@ -64,3 +66,16 @@ returns-clause-kept c =
     nodes-then c.args.self.now mid c.make_transients.new.self
     (nodes-cut c.args.self.now mid c.args.node c.requires.whole (ap (λ (w : World). w.tree) c.cut_out.ensures))
     (nodes-observed mid c.make_transients.new.self c.make_transients.ensures.parts)
+
+pub returns-clause-left : goal.returns-clause-left
+returns-clause-left c a h newer l =
+    let p = c.args.parent in
+    let n = c.args.node in
+    let mid = c.cut_out.new.self in
+    let new = c.make_transients.new.self in
+    let above = newer p (hits-first p (n ∷ [])) in
+    let left = cut-left a h c.args.self.now l mid n (newer n (let i = hits-first n [] in omega arith)) c.cut_out.ensures in
+    let v = c.args.self.now in
+    let f : Follows v mid (taken_out n p) = follows-cut_out v mid n p v.ranges (ends-stay v c.requires.whole p n c.requires.child c.requires.unreferred) c.cut_out.ensures in
+    let whole = whole-taken v mid n p c.requires.whole c.requires.child f (ap (λ (w : World). w.ranges.covered) c.cut_out.ensures) (ap (λ (w : World). w.observers) c.cut_out.ensures) in
+    same-left a h mid new (c.make_transients.ensures.quiet (quiet-above a h mid left whole.forest.once p above)) left

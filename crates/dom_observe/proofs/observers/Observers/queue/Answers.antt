@@ -1,5 +1,5 @@
 -- Each observer that the mutation interests gets its record, and is pending.
-use Rattle.std.proofs.Common.{◌≡◌, ℕ, List, [], ◌∷◌, ◌++◌, length, filter, refl, ap, sym, ◌∙◌, subst, arith}
+use Rattle.std.proofs.Common.{◌≡◌, ℕ, ◌==◌, true, List, [], ◌∷◌, ◌++◌, length, filter, refl, ap, sym, ◌∙◌, subst, arith}
 use Rattle.std.specs.Prelude.{flat_map, filter_map}
 use Rattle.dom_model.specs.Forests.Forest.{ancestors}
 use Rattle.dom_model.specs.Worlds.World.{Mutation}
@@ -7,23 +7,25 @@ use Rattle.dom_model.specs.MutationObservers.Observing.{standing_on, registered_
 use Rattle.dom_model.specs.MutationObservers.Records.{interests, observers_of}
 use Rattle.dom_model.specs.PlainLists.Lists.{among}
 use Rattle.dom_model.specs.PlainLists.LastOnce.{with_all_last}
-use Rattle.dom_observe.specs.Names.{text_of}
 use Rattle.dom_observe.specs.Once.{once}
 use Rattle.dom_observe.specs.Watchers.{Watchers, Watches, records_at, on}
 use Rattle.dom_observe.specs.Registrations.{at, listed}
 use Rattle.dom_observe.specs.Kept.{registered_nodes, has_queue}
 use Rattle.dom_observe.specs.Roster.{queues_by}
-use Rattle.dom_observe.specs.Telling.{listeners, delivered}
+use Rattle.dom_observe.specs.Telling.{listeners}
 use Rattle.dom_observe.specs.Held.{nodes_of_mutation}
 use Rattle.dom_observe.proofs.Holding.{names-only, names-same, same-there}
 use Rattle.dom_observe.proofs.Hearing.{all_last-there}
 use Rattle.dom_observe.proofs.Keyrings.{indexed-same}
 use Rattle.dom_observe.proofs.Releasing.{each-there}
 use Rattle.dom_observe.proofs.Rosters.{has-same, length-same}
-use Rattle.dom_observe.proofs.Outcomes.{on_ok}
+use Rattle.dom_observe.proofs.Outcomes.{on_both}
 use Rattle.dom_observe.proofs.Keeping.{on-registered_nodes, nobody}
-use Rattle.dom_observe.proofs.Queued.{standing_on-none, standing_stands, unheard, kept-queued, told-queued, pended-queued}
+use Rattle.dom_observe.proofs.Queued.{standing_on-none, standing_stands, kept-queued, told-queued, pended-queued}
 use Rattle.dom_observe.proofs.Watching.{watches-noted, watches-unheard}
+use Rattle.dom_observe.proofs.Quiet.{not_nothing, none-stand, none-standing}
+use Rattle.std.proofs.lemmas.Bool.{true≢false}
+use Rattle.dom_model.proofs.PlainLists.Numbers.{same_or, same, apart}
 use Rattle.dom_observe.proofs.observers.Observers.queue.Goals as goal
 
 none : {A : Type 0} (xs : List A) → length xs ≡ 0 → xs ≡ []
@@ -40,33 +42,24 @@ returns-then-is_empty-clause-queued g c = λ x w.
     let gone = nobody x.registrations (λ n. sym (shown.registrations n) ∙ ap (λ es. on n (registered_nodes a.table es)) empty) in
     watches-unheard c.args.self.now x w m (ap (λ rs. filter (interests m) (standing_on ns rs)) gone ∙ ap (filter (interests m)) (standing_on-none ns))
 
-pub invariant_of-self : goal.invariant_of-self
-invariant_of-self g c =
+pub tell-requires : goal.tell-requires
+tell-requires g c =
     let a = c.self.inside in
     let qs = queues_by a.roster in
-    let bounded = standing_stands (at a.table) (has_queue qs) (listed a.nodes.entries) _ c.as_slice.result.now c.self.invariant.0.stand (c.as_slice.ensures.value ∙ c.in_ok-standing.ensures) in
-    (kept-queued a.table a.nodes.entries qs a.pending.keys c.self.invariant.0 qs c.listen.new.pending.keys (λ i. refl) c.listen.ensures.stay (c.listen.ensures.there (has_queue qs) bounded c.self.invariant.0.there) (λ p off. refl), c.self.invariant.1, c.self.invariant.2, c.self.invariant.3)
+    standing_stands (at a.table) (has_queue qs) (listed a.nodes.entries) _ c.as_slice.result.now c.self.invariant.0.stand (c.as_slice.ensures.value ∙ c.in_ok-find_standing.ensures)
 
-pub tell-requires-clause-there : goal.tell-requires-clause-there
-tell-requires-clause-there g c =
-    let a = c.self.inside in
-    let qs = queues_by a.roster in
-    let bounded = standing_stands (at a.table) (has_queue qs) (listed a.nodes.entries) _ c.as_slice.result.now c.self.invariant.0.stand (c.as_slice.ensures.value ∙ c.in_ok-standing.ensures) in
-    c.in_ok-heard.ensures.known (has_queue qs) bounded
+pub invariant_of-self : goal.invariant_of-self
+invariant_of-self g c = c.self.invariant
 
 pub invariant_of-self-2 : goal.invariant_of-self-2
 invariant_of-self-2 g c =
     let a = c.self.inside in
-    let q = c.question-question.result in
     let qs = queues_by a.roster in
-    let qs' = queues_by c.tell.new.roster in
-    let ls = listeners (at a.table) q.what q.target (text_of q.name) c.as_slice.result.now in
-    let bounded = standing_stands (at a.table) (has_queue qs) (listed a.nodes.entries) _ c.as_slice.result.now c.self.invariant.0.stand (c.as_slice.ensures.value ∙ c.in_ok-standing.ensures) in
-    let same = has-same a.roster c.tell.new.roster c.tell.ensures.keys in (
-      kept-queued a.table a.nodes.entries qs a.pending.keys c.self.invariant.0 qs' c.listen.new.pending.keys
-          same
-          c.listen.ensures.stay (c.listen.ensures.there (has_queue qs) bounded c.self.invariant.0.there)
-          (λ p off. c.tell.ensures.others p (c.in_ok-heard.ensures.heard p ∙ unheard p ls a.pending.keys c.listen.new.pending.keys c.in_ok-heard.ensures.pending off)),
+    let bounded = standing_stands (at a.table) (has_queue qs) (listed a.nodes.entries) _ c.as_slice.result.now c.self.invariant.0.stand (c.as_slice.ensures.value ∙ c.in_ok-find_standing.ensures) in (
+      kept-queued a.table a.nodes.entries qs a.pending.keys c.self.invariant.0 (queues_by c.tell.new.roster) c.tell.new.pending.keys
+          (has-same a.roster c.tell.new.roster c.tell.ensures.keys)
+          c.tell.ensures.stay (c.tell.ensures.there (has_queue qs) bounded c.self.invariant.0.there)
+          c.tell.ensures.others,
       indexed-same (at a.table) (listed a.nodes.entries) a.fleeting.keys a.roster c.tell.new.roster c.self.invariant.1 c.tell.ensures.keys,
       c.self.invariant.2,
       c.self.invariant.3,
@@ -74,9 +67,8 @@ invariant_of-self-2 g c =
 
 pub returns-clause-queued : goal.returns-clause-queued
 returns-clause-queued g c =
-    on_ok c.tell.result c.tell.ensures.ok (λ given x w.
+    on_both c.tell.result c.tell.ensures.told c.tell.ensures.pending (λ told pends x w.
     let a = c.self.inside in
-    let q = c.question-question.result in
     let m = c.args.mutation.now in
     let ns = ancestors c.args.mutation.now.target c.args.tree.now.forest in
     let u = at a.table in
@@ -87,21 +79,18 @@ returns-clause-queued g c =
     let o : Watchers = record { nodes = registered_nodes a.table a.nodes.entries; queues = qs; pending = a.pending.keys } in
     let shown = subst (λ (o : Watchers). Watches o x) (sym c.self.view_is) w in
     let has : (n : ℕ) → filter_map u (on n lists) ≡ once (registered_on n x.registrations) = λ n. sym (on-registered_nodes a.table n a.nodes.entries) ∙ shown.registrations n in
-    let ls = listeners u q.what q.target (text_of q.name) keys in
-    let heard : ls ≡ listeners u m.type m.target m.name keys = (λ i. listeners u (c.question-question.ensures.what i) (c.question-question.ensures.target i) (c.question-question.ensures.name i) keys) in
+    let ls = listeners u m.type m.target m.name keys in
     let target = ap (λ (k : Mutation). k.target) c.mutation.view_is in
-    let is : keys ≡ flat_map (λ n. on n lists) ns = c.as_slice.ensures.value ∙ c.in_ok-standing.ensures ∙ ap (λ t. flat_map (λ n. on n lists) (ancestors t c.args.tree.now.forest)) target in
+    let is : keys ≡ flat_map (λ n. on n lists) ns = c.as_slice.ensures.value ∙ c.in_ok-find_standing.ensures ∙ ap (λ t. flat_map (λ n. on n lists) (ancestors t c.args.tree.now.forest)) target in
     let noted_as : Mutation = record (c.args.mutation.now) { standing = standing_on ns x.registrations } in
-    let pended : c.listen.new.pending.keys ≡ with_all_last a.pending.keys (observers_of noted_as) = c.in_ok-heard.ensures.pending ∙ pended-queued u lists x.registrations has m ns keys is ls heard a.pending.keys in
-    let bounded = standing_stands u (has_queue qs) lists _ keys c.self.invariant.0.stand (c.as_slice.ensures.value ∙ c.in_ok-standing.ensures) in
-    watches-noted o x shown noted_as qs' c.listen.new.pending.keys
+    let pended : c.tell.new.pending.keys ≡ with_all_last a.pending.keys (observers_of noted_as) = pends ∙ pended-queued u lists x.registrations has m ns keys is ls refl a.pending.keys in
+    let bounded = standing_stands u (has_queue qs) lists _ keys c.self.invariant.0.stand (c.as_slice.ensures.value ∙ c.in_ok-find_standing.ensures) in
+    watches-noted o x shown noted_as qs' c.tell.new.pending.keys
     (length-same a.roster c.tell.new.roster c.tell.ensures.keys)
     (has-same a.roster c.tell.new.roster c.tell.ensures.keys)
-    (λ p. given p
-    ∙ ap (λ v. records_at qs p ++ delivered m v) (c.in_ok-heard.ensures.heard p)
-    ∙ ap (λ rs. records_at qs p ++ rs) (told-queued u lists x.registrations has m ns keys is ls heard p))
+    (λ p. told p ∙ ap (λ rs. records_at qs p ++ rs) (told-queued u lists x.registrations has m ns keys is ls refl p))
     pended
-    (λ i m. each-there (has_queue qs) c.listen.new.pending.keys (c.listen.ensures.there (has_queue qs) bounded c.self.invariant.0.there) i
+    (λ i m. each-there (has_queue qs) c.tell.new.pending.keys (c.tell.ensures.there (has_queue qs) bounded c.self.invariant.0.there) i
     (ap (among i) pended ∙ all_last-there i a.pending.keys (observers_of noted_as) m)))
 
 pub returns-then-is_empty-clause-names : goal.returns-then-is_empty-clause-names
@@ -109,36 +98,64 @@ returns-then-is_empty-clause-names g c =
     let a = c.self.inside in
     names-same a.table a.nodes.entries (queues_by a.roster) a.pending.keys c.self.invariant.0 c.args.self.now c.self.view_is (nodes_of_mutation c.args.mutation.now)
 
-pub returns-in_err-heard-clause-names : goal.returns-in_err-heard-clause-names
-returns-in_err-heard-clause-names g c =
-    let a = c.self.inside in
-    let qs = queues_by a.roster in
-    let bounded = standing_stands (at a.table) (has_queue qs) (listed a.nodes.entries) _ c.as_slice.result.now c.self.invariant.0.stand (c.as_slice.ensures.value ∙ c.in_ok-standing.ensures) in
-    let kept = kept-queued a.table a.nodes.entries qs a.pending.keys c.self.invariant.0 qs c.listen.new.pending.keys (λ i. refl) c.listen.ensures.stay (c.listen.ensures.there (has_queue qs) bounded c.self.invariant.0.there) (λ p off. refl) in
-    names-only a.table a.nodes.entries qs a.pending.keys c.args.self.now c.self.view_is a.table a.nodes.entries qs c.listen.new.pending.keys kept (nodes_of_mutation c.args.mutation.now) (λ p _ names tells. (names, tells))
-
 pub returns-clause-names : goal.returns-clause-names
 returns-clause-names g c =
     let a = c.self.inside in
-    let q = c.question-question.result in
     let qs = queues_by a.roster in
     let qs' = queues_by c.tell.new.roster in
-    let ls = listeners (at a.table) q.what q.target (text_of q.name) c.as_slice.result.now in
-    let bounded = standing_stands (at a.table) (has_queue qs) (listed a.nodes.entries) _ c.as_slice.result.now c.self.invariant.0.stand (c.as_slice.ensures.value ∙ c.in_ok-standing.ensures) in
-    let kept = kept-queued a.table a.nodes.entries qs a.pending.keys c.self.invariant.0 qs' c.listen.new.pending.keys
+    let bounded = standing_stands (at a.table) (has_queue qs) (listed a.nodes.entries) _ c.as_slice.result.now c.self.invariant.0.stand (c.as_slice.ensures.value ∙ c.in_ok-find_standing.ensures) in
+    let kept = kept-queued a.table a.nodes.entries qs a.pending.keys c.self.invariant.0 qs' c.tell.new.pending.keys
     (has-same a.roster c.tell.new.roster c.tell.ensures.keys)
-    c.listen.ensures.stay (c.listen.ensures.there (has_queue qs) bounded c.self.invariant.0.there)
-    (λ p off. c.tell.ensures.others p (c.in_ok-heard.ensures.heard p ∙ unheard p ls a.pending.keys c.listen.new.pending.keys c.in_ok-heard.ensures.pending off)) in
-    names-only a.table a.nodes.entries qs a.pending.keys c.args.self.now c.self.view_is a.table a.nodes.entries qs' c.listen.new.pending.keys kept (nodes_of_mutation c.args.mutation.now)
+    c.tell.ensures.stay (c.tell.ensures.there (has_queue qs) bounded c.self.invariant.0.there)
+    c.tell.ensures.others in
+    names-only a.table a.nodes.entries qs a.pending.keys c.args.self.now c.self.view_is a.table a.nodes.entries qs' c.tell.new.pending.keys kept (nodes_of_mutation c.args.mutation.now)
     (λ p nameless names tells. (names, c.tell.ensures.names p nameless tells))
 
 pub returns-clause-made : goal.returns-clause-made
 returns-clause-made g c =
     let a = c.self.inside in
-    let new : Watchers = record { nodes = registered_nodes a.table a.nodes.entries; queues = queues_by c.tell.new.roster; pending = c.listen.new.pending.keys } in
+    let new : Watchers = record { nodes = registered_nodes a.table a.nodes.entries; queues = queues_by c.tell.new.roster; pending = c.tell.new.pending.keys } in
     same-there c.args.self.now new (queues_by a.roster) (ap (λ (o : Watchers). o.queues) c.self.view_is) (length-same a.roster c.tell.new.roster c.tell.ensures.keys) (has-same a.roster c.tell.new.roster c.tell.ensures.keys)
 
-pub returns-in_err-standing-clause-names : goal.returns-in_err-standing-clause-names
-returns-in_err-standing-clause-names g c =
+pub returns-in_err-find_standing-clause-names : goal.returns-in_err-find_standing-clause-names
+returns-in_err-find_standing-clause-names g c =
     let a = c.self.inside in
-    names-same a.table a.nodes.entries (queues_by a.roster) a.pending.keys c.self.invariant.0 c.args.self.now c.self.view_is (nodes_of_mutation c.args.mutation.now)
+    names-only a.table a.nodes.entries (queues_by a.roster) a.pending.keys c.args.self.now c.self.view_is a.table a.nodes.entries (queues_by a.roster) a.pending.keys c.self.invariant.0 (nodes_of_mutation c.args.mutation.now) (λ p _ names tells. (names, tells))
+
+pub returns-then-is_empty-2-clause-queued : goal.returns-then-is_empty-2-clause-queued
+returns-then-is_empty-2-clause-queued g c = λ x w.
+    let a = c.self.inside in
+    let ns = ancestors c.args.mutation.now.target c.args.tree.now.forest in
+    let m : Mutation = record (c.args.mutation.now) { standing = standing_on ns x.registrations } in
+    let shown = subst (λ (o : Watchers). Watches o x) (sym c.self.view_is) w in
+    let target = ap (λ (k : Mutation). k.target) c.mutation.view_is in
+    let full = c.find_standing.new.keys.ok.0 in
+    let t : (c.find_standing.new.keys.len == 0) ≡ true = sym c.is_empty-2.ensures ∙ c.if-is_empty-2.true in
+    let nothing : c.find_standing.new.keys.items ≡ [] =
+    none c.find_standing.new.keys.items (elim (same_or c.find_standing.new.keys.len 0) [ same e _ ↦ omega (arith, full, e) | apart _ f ↦ absurd (true≢false (sym t ∙ f)) ]) in
+    let keys = ap (λ k. flat_map (λ n. on n (listed a.nodes.entries)) (ancestors k c.args.tree.now.forest)) (sym target) ∙ sym c.in_ok-find_standing.ensures ∙ nothing in
+    let gone = none-standing a.table a.nodes.entries x.registrations shown.registrations ns keys in
+    let o : Watchers = record { nodes = registered_nodes a.table a.nodes.entries; queues = queues_by a.roster; pending = a.pending.keys } in
+    watches-unheard o x shown m (ap (filter (interests m)) gone)
+
+pub returns-then-is_empty-2-clause-names : goal.returns-then-is_empty-2-clause-names
+returns-then-is_empty-2-clause-names g c =
+    let a = c.self.inside in
+    names-only a.table a.nodes.entries (queues_by a.roster) a.pending.keys c.args.self.now c.self.view_is a.table a.nodes.entries (queues_by a.roster) a.pending.keys c.self.invariant.0 (nodes_of_mutation c.args.mutation.now) (λ p _ names tells. (names, tells))
+
+pub returns-then-is_empty-2-clause-quiet : goal.returns-then-is_empty-2-clause-quiet
+returns-then-is_empty-2-clause-quiet g c unnamed = c.self.view_is
+
+pub returns-then-is_empty-clause-quiet : goal.returns-then-is_empty-clause-quiet
+returns-then-is_empty-clause-quiet g c unnamed = refl
+
+pub returns-in_err-find_standing-clause-quiet : goal.returns-in_err-find_standing-clause-quiet
+returns-in_err-find_standing-clause-quiet g c unnamed = c.self.view_is
+
+pub returns-clause-quiet : goal.returns-clause-quiet
+returns-clause-quiet g c unnamed =
+    let a = c.self.inside in
+    let target = ap (λ (k : Mutation). k.target) c.mutation.view_is in
+    let none-there = none-stand a.table a.nodes.entries (has_queue (queues_by a.roster)) c.self.invariant.0.stand (queues_by a.roster) a.pending.keys c.args.self.now c.self.view_is (ancestors c.args.mutation.now.target c.args.tree.now.forest) unnamed in
+    let nothing = c.in_ok-find_standing.ensures ∙ ap (λ k. flat_map (λ n. on n (listed a.nodes.entries)) (ancestors k c.args.tree.now.forest)) target ∙ none-there in
+    absurd (not_nothing c.find_standing.new.keys.items c.find_standing.new.keys.len (sym c.find_standing.new.keys.ok.0) (sym c.is_empty-2.ensures ∙ c.if-is_empty-2.false) nothing)

@@ -11,13 +11,14 @@ use Rattle.dom_observe.specs.Registrations.{at, found, listed, is_live, AllLive,
 use Rattle.dom_observe.specs.Kept.{registered_nodes, has_queue, IsKept}
 use Rattle.dom_observe.specs.Roster.{lasting_by, passing_by, queues_by}
 use Rattle.dom_observe.specs.Naming.{names_one, TellsNone}
-use Rattle.dom_observe.proofs.Holding.{names-only, names-same, same-queues}
+use Rattle.dom_observe.proofs.Holding.{names-only, same-queues}
 use Rattle.dom_observe.proofs.Keyrings.{indexed-by}
 use Rattle.dom_observe.proofs.Outcomes.{on_ok}
 use Rattle.dom_observe.proofs.Tables.{live_of_stands}
 use Rattle.dom_observe.proofs.Keeping.{on-registered_nodes, kept_table, all_deep, stands_of}
 use Rattle.dom_observe.proofs.Transients.{transients-once, none-added-there}
 use Rattle.dom_observe.proofs.Watching.{watches-transients}
+use Rattle.dom_observe.proofs.Quiet.{not_nothing, none-deep}
 use Rattle.dom_observe.proofs.observers.Observers.transients.Goals as goal
 
 none : {A : Type 0} (xs : List A) → length xs ≡ 0 → xs ≡ []
@@ -27,18 +28,18 @@ none (x ∷ xs) h = absurd (omega arith)
 pub returns-then-is_empty-clause-left : goal.returns-then-is_empty-clause-left
 returns-then-is_empty-clause-left g c = λ x w.
     let a = c.self.inside in
-    let o = c.args.self.now in
+    let o : Watchers = record { nodes = registered_nodes a.table a.nodes.entries; queues = queues_by a.roster; pending = a.pending.keys } in
     let ns = ancestors c.args.parent c.args.tree.now.forest in
     let shown = subst (λ (o : Watchers). Watches o x) (sym c.self.view_is) w in
-    let nothing : c.in_ok-standing.standing.items ≡ [] =
-    none c.in_ok-standing.standing.items (
-    let k = c.in_ok-standing.standing.ok in
-    let t : (c.in_ok-standing.standing.len == 0) ≡ true = sym c.is_empty.ensures ∙ c.if-is_empty.true in
-    elim (same_or c.in_ok-standing.standing.len 0) [ same e _ ↦ omega arith | apart _ f ↦ absurd (true≢false (sym t ∙ f)) ]) in
+    let nothing : c.find_standing_deep.new.keys.items ≡ [] =
+    none c.find_standing_deep.new.keys.items (
+    let k = c.find_standing_deep.new.keys.ok in
+    let t : (c.find_standing_deep.new.keys.len == 0) ≡ true = sym c.is_empty.ensures ∙ c.if-is_empty.true in
+    elim (same_or c.find_standing_deep.new.keys.len 0) [ same e _ ↦ omega arith | apart _ f ↦ absurd (true≢false (sym t ∙ f)) ]) in
     let has : (n : ℕ) → found a.table (on n (listed a.nodes.entries)) ≡ once (registered_on n x.registrations) = λ n. sym (on-registered_nodes a.table n a.nodes.entries) ∙ shown.registrations n in
-    let kept = transients-once (at a.table) (listed a.nodes.entries) (has_queue (queues_by a.roster)) c.self.invariant.3 c.self.invariant.0.stand x.registrations has c.args.node ns [] (sym nothing ∙ c.in_ok-standing.ensures) in
-    watches-transients o x w c.args.node ns o.nodes
-    (λ n. ap (λ (p : Watchers). on n p.nodes) (sym c.self.view_is) ∙ on-registered_nodes a.table n a.nodes.entries ∙ sym (none-added-there c.args.node n (found a.table (on n (listed a.nodes.entries)))) ∙ kept n)
+    let kept = transients-once (at a.table) (listed a.nodes.entries) (has_queue (queues_by a.roster)) c.self.invariant.3 c.self.invariant.0.stand x.registrations has c.args.node ns [] (sym nothing ∙ c.in_ok-find_standing_deep.ensures) in
+    watches-transients o x shown c.args.node ns o.nodes
+    (λ n. on-registered_nodes a.table n a.nodes.entries ∙ sym (none-added-there c.args.node n (found a.table (on n (listed a.nodes.entries)))) ∙ kept n)
 
 pub add_transients-requires-clause-live : goal.add_transients-requires-clause-live
 add_transients-requires-clause-live g c = λ n.
@@ -49,14 +50,17 @@ pub add_transients-requires-clause-standing : goal.add_transients-requires-claus
 add_transients-requires-clause-standing g c =
     let a = c.self.inside in
     let live = λ (n : ℕ). live_of_stands (at a.table) (has_queue (queues_by a.roster)) n (on n (listed a.nodes.entries)) (c.self.invariant.0.stand n) in
-    subst (AllLive (at a.table)) (sym (c.as_slice.ensures.value ∙ c.in_ok-standing.ensures))
+    subst (AllLive (at a.table)) (sym (c.as_slice.ensures.value ∙ c.in_ok-find_standing_deep.ensures))
     (all_deep (at a.table) (λ k. is_live (at a.table) k ≡ true) (listed a.nodes.entries) live (ancestors c.args.parent c.args.tree.now.forest))
 
 pub invariant_of-self : goal.invariant_of-self
-invariant_of-self g c =
+invariant_of-self g c = c.self.invariant
+
+pub invariant_of-self-2 : goal.invariant_of-self-2
+invariant_of-self-2 g c =
     let a = c.self.inside in
     let there = has_queue (queues_by a.roster) in
-    let bounded = subst (AllByRecursion (Stands (at a.table) there)) (sym (c.as_slice.ensures.value ∙ c.in_ok-standing.ensures))
+    let bounded = subst (AllByRecursion (Stands (at a.table) there)) (sym (c.as_slice.ensures.value ∙ c.in_ok-find_standing_deep.ensures))
     (all_deep (at a.table) (Stands (at a.table) there) (listed a.nodes.entries) (λ n. stands_of (at a.table) there n (on n (listed a.nodes.entries)) (c.self.invariant.0.stand n)) (ancestors c.args.parent c.args.tree.now.forest)) in
     let stand = c.add_transients.ensures.all_stand there bounded c.self.invariant.0.stand in
     let roster' = c.add_transients.new.roster in
@@ -80,7 +84,7 @@ returns-clause-left g c =
     subst (λ q. Watches (record { nodes = registered_nodes c.add_transients.new.table c.add_transients.new.nodes.entries; queues = q; pending = a.pending.keys }) (with_transients c.args.node ns x)) (sym c.add_transients.ensures.queues)
     (watches-transients o x shown c.args.node ns (registered_nodes c.add_transients.new.table c.add_transients.new.nodes.entries)
     (λ n. on-registered_nodes c.add_transients.new.table n c.add_transients.new.nodes.entries ∙ added n
-    ∙ transients-once (at a.table) (listed a.nodes.entries) (has_queue (queues_by a.roster)) c.self.invariant.3 c.self.invariant.0.stand x.registrations has c.args.node ns c.as_slice.result.now (c.as_slice.ensures.value ∙ c.in_ok-standing.ensures) n)))
+    ∙ transients-once (at a.table) (listed a.nodes.entries) (has_queue (queues_by a.roster)) c.self.invariant.3 c.self.invariant.0.stand x.registrations has c.args.node ns c.as_slice.result.now (c.as_slice.ensures.value ∙ c.in_ok-find_standing_deep.ensures) n)))
 
 pub returns-clause-names : goal.returns-clause-names
 returns-clause-names g c =
@@ -89,7 +93,7 @@ returns-clause-names g c =
     let there = has_queue qs in
     let ns = ancestors c.args.parent c.args.tree.now.forest in
     let lists = listed a.nodes.entries in
-    let keys = c.as_slice.ensures.value ∙ c.in_ok-standing.ensures in
+    let keys = c.as_slice.ensures.value ∙ c.in_ok-find_standing_deep.ensures in
     let bounded = subst (AllByRecursion (Stands (at a.table) there)) (sym keys)
     (all_deep (at a.table) (Stands (at a.table) there) lists (λ n. stands_of (at a.table) there n (on n lists) (c.self.invariant.0.stand n)) ns) in
     let stand = c.add_transients.ensures.all_stand there bounded c.self.invariant.0.stand in
@@ -107,18 +111,18 @@ returns-clause-names g c =
 pub returns-then-is_empty-clause-names : goal.returns-then-is_empty-clause-names
 returns-then-is_empty-clause-names g c =
     let a = c.self.inside in
-    names-same a.table a.nodes.entries (queues_by a.roster) a.pending.keys c.self.invariant.0 c.args.self.now c.self.view_is (c.args.node ∷ [])
+    names-only a.table a.nodes.entries (queues_by a.roster) a.pending.keys c.args.self.now c.self.view_is a.table a.nodes.entries (queues_by a.roster) a.pending.keys c.self.invariant.0 (c.args.node ∷ []) (λ p _ names tells. (names, tells))
 
-pub returns-in_err-standing-clause-names : goal.returns-in_err-standing-clause-names
-returns-in_err-standing-clause-names g c =
+pub returns-in_err-find_standing_deep-clause-names : goal.returns-in_err-find_standing_deep-clause-names
+returns-in_err-find_standing_deep-clause-names g c =
     let a = c.self.inside in
-    names-same a.table a.nodes.entries (queues_by a.roster) a.pending.keys c.self.invariant.0 c.args.self.now c.self.view_is (c.args.node ∷ [])
+    names-only a.table a.nodes.entries (queues_by a.roster) a.pending.keys c.args.self.now c.self.view_is a.table a.nodes.entries (queues_by a.roster) a.pending.keys c.self.invariant.0 (c.args.node ∷ []) (λ p _ names tells. (names, tells))
 
 pub add_transients-requires-clause-there : goal.add_transients-requires-clause-there
 add_transients-requires-clause-there g c =
     let a = c.self.inside in
     let there = has_queue (queues_by a.roster) in
-    subst (AllByRecursion (Stands (at a.table) there)) (sym (c.as_slice.ensures.value ∙ c.in_ok-standing.ensures))
+    subst (AllByRecursion (Stands (at a.table) there)) (sym (c.as_slice.ensures.value ∙ c.in_ok-find_standing_deep.ensures))
     (all_deep (at a.table) (Stands (at a.table) there) (listed a.nodes.entries) (λ n. stands_of (at a.table) there n (on n (listed a.nodes.entries)) (c.self.invariant.0.stand n)) (ancestors c.args.parent c.args.tree.now.forest))
 
 pub returns-clause-made : goal.returns-clause-made
@@ -126,3 +130,15 @@ returns-clause-made g c =
     let a = c.self.inside in
     let new : Watchers = record { nodes = registered_nodes c.add_transients.new.table c.add_transients.new.nodes.entries; queues = queues_by c.add_transients.new.roster; pending = a.pending.keys } in
     same-queues c.args.self.now new (c.add_transients.ensures.queues ∙ ap (λ (o : Watchers). o.queues) c.self.view_is)
+
+pub returns-clause-quiet : goal.returns-clause-quiet
+returns-clause-quiet g c unnamed =
+    let a = c.self.inside in
+    let nothing = c.in_ok-find_standing_deep.ensures ∙ none-deep a.table a.nodes.entries (has_queue (queues_by a.roster)) c.self.invariant.0.stand (queues_by a.roster) a.pending.keys c.args.self.now c.self.view_is (ancestors c.args.parent c.args.tree.now.forest) unnamed in
+    absurd (not_nothing c.find_standing_deep.new.keys.items c.find_standing_deep.new.keys.len (sym c.find_standing_deep.new.keys.ok.0) (sym c.is_empty.ensures ∙ c.if-is_empty.false) nothing)
+
+pub returns-then-is_empty-clause-quiet : goal.returns-then-is_empty-clause-quiet
+returns-then-is_empty-clause-quiet g c unnamed = c.self.view_is
+
+pub returns-in_err-find_standing_deep-clause-quiet : goal.returns-in_err-find_standing_deep-clause-quiet
+returns-in_err-find_standing_deep-clause-quiet g c unnamed = c.self.view_is

@@ -3,12 +3,14 @@ use Rattle.dom_model.specs.Commands.Answer.{Bounds}
 use Rattle.dom_model.specs.Commands.Table.{whole_table}
 use Rattle.dom_model.specs.Commands.Output.{due}
 use Rattle.dom_serve.specs.Calls.{HasAnswered, IsWritten}
+use Rattle.dom_serve.specs.ByLine.{IsWrittenByLine}
 use Rattle.dom_serve.specs.Server.{Stands, Grows}
 use Rattle.dom_serve.proofs.server.Server.feed_all.Given as goal
 
 abbrev pub invariant-loop-line : goal.invariant-loop-line
 invariant-loop-line g l = record {
   passed : HasAnswered g.W.Sink.is_passed_on l.fn.writer l.fn.self.lines l.writer l.self.lines;
+  by_line : IsWrittenByLine g.W.Sink.taken g.W.Sink.is_passed_on false l.fn.writer l.writer;
   writer : IsWritten g.W.Sink.works g.W.Sink.fails false l.fn.writer l.writer;
   front : List ℕ;
   whole : l.piece ≡ front ++ l.rest;

@@ -21,14 +21,23 @@ returns-then-self-clause-passed g c = search (tests, rules)
 pub returns-then-self-clause-writer : goal.returns-then-self-clause-writer
 returns-then-self-clause-writer g c = search (tests, rules)
 
+pub returns-then-self-clause-by_line : goal.returns-then-self-clause-by_line
+returns-then-self-clause-by_line g c = search (tests, rules)
+
 pub returns-then-is_empty-clause-passed : goal.returns-then-is_empty-clause-passed
 returns-then-is_empty-clause-passed g c = search (tests, rules)
 
 pub returns-then-is_empty-clause-writer : goal.returns-then-is_empty-clause-writer
 returns-then-is_empty-clause-writer g c = search (tests, rules)
 
+pub returns-then-is_empty-clause-by_line : goal.returns-then-is_empty-clause-by_line
+returns-then-is_empty-clause-by_line g c = search (tests, rules)
+
 pub returns-clause-passed : goal.returns-clause-passed
 returns-clause-passed g c = search (tests, rules)
 
 pub returns-clause-writer : goal.returns-clause-writer
 returns-clause-writer g c = search (tests, rules)
+
+pub returns-clause-by_line : goal.returns-clause-by_line
+returns-clause-by_line g c = search (tests, rules)

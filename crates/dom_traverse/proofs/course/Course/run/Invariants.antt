@@ -1,6 +1,6 @@
 -- The walk finds from where it stands what it finds from where it began.
-use Rattle.std.proofs.Common.{◌*◌}
-use Rattle.dom_model.specs.Forests.Forest.{HasNode, size}
+use Rattle.std.proofs.Common.{◌≡◌, ◌*◌}
+use Rattle.dom_model.specs.Forests.Forest.{size}
 use Rattle.dom_model.specs.Traversal.WalkSteps.{at}
 use Rattle.dom_model.specs.Traversal.Ending.{moves_left}
 use Rattle.dom_traverse.specs.Courses.{course_step, LeadsTo}
@@ -8,9 +8,9 @@ use Rattle.dom_traverse.proofs.course.Course.run.Given as goal
 
 abbrev pub invariant-loop-verdict : goal.invariant-loop-verdict
 invariant-loop-verdict g l = record {
-  there : HasNode l.tree.forest l.here;
-  leads : LeadsTo l.tree.forest l.filter l.self (at l.fn.node) (at l.here);
+  tree : l.here.tree ≡ l.fn.node.tree;
+  leads : LeadsTo l.fn.node.tree.forest l.filter l.self (at l.fn.node.node) (at l.here.node);
 }
 
 abbrev pub decreases-loop-verdict : goal.decreases-loop-verdict
-decreases-loop-verdict g l = moves_left (course_step l.tree.forest l.filter l.self) (4 * size l.tree.forest) (at l.here)
+decreases-loop-verdict g l = moves_left (course_step l.fn.node.tree.forest l.filter l.self) (4 * size l.fn.node.tree.forest) (at l.here.node)

@@ -1,6 +1,8 @@
 -- What the root loses, it stands over.
-use Rattle.std.proofs.Common.{sym, ◌∙◌}
+use Rattle.std.proofs.Common.{true, ap, sym, ◌∙◌}
 use Rattle.std.proofs.lemmas.Bool.{false≢true}
+use Rattle.dom_model.specs.PlainLists.Lists.{among, before}
+use Rattle.dom_model.specs.Forests.Forest.{Grove, ancestors, inclusive_descendants}
 use Rattle.dom_traverse.proofs.Exiting.{lost-under}
 use Rattle.dom_traverse.proofs.exit.Exit.of.Goals as goal
 
@@ -8,9 +10,12 @@ pub past_inside-following-requires-clause-under : goal.past_inside-following-req
 past_inside-following-requires-clause-under g c =
     lost-under c.args.tree.now.forest c.sound.ensures.once c.args.node c.args.root (sym c.loses.ensures ∙ c.if-not-loses.false)
 
-pub previous_inside-preceding-requires-clause-under : goal.previous_inside-preceding-requires-clause-under
-previous_inside-preceding-requires-clause-under g c =
-    lost-under c.args.tree.now.forest c.sound.ensures.once c.args.node c.args.root (sym c.loses.ensures ∙ c.if-not-loses.false)
+pub previous_inside-preceding-requires : goal.previous_inside-preceding-requires
+previous_inside-preceding-requires g c =
+    let f = c.args.tree.now.forest in
+    ap (λ (t : Grove g.row.X.Denot). among c.args.root (ancestors c.at-here.result.node t.forest)) c.at-here.ensures.tree
+    ∙ ap (λ n. among c.args.root (ancestors n f)) c.at-here.ensures.node
+    ∙ lost-under f c.sound.ensures.once c.args.node c.args.root (sym c.loses.ensures ∙ c.if-not-loses.false)
 
 pub returns-then-not-loses-clause-exit : goal.returns-then-not-loses-clause-exit
 returns-then-not-loses-clause-exit g c = record {
@@ -23,5 +28,10 @@ pub returns-clause-exit : goal.returns-clause-exit
 returns-clause-exit g c = record {
   loses = sym c.if-not-loses.false ∙ c.loses.ensures;
   following = λ e. c.past_inside-following.ensures;
-  preceding = λ e. c.previous_inside-preceding.ensures;
+  preceding =
+      λ e.
+      c.number.ensures
+      ∙ c.previous_inside-preceding.ensures.node
+      ∙ ap (λ (t : Grove g.row.X.Denot). before c.at-here.result.node (inclusive_descendants t.forest c.args.root)) c.at-here.ensures.tree
+      ∙ ap (λ n. before n (inclusive_descendants c.args.tree.now.forest c.args.root)) c.at-here.ensures.node;
 }

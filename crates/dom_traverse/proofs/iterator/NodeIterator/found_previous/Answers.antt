@@ -6,8 +6,8 @@ use Rattle.dom_model.specs.Worlds.World.{Iterator}
 use Rattle.dom_traverse.proofs.Stances.{reference-there, reference-under}
 use Rattle.dom_traverse.proofs.iterator.NodeIterator.found_previous.Goals as goal
 
-pub accepts-requires : goal.accepts-requires
-accepts-requires g c =
+pub accepts_number-requires : goal.accepts_number-requires
+accepts_number-requires g c =
     subst (λ (i : Iterator). HasNode c.args.tree.now.forest i.reference) (sym c.self.view_is) (reference-there c.args.tree.now.forest c.sound.ensures.once c.args.self.now c.requires)
 
 pub previous_accepted-requires-clause-held : goal.previous_accepted-requires-clause-held

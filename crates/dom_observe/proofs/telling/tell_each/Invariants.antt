@@ -4,7 +4,7 @@ use Rattle.std.specs.Map.{lookup}
 use Rattle.dom_observe.specs.Roster.{keys_by, queues_by}
 use Rattle.dom_observe.specs.Telling.{delivered}
 use Rattle.dom_observe.specs.Watchers.{records_at}
-use Rattle.dom_observe.proofs.telling.tell.Given as goal
+use Rattle.dom_observe.proofs.telling.tell_each.Given as goal
 
 abbrev pub invariant-loop-index : goal.invariant-loop-index
 invariant-loop-index l = record {

@@ -1,0 +1,65 @@
+//! How much a session holds, told with no command: the last answer stays, and no memory is taken.
+
+ghost use Rattle.std.specs.Prelude.{◌≡◌};
+ghost use Rattle.dom_model.specs.Worlds.World.{World};
+ghost use Rattle.dom_wire.specs.Sessions.{StandsFor};
+ghost use Rattle.dom_c.specs.Counting.{TellsWorld, counts_told, in_use_told};
+
+use crate::handle::Handle;
+use crate::kept::Kept;
+use crate::status::{HP_CLOSED, HP_OK, HP_OUT_OF_MEMORY};
+use dom_session::Counts as Found;
+
+/// How many objects of each kind there are: those that were made, and neither discarded nor released. The registrations are those of all
+/// observers, with the transient ones.
+#[repr(C)]
+#[derive(Clone, Copy, Debug)]
+pub struct Counts {
+    pub nodes: usize,
+    pub ranges: usize,
+    pub static_ranges: usize,
+    pub iterators: usize,
+    pub walkers: usize,
+    pub observers: usize,
+    pub registrations: usize,
+}
+
+// The counts of a session, as C reads them.
+fn counts_told(found: Found) -> Counts
+    ensures { result ≡ counts_told found }
+{
+    Counts {
+        nodes: found.nodes,
+        ranges: found.ranges,
+        static_ranges: found.static_ranges,
+        iterators: found.iterators,
+        walkers: found.walkers,
+        observers: found.observers,
+        registrations: found.registrations,
+    }
+}
+
+impl Kept {
+    fn in_use(&self) -> Counts
+        ensures { (w : World) → StandsFor self.now.session w → result ≡ in_use_told w }
+    {
+        counts_told(self.session.in_use())
+    }
+}
+
+/// How many objects of each kind the session has, in constant time, so that a host can tell its garbage collector what the session holds.
+#[unsafe(no_mangle)]
+pub extern "C" fn hp_in_use(handle: &mut Handle, counts: &mut Counts) -> u8
+    ensures kept { handle.new.slot.kept ≡ handle.old.slot.kept }
+    ensures told { TellsWorld handle.old in_use_told counts.old counts.new result }
+{
+    if !handle.is_open {
+        return HP_CLOSED;
+    }
+    let kept = &handle.slot.lend().kept;
+    if kept.ended {
+        return HP_OUT_OF_MEMORY;
+    }
+    *counts = kept.in_use();
+    HP_OK
+}

@@ -1,0 +1,15 @@
+-- The listeners of the first keys are one, or there is none.
+use Rattle.std.proofs.Common.{◌≡◌, ℕ, Bool, true, take}
+use Rattle.std.specs.Prelude.{IfSome}
+use Rattle.std.specs.List.{AllByRecursion}
+use Rattle.dom_observe.specs.Names.{text_of}
+use Rattle.dom_observe.specs.Registrations.{at, Stands}
+use Rattle.dom_observe.specs.Telling.{listeners}
+use Rattle.dom_observe.proofs.Alone.{AreAlone}
+use Rattle.dom_observe.proofs.telling.only_listener.Given as goal
+
+abbrev pub invariant-loop-key : goal.invariant-loop-key
+invariant-loop-key l = record {
+  alone : AreAlone l.only (listeners (at l.table) l.question.what l.question.target (text_of l.question.name) (take l.key-index l.standing));
+  known : IfSome l.only (λ only. (p : ℕ → Bool) → AllByRecursion (Stands (at l.table) p) l.standing → p only.0 ≡ true);
+}

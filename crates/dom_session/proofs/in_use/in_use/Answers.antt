@@ -1,0 +1,24 @@
+-- Each count is that of a part, which is the world's.
+use Rattle.std.proofs.Common.{is_some, count_by, ap, sym, ◌∙◌}
+use Rattle.dom_model.specs.Forests.Forest.{size}
+use Rattle.dom_session.proofs.in_use.in_use.Goals as goal
+
+pub returns : goal.returns
+returns c = λ w s.
+    let k = s.keeps in
+    let nodes = c.live.ensures ∙ ap size (sym k.forest) in
+    let ranges = c.count.ensures ∙ ap (count_by is_some) (sym k.ranges) in
+    let statics = c.count-2.ensures ∙ ap (count_by is_some) (sym k.static_ranges) in
+    let iterators = c.count-3.ensures ∙ ap (count_by is_some) (sym k.iterators) in
+    let walkers = c.count-4.ensures ∙ ap (count_by is_some) (sym k.walkers) in
+    let observers = c.count-5.ensures.watched w.observing s.watched in
+    let registrations = c.registrations.ensures w.observing s.watched in
+    λ i. record {
+      nodes = nodes i;
+      ranges = ranges i;
+      static_ranges = statics i;
+      iterators = iterators i;
+      walkers = walkers i;
+      observers = observers i;
+      registrations = registrations i;
+    }

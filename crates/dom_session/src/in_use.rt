@@ -1,0 +1,37 @@
+//! How many objects a session has, so that a host can tell its memory.
+
+ghost use Rattle.std.specs.Prelude.{◌≡◌};
+ghost use Rattle.dom_model.specs.Worlds.World.{World as PlainWorld};
+ghost use Rattle.dom_edit.specs.Whole.{Shows};
+ghost use Rattle.dom_session.specs.InUse.{in_use_of};
+
+use dom_edit::World;
+
+/// How many there are of each kind of object: those that were made, and neither discarded nor released.
+///
+/// Registrations are those of all observers, with the transient ones.
+#[derive(Clone, Copy, Debug, PartialEq, Eq)]
+pub struct Counts {
+    pub nodes: usize,
+    pub ranges: usize,
+    pub static_ranges: usize,
+    pub iterators: usize,
+    pub walkers: usize,
+    pub observers: usize,
+    pub registrations: usize,
+}
+
+/// How many there are of each kind.
+pub(crate) fn in_use(world: &World) -> Counts
+    ensures { (w : PlainWorld) → Shows world.now w → result ≡ in_use_of w }
+{
+    Counts {
+        nodes: world.tree.live() as usize,
+        ranges: world.ranges.count(),
+        static_ranges: world.statics.count(),
+        iterators: world.iterators.count(),
+        walkers: world.walkers.count(),
+        observers: world.observers.count(),
+        registrations: world.observers.registrations(),
+    }
+}
