@@ -85,7 +85,7 @@ class Table:
     """The table of commands, as the definitions have it."""
 
     def __init__(self, root):
-        rows = re.findall(r'row \(codes "(\w+)"\) (\[\]|\(.*?\[\]\)) \(λ \(a : Arguments\)\. (.*)\)$', read(root, COMMANDS), re.M)
+        rows = re.findall(r'row \(codes "(\w+)"\) (\[\]|\(.*?\[\]\))\s+\(λ \(a : Arguments\)\.\s+(.*)\)$', read(root, COMMANDS), re.M)
         self.rows = {name: (re.findall(r"(?:a|the)_\w+", shapes), term) for name, shapes, term in rows}
         self.watching = set(re.findall(r"^only_watches \((\w+).*\) = true$", read(root, WATCHING), re.M))
 

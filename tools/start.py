@@ -5,6 +5,9 @@ Each crate is proved as `rt ci` proves it: from nothing, over the statements of 
 as far as there are processors and memory. What is proved is kept in the kit's own store on this machine, by the sums of all that was read, for later
 starts, for the gate, and for other copies of the repository; so a start that was cut off goes on where it stopped. The program, or an archive, then
 stands in crates/NAME/out, beside the sum of what it was built of. The work goes on in a copy, so files may change meanwhile.
+
+A kit that has no store leaves what it proved under crates/NAME/out: there a start works in place, and takes what the gate or an earlier start left
+of the files that are there.
 """
 import argparse
 import contextlib
@@ -89,8 +92,50 @@ def is_fresh(name):
         return it.read() == sum_of(with_lower(listed(), name))
 
 
+def written(path):
+    """Returns when a file or a folder was last written; nothing is as old as what is not there."""
+    return os.path.getmtime(path) if os.path.exists(path) else 0
+
+
+class Left:
+    """What a kit without a store left of crates under their out/: good where it is newer than all that it was made of."""
+
+    def __init__(self):
+        self.at = {}
+
+    def key(self, crate):
+        parts = [f"{crate.folder}/{part}" for part in ("src", "specs", "proofs")]
+        files = [f"{at}/{it}" for part in parts for at, _, found in os.walk(part) for it in found]
+        return max(map(written, [f"{ROOT}/crates.txt", *files]))
+
+    @contextlib.contextmanager
+    def in_turn(self, crate, tests, key):
+        yield
+
+    def made(self, crate):
+        """Returns what proving a crate leaves: a library that has no stamp, since those with one are built by other commands, or the program."""
+        if crate.is_program or crate.is_static:
+            return f"{crate.folder}/out/{crate.name}"
+        return crate.rlib if not os.path.exists(f"{os.path.dirname(crate.rlib)}/stamp") else ""
+
+    def give(self, crate, tests, key):
+        newest = max([key, *(self.at[it.name] for it in crate.below())])
+        return written(self.made(crate)) > newest
+
+    def keep(self, crate, tests, key):
+        self.at[crate.name] = written(self.made(crate))
+
+    def is_built(self, crate):
+        self.keep(crate, False, None)
+
+    def shrink(self):
+        """Drops nothing: what is left lies in the repository's own folders."""
+
+
 def store(rt, crates):
     """Returns the kit's store, which here keeps a static library's archive as well, as out/NAME."""
+    if not hasattr(rt, "Kept"):
+        return Left()
 
     class Store(rt.Kept):
         def key(self, crate):
@@ -196,13 +241,26 @@ def bring(top, name):
     made = f"{top}/crates/{name}/out/{name}"
     if os.path.isfile(made):
         file, noted = built(name)
-        os.makedirs(os.path.dirname(file), exist_ok=True)
-        for it in (file, noted):
+        if made != file:
+            os.makedirs(os.path.dirname(file), exist_ok=True)
             with contextlib.suppress(FileNotFoundError):
-                os.remove(it)
-        shutil.copy(made, file)
+                os.remove(file)
+            shutil.copy(made, file)
         with open(noted, "w", encoding="utf-8") as it:
             it.write(sum_of(with_lower(listed(), name)))
+
+
+@contextlib.contextmanager
+def workplace(rt):
+    """Lends the folder that a start works in: a copy of the crates, or the repository itself under a kit that has no store."""
+    if not hasattr(rt, "Kept"):
+        yield ROOT
+        return
+    rt.sweep()
+    with tempfile.TemporaryDirectory(prefix=f"rt-copy-{os.getpid()}-") as room:
+        rt.copy_crates(ROOT, f"{room}/repository")
+        os.mkdir(f"{room}/repository/.git")
+        yield f"{room}/repository"
 
 
 def start(names):
@@ -211,18 +269,15 @@ def start(names):
     if not missing:
         return True
     rt, rows = kit(), listed()
-    rt.sweep()
     before = sum_of(rows)
-    with tempfile.TemporaryDirectory(prefix=f"rt-copy-{os.getpid()}-") as room:
-        rt.copy_crates(ROOT, f"{room}/repository")
-        os.mkdir(f"{room}/repository/.git")
+    with workplace(rt) as top:
         wanted = {it for name in missing for it in with_lower(rows, name)}
-        run = Start(rt, f"{room}/repository", wanted)
+        run = Start(rt, top, wanted)
         run.say(f"proving {', '.join(missing)} and what stands below, {len(wanted)} crates, once")
         is_proved = run.run()
         if is_proved and sum_of(rows) == before:
             for name in missing:
-                bring(f"{room}/repository", name)
+                bring(top, name)
     return is_proved
 
 
