@@ -12,8 +12,8 @@ SOURCES = os.path.join(ROOT, "crates/dom_c/src")
 
 # The modules in the order in which a header is read. Others come behind them.
 ORDER = (
-    "status version opening lines lending parts labels rows notices records telling places making editing copying asking nearby texts attributes ranges "
-    "points statics contents traversing observing"
+    "status version opening lines lending parts labels rows notices records telling places making editing copying asking nearby counting texts attributes "
+    "ranges points statics contents traversing observing"
 ).split()
 
 SCALARS = {

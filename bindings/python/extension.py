@@ -19,7 +19,7 @@ MODULE = os.path.join(HERE, "huckleport", "_core.abi3.so")
 sys.dont_write_bytecode = True
 sys.path[:0] = [HERE, os.path.join(ROOT, "bindings/c")]
 from exports import SOURCES, modules
-from members import READS, members
+from members import LET_GO_FIRST, READS, members
 from signatures import is_plain
 
 HEAD = """\
@@ -33,6 +33,17 @@ NUMBERS = {"uint8_t": "PyBool_FromLong({})", "int8_t": "PyLong_FromLong({})", "u
 READ = {"numbers": "numbers_answer({})", "names": "names_answer({})", "text": "text_answer({})", "text?": "text_answer({})"}
 # Calls after which nodes may be gone.
 LETTING_GO = {"hp_discard", "hp_close", "hp_line"}
+# What members take out of a tree or put into one: the function that is told, with the object by its place in C.
+MOVING = {
+    "hp_remove": "taken_out(self",
+    "hp_remove_child": "taken_out(given[0]",
+    "hp_replace_child": "taken_out(given[1]",
+    "hp_adopt_node": "taken_out(given[0]",
+    "hp_append_child": "placed(given[0]",
+    "hp_insert_before": "placed(given[0]",
+}
+# What notes the nodes that a member may leave without a parent, though they have no object.
+LEAVING = {"hp_set_text_content": "note_children", "hp_normalize": "note_texts"}
 # The classes that a member makes, and their family.
 NEW = {"Element": "NODE", "Text": "NODE", "Comment": "NODE", "ProcessingInstruction": "NODE", "DocumentFragment": "NODE", "Document": "NODE", "Range": "RANGE"}
 
@@ -117,15 +128,19 @@ def answer_of(outs, read):
 
 def body(parts, reads, call, answer, refusal):
     """The body of a function that reads words, makes a call and answers, and lets its slices go."""
-    if call.partition("(")[0] in LETTING_GO:
-        counted = "(Calls *)self" if "session_at" in call else "((Thing *)self)->calls"
-        answer = f"let_go({counted}, {answer})"
+    name, calls = call.partition("(")[0], "(Calls *)self" if "session_at" in call else "((Thing *)self)->calls"
+    if name in LETTING_GO:
+        answer = f"let_go({calls}, {answer})"
+    first = [f"let_go_noted({calls});"] if name[3:] in LET_GO_FIRST else []
+    if name in LEAVING and "number_of(self)" in call:
+        first.append(f"{LEAVING[name]}({calls}, number_of(self));")
     slices = [it.name for it in parts if it.kind == "slice"]
     text = "    PyObject *found = NULL;\n" if reads or slices else ""
     text += "".join(f"    begin(&{it});\n" for it in slices)
     if not reads and not slices:
-        return f"    uint8_t status = {call};\n    return status ? {refusal} : {answer};\n}}\n"
-    text += f"    if ({' && '.join(reads)}) {{\n        uint8_t status = {call};\n        found = status ? {refusal} : {answer};\n    }}\n"
+        return "".join(f"    {it}\n" for it in first) + f"    uint8_t status = {call};\n    return status ? {refusal} : {answer};\n}}\n"
+    text += f"    if ({' && '.join(reads)}) {{\n" + "".join(f"        {it}\n" for it in first)
+    text += f"        uint8_t status = {call};\n        found = status ? {refusal} : {answer};\n    }}\n"
     return text + "".join(f"    drop(&{it});\n" for it in slices) + "    return found;\n}\n"
 
 
@@ -163,7 +178,9 @@ def member_answer(answer, outs, words):
         return "none()" if form == "none" else READ[form].format("session_of(self)")
     value = f"{outs[0].name}.{part}" if part else outs[0].name
     if form in NEW:
-        return f"made_at(self, KIND_{upper(form)}, FAMILY_{NEW[form]}, {value})"
+        found = f"made_at(self, KIND_{upper(form)}, FAMILY_{NEW[form]}, {value})"
+        # (a Document that is a part of the answer was there before)
+        return found if part else f"own({found})"
     return {"node": "node_at(self, {})", "node?": "node_or_none_at(self, {})", "int": "PyLong_FromSize_t({})", "bool": "PyBool_FromLong({})"}[form].format(value)
 
 
@@ -189,7 +206,10 @@ def member(name, export, words, answer):
     short = name.rstrip("=").split(".")[1]
     reads = [f'sort(words, named, names, {required}, given, "{short}")', *(it for _, it, _ in made)] if words else []
     refusal = f'refused_of(status, "{export.name[3:]}", self, {f"given, {len(words)}" if words else "NULL, 0"})'
-    return text + body(parts, reads, said, member_answer(answer, outs, words), refusal)
+    found = member_answer(answer, outs, words)
+    if export.name in MOVING:
+        found = f"{MOVING[export.name]}, {found})"
+    return text + body(parts, reads, said, found, refusal)
 
 
 def c_name(name):

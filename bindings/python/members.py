@@ -12,6 +12,13 @@ READS = {
     "get_attribute": "text?",
 }
 
+# Calls that begin by letting go of what nobody holds any more: those that make something, and those that take out nodes.
+LET_GO_FIRST = set(
+    "new_document create_element create_text create_comment create_pi create_doctype create_fragment import_node clone_node split_text"
+    " create_range clone_range create_static_range create_iterator create_walker create_observer extract_contents clone_contents"
+    " replace_child remove_child remove discard replace_children set_text_content normalize delete_contents surround_contents".split()
+)
+
 # Members that the extension has as one function each: class and name (with = for what sets it), call, arguments, answer.
 # An argument is NAME:FORM, and one with ? may be None; it may be left out where ?? stands. An answer can be a member of what the call writes.
 MEMBERS = """

@@ -15,7 +15,7 @@ PACKAGE = os.path.join(HERE, "huckleport")
 sys.dont_write_bytecode = True
 sys.path[:0] = [HERE, os.path.join(ROOT, "bindings/c")]
 from exports import SOURCES, modules, status_word
-from members import READS
+from members import LET_GO_FIRST, READS
 
 MADE = "Made by bindings/python/signatures.py; not to be edited."
 FORMS = {
@@ -168,7 +168,8 @@ def method(export):
     elif outs:
         form = f"_signatures.{outs[0].type}"
         call, answer = f'return self._struct({form}(), "{export.name}"{words})', form
-    return f"    def {export.name[3:]}(self{takes}) -> {answer}:\n        {call}\n"
+    first = "        self.let_go_noted()\n" if export.name[3:] in LET_GO_FIRST else ""
+    return f"    def {export.name[3:]}(self{takes}) -> {answer}:\n{first}        {call}\n"
 
 
 def calls(found):

@@ -29,7 +29,7 @@ TYPES = {
 KEYWORDS = {"type": "type_", "move": "move_", "ref": "ref_"}
 
 # Modules whose calls read the last answer and leave it there: several of what they lend may be held at once.
-READING = {"lending", "parts", "labels", "rows", "notices", "records", "nearby", "version"}
+READING = {"lending", "parts", "labels", "rows", "notices", "records", "nearby", "counting", "version"}
 # These two are the handle's own opening and closing.
 OWN = {"hp_open", "hp_close"}
 

@@ -1,27 +1,14 @@
 /* What is read around a node with no command: what it says, that it takes no memory and leaves the last answer, and that a program that
  * removes its first child, or its last, as long as there is one takes no longer a child where there are many. Linked with --wrap for malloc,
  * realloc and free. */
-#include "huckleport.h"
 #include "refusing.h"
-#include <stdio.h>
+#include "wanting.h"
 #include <string.h>
 #include <time.h>
 
 enum { CHILDREN = 100000, FEW = 1000 };
 
-static hp_session session = HP_SESSION_INIT;
 static uint32_t numbers[CHILDREN + 1];
-static int faults;
-
-#define WANT(holds) want(holds, #holds)
-
-static void want(bool holds, const char *what)
-{
-    if (holds)
-        return;
-    printf("not so: %s\n", what);
-    faults++;
-}
 
 /* An element with so many children, from the number after its own on. */
 static uint32_t parent_of(uint32_t count)

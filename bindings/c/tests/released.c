@@ -2,6 +2,7 @@
  * that are made and released one by one, or of a million with any word, no memory stays but a few bytes a thousand numbers, and releasing takes
  * none. Linked with --wrap for malloc, realloc and free. */
 #include "huckleport.h"
+#include "kinds.h"
 #include <malloc.h>
 #include <stdbool.h>
 #include <stdio.h>
@@ -10,21 +11,9 @@ enum { FEW = 5000, MANY = 100000, MORE = 1000000, MOST_KEPT = 32768 };
 
 typedef uint8_t releasing(hp_session *, uint32_t);
 
-static hp_session session = HP_SESSION_INIT;
 static size_t held;
 static unsigned long asked;
-static int faults;
 static uint32_t many = MANY;
-
-#define WANT(holds) want(holds, #holds)
-
-static void want(bool holds, const char *what)
-{
-    if (holds)
-        return;
-    printf("not so: %s\n", what);
-    faults++;
-}
 
 void *__real_malloc(size_t size);
 void *__real_realloc(void *old, size_t size);
@@ -52,57 +41,6 @@ void __wrap_free(void *block)
 {
     held -= malloc_usable_size(block);
     __real_free(block);
-}
-
-/* One of each kind, over a node. */
-
-static uint32_t iterator_over(uint32_t node)
-{
-    uint32_t made = HP_NONE;
-    WANT(hp_create_iterator(&session, node, HP_NONE, NULL, 0, NULL, 0, NULL, 0, &made) == HP_OK);
-    return made;
-}
-
-static uint32_t walker_over(uint32_t node)
-{
-    uint32_t made = HP_NONE;
-    WANT(hp_create_walker(&session, node, HP_NONE, NULL, 0, NULL, 0, NULL, 0, &made) == HP_OK);
-    return made;
-}
-
-static uint32_t static_range_over(uint32_t node)
-{
-    uint32_t made = HP_NONE;
-    WANT(hp_create_static_range(&session, node, 0, node, 0, &made) == HP_OK);
-    return made;
-}
-
-static uint32_t observer_over(uint32_t node)
-{
-    hp_options options = HP_OPTIONS_INIT;
-    uint32_t made = HP_NONE;
-    options.child_list = 1;
-    options.subtree = 1;
-    WANT(hp_create_observer(&session, &made) == HP_OK);
-    WANT(hp_observe(&session, made, node, &options, NULL, 0, NULL, 0) == HP_OK);
-    return made;
-}
-
-static uint32_t range_over(uint32_t node)
-{
-    uint32_t made = HP_NONE;
-    WANT(hp_create_range(&session, 0, &made) == HP_OK);
-    WANT(hp_select_node_contents(&session, made, node) == HP_OK);
-    return made;
-}
-
-static uint32_t tree(void)
-{
-    uint32_t top = HP_NONE, child = HP_NONE;
-    WANT(hp_create_element(&session, 0, hp_name("top"), &top) == HP_OK);
-    WANT(hp_create_element(&session, 0, hp_name("child"), &child) == HP_OK);
-    WANT(hp_append_child(&session, top, child) == HP_OK);
-    return top;
 }
 
 /* A tree is in use as long as one of its kind is over it, and no longer; the number is refused from then on, and the next one is another. */

@@ -168,6 +168,16 @@ class Session(Reader):
         assert [links.first_child, links.last_child] == ends, "hp_links"
         return links, children
 
+    def counted(self):
+        """Whether there are as many nodes as the session counts, among the numbers up to the last that has one."""
+        found, links = self.structs["hp_counts"](), self.structs["hp_node_links"]()
+        self.must("hp_in_use", ctypes.byref(found))
+        number, there = 0, 0
+        while there < found.nodes and number < 1_000_000 or number < 64:
+            there += self.library.hp_links(ctypes.byref(self.session), number, ctypes.byref(links)) == 0
+            number += 1
+        assert there == found.nodes, "hp_in_use"
+
     def place(self, it):
         name = self.node_name(it.kind, "hp_node_name")
         found = {"document": it.document, "name": name, "next": maybe(it.next), "parent": maybe(it.parent)}
@@ -259,6 +269,7 @@ def say(session, it, left_out):
         if reply != due:
             sys.exit(f"{it.name}: {line.decode(errors='replace')}\n  answered {reply}\n  due      {due}")
         said += 1
+    session.counted()
     session.must("hp_close")
     return said
 

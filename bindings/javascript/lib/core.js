@@ -114,6 +114,13 @@ export class Session {
     return lent(native.hp_reply_line(this.index));
   }
 
+  /** How many objects of each kind the core has, those with them that the facade makes for itself: walkers, and an observer. */
+  inUse() {
+    check(native.hp_in_use(this.index));
+    const [nodes, ranges, staticRanges, iterators, walkers, observers, registrations] = out;
+    return { nodes, ranges, staticRanges, iterators, walkers, observers, registrations };
+  }
+
   /** Says that something has changed: observers are told once the program is done. */
   changed() {
     this.version++;

@@ -389,6 +389,8 @@ export class Session {
   node(number: number): Node;
   /** The number of a node. */
   number(node: Node): number;
+  /** How many objects of each kind the core has, with those that the package makes for itself (walkers, and an observer). */
+  inUse(): { nodes: number; ranges: number; staticRanges: number; iterators: number; walkers: number; observers: number; registrations: number };
   /** Ends the session; what was in it is refused from then on. */
   close(): void;
 }

@@ -67,6 +67,11 @@ export class Session {
     return realm.guarded(() => numberIn(this.#core, node));
   }
 
+  /** How many objects of each kind the core has. */
+  inUse() {
+    return realm.guarded(() => this.#core.inUse());
+  }
+
   close() {
     this.#core.close();
   }

@@ -55,6 +55,15 @@ test("a Document stays with its nodes, and a range's containers with the range",
   assert.equal(range.startContainer.parentNode.nodeName, "P");
 });
 
+test("what there is is counted", () => {
+  const session = new Session();
+  const before = session.inUse();
+  const held = [session.document.createElement("p"), session.document.createRange()];
+  const after = session.inUse();
+  assert.deepEqual({ ...after, nodes: after.nodes - 1, ranges: after.ranges - 1 }, before);
+  assert.equal(held.length, 2);
+});
+
 test("what was moved by contents, normalizing and several nodes stays where it is held", async () => {
   const document = createDocument();
   const held = [];

@@ -17,8 +17,9 @@ const code: number = new DOMException("a", "NotFoundError").code + DOMException.
 const window = createWindow({ report: (fault) => void fault });
 const other: string = serialize(parse("<p>", { document: window.document }));
 const reply: string = new Session({ numbers: 5 }).line("[]");
+const nodes: number = new Session().inUse().nodes;
 // @ts-expect-error
 element.appendChild("text");
 // @ts-expect-error
 new Node();
-export { code, other, reply };
+export { code, nodes, other, reply };

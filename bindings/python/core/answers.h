@@ -328,6 +328,7 @@ static void resume_collector(bool was_on)
 static PyObject *rows_made(const Rows *rows, PyObject *session, Calls *calls)
 {
     bool was_on = pause_collector();
+    calls->making++;
     PyObject *found = PyList_New((Py_ssize_t)rows->count);
     for (size_t at = 0; found && at < rows->count; at++) {
         PyObject *row = row_made(rows, &rows->rows[at], session, calls);
@@ -336,6 +337,7 @@ static PyObject *rows_made(const Rows *rows, PyObject *session, Calls *calls)
         else
             PyList_SetItem(found, (Py_ssize_t)at, row);
     }
+    calls->making--;
     resume_collector(was_on);
     return found;
 }
@@ -463,7 +465,9 @@ static PyObject *records_answer(PyObject *session, Calls *calls)
     size_t count = 0;
     hp_count(&calls->session, &count);
     bool done = records_copy(&records, &calls->session, 0, count) && numbers_ask(&records.nodes, calls);
+    calls->making++;
     PyObject *found = done ? records_made(&records, session, calls) : NULL;
+    calls->making--;
     records_drop(&records);
     return found;
 }
@@ -503,28 +507,15 @@ static bool notices_copy(Notices *to, Calls *calls)
     return true;
 }
 
-/* A new observer, without a callback, among those of a session. No code of Python runs here, which could be interrupted. */
-static PyObject *observer_made(PyObject *observers, PyObject *key, PyObject *session, Calls *calls)
-{
-    PyObject *found = PyType_GenericAlloc((PyTypeObject *)kinds[KIND_MUTATION_OBSERVER], 0);
-    if (!found)
-        return NULL;
-    settle((Thing *)found, session, calls, (uint32_t)PyLong_AsUnsignedLong(key), FAMILY_OTHER);
-    if (PyObject_SetAttrString(found, "callback", Py_None) < 0 || PyDict_SetItem(observers, key, found) < 0)
-        Py_CLEAR(found);
-    return found;
-}
-
-/* The observer of a number, which the session keeps. */
+/* The observer of a number. One that a line made stays with the session. No code of Python runs here, which could be interrupted. */
 static PyObject *observer_of(uint32_t number, PyObject *session, Calls *calls)
 {
-    PyObject *observers = PyObject_GetAttrString(session, "_observers");
-    PyObject *key = PyLong_FromUnsignedLong(number), *found = NULL;
-    if (observers && key) {
-        found = PyDict_GetItem(observers, key);
-        Py_XINCREF(found);
-        found = found ? found : observer_made(observers, key, session, calls);
-    }
+    PyObject *found = made(session, calls, kinds[KIND_MUTATION_OBSERVER], FAMILY_OBSERVER, number);
+    if (!found || ((Thing *)found)->is_own)
+        return found;
+    PyObject *observers = PyObject_GetAttrString(session, "_observers"), *key = PyLong_FromUnsignedLong(number);
+    if (!observers || !key || PyDict_SetItem(observers, key, found) < 0)
+        Py_CLEAR(found);
     Py_XDECREF(observers);
     Py_XDECREF(key);
     return found;
@@ -546,11 +537,13 @@ static bool notices_answer(PyObject *list, PyObject *session, Calls *calls)
 {
     Notices notices = { NULL, NULL, 0 };
     bool done = notices_copy(&notices, calls);
+    calls->making++;
     for (size_t at = 0; done && at < notices.count; at++) {
         PyObject *notice = notice_made(&notices, at, session, calls);
         done = notice && PyList_Append(list, notice) == 0;
         Py_XDECREF(notice);
     }
+    calls->making--;
     notices_drop(&notices);
     return done;
 }

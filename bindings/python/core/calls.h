@@ -148,6 +148,25 @@ static PyObject *hp_node_links_from(const hp_node_links *it)
     return found;
 }
 
+static PyTypeObject *hp_counts_type;
+static PyStructSequence_Field hp_counts_fields[] = { { "nodes", NULL }, { "ranges", NULL }, { "static_ranges", NULL }, { "iterators", NULL }, { "walkers", NULL }, { "observers", NULL }, { "registrations", NULL }, { NULL, NULL } };
+static PyStructSequence_Desc hp_counts_form = { "huckleport._core.hp_counts", "How many objects of each kind there are: those that were made, and neither discarded nor released. The registrations are those of all observers, with the transient ones.", hp_counts_fields, 7 };
+
+static PyObject *hp_counts_from(const hp_counts *it)
+{
+    PyObject *found = PyStructSequence_New(hp_counts_type);
+    if (!found)
+        return NULL;
+    PyStructSequence_SetItem(found, 0, PyLong_FromSize_t(it->nodes));
+    PyStructSequence_SetItem(found, 1, PyLong_FromSize_t(it->ranges));
+    PyStructSequence_SetItem(found, 2, PyLong_FromSize_t(it->static_ranges));
+    PyStructSequence_SetItem(found, 3, PyLong_FromSize_t(it->iterators));
+    PyStructSequence_SetItem(found, 4, PyLong_FromSize_t(it->walkers));
+    PyStructSequence_SetItem(found, 5, PyLong_FromSize_t(it->observers));
+    PyStructSequence_SetItem(found, 6, PyLong_FromSize_t(it->registrations));
+    return found;
+}
+
 static bool structs_made(void)
 {
     hp_row_type = PyStructSequence_NewType(&hp_row_form);
@@ -159,7 +178,8 @@ static bool structs_made(void)
     hp_walker_at_type = PyStructSequence_NewType(&hp_walker_at_form);
     hp_place_type = PyStructSequence_NewType(&hp_place_form);
     hp_node_links_type = PyStructSequence_NewType(&hp_node_links_form);
-    return hp_row_type && hp_notice_type && hp_record_type && hp_ends_type && hp_static_ends_type && hp_iterator_at_type && hp_walker_at_type && hp_place_type && hp_node_links_type;
+    hp_counts_type = PyStructSequence_NewType(&hp_counts_form);
+    return hp_row_type && hp_notice_type && hp_record_type && hp_ends_type && hp_static_ends_type && hp_iterator_at_type && hp_walker_at_type && hp_place_type && hp_node_links_type && hp_counts_type;
 }
 
 static bool hp_options_of(PyObject *value, hp_options *to)
@@ -436,6 +456,7 @@ static PyObject *call_new_document(PyObject *self, PyObject *words)
     uint32_t document = 0;
     PyObject *found = NULL;
     if (is_counted(words, 0, "new_document")) {
+        let_go_noted((Calls *)self);
         uint8_t status = hp_new_document(session_at(self), &document);
         found = status ? refused(status, "new_document", self, words) : PyLong_FromUnsignedLong(document);
     }
@@ -450,6 +471,7 @@ static PyObject *call_create_element(PyObject *self, PyObject *words)
     PyObject *found = NULL;
     begin(&name);
     if (is_counted(words, 2, "create_element") && uint32_of(word(words, 0), &document) && name_of(word(words, 1), &name)) {
+        let_go_noted((Calls *)self);
         uint8_t status = hp_create_element(session_at(self), document, name.at, name.length, &element);
         found = status ? refused(status, "create_element", self, words) : PyLong_FromUnsignedLong(element);
     }
@@ -465,6 +487,7 @@ static PyObject *call_create_text(PyObject *self, PyObject *words)
     PyObject *found = NULL;
     begin(&data);
     if (is_counted(words, 2, "create_text") && uint32_of(word(words, 0), &document) && text_of(word(words, 1), &data)) {
+        let_go_noted((Calls *)self);
         uint8_t status = hp_create_text(session_at(self), document, data.at, data.length, &text);
         found = status ? refused(status, "create_text", self, words) : PyLong_FromUnsignedLong(text);
     }
@@ -480,6 +503,7 @@ static PyObject *call_create_comment(PyObject *self, PyObject *words)
     PyObject *found = NULL;
     begin(&data);
     if (is_counted(words, 2, "create_comment") && uint32_of(word(words, 0), &document) && text_of(word(words, 1), &data)) {
+        let_go_noted((Calls *)self);
         uint8_t status = hp_create_comment(session_at(self), document, data.at, data.length, &comment);
         found = status ? refused(status, "create_comment", self, words) : PyLong_FromUnsignedLong(comment);
     }
@@ -497,6 +521,7 @@ static PyObject *call_create_pi(PyObject *self, PyObject *words)
     begin(&target);
     begin(&data);
     if (is_counted(words, 3, "create_pi") && uint32_of(word(words, 0), &document) && name_of(word(words, 1), &target) && text_of(word(words, 2), &data)) {
+        let_go_noted((Calls *)self);
         uint8_t status = hp_create_pi(session_at(self), document, target.at, target.length, data.at, data.length, &instruction);
         found = status ? refused(status, "create_pi", self, words) : PyLong_FromUnsignedLong(instruction);
     }
@@ -517,6 +542,7 @@ static PyObject *call_create_doctype(PyObject *self, PyObject *words)
     begin(&public_id);
     begin(&system_id);
     if (is_counted(words, 4, "create_doctype") && uint32_of(word(words, 0), &document) && name_of(word(words, 1), &name) && name_of(word(words, 2), &public_id) && name_of(word(words, 3), &system_id)) {
+        let_go_noted((Calls *)self);
         uint8_t status = hp_create_doctype(session_at(self), document, name.at, name.length, public_id.at, public_id.length, system_id.at, system_id.length, &doctype);
         found = status ? refused(status, "create_doctype", self, words) : PyLong_FromUnsignedLong(doctype);
     }
@@ -532,6 +558,7 @@ static PyObject *call_create_fragment(PyObject *self, PyObject *words)
     uint32_t fragment = 0;
     PyObject *found = NULL;
     if (is_counted(words, 1, "create_fragment") && uint32_of(word(words, 0), &document)) {
+        let_go_noted((Calls *)self);
         uint8_t status = hp_create_fragment(session_at(self), document, &fragment);
         found = status ? refused(status, "create_fragment", self, words) : PyLong_FromUnsignedLong(fragment);
     }
@@ -582,6 +609,7 @@ static PyObject *call_replace_child(PyObject *self, PyObject *words)
     uint32_t child = 0;
     PyObject *found = NULL;
     if (is_counted(words, 3, "replace_child") && uint32_of(word(words, 0), &parent) && uint32_of(word(words, 1), &node) && uint32_of(word(words, 2), &child)) {
+        let_go_noted((Calls *)self);
         uint8_t status = hp_replace_child(session_at(self), parent, node, child);
         found = status ? refused(status, "replace_child", self, words) : none();
     }
@@ -594,6 +622,7 @@ static PyObject *call_remove_child(PyObject *self, PyObject *words)
     uint32_t child = 0;
     PyObject *found = NULL;
     if (is_counted(words, 2, "remove_child") && uint32_of(word(words, 0), &parent) && uint32_of(word(words, 1), &child)) {
+        let_go_noted((Calls *)self);
         uint8_t status = hp_remove_child(session_at(self), parent, child);
         found = status ? refused(status, "remove_child", self, words) : none();
     }
@@ -605,6 +634,7 @@ static PyObject *call_remove(PyObject *self, PyObject *words)
     uint32_t node = 0;
     PyObject *found = NULL;
     if (is_counted(words, 1, "remove") && uint32_of(word(words, 0), &node)) {
+        let_go_noted((Calls *)self);
         uint8_t status = hp_remove(session_at(self), node);
         found = status ? refused(status, "remove", self, words) : none();
     }
@@ -617,6 +647,7 @@ static PyObject *call_replace_children(PyObject *self, PyObject *words)
     uint32_t node = 0;
     PyObject *found = NULL;
     if (is_counted(words, 2, "replace_children") && uint32_of(word(words, 0), &parent) && uint32_of(word(words, 1), &node)) {
+        let_go_noted((Calls *)self);
         uint8_t status = hp_replace_children(session_at(self), parent, node);
         found = status ? refused(status, "replace_children", self, words) : none();
     }
@@ -628,6 +659,7 @@ static PyObject *call_normalize(PyObject *self, PyObject *words)
     uint32_t node = 0;
     PyObject *found = NULL;
     if (is_counted(words, 1, "normalize") && uint32_of(word(words, 0), &node)) {
+        let_go_noted((Calls *)self);
         uint8_t status = hp_normalize(session_at(self), node);
         found = status ? refused(status, "normalize", self, words) : none();
     }
@@ -641,6 +673,7 @@ static PyObject *call_set_text_content(PyObject *self, PyObject *words)
     PyObject *found = NULL;
     begin(&text);
     if (is_counted(words, 2, "set_text_content") && uint32_of(word(words, 0), &node) && text_of(word(words, 1), &text)) {
+        let_go_noted((Calls *)self);
         uint8_t status = hp_set_text_content(session_at(self), node, text.at, text.length);
         found = status ? refused(status, "set_text_content", self, words) : none();
     }
@@ -653,6 +686,7 @@ static PyObject *call_discard(PyObject *self, PyObject *words)
     uint32_t node = 0;
     PyObject *found = NULL;
     if (is_counted(words, 1, "discard") && uint32_of(word(words, 0), &node)) {
+        let_go_noted((Calls *)self);
         uint8_t status = hp_discard(session_at(self), node);
         found = status ? refused(status, "discard", self, words) : let_go((Calls *)self, none());
     }
@@ -667,6 +701,7 @@ static PyObject *call_import_node(PyObject *self, PyObject *words)
     uint32_t copy = 0;
     PyObject *found = NULL;
     if (is_counted(words, 3, "import_node") && uint32_of(word(words, 0), &document) && uint32_of(word(words, 1), &node) && bool_of(word(words, 2), &deep)) {
+        let_go_noted((Calls *)self);
         uint8_t status = hp_import_node(session_at(self), document, node, deep, &copy);
         found = status ? refused(status, "import_node", self, words) : PyLong_FromUnsignedLong(copy);
     }
@@ -680,6 +715,7 @@ static PyObject *call_clone_node(PyObject *self, PyObject *words)
     uint32_t copy = 0;
     PyObject *found = NULL;
     if (is_counted(words, 2, "clone_node") && uint32_of(word(words, 0), &node) && bool_of(word(words, 1), &deep)) {
+        let_go_noted((Calls *)self);
         uint8_t status = hp_clone_node(session_at(self), node, deep, &copy);
         found = status ? refused(status, "clone_node", self, words) : PyLong_FromUnsignedLong(copy);
     }
@@ -855,6 +891,17 @@ static PyObject *call_child_at(PyObject *self, PyObject *words)
     return found;
 }
 
+static PyObject *call_in_use(PyObject *self, PyObject *words)
+{
+    hp_counts counts;
+    PyObject *found = NULL;
+    if (is_counted(words, 0, "in_use")) {
+        uint8_t status = hp_in_use(session_at(self), &counts);
+        found = status ? refused(status, "in_use", self, words) : hp_counts_from(&counts);
+    }
+    return found;
+}
+
 static PyObject *call_data(PyObject *self, PyObject *words)
 {
     uint32_t node = 0;
@@ -958,6 +1005,7 @@ static PyObject *call_split_text(PyObject *self, PyObject *words)
     uint32_t rest = 0;
     PyObject *found = NULL;
     if (is_counted(words, 2, "split_text") && uint32_of(word(words, 0), &text) && uint32_of(word(words, 1), &offset)) {
+        let_go_noted((Calls *)self);
         uint8_t status = hp_split_text(session_at(self), text, offset, &rest);
         found = status ? refused(status, "split_text", self, words) : PyLong_FromUnsignedLong(rest);
     }
@@ -1057,6 +1105,7 @@ static PyObject *call_create_range(PyObject *self, PyObject *words)
     uint32_t range = 0;
     PyObject *found = NULL;
     if (is_counted(words, 1, "create_range") && uint32_of(word(words, 0), &document)) {
+        let_go_noted((Calls *)self);
         uint8_t status = hp_create_range(session_at(self), document, &range);
         found = status ? refused(status, "create_range", self, words) : PyLong_FromUnsignedLong(range);
     }
@@ -1069,6 +1118,7 @@ static PyObject *call_clone_range(PyObject *self, PyObject *words)
     uint32_t copy = 0;
     PyObject *found = NULL;
     if (is_counted(words, 1, "clone_range") && uint32_of(word(words, 0), &range)) {
+        let_go_noted((Calls *)self);
         uint8_t status = hp_clone_range(session_at(self), range, &copy);
         found = status ? refused(status, "clone_range", self, words) : PyLong_FromUnsignedLong(copy);
     }
@@ -1284,6 +1334,7 @@ static PyObject *call_create_static_range(PyObject *self, PyObject *words)
     uint32_t range = 0;
     PyObject *found = NULL;
     if (is_counted(words, 4, "create_static_range") && uint32_of(word(words, 0), &start) && uint32_of(word(words, 1), &start_offset) && uint32_of(word(words, 2), &end) && uint32_of(word(words, 3), &end_offset)) {
+        let_go_noted((Calls *)self);
         uint8_t status = hp_create_static_range(session_at(self), start, start_offset, end, end_offset, &range);
         found = status ? refused(status, "create_static_range", self, words) : PyLong_FromUnsignedLong(range);
     }
@@ -1329,6 +1380,7 @@ static PyObject *call_delete_contents(PyObject *self, PyObject *words)
     uint32_t range = 0;
     PyObject *found = NULL;
     if (is_counted(words, 1, "delete_contents") && uint32_of(word(words, 0), &range)) {
+        let_go_noted((Calls *)self);
         uint8_t status = hp_delete_contents(session_at(self), range);
         found = status ? refused(status, "delete_contents", self, words) : none();
     }
@@ -1341,6 +1393,7 @@ static PyObject *call_extract_contents(PyObject *self, PyObject *words)
     uint32_t fragment = 0;
     PyObject *found = NULL;
     if (is_counted(words, 1, "extract_contents") && uint32_of(word(words, 0), &range)) {
+        let_go_noted((Calls *)self);
         uint8_t status = hp_extract_contents(session_at(self), range, &fragment);
         found = status ? refused(status, "extract_contents", self, words) : PyLong_FromUnsignedLong(fragment);
     }
@@ -1353,6 +1406,7 @@ static PyObject *call_clone_contents(PyObject *self, PyObject *words)
     uint32_t fragment = 0;
     PyObject *found = NULL;
     if (is_counted(words, 1, "clone_contents") && uint32_of(word(words, 0), &range)) {
+        let_go_noted((Calls *)self);
         uint8_t status = hp_clone_contents(session_at(self), range, &fragment);
         found = status ? refused(status, "clone_contents", self, words) : PyLong_FromUnsignedLong(fragment);
     }
@@ -1377,6 +1431,7 @@ static PyObject *call_surround_contents(PyObject *self, PyObject *words)
     uint32_t parent = 0;
     PyObject *found = NULL;
     if (is_counted(words, 2, "surround_contents") && uint32_of(word(words, 0), &range) && uint32_of(word(words, 1), &parent)) {
+        let_go_noted((Calls *)self);
         uint8_t status = hp_surround_contents(session_at(self), range, parent);
         found = status ? refused(status, "surround_contents", self, words) : none();
     }
@@ -1396,6 +1451,7 @@ static PyObject *call_create_iterator(PyObject *self, PyObject *words)
     begin(&lengths);
     begin(&verdicts);
     if (is_counted(words, 5, "create_iterator") && uint32_of(word(words, 0), &root) && uint32_of(word(words, 1), &show) && octets_of(word(words, 2), &names) && numbers_of(word(words, 3), &lengths) && octets_of(word(words, 4), &verdicts)) {
+        let_go_noted((Calls *)self);
         uint8_t status = hp_create_iterator(session_at(self), root, show, names.at, names.length, lengths.at, lengths.length, verdicts.at, verdicts.length, &iterator);
         found = status ? refused(status, "create_iterator", self, words) : PyLong_FromUnsignedLong(iterator);
     }
@@ -1418,6 +1474,7 @@ static PyObject *call_create_walker(PyObject *self, PyObject *words)
     begin(&lengths);
     begin(&verdicts);
     if (is_counted(words, 5, "create_walker") && uint32_of(word(words, 0), &root) && uint32_of(word(words, 1), &show) && octets_of(word(words, 2), &names) && numbers_of(word(words, 3), &lengths) && octets_of(word(words, 4), &verdicts)) {
+        let_go_noted((Calls *)self);
         uint8_t status = hp_create_walker(session_at(self), root, show, names.at, names.length, lengths.at, lengths.length, verdicts.at, verdicts.length, &walker);
         found = status ? refused(status, "create_walker", self, words) : PyLong_FromUnsignedLong(walker);
     }
@@ -1527,6 +1584,7 @@ static PyObject *call_create_observer(PyObject *self, PyObject *words)
     uint32_t observer = 0;
     PyObject *found = NULL;
     if (is_counted(words, 0, "create_observer")) {
+        let_go_noted((Calls *)self);
         uint8_t status = hp_create_observer(session_at(self), &observer);
         found = status ? refused(status, "create_observer", self, words) : PyLong_FromUnsignedLong(observer);
     }
@@ -1752,6 +1810,7 @@ static PyObject *call_read_get_attribute(PyObject *self, PyObject *words)
     { "first_child", call_first_child, METH_VARARGS, NULL }, \
     { "last_child", call_last_child, METH_VARARGS, NULL }, \
     { "child_at", call_child_at, METH_VARARGS, NULL }, \
+    { "in_use", call_in_use, METH_VARARGS, NULL }, \
     { "data", call_data, METH_VARARGS, NULL }, \
     { "set_data", call_set_data, METH_VARARGS, NULL }, \
     { "append_data", call_append_data, METH_VARARGS, NULL }, \
@@ -1949,7 +2008,7 @@ static PyObject *member_Node_append_child(PyObject *self, PyObject *words, PyObj
     PyObject *found = NULL;
     if (sort(words, named, names, 1, given, "append_child") && node_of(self, given[0], &node)) {
         uint8_t status = hp_append_child(session_of(self), number_of(self), node);
-        found = status ? refused_of(status, "append_child", self, given, 1) : same(given[0]);
+        found = status ? refused_of(status, "append_child", self, given, 1) : placed(given[0], same(given[0]));
     }
     return found;
 }
@@ -1963,7 +2022,7 @@ static PyObject *member_Node_insert_before(PyObject *self, PyObject *words, PyOb
     PyObject *found = NULL;
     if (sort(words, named, names, 1, given, "insert_before") && node_of(self, given[0], &node) && node_or_none_of(self, given[1], &child)) {
         uint8_t status = hp_insert_before(session_of(self), number_of(self), node, child);
-        found = status ? refused_of(status, "insert_before", self, given, 2) : same(given[0]);
+        found = status ? refused_of(status, "insert_before", self, given, 2) : placed(given[0], same(given[0]));
     }
     return found;
 }
@@ -1976,8 +2035,9 @@ static PyObject *member_Node_replace_child(PyObject *self, PyObject *words, PyOb
     uint32_t child = 0;
     PyObject *found = NULL;
     if (sort(words, named, names, 2, given, "replace_child") && node_of(self, given[0], &node) && node_of(self, given[1], &child)) {
+        let_go_noted(((Thing *)self)->calls);
         uint8_t status = hp_replace_child(session_of(self), number_of(self), node, child);
-        found = status ? refused_of(status, "replace_child", self, given, 2) : same(given[1]);
+        found = status ? refused_of(status, "replace_child", self, given, 2) : taken_out(given[1], same(given[1]));
     }
     return found;
 }
@@ -1989,8 +2049,9 @@ static PyObject *member_Node_remove_child(PyObject *self, PyObject *words, PyObj
     uint32_t child = 0;
     PyObject *found = NULL;
     if (sort(words, named, names, 1, given, "remove_child") && node_of(self, given[0], &child)) {
+        let_go_noted(((Thing *)self)->calls);
         uint8_t status = hp_remove_child(session_of(self), number_of(self), child);
-        found = status ? refused_of(status, "remove_child", self, given, 1) : same(given[0]);
+        found = status ? refused_of(status, "remove_child", self, given, 1) : taken_out(given[0], same(given[0]));
     }
     return found;
 }
@@ -1998,6 +2059,8 @@ static PyObject *member_Node_remove_child(PyObject *self, PyObject *words, PyObj
 static PyObject *member_Node_normalize(PyObject *self, PyObject *nothing)
 {
     (void)nothing;
+    let_go_noted(((Thing *)self)->calls);
+    note_texts(((Thing *)self)->calls, number_of(self));
     uint8_t status = hp_normalize(session_of(self), number_of(self));
     return status ? refused_of(status, "normalize", self, NULL, 0) : none();
 }
@@ -2005,6 +2068,7 @@ static PyObject *member_Node_normalize(PyObject *self, PyObject *nothing)
 static PyObject *member_Node_discard(PyObject *self, PyObject *nothing)
 {
     (void)nothing;
+    let_go_noted(((Thing *)self)->calls);
     uint8_t status = hp_discard(session_of(self), number_of(self));
     return status ? refused_of(status, "discard", self, NULL, 0) : let_go(((Thing *)self)->calls, none());
 }
@@ -2024,6 +2088,8 @@ static PyObject *member_Node_text_content_set(PyObject *self, PyObject *words, P
     PyObject *found = NULL;
     begin(&text);
     if (sort(words, named, names, 0, given, "text_content") && text_or_none_of(given[0], &text)) {
+        let_go_noted(((Thing *)self)->calls);
+        note_children(((Thing *)self)->calls, number_of(self));
         uint8_t status = hp_set_text_content(session_of(self), number_of(self), text.at, text.length);
         found = status ? refused_of(status, "set_text_content", self, given, 1) : none();
     }
@@ -2034,8 +2100,9 @@ static PyObject *member_Node_text_content_set(PyObject *self, PyObject *words, P
 static PyObject *member_ChildNode_remove(PyObject *self, PyObject *nothing)
 {
     (void)nothing;
+    let_go_noted(((Thing *)self)->calls);
     uint8_t status = hp_remove(session_of(self), number_of(self));
-    return status ? refused_of(status, "remove", self, NULL, 0) : none();
+    return status ? refused_of(status, "remove", self, NULL, 0) : taken_out(self, none());
 }
 
 static PyObject *member_Element_get_attribute(PyObject *self, PyObject *words, PyObject *named)
@@ -2215,8 +2282,9 @@ static PyObject *member_Text_split_text(PyObject *self, PyObject *words, PyObjec
     uint32_t rest = 0;
     PyObject *found = NULL;
     if (sort(words, named, names, 1, given, "split_text") && uint32_of(given[0], &offset)) {
+        let_go_noted(((Thing *)self)->calls);
         uint8_t status = hp_split_text(session_of(self), number_of(self), offset, &rest);
-        found = status ? refused_of(status, "split_text", self, given, 1) : made_at(self, KIND_TEXT, FAMILY_NODE, rest);
+        found = status ? refused_of(status, "split_text", self, given, 1) : own(made_at(self, KIND_TEXT, FAMILY_NODE, rest));
     }
     return found;
 }
@@ -2230,8 +2298,9 @@ static PyObject *member_Document_create_element(PyObject *self, PyObject *words,
     PyObject *found = NULL;
     begin(&name);
     if (sort(words, named, names, 1, given, "create_element") && name_of(given[0], &name)) {
+        let_go_noted(((Thing *)self)->calls);
         uint8_t status = hp_create_element(session_of(self), number_of(self), name.at, name.length, &element);
-        found = status ? refused_of(status, "create_element", self, given, 1) : made_at(self, KIND_ELEMENT, FAMILY_NODE, element);
+        found = status ? refused_of(status, "create_element", self, given, 1) : own(made_at(self, KIND_ELEMENT, FAMILY_NODE, element));
     }
     drop(&name);
     return found;
@@ -2246,8 +2315,9 @@ static PyObject *member_Document_create_text_node(PyObject *self, PyObject *word
     PyObject *found = NULL;
     begin(&data);
     if (sort(words, named, names, 1, given, "create_text_node") && text_of(given[0], &data)) {
+        let_go_noted(((Thing *)self)->calls);
         uint8_t status = hp_create_text(session_of(self), number_of(self), data.at, data.length, &text);
-        found = status ? refused_of(status, "create_text", self, given, 1) : made_at(self, KIND_TEXT, FAMILY_NODE, text);
+        found = status ? refused_of(status, "create_text", self, given, 1) : own(made_at(self, KIND_TEXT, FAMILY_NODE, text));
     }
     drop(&data);
     return found;
@@ -2262,8 +2332,9 @@ static PyObject *member_Document_create_comment(PyObject *self, PyObject *words,
     PyObject *found = NULL;
     begin(&data);
     if (sort(words, named, names, 1, given, "create_comment") && text_of(given[0], &data)) {
+        let_go_noted(((Thing *)self)->calls);
         uint8_t status = hp_create_comment(session_of(self), number_of(self), data.at, data.length, &comment);
-        found = status ? refused_of(status, "create_comment", self, given, 1) : made_at(self, KIND_COMMENT, FAMILY_NODE, comment);
+        found = status ? refused_of(status, "create_comment", self, given, 1) : own(made_at(self, KIND_COMMENT, FAMILY_NODE, comment));
     }
     drop(&data);
     return found;
@@ -2280,8 +2351,9 @@ static PyObject *member_Document_create_processing_instruction(PyObject *self, P
     begin(&target);
     begin(&data);
     if (sort(words, named, names, 2, given, "create_processing_instruction") && name_of(given[0], &target) && text_of(given[1], &data)) {
+        let_go_noted(((Thing *)self)->calls);
         uint8_t status = hp_create_pi(session_of(self), number_of(self), target.at, target.length, data.at, data.length, &instruction);
-        found = status ? refused_of(status, "create_pi", self, given, 2) : made_at(self, KIND_PROCESSING_INSTRUCTION, FAMILY_NODE, instruction);
+        found = status ? refused_of(status, "create_pi", self, given, 2) : own(made_at(self, KIND_PROCESSING_INSTRUCTION, FAMILY_NODE, instruction));
     }
     drop(&target);
     drop(&data);
@@ -2292,8 +2364,9 @@ static PyObject *member_Document_create_document_fragment(PyObject *self, PyObje
 {
     (void)nothing;
     uint32_t fragment = 0;
+    let_go_noted(((Thing *)self)->calls);
     uint8_t status = hp_create_fragment(session_of(self), number_of(self), &fragment);
-    return status ? refused_of(status, "create_fragment", self, NULL, 0) : made_at(self, KIND_DOCUMENT_FRAGMENT, FAMILY_NODE, fragment);
+    return status ? refused_of(status, "create_fragment", self, NULL, 0) : own(made_at(self, KIND_DOCUMENT_FRAGMENT, FAMILY_NODE, fragment));
 }
 
 static PyObject *member_Document_adopt_node(PyObject *self, PyObject *words, PyObject *named)
@@ -2304,7 +2377,7 @@ static PyObject *member_Document_adopt_node(PyObject *self, PyObject *words, PyO
     PyObject *found = NULL;
     if (sort(words, named, names, 1, given, "adopt_node") && node_of(self, given[0], &node)) {
         uint8_t status = hp_adopt_node(session_of(self), number_of(self), node);
-        found = status ? refused_of(status, "adopt_node", self, given, 1) : same(given[0]);
+        found = status ? refused_of(status, "adopt_node", self, given, 1) : taken_out(given[0], same(given[0]));
     }
     return found;
 }
@@ -2313,8 +2386,9 @@ static PyObject *member_Document_create_range(PyObject *self, PyObject *nothing)
 {
     (void)nothing;
     uint32_t range = 0;
+    let_go_noted(((Thing *)self)->calls);
     uint8_t status = hp_create_range(session_of(self), number_of(self), &range);
-    return status ? refused_of(status, "create_range", self, NULL, 0) : made_at(self, KIND_RANGE, FAMILY_RANGE, range);
+    return status ? refused_of(status, "create_range", self, NULL, 0) : own(made_at(self, KIND_RANGE, FAMILY_RANGE, range));
 }
 
 static PyObject *member_Range_start_container(PyObject *self, PyObject *nothing)

@@ -23,6 +23,9 @@ static PyMethodDef members_by_hand[] = {
 
 static PyMethodDef calls_by_hand[] = {
     { "keep", calls_keep, METH_VARARGS, "The object of a session, a class and a number: the same one each time." },
+    { "make", calls_make, METH_VARARGS, "The same of what was just made, which goes with its object." },
+    { "let_all_go", calls_let_all_go, METH_NOARGS, "Lets go of all that nobody holds." },
+    { "note", calls_note, METH_O, "Notes nodes that a call may have left without a parent, though they have no object." },
     { "node_object", calls_node_object, METH_VARARGS, "The node of a session and a number." },
     { "read_name", calls_read_name, METH_VARARGS, "A part of the name of a node." },
     { "read_line", calls_read_line, METH_VARARGS, "The status of a line, and the line of its reply." },
@@ -55,6 +58,7 @@ static PyType_Spec calls_spec = { "huckleport._core.Calls", sizeof(Calls), 0, Py
 static PyMemberDef thing_members[] = {
     { "session", T_OBJECT_EX, offsetof(Thing, session), READONLY, "The session that it is of." },
     { "_calls", T_OBJECT_EX, offsetof(Thing, calls), READONLY, NULL },
+    { "_is_own", T_BOOL, offsetof(Thing, is_own), 0, NULL },
     { NULL, 0, 0, 0, NULL },
 };
 

@@ -14,8 +14,8 @@
 
 #include "huckleport.h"
 
-/* Objects by the kinds of their numbers. Observers are kept by the session. */
-typedef enum { FAMILY_NODE, FAMILY_RANGE, FAMILY_STATIC_RANGE, FAMILY_NODE_ITERATOR, FAMILY_TREE_WALKER, FAMILY_OTHER } Family;
+/* Objects by the kinds of their numbers. */
+typedef enum { FAMILY_NODE, FAMILY_RANGE, FAMILY_STATIC_RANGE, FAMILY_NODE_ITERATOR, FAMILY_TREE_WALKER, FAMILY_OBSERVER, FAMILIES } Family;
 
 /* The classes of the package: those of nodes stand at the standard's numbers of their kinds. */
 enum {

@@ -64,6 +64,20 @@ static PyObject *same(PyObject *it)
     return it;
 }
 
+/* A node that was taken out of its tree. */
+static PyObject *taken_out(PyObject *node, PyObject *answer)
+{
+    own(node);
+    return answer;
+}
+
+/* A node that came under another, and is no root any more. A fragment stays one. */
+static PyObject *placed(PyObject *node, PyObject *answer)
+{
+    ((Thing *)node)->is_own = (PyObject *)Py_TYPE(node) == kinds[KIND_DOCUMENT_FRAGMENT];
+    return answer;
+}
+
 /* Counts that nodes may be gone. */
 static PyObject *let_go(Calls *calls, PyObject *answer)
 {
@@ -80,6 +94,29 @@ static PyObject *calls_keep(PyObject *self, PyObject *words)
     if (!is_counted(words, 3, "keep") || !family_of(word(words, 1), &family) || !uint32_of(word(words, 2), &number))
         return NULL;
     return made(word(words, 0), (Calls *)self, word(words, 1), family, number);
+}
+
+static PyObject *calls_make(PyObject *self, PyObject *words)
+{
+    return own(calls_keep(self, words));
+}
+
+static PyObject *calls_let_all_go(PyObject *self, PyObject *nothing)
+{
+    (void)nothing;
+    let_all_go((Calls *)self);
+    return none();
+}
+
+static PyObject *calls_note(PyObject *self, PyObject *nodes)
+{
+    Slice numbers;
+    begin(&numbers);
+    bool fits = numbers_of(nodes, &numbers);
+    for (size_t at = 0; fits && at < numbers.length; at++)
+        note((Calls *)self, FAMILY_NODE, ((const uint32_t *)numbers.at)[at]);
+    drop(&numbers);
+    return fits ? none() : NULL;
 }
 
 static PyObject *calls_node_object(PyObject *self, PyObject *words)
@@ -122,8 +159,10 @@ static PyObject *calls_read_line(PyObject *self, PyObject *words)
     Slice line;
     if (!is_counted(words, 1, "read_line") || !octets_of(word(words, 0), &line))
         return NULL;
+    let_go_noted((Calls *)self);
     uint8_t status = hp_line(session_at(self), line.at, line.length);
     ((Calls *)self)->epoch++;
+    ((Calls *)self)->has_lines = true;
     PyObject *reply = line_answer(session_at(self));
     return reply ? Py_BuildValue("iN", (int)status, reply) : NULL;
 }
@@ -298,8 +337,10 @@ static PyObject *node_child_nodes(PyObject *self, PyObject *nothing)
     uint8_t status = hp_children(session_of(self), it->number);
     if (status)
         return refused_of(status, "children", self, NULL, 0);
+    it->calls->making++;
     if (numbers_read(&numbers, session_of(self)) && numbers_ask(&numbers, it->calls))
         found = numbers_nodes(&numbers, 0, numbers.length, it->session, it->calls);
+    it->calls->making--;
     numbers_drop(&numbers);
     return found;
 }

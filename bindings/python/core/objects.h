@@ -1,30 +1,9 @@
-/* A session of the library, and what it tells by numbers, as Python's objects. */
+/* What a session tells by numbers, as Python's objects. */
 #ifndef HUCKLEPORT_OBJECTS_H
 #define HUCKLEPORT_OBJECTS_H
 
-#include "table.h"
+#include "leaving.h"
 #include "texts.h"
-
-/* A session, and the objects of it that live. */
-typedef struct {
-    PyObject_HEAD
-    hp_session session;
-    Table kept;
-    /* Counts what may have let nodes go: what is known of them is asked for anew then. */
-    uint32_t epoch;
-} Calls;
-
-/* An object with a number in a session. */
-typedef struct {
-    PyObject_HEAD
-    PyObject *session;
-    Calls *calls;
-    PyObject *name;
-    uint32_t number;
-    uint32_t epoch;
-    uint8_t family;
-    bool is_kept;
-} Thing;
 
 static PyTypeObject *calls_type, *thing_type;
 
@@ -81,6 +60,7 @@ static void calls_dealloc(PyObject *self)
     Calls *it = (Calls *)self;
     hp_close(&it->session);
     PyMem_Free(it->kept.entries);
+    leaving_end(it);
     PyObject_Free(self);
     Py_DECREF(type);
 }
@@ -110,6 +90,8 @@ static void thing_dealloc(PyObject *self)
     PyObject_GC_UnTrack(self);
     if (it->is_kept)
         table_take(&it->calls->kept, it->number, it->family, self);
+    if (it->is_kept && it->is_own && it->calls->session.is_open)
+        note(it->calls, it->family, it->number);
     Py_XDECREF(it->session);
     Py_XDECREF((PyObject *)it->calls);
     Py_XDECREF(it->name);
@@ -140,7 +122,7 @@ static PyObject *thing_new(PyTypeObject *type, PyObject *words, PyObject *named)
 {
     (void)named;
     uint32_t number = 0;
-    uint8_t family = FAMILY_OTHER;
+    uint8_t family = FAMILY_OBSERVER;
     if (PyTuple_Size(words) < 2) {
         PyErr_SetString(PyExc_TypeError, "a session and a number are due");
         return NULL;
@@ -179,14 +161,25 @@ static PyObject *made(PyObject *session, Calls *calls, PyObject *kind, uint8_t f
     PyObject *found = table_find(&calls->kept, number, family);
     if (found)
         return found;
+    calls->making++;
     Thing *it = (Thing *)PyType_GenericAlloc((PyTypeObject *)kind, 0);
+    calls->making--;
     if (!it)
         return NULL;
     settle(it, session, calls, number, family);
-    found = table_put(&calls->kept, number, family, (PyObject *)it);
+    if (family != FAMILY_OBSERVER || PyObject_SetAttrString((PyObject *)it, "callback", Py_None) == 0)
+        found = table_put(&calls->kept, number, family, (PyObject *)it);
     it->is_kept = found == (PyObject *)it;
     Py_DECREF((PyObject *)it);
     return found;
+}
+
+/* An object whose end is to be noted. */
+static PyObject *own(PyObject *it)
+{
+    if (it)
+        ((Thing *)it)->is_own = true;
+    return it;
 }
 
 /* The class of a kind that the library tells. */

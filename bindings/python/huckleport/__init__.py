@@ -30,7 +30,7 @@ from .nodes import (
 )
 from .observers import MutationObserver, MutationRecord
 from .ranges import AbstractRange, Range, StaticRange
-from .session import Session
+from .session import Counts, Session
 from .texts import from_units, is_well_formed, to_units, utf16_index, utf16_length, utf16_offset, well_formed
 from .traversal import NodeFilter, NodeIterator, TreeWalker
 
@@ -43,6 +43,7 @@ __all__ = [
     "CharacterData",
     "ChildNode",
     "Comment",
+    "Counts",
     "DOMException",
     "DOMTypeError",
     "Document",

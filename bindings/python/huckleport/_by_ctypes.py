@@ -76,24 +76,31 @@ class Calls(Handle):
         return self._text("hp_record_old_value", size(notice), size(index))
 
     def new_document(self) -> int:
+        self.let_go_noted()
         return self._number(c_uint32(), "hp_new_document")
 
     def create_element(self, document: int, name: str) -> int:
+        self.let_go_noted()
         return self._number(c_uint32(), "hp_create_element", uint32(document), *utf8(name))
 
     def create_text(self, document: int, data: str) -> int:
+        self.let_go_noted()
         return self._number(c_uint32(), "hp_create_text", uint32(document), *utf16(data))
 
     def create_comment(self, document: int, data: str) -> int:
+        self.let_go_noted()
         return self._number(c_uint32(), "hp_create_comment", uint32(document), *utf16(data))
 
     def create_pi(self, document: int, target: str, data: str) -> int:
+        self.let_go_noted()
         return self._number(c_uint32(), "hp_create_pi", uint32(document), *utf8(target), *utf16(data))
 
     def create_doctype(self, document: int, name: str, public_id: str, system_id: str) -> int:
+        self.let_go_noted()
         return self._number(c_uint32(), "hp_create_doctype", uint32(document), *utf8(name), *utf8(public_id), *utf8(system_id))
 
     def create_fragment(self, document: int) -> int:
+        self.let_go_noted()
         return self._number(c_uint32(), "hp_create_fragment", uint32(document))
 
     def insert_before(self, parent: int, node: int, child: int) -> None:
@@ -106,30 +113,39 @@ class Calls(Handle):
         self._say("hp_adopt_node", uint32(document), uint32(node))
 
     def replace_child(self, parent: int, node: int, child: int) -> None:
+        self.let_go_noted()
         self._say("hp_replace_child", uint32(parent), uint32(node), uint32(child))
 
     def remove_child(self, parent: int, child: int) -> None:
+        self.let_go_noted()
         self._say("hp_remove_child", uint32(parent), uint32(child))
 
     def remove(self, node: int) -> None:
+        self.let_go_noted()
         self._say("hp_remove", uint32(node))
 
     def replace_children(self, parent: int, node: int) -> None:
+        self.let_go_noted()
         self._say("hp_replace_children", uint32(parent), uint32(node))
 
     def normalize(self, node: int) -> None:
+        self.let_go_noted()
         self._say("hp_normalize", uint32(node))
 
     def set_text_content(self, node: int, text: str) -> None:
+        self.let_go_noted()
         self._say("hp_set_text_content", uint32(node), *utf16(text))
 
     def discard(self, node: int) -> None:
+        self.let_go_noted()
         self._say("hp_discard", uint32(node))
 
     def import_node(self, document: int, node: int, deep: bool) -> int:
+        self.let_go_noted()
         return self._number(c_uint32(), "hp_import_node", uint32(document), uint32(node), deep)
 
     def clone_node(self, node: int, deep: bool) -> int:
+        self.let_go_noted()
         return self._number(c_uint32(), "hp_clone_node", uint32(node), deep)
 
     def node(self, node: int) -> _signatures.hp_place:
@@ -174,6 +190,9 @@ class Calls(Handle):
     def child_at(self, node: int, index: int) -> int:
         return self._number(c_uint32(), "hp_child_at", uint32(node), size(index))
 
+    def in_use(self) -> _signatures.hp_counts:
+        return self._struct(_signatures.hp_counts(), "hp_in_use")
+
     def data(self, node: int) -> None:
         self._say("hp_data", uint32(node))
 
@@ -196,6 +215,7 @@ class Calls(Handle):
         self._say("hp_substring_data", uint32(node), uint32(offset), uint32(count))
 
     def split_text(self, text: int, offset: int) -> int:
+        self.let_go_noted()
         return self._number(c_uint32(), "hp_split_text", uint32(text), uint32(offset))
 
     def set_attribute(self, element: int, name: str, value: str) -> None:
@@ -217,9 +237,11 @@ class Calls(Handle):
         self._say("hp_attribute_names", uint32(element))
 
     def create_range(self, document: int) -> int:
+        self.let_go_noted()
         return self._number(c_uint32(), "hp_create_range", uint32(document))
 
     def clone_range(self, range: int) -> int:
+        self.let_go_noted()
         return self._number(c_uint32(), "hp_clone_range", uint32(range))
 
     def range(self, range: int) -> _signatures.hp_ends:
@@ -271,6 +293,7 @@ class Calls(Handle):
         return self._number(c_uint32(), "hp_common_ancestor", uint32(range))
 
     def create_static_range(self, start: int, start_offset: int, end: int, end_offset: int) -> int:
+        self.let_go_noted()
         return self._number(c_uint32(), "hp_create_static_range", uint32(start), uint32(start_offset), uint32(end), uint32(end_offset))
 
     def static_range(self, range: int) -> _signatures.hp_static_ends:
@@ -283,24 +306,30 @@ class Calls(Handle):
         self._say("hp_range_text", uint32(range))
 
     def delete_contents(self, range: int) -> None:
+        self.let_go_noted()
         self._say("hp_delete_contents", uint32(range))
 
     def extract_contents(self, range: int) -> int:
+        self.let_go_noted()
         return self._number(c_uint32(), "hp_extract_contents", uint32(range))
 
     def clone_contents(self, range: int) -> int:
+        self.let_go_noted()
         return self._number(c_uint32(), "hp_clone_contents", uint32(range))
 
     def insert_node(self, range: int, node: int) -> None:
         self._say("hp_insert_node", uint32(range), uint32(node))
 
     def surround_contents(self, range: int, parent: int) -> None:
+        self.let_go_noted()
         self._say("hp_surround_contents", uint32(range), uint32(parent))
 
     def create_iterator(self, root: int, show: int, names: bytes, lengths: Sequence[int], verdicts: bytes) -> int:
+        self.let_go_noted()
         return self._number(c_uint32(), "hp_create_iterator", uint32(root), uint32(show), *octets(names), *uint32s(lengths), *octets(verdicts))
 
     def create_walker(self, root: int, show: int, names: bytes, lengths: Sequence[int], verdicts: bytes) -> int:
+        self.let_go_noted()
         return self._number(c_uint32(), "hp_create_walker", uint32(root), uint32(show), *octets(names), *uint32s(lengths), *octets(verdicts))
 
     def iterator(self, iterator: int) -> _signatures.hp_iterator_at:
@@ -328,6 +357,7 @@ class Calls(Handle):
         self._let_go("hp_release_walker", uint32(walker))
 
     def create_observer(self) -> int:
+        self.let_go_noted()
         return self._number(c_uint32(), "hp_create_observer")
 
     def observe(self, observer: int, node: int, options: _signatures.hp_options, names: bytes, lengths: Sequence[int]) -> None:

@@ -8,14 +8,13 @@ an answer in one call, needs neither.
 from __future__ import annotations
 
 import sys
-import weakref
 from array import array
 from ctypes import addressof, byref, c_char, c_size_t, c_uint8, c_uint32, c_uint64, sizeof, string_at
 from operator import index
-from threading import RLock
 from typing import TYPE_CHECKING, Any, Callable, Dict, List, Optional, Sequence, Tuple, TypeVar
 
 from . import _signatures as made
+from ._leaving import Leaving
 from ._library import library
 from ._writing import Style, put_together
 from .errors import NotThere, refusal
@@ -105,12 +104,18 @@ def values_of(call: str, words: Tuple[Any, ...]) -> List[Any]:
 class Thing:
     """What has a number in a session."""
 
-    __slots__ = ("_session", "_number")
+    __slots__ = ("_session", "_number", "_is_own")
     _family = 5
 
     def __init__(self, session: Session, number: int) -> None:
         self._session = session
         self._number = number
+        # Whether its end is noted: of what a call of Python made, and among nodes of those that may be roots.
+        self._is_own = False
+
+    def __del__(self) -> None:
+        if getattr(self, "_is_own", False) and self._calls.is_open:
+            self._calls._noted.append((self._family, self._number))
 
     @property
     def session(self) -> Session:
@@ -127,17 +132,15 @@ class Thing:
         return self._session._calls
 
 
-class Handle:
+class Handle(Leaving):
     """The struct of a session, and the lock under which its calls are made."""
 
     def __init__(self) -> None:
+        super().__init__()
         self._library = library()
         self._session = made.hp_session()
         self._at = byref(self._session)
-        self.lock = RLock()
-        self._is_read = False
         self._waiting: List[Tuple[Any, ...]] = []
-        self._kept: weakref.WeakValueDictionary[Tuple[int, int], Thing] = weakref.WeakValueDictionary()
 
     @property
     def is_open(self) -> bool:
@@ -268,13 +271,22 @@ class Handle:
         with self.lock:
             if self._is_read:
                 raise RuntimeError(AMID)
+            self.let_go_noted()
+            self._has_lines = True
             status = self._raw("hp_line", *octets(line))
             return status, None if status in (made.HP_CLOSED, made.HP_OUT_OF_MEMORY) else self._part_bytes("hp_reply_line")
 
     def read_tree(self, session: Session, node: int, most: Optional[int]) -> List[Any]:
         """The rows of a node, at most so many."""
-        rows = self._whole(lambda: self._answer_rows(most), "hp_tree", uint32(node))
-        return [classes["Row"](depth, self._kept_node(session, number, kind), *parts) for depth, number, kind, parts in rows]
+        with self._objects():
+            rows = self._whole(lambda: self._answer_rows(most), "hp_tree", uint32(node))
+            return [classes["Row"](depth, self._kept_node(session, number, kind), *parts) for depth, number, kind, parts in rows]
+
+    def read_nodes(self, session: Session, parent: int) -> List[Any]:
+        """The children of a node."""
+        with self._objects():
+            numbers = self._whole(self._answer_numbers, "hp_children", uint32(parent))
+            return [self.node_object(session, it) for it in numbers]
 
     def read_markup(self, node: int, *how: Any) -> Any:
         """A node and all below it as markup: texts with other rows between, and all names."""
@@ -293,8 +305,9 @@ class Handle:
 
     def read_records(self, session: Session, observer: int) -> List[Any]:
         """The records of an observer, which are taken."""
-        found = self._whole(lambda: self._answer_records(0, self._part_count()), "hp_take_records", uint32(observer))
-        return [self._record(session, *it) for it in found]
+        with self._objects():
+            found = self._whole(lambda: self._answer_records(0, self._part_count()), "hp_take_records", uint32(observer))
+            return [self._record(session, *it) for it in found]
 
     def _answer_records(self, notice: int, count: int) -> List[Tuple[Any, ...]]:
         return [self._answer_record(notice, at) for at in range(count)]
@@ -318,8 +331,9 @@ class Handle:
 
     def tell(self, session: Session, told: List[Any], left: List[Any]) -> Optional[BaseException]:
         """Tells all observers. A list takes what is told, another has what was left by an earlier call. Returns what was raised first."""
-        for number, records in self._whole(self._answer_notices, "hp_notify"):
-            told.append((session._observer(number), [self._record(session, *it) for it in records]))
+        with self._objects():
+            for number, records in self._whole(self._answer_notices, "hp_notify"):
+                told.append((session._observer(number), [self._record(session, *it) for it in records]))
         faults: List[BaseException] = []
         kept = [it for it in told if not self._is_told(it[0], it[1], faults)]
         if faults:
@@ -348,6 +362,12 @@ class Handle:
             if found is None:
                 found = self._kept[kind._family, number] = kind(session, number)
             return found
+
+    def make(self, session: Session, kind: Any, number: int) -> Any:
+        """The same of what was just made, which goes with its object."""
+        found = self.keep(session, kind, number)
+        found._is_own = True
+        return found
 
     def _kept_node(self, session: Session, number: int, kind: int) -> Any:
         return self.keep(session, classes["kinds"].get(kind, classes["Node"]), number)

@@ -189,6 +189,19 @@ class hp_node_links(Structure):
     _fields_ = [("kind", c_uint8), ("document", c_uint32), ("parent", c_uint32), ("previous", c_uint32), ("next", c_uint32), ("first_child", c_uint32), ("last_child", c_uint32), ("children", c_size_t), ("length", c_size_t)]
 
 
+class hp_counts(Structure):
+    """How many objects of each kind there are: those that were made, and neither discarded nor released. The registrations are those of all observers, with the transient ones."""
+
+    nodes: int
+    ranges: int
+    static_ranges: int
+    iterators: int
+    walkers: int
+    observers: int
+    registrations: int
+    _fields_ = [("nodes", c_size_t), ("ranges", c_size_t), ("static_ranges", c_size_t), ("iterators", c_size_t), ("walkers", c_size_t), ("observers", c_size_t), ("registrations", c_size_t)]
+
+
 class hp_options(Structure):
     """The members of MutationObserverInit: 0 for false, 1 for true, 2 for absent. Of the attribute filter 0 for absent, and 1 for the names that are handed beside."""
 
@@ -277,6 +290,7 @@ ARGUMENTS: Dict[str, Tuple[Any, ...]] = {
     "hp_last_child": (POINTER(hp_session), c_uint32, POINTER(c_uint32),),
     "hp_child_at": (POINTER(hp_session), c_uint32, c_size_t, POINTER(c_uint32),),
     "hp_children_into": (POINTER(hp_session), c_uint32, POINTER(c_uint32), c_size_t, POINTER(c_size_t),),
+    "hp_in_use": (POINTER(hp_session), POINTER(hp_counts),),
     "hp_data": (POINTER(hp_session), c_uint32,),
     "hp_set_data": (POINTER(hp_session), c_uint32, c_char_p, c_size_t,),
     "hp_append_data": (POINTER(hp_session), c_uint32, c_char_p, c_size_t,),
@@ -397,6 +411,7 @@ PARAMETERS: Dict[str, Tuple[str, ...]] = {
     "last_child": ("node",),
     "child_at": ("node", "index",),
     "children_into": ("node",),
+    "in_use": (),
     "data": ("node",),
     "set_data": ("node", "data",),
     "append_data": ("node", "data",),

@@ -30,47 +30,48 @@ class Document(ParentNode):
 
     def create_element(self, name: str) -> Element:
         """A new element of that name."""
-        return self.session._keep(Element, self._calls.create_element(self.number, name))
+        return self.session._make(Element, self._calls.create_element(self.number, name))
 
     def create_text_node(self, data: str) -> Text:
         """A new Text."""
-        return self.session._keep(Text, self._calls.create_text(self.number, data))
+        return self.session._make(Text, self._calls.create_text(self.number, data))
 
     def create_comment(self, data: str) -> Comment:
         """A new comment."""
-        return self.session._keep(Comment, self._calls.create_comment(self.number, data))
+        return self.session._make(Comment, self._calls.create_comment(self.number, data))
 
     def create_processing_instruction(self, target: str, data: str) -> ProcessingInstruction:
         """A new processing instruction."""
-        return self.session._keep(ProcessingInstruction, self._calls.create_pi(self.number, target, data))
+        return self.session._make(ProcessingInstruction, self._calls.create_pi(self.number, target, data))
 
     def create_document_type(self, name: str, public_id: str = "", system_id: str = "") -> DocumentType:
         """The standard's ``implementation.createDocumentType``."""
-        return self.session._keep(DocumentType, self._calls.create_doctype(self.number, name, public_id, system_id))
+        return self.session._make(DocumentType, self._calls.create_doctype(self.number, name, public_id, system_id))
 
     def create_document_fragment(self) -> DocumentFragment:
         """A new fragment without children."""
-        return self.session._keep(DocumentFragment, self._calls.create_fragment(self.number))
+        return self.session._make(DocumentFragment, self._calls.create_fragment(self.number))
 
     def adopt_node(self, node: N) -> N:
         """Takes a node from its parent, makes this its node document and that of all below it, and returns it."""
         self._calls.adopt_node(self.number, self._of(node, Node))
+        node._is_own = True
         return node
 
     def import_node(self, node: N, deep: bool = False) -> N:
         """A copy of a node, whose node document is this one; with all below it where ``deep`` is true."""
-        return self.session._keep(type(node), self._calls.import_node(self.number, self._of(node, Node), deep))
+        return self.session._make(type(node), self._calls.import_node(self.number, self._of(node, Node), deep))
 
     def create_range(self) -> Range:
         """A new live range, with both ends at the start of the Document."""
-        return self.session._keep(Range, self._calls.create_range(self.number))
+        return self.session._make(Range, self._calls.create_range(self.number))
 
     def create_node_iterator(self, root: Node, what_to_show: int = NodeFilter.SHOW_ALL, filter: Filter = ()) -> NodeIterator:
         """A new iterator over a node and all below it."""
         number = self._calls.create_iterator(self._of(root, Node), what_to_show, *rules(filter))
-        return self.session._keep(NodeIterator, number)
+        return self.session._make(NodeIterator, number)
 
     def create_tree_walker(self, root: Node, what_to_show: int = NodeFilter.SHOW_ALL, filter: Filter = ()) -> TreeWalker:
         """A new walker in a node and all below it."""
         number = self._calls.create_walker(self._of(root, Node), what_to_show, *rules(filter))
-        return self.session._keep(TreeWalker, number)
+        return self.session._make(TreeWalker, number)

@@ -7,6 +7,7 @@ from typing import TYPE_CHECKING, Iterator, List, NamedTuple, Optional, Tuple, T
 from . import _signatures as made
 from ._calls import quick
 from .attributes import Attributes
+from .errors import Error
 from .objects import SessionObject, maybe
 
 if TYPE_CHECKING:
@@ -51,6 +52,13 @@ class Node(SessionObject):
 
     def _links(self) -> made.hp_node_links:
         return self._calls.links(self.number)
+
+    def _children(self) -> List[int]:
+        """The numbers of its children; where it is no more there are none, as the call says that is made next."""
+        try:
+            return self._calls.read_children(self.number)
+        except Error:
+            return []
 
     def _node_or_none(self, number: int) -> Optional[Node]:
         found = maybe(number)
@@ -103,7 +111,7 @@ class Node(SessionObject):
     @property
     def child_nodes(self) -> List[Node]:
         """The children, as a list of now: it does not change with the tree."""
-        return [self.session._node(it) for it in self._calls.read_children(self.number)]
+        return self._calls.read_nodes(self.session, self.number)
 
     @property
     def first_child(self) -> Optional[Node]:
@@ -174,20 +182,24 @@ class Node(SessionObject):
     def replace_child(self, node: Node, child: N) -> N:
         """Puts a node in place of a child, and returns the child."""
         self._calls.replace_child(self.number, self._of(node, Node), self._of(child, Node))
+        child._is_own = True
         return child
 
     def remove_child(self, child: N) -> N:
         """Takes out a child, and returns it."""
         self._calls.remove_child(self.number, self._of(child, Node))
+        child._is_own = True
         return child
 
     def normalize(self) -> None:
         """Joins Texts that stand side by side below it, and takes out empty ones."""
+        texts = self._calls.read_loose_texts(self.number)
         self._calls.normalize(self.number)
+        self._calls.note(texts)
 
     def clone_node(self: N, deep: bool = False) -> N:
         """A copy, with all that stands below it where ``deep`` is true."""
-        return self.session._keep(type(self), self._calls.clone_node(self.number, deep))
+        return self.session._make(type(self), self._calls.clone_node(self.number, deep))
 
     @property
     def text_content(self) -> Optional[str]:
@@ -196,7 +208,9 @@ class Node(SessionObject):
 
     @text_content.setter
     def text_content(self, text: Optional[str]) -> None:
+        children = self._children()
         self._calls.set_text_content(self.number, "" if text is None else text)
+        self._calls.note(children)
 
     def discard(self) -> None:
         """Lets this node and all below it go. Refused (``InUse``) while something refers to one of them."""
@@ -246,7 +260,9 @@ class ParentNode(Node):
     def replace_children(self, *nodes: Union[Node, str, None]) -> None:
         """Puts nodes, or strings as new Texts, or nothing, in place of all children."""
         given = tuple(it for it in nodes if it is not None)
+        children = self._children()
         self._calls.replace_children(self.number, self._of(self._together(given), Node) if given else made.HP_NONE)
+        self._calls.note(children)
 
     def get_elements_by_tag_name(self, name: str) -> List[Element]:
         """The elements of that name below it, in tree order, as a list of now; ``*`` is every name."""
@@ -268,6 +284,7 @@ class ChildNode(Node):
     def remove(self) -> None:
         """Takes it from its parent, where it has one."""
         self._calls.remove(self.number)
+        self._is_own = True
 
     def _beside(self, nodes: Tuple[Union[Node, str], ...], is_behind: bool) -> Optional[Node]:
         """The next sibling before or behind it that is none of the nodes, which move."""
@@ -418,7 +435,7 @@ class Text(CharacterData):
 
     def split_text(self, offset: int) -> Text:
         """Splits it, and returns the new Text with what stood behind the offset."""
-        return self.session._keep(Text, self._calls.split_text(self.number, offset))
+        return self.session._make(Text, self._calls.split_text(self.number, offset))
 
 
 class Comment(CharacterData):

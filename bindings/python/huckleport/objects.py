@@ -17,7 +17,7 @@ class SessionObject(Thing):
     """What has a number in a session. Sessions and documents make these; the same number is the same object."""
 
     __slots__ = ("__weakref__",)
-    # Numbers of one family are one another's: those of nodes, ranges, static ranges, iterators and walkers.
+    # Numbers of one family are one another's: those of nodes, ranges, static ranges, iterators, walkers and observers.
     _family = 5
 
     def _of(self, other: object, kind: Type[SessionObject]) -> int:

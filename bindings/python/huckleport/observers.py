@@ -60,10 +60,13 @@ class MutationObserver(SessionObject):
         flags = (child_list, attributes, character_data, subtree, attribute_old_value, character_data_old_value)
         options = made.hp_options(*(2 if it is None else int(bool(it)) for it in flags), int(attribute_filter is not None))
         self._calls.observe(self.number, self._of(target, Node), options, *names(attribute_filter or ()))
+        self.session._observers[self.number] = self
 
     def disconnect(self) -> None:
         """Ends all watching, and lets the records go that were not told."""
         self._calls.disconnect(self.number)
+        if self._is_own:
+            self.session._observers.pop(self.number, None)
 
     def take_records(self) -> List[MutationRecord]:
         """The records that were not told, which are taken."""

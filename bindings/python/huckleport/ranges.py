@@ -2,10 +2,11 @@
 
 from __future__ import annotations
 
-from typing import Union
+from typing import List, Union
 
 from . import _signatures as made
 from ._calls import quick
+from .errors import Error
 from .nodes import DocumentFragment, Node
 from .objects import SessionObject
 
@@ -123,19 +124,48 @@ class Range(AbstractRange):
 
     def clone_range(self) -> Range:
         """A new live range with the same ends."""
-        return self.session._keep(Range, self._calls.clone_range(self.number))
+        return self.session._make(Range, self._calls.clone_range(self.number))
+
+    def _behind(self, node: int, offset: int) -> int:
+        """The first node behind a point in tree order, or none; behind all that a node has where no child stands at the offset."""
+        links = self._calls.links(node)
+        if offset < links.children:
+            return self._calls.child_at(node, offset)
+        while links.next == made.HP_NONE and links.parent != made.HP_NONE:
+            links = self._calls.links(links.parent)
+        return links.next
+
+    def _contents(self) -> List[int]:
+        """The nodes that are in it whole, without those below them. Of a range that is no more there are none."""
+        try:
+            ends = self._ends()
+        except Error:
+            return []
+        found: List[int] = []
+        over, at = {made.HP_NONE}, ends.end
+        while at not in over:
+            over.add(at)
+            at = self._calls.links(at).parent
+        at, end = self._behind(ends.start, ends.start_offset), self._behind(ends.end, ends.end_offset)
+        while at not in (end, made.HP_NONE):
+            if at not in over:
+                found.append(at)
+            at = self._behind(at, 0 if at in over else made.HP_NONE)
+        return found
 
     def delete_contents(self) -> None:
         """Deletes what is in it."""
+        contents = self._contents()
         self._calls.delete_contents(self.number)
+        self._calls.note(contents)
 
     def extract_contents(self) -> DocumentFragment:
         """Takes what is in it into a new fragment."""
-        return self.session._keep(DocumentFragment, self._calls.extract_contents(self.number))
+        return self.session._make(DocumentFragment, self._calls.extract_contents(self.number))
 
     def clone_contents(self) -> DocumentFragment:
         """Copies what is in it into a new fragment."""
-        return self.session._keep(DocumentFragment, self._calls.clone_contents(self.number))
+        return self.session._make(DocumentFragment, self._calls.clone_contents(self.number))
 
     def insert_node(self, node: Node) -> None:
         """Puts a node in at its start."""
@@ -143,7 +173,9 @@ class Range(AbstractRange):
 
     def surround_contents(self, new_parent: Node) -> None:
         """Takes what is in it into a node, and puts that in its place."""
-        self._calls.surround_contents(self.number, self._of(new_parent, Node))
+        parent, children = self._of(new_parent, Node), new_parent._children()
+        self._calls.surround_contents(self.number, parent)
+        self._calls.note(children)
 
     def release(self) -> None:
         """Lets the range go, so that edits have it no more to move."""

@@ -5,7 +5,7 @@ from __future__ import annotations
 import json
 import weakref
 from types import TracebackType
-from typing import Dict, List, Optional, Tuple, Type, TypeVar, cast
+from typing import Dict, List, NamedTuple, Optional, Tuple, Type, TypeVar, cast
 
 from ._calls import Calls, settle
 from ._signatures import HP_NO_SUCH_OBJECT, HP_NONE, hp_options
@@ -35,6 +35,19 @@ def _close(calls: Calls) -> None:
     calls.close()
 
 
+class Counts(NamedTuple):
+    """How many objects of each kind a session has: those that were made, and neither discarded nor released."""
+
+    nodes: int
+    ranges: int
+    static_ranges: int
+    iterators: int
+    walkers: int
+    observers: int
+    registrations: int
+    """Those of all observers, with the transient ones."""
+
+
 class Session:
     """A world of documents, shared with no other session. It has a Document from the first: ``session.document``.
 
@@ -46,7 +59,7 @@ class Session:
         self._calls = Calls()
         self._calls.open(numbers, line)
         self._end = weakref.finalize(self, _close, self._calls)
-        # Observers stay, since their callbacks are still to be called.
+        # Observers that observe stay, since their callbacks are still to be called; and those that lines have made.
         self._observers: Dict[int, MutationObserver] = {}
         # What was told to observers without a callback when a callback of another raised: it is still to be handed out.
         self._left: List[Notice] = []
@@ -77,6 +90,10 @@ class Session:
     def _keep(self, kind: Type[K], number: int) -> K:
         """The object of a kind with that number, the same each time."""
         return cast(K, self._calls.keep(self, kind, number))
+
+    def _make(self, kind: Type[K], number: int) -> K:
+        """The object of what was just made, which goes with it."""
+        return cast(K, self._calls.make(self, kind, number))
 
     def _node(self, number: int) -> Node:
         return cast(Node, self._calls.node_object(self, number))
@@ -115,7 +132,8 @@ class Session:
         return self._observer(number)
 
     def _observer(self, number: int) -> MutationObserver:
-        return self._observers.setdefault(number, MutationObserver(self, number))
+        found = self._keep(MutationObserver, number)
+        return found if found._is_own else self._observers.setdefault(number, found)
 
     def _has_observer(self, number: int) -> None:
         """Asks whether there is an observer: to watch a node without a type is refused, and for another reason where there is none."""
@@ -146,16 +164,16 @@ class Session:
 
     def create_document(self) -> Document:
         """A new Document, without children."""
-        return self._keep(Document, self._calls.new_document())
+        return self._make(Document, self._calls.new_document())
 
     def create_static_range(self, start_container: Node, start_offset: int, end_container: Node, end_offset: int) -> StaticRange:
         """A range that stays as it is made."""
         start, end = self.document._of(start_container, Node), self.document._of(end_container, Node)
-        return self._keep(StaticRange, self._calls.create_static_range(start, start_offset, end, end_offset))
+        return self._make(StaticRange, self._calls.create_static_range(start, start_offset, end, end_offset))
 
     def create_mutation_observer(self, callback: Optional[Callback] = None) -> MutationObserver:
-        """A new observer, whose callback ``notify`` calls with the records and the observer."""
-        found = self._observer(self._calls.create_observer())
+        """A new observer, whose callback ``notify`` calls with the records and the observer. The session keeps it while it observes."""
+        found = self._make(MutationObserver, self._calls.create_observer())
         found.callback = callback
         return found
 
@@ -182,6 +200,14 @@ class Session:
     def pending(self) -> List[MutationObserver]:
         """The observers that wait to be told."""
         return [self._observer(it) for it in self._calls.read_pending()]
+
+    # how much there is
+
+    def in_use(self) -> Counts:
+        """How many objects of each kind the session has. What nobody holds is let go first."""
+        self._calls.let_all_go()
+        found = self._calls.in_use()
+        return Counts(*(getattr(found, it) for it in Counts._fields))
 
     # lines
 

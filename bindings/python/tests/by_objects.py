@@ -13,7 +13,8 @@ class Speaker:
     def __init__(self, session):
         self.session = session
         self.kept = []
-        self.observers = 0
+        # (commands name nodes by numbers, also such as never had an object: the session knows that by a line)
+        session.line(b'["length",0]')
 
     # objects by the numbers of a line; one that is not there stands in, so that the library is asked
 
@@ -297,7 +298,7 @@ class Speaker:
     # observers
 
     def createObserver(self):
-        return self.session.create_mutation_observer().number
+        return self.make(self.session.create_mutation_observer())
 
     def observe(self, observer, node, options):
         self.o(observer).observe(self.n(node), **{OPTIONS[it]: value for it, value in options.items() if it in OPTIONS})

@@ -308,9 +308,10 @@ class Values(unittest.TestCase):
         for number, node in kept.items():
             self.assertIs(session.node(number), node)
             self.assertEqual(node.number, number)
+        self.assertEqual(session.in_use().nodes, 1 + len(kept))
         del node
         kept.clear()
-        self.assertEqual(session.node(5).data, "4")
+        self.assertEqual(session.in_use().nodes, 1)
 
     @unittest.skipUnless(os.environ.get("HUCKLEPORT_LARGE"), "HUCKLEPORT_LARGE is not set: it takes 8 GB")
     def test_large_texts(self):

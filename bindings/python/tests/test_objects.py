@@ -30,9 +30,8 @@ class Objects(unittest.TestCase):
         self.assertIs(self.text.get_root_node(), self.document)
         self.assertIs(self.text.owner_document, self.document)
         self.assertIsNone(self.document.owner_document)
-        number = self.document.create_range().number
-        gc.collect()
-        self.assertIs(self.session.range(number), self.session.range(number))
+        found = self.document.create_range()
+        self.assertIs(self.session.range(found.number), found)
 
     def test_kinds(self):
         self.session.line(b'["createPI",0,"t","d"]')
@@ -133,6 +132,15 @@ class Objects(unittest.TestCase):
         self.assertEqual(self.document.create_node_iterator(self.document).number, iterator.number + 1)
         with self.assertRaises(h.NoSuchObject):
             self.session.mutation_observer(observer.number)
+
+    def test_in_use(self):
+        """How many objects of each kind there are, as they come and go."""
+        nodes = self.session.in_use().nodes
+        kept = self.over(self.document)
+        self.assertEqual(self.session.in_use(), h.Counts(nodes, 1, 1, 1, 1, 1, 1))
+        for it in kept:
+            it.release()
+        self.assertEqual(self.session.in_use(), h.Counts(nodes, 0, 0, 0, 0, 0, 0))
 
     def test_released_observers_are_not_told(self):
         told = []

@@ -18,7 +18,7 @@ class Page(unittest.TestCase):
 
     def test_examples(self):
         found = re.findall(r"```python\n(.*?)```\n\n```text\n(.*?)```", self.text, re.S)
-        self.assertEqual(len(found), 3)
+        self.assertEqual(len(found), 4)
         for program, due in found:
             if "html.parse" in program and not is_there("html5lib"):
                 continue

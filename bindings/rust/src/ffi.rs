@@ -161,6 +161,20 @@ pub(crate) struct hp_node_links {
     pub(crate) length: usize,
 }
 
+/// How many objects of each kind there are: those that were made, and neither discarded nor released. The registrations are those of all observers, with the transient ones.
+#[repr(C)]
+#[derive(Clone, Copy, Default)]
+#[allow(non_camel_case_types)]
+pub(crate) struct hp_counts {
+    pub(crate) nodes: usize,
+    pub(crate) ranges: usize,
+    pub(crate) static_ranges: usize,
+    pub(crate) iterators: usize,
+    pub(crate) walkers: usize,
+    pub(crate) observers: usize,
+    pub(crate) registrations: usize,
+}
+
 /// A session, or none. All zero bytes are a closed handle.
 #[repr(C)]
 #[allow(non_camel_case_types)]
@@ -249,6 +263,7 @@ extern "C" {
     fn hp_last_child(session: *mut hp_session, node: u32, child: *mut u32) -> u8;
     fn hp_child_at(session: *mut hp_session, node: u32, index: usize, child: *mut u32) -> u8;
     fn hp_children_into(session: *mut hp_session, node: u32, numbers: *mut u32, numbers_capacity: usize, count: *mut usize) -> u8;
+    fn hp_in_use(session: *mut hp_session, counts: *mut hp_counts) -> u8;
     fn hp_data(session: *mut hp_session, node: u32) -> u8;
     fn hp_set_data(session: *mut hp_session, node: u32, data: *const u16, data_length: usize) -> u8;
     fn hp_append_data(session: *mut hp_session, node: u32, data: *const u16, data_length: usize) -> u8;
@@ -751,6 +766,13 @@ impl Handle {
         let mut out = 0;
         // SAFETY: as at the head of the file.
         let status = unsafe { hp_children_into(self.session.get(), node, numbers.as_mut_ptr(), numbers.len(), &mut out) };
+        if status == HP_OK { Ok(out) } else { Err(status) }
+    }
+
+    pub(crate) fn in_use(&self) -> Result<hp_counts, u8> {
+        let mut out = hp_counts::default();
+        // SAFETY: as at the head of the file.
+        let status = unsafe { hp_in_use(self.session.get(), &mut out) };
         if status == HP_OK { Ok(out) } else { Err(status) }
     }
 

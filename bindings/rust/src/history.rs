@@ -3,6 +3,7 @@ use crate::changes::{ask, learn, learn_again, put, states, unless_gone, Change, 
 use crate::exception::Result;
 use crate::numbers::{Node, Observer, Range};
 use crate::observers::Options;
+use crate::owned::Owned;
 use crate::points::Ends;
 use crate::records::Records;
 use crate::session::Session;
@@ -61,7 +62,7 @@ fn watch(session: &mut Session, observer: Observer, root: Node) -> Result<()> {
 /// ```
 pub struct History {
     root: Node,
-    observer: Observer,
+    observer: Owned<Observer>,
     changes: Vec<Change>,
     ranges: Vec<Range>,
     places: Places,
@@ -74,7 +75,8 @@ impl History {
     /// A history of what changes in a node and below it from now on. Each call has to be handed the session that has the node.
     pub fn new(session: &mut Session, root: Node) -> Result<History> {
         let observer = session.create_observer()?;
-        watch(session, observer, root)?;
+        let observer = session.own(observer);
+        watch(session, *observer, root)?;
         let mut orders = Orders::new();
         learn(session, root, &mut orders)?;
         let (changes, ranges, places) = (Vec::new(), Vec::new(), Places::new());
@@ -88,7 +90,7 @@ impl History {
 
     /// Its observer. What [`Session::notify`] says that this one is told has to be handed to [`told`](History::told).
     pub fn observer(&self) -> Observer {
-        self.observer
+        *self.observer
     }
 
     /// Takes what its observer was told.
@@ -160,9 +162,9 @@ impl History {
         Ok(())
     }
 
-    /// Watches no longer.
+    /// Watches no longer, and lets its observer go. One that is dropped does so at the session's next command.
     pub fn close(self, session: &mut Session) -> Result<()> {
-        session.disconnect(self.observer)
+        session.release_observer(self.observer.into_inner())
     }
 
     fn places_now(&self, session: &mut Session) -> Result<Places> {
@@ -175,9 +177,9 @@ impl History {
 
     /// Takes what changed, and watches no longer what was taken out, of which the core keeps for each node by whom it is still watched.
     fn take(&mut self, session: &mut Session) -> Result<Vec<Change>> {
-        self.changes.extend(session.take_records(self.observer)?.map(Change::from));
-        session.disconnect(self.observer)?;
-        unless_gone(watch(session, self.observer, self.root))?;
+        self.changes.extend(session.take_records(*self.observer)?.map(Change::from));
+        session.disconnect(*self.observer)?;
+        unless_gone(watch(session, *self.observer, self.root))?;
         Ok(mem::take(&mut self.changes))
     }
 

@@ -4,6 +4,7 @@
 //! A [`Session`] has all objects, which are told by numbers of their own types: [`Node`], [`Range`], [`StaticRange`],
 //! [`NodeIterator`], [`TreeWalker`] and [`Observer`]. Every command is a method of the session, and answers what the standard says,
 //! or an [`Exception`]. A command that was refused changes nothing.
+//! Numbers are copied freely, and an object stands until it is let go by its number, or until an [`Owned`] of it is dropped.
 //!
 //! ```
 //! use huckleport::{utf16, Node, Session};
@@ -62,6 +63,7 @@ pub mod html;
 mod making;
 mod numbers;
 mod observers;
+mod owned;
 #[cfg(feature = "html5ever")]
 mod parsing;
 mod points;
@@ -82,11 +84,12 @@ pub use filters::{Rule, Verdict, SHOW_ALL};
 pub use history::History;
 pub use numbers::{Node, NodeIterator, Observer, Range, StaticRange, TreeWalker};
 pub use observers::Options;
+pub use owned::{Object, Owned};
 pub use points::{BoundaryPoint, Ends, How, StaticEnds};
 pub use questions::{Description, Kind, Links};
 pub use records::{Notice, Notices, Record, RecordNodes, RecordType, Records};
 pub use rows::{Attributes, Row, Rows};
-pub use session::{utf16, Session};
+pub use session::{utf16, Counts, Session};
 pub use traversal::{IteratorPlace, Move, WalkerPlace};
 
 // The lines that the crate's page shows are tried as well; the build script says where it is.

@@ -1,6 +1,7 @@
 //! Sessions, lines and texts.
 use crate::exception::{Exception, Result};
 use crate::ffi::Handle;
+use crate::owned::OwningHandle;
 use std::fmt;
 
 /// A session, which has all objects. It frees them when it is dropped.
@@ -12,7 +13,26 @@ use std::fmt;
 /// shared::<huckleport::Session>();
 /// ```
 pub struct Session {
-    pub(crate) handle: Handle,
+    pub(crate) handle: OwningHandle,
+}
+
+/// How many objects of each kind a session has: those that were made, and neither discarded nor released.
+#[derive(Clone, Copy, Debug, PartialEq, Eq)]
+pub struct Counts {
+    /// Nodes, in trees and alone.
+    pub nodes: usize,
+    /// Live ranges.
+    pub ranges: usize,
+    /// Static ranges.
+    pub static_ranges: usize,
+    /// Node iterators.
+    pub iterators: usize,
+    /// Tree walkers.
+    pub walkers: usize,
+    /// Mutation observers.
+    pub observers: usize,
+    /// Registrations of all observers, with the transient ones.
+    pub registrations: usize,
 }
 
 /// The longest line of a session that says no other limit, in bytes.
@@ -27,7 +47,7 @@ impl Session {
     /// A session in which each kind of object has so many numbers, and a line so many bytes; both are at least 1.
     pub fn with_limits(numbers: u32, line: usize) -> Result<Session> {
         match Handle::open(numbers.into(), line) {
-            Ok(handle) => Ok(Session { handle }),
+            Ok(handle) => Ok(Session { handle: OwningHandle::new(handle) }),
             Err(status) => Err(Exception::of(status)),
         }
     }
@@ -55,10 +75,39 @@ impl Session {
     ///
     /// A session that has not answered yet says nothing.
     pub fn printed(&mut self) -> Result<&[u8]> {
-        match self.handle.print() {
+        match self.handle.unsettled().print() {
             Err(status) if status != crate::ffi::HP_NOT_THERE => Err(Exception::of(status)),
             _ => self.handle.reply_line().map_err(Exception::of),
         }
+    }
+
+    /// How many objects of each kind the session has, in constant time. The last answer stays where it is, unless an [`Owned`](crate::Owned) was
+    /// dropped since: what that had is let go first.
+    ///
+    /// ```
+    /// # fn main() -> Result<(), huckleport::Exception> {
+    /// use huckleport::{Node, Session};
+    ///
+    /// let mut session = Session::new()?;
+    /// let range = session.create_range(Node::DOCUMENT)?;
+    /// assert_eq!((session.in_use()?.nodes, session.in_use()?.ranges), (1, 1));
+    /// session.release_range(range)?;
+    /// assert_eq!(session.in_use()?.ranges, 0);
+    /// # Ok(())
+    /// # }
+    /// ```
+    pub fn in_use(&mut self) -> Result<Counts> {
+        self.handle.settle();
+        let it = self.handle.in_use().map_err(Exception::of)?;
+        Ok(Counts {
+            nodes: it.nodes,
+            ranges: it.ranges,
+            static_ranges: it.static_ranges,
+            iterators: it.iterators,
+            walkers: it.walkers,
+            observers: it.observers,
+            registrations: it.registrations,
+        })
     }
 
     /// The text of the last answer; none where it is null.

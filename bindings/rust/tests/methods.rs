@@ -1,6 +1,9 @@
 //! What dialogues do not show: commands that they only refuse, texts that are not well-formed, limits, threads, iterators from both ends, what is released.
-use huckleport::{utf16, BoundaryPoint, Ends, Exception, Kind, Move, Node, Options, Result, Session, SHOW_ALL};
+use huckleport::{utf16, BoundaryPoint, Counts, Ends, Exception, Kind, Move, Node, Options, Result, Session, SHOW_ALL};
 use std::thread;
+
+#[cfg(target_os = "linux")]
+mod memory;
 
 /// A session with an element of three Texts, `a`, `b` and `c`.
 fn session() -> Result<(Session, Node, [Node; 3])> {
@@ -145,6 +148,31 @@ fn a_tree_that_only_what_was_released_named() -> Result<()> {
 }
 
 #[test]
+fn what_there_is_is_counted() -> Result<()> {
+    let (mut session, parent, _) = session()?;
+    let nodes = Counts { nodes: 5, ranges: 0, static_ranges: 0, iterators: 0, walkers: 0, observers: 0, registrations: 0 };
+    assert_eq!(session.in_use()?, nodes);
+    let range = session.create_range(Node::DOCUMENT)?;
+    let fixed = session.create_static_range(parent, 0, parent, 3)?;
+    let iterator = session.create_iterator(parent, SHOW_ALL, &[])?;
+    let walker = session.create_walker(parent, SHOW_ALL, &[])?;
+    let observer = session.create_observer()?;
+    for node in [Node::DOCUMENT, parent] {
+        session.observe(observer, node, &Options { child_list: Some(true), ..Options::default() })?;
+    }
+    assert_eq!(session.in_use()?, Counts { nodes: 5, ranges: 1, static_ranges: 1, iterators: 1, walkers: 1, observers: 1, registrations: 2 });
+    session.release_range(range)?;
+    session.release_static_range(fixed)?;
+    session.release_iterator(iterator)?;
+    session.release_walker(walker)?;
+    session.release_observer(observer)?;
+    assert_eq!(session.in_use()?, nodes);
+    session.discard(parent)?;
+    assert_eq!(session.in_use()?.nodes, 1);
+    Ok(())
+}
+
+#[test]
 fn an_observer_that_is_released_is_told_nothing() -> Result<()> {
     let (mut session, parent, [a, ..]) = session()?;
     let observers = [session.create_observer()?, session.create_observer()?];
@@ -177,21 +205,14 @@ fn come_and_go(session: &mut Session, count: usize) -> Result<()> {
     Ok(())
 }
 
-/// How many pages of this process are in memory.
-#[cfg(target_os = "linux")]
-fn resident() -> usize {
-    let told = std::fs::read_to_string("/proc/self/statm").unwrap();
-    told.split(' ').nth(1).unwrap().parse().unwrap()
-}
-
 #[cfg(target_os = "linux")]
 #[test]
 fn memory_stays_level_where_many_come_and_go() -> Result<()> {
     let mut session = Session::new()?;
     come_and_go(&mut session, 2_000)?;
-    let before = resident();
+    let before = memory::resident();
     come_and_go(&mut session, 100_000)?;
-    let more = resident().saturating_sub(before);
+    let more = memory::resident().saturating_sub(before);
     assert!(more < 1_024, "{more} pages more");
     Ok(())
 }

@@ -1,0 +1,150 @@
+/* How many objects of each kind there are, as they come and go: told with no memory taken, and the last answer stays. Linked with --wrap for
+ * malloc, realloc and free. */
+#include "huckleport.h"
+#include "kinds.h"
+#include "refusing.h"
+
+enum { SOME = 3000 };
+
+typedef uint8_t releasing(hp_session *, uint32_t);
+
+/* What there is, told without taking memory. */
+static hp_counts told(void)
+{
+    hp_counts found = { 7, 7, 7, 7, 7, 7, 7 };
+    refuse(1);
+    WANT(hp_in_use(&session, &found) == HP_OK);
+    counts = false;
+    WANT(asked == 0);
+    return found;
+}
+
+static void are(size_t nodes, size_t ranges, size_t static_ranges, size_t iterators, size_t walkers, size_t observers, size_t registrations)
+{
+    hp_counts found = told();
+    WANT(found.nodes == nodes);
+    WANT(found.ranges == ranges && found.static_ranges == static_ranges);
+    WANT(found.iterators == iterators && found.walkers == walkers);
+    WANT(found.observers == observers && found.registrations == registrations);
+}
+
+/* One more of each kind counts, and none that is released. */
+static void each(void)
+{
+    are(1, 0, 0, 0, 0, 0, 0);
+    uint32_t top = tree();
+    are(3, 0, 0, 0, 0, 0, 0);
+    uint32_t range = range_over(top);
+    are(3, 1, 0, 0, 0, 0, 0);
+    uint32_t fixed = static_range_over(top);
+    are(3, 1, 1, 0, 0, 0, 0);
+    uint32_t iterator = iterator_over(top);
+    are(3, 1, 1, 1, 0, 0, 0);
+    uint32_t walker = walker_over(top);
+    are(3, 1, 1, 1, 1, 0, 0);
+    uint32_t observer = observer_over(top);
+    are(3, 1, 1, 1, 1, 1, 1);
+    WANT(hp_release_range(&session, range) == HP_OK);
+    are(3, 0, 1, 1, 1, 1, 1);
+    WANT(hp_release_static_range(&session, fixed) == HP_OK);
+    are(3, 0, 0, 1, 1, 1, 1);
+    WANT(hp_release_iterator(&session, iterator) == HP_OK);
+    are(3, 0, 0, 0, 1, 1, 1);
+    WANT(hp_release_walker(&session, walker) == HP_OK);
+    are(3, 0, 0, 0, 0, 1, 1);
+    WANT(hp_disconnect(&session, observer) == HP_OK);
+    are(3, 0, 0, 0, 0, 1, 0);
+    WANT(hp_release_observer(&session, observer) == HP_OK);
+    are(3, 0, 0, 0, 0, 0, 0);
+    WANT(hp_discard(&session, top) == HP_OK);
+    are(1, 0, 0, 0, 0, 0, 0);
+}
+
+/* A node that leaves its parent has a transient registration of what observes that with its subtree, once, until observers are told. */
+static void transient(void)
+{
+    uint32_t top = tree(), first = observer_over(top), second = observer_over(top), child = HP_NONE;
+    are(3, 0, 0, 0, 0, 2, 2);
+    WANT(hp_first_child(&session, top, &child) == HP_OK && hp_remove(&session, child) == HP_OK);
+    are(3, 0, 0, 0, 0, 2, 4);
+    WANT(hp_append_child(&session, top, child) == HP_OK && hp_remove(&session, child) == HP_OK);
+    are(3, 0, 0, 0, 0, 2, 4);
+    WANT(hp_release_observer(&session, first) == HP_OK);
+    are(3, 0, 0, 0, 0, 1, 2);
+    WANT(hp_notify(&session) == HP_OK);
+    are(3, 0, 0, 0, 0, 1, 1);
+    WANT(hp_release_observer(&session, second) == HP_OK);
+    WANT(hp_discard(&session, child) == HP_OK && hp_discard(&session, top) == HP_OK);
+    are(1, 0, 0, 0, 0, 0, 0);
+}
+
+/* The answer that was there stays. */
+static void stays(void)
+{
+    size_t count = 7;
+    WANT(hp_children(&session, 0) == HP_OK);
+    are(1, 0, 0, 0, 0, 0, 0);
+    WANT(hp_count(&session, &count) == HP_OK && count == 0);
+}
+
+/* So many are there at once, and go in another order than they came. */
+static void many(uint32_t (*over)(uint32_t), releasing *release, size_t of(hp_counts))
+{
+    static uint32_t numbers[SOME];
+    for (uint32_t at = 0; at < SOME; at++)
+        numbers[at] = over(0);
+    WANT(of(told()) == SOME);
+    for (uint32_t at = 0; at < SOME; at += 2)
+        WANT(release(&session, numbers[at]) == HP_OK);
+    WANT(of(told()) == SOME / 2);
+    for (uint32_t at = SOME; at > 0; at -= 2)
+        WANT(release(&session, numbers[at - 1]) == HP_OK);
+    WANT(of(told()) == 0);
+}
+
+static size_t ranges_of(hp_counts it)
+{
+    return it.ranges;
+}
+
+static size_t static_ranges_of(hp_counts it)
+{
+    return it.static_ranges;
+}
+
+static size_t iterators_of(hp_counts it)
+{
+    return it.iterators;
+}
+
+static size_t walkers_of(hp_counts it)
+{
+    return it.walkers;
+}
+
+static size_t observers_of(hp_counts it)
+{
+    return it.observers;
+}
+
+static size_t registrations_of(hp_counts it)
+{
+    return it.registrations;
+}
+
+int main(void)
+{
+    WANT(hp_open(&session, 4294967295u, 1000) == HP_OK);
+    each();
+    transient();
+    stays();
+    many(range_over, (hp_release_range), ranges_of);
+    many(static_range_over, (hp_release_static_range), static_ranges_of);
+    many(iterator_over, (hp_release_iterator), iterators_of);
+    many(walker_over, (hp_release_walker), walkers_of);
+    many(observer_over, (hp_release_observer), observers_of);
+    many(observer_over, (hp_release_observer), registrations_of);
+    WANT(hp_close(&session) == HP_OK);
+    printf("%d of each kind counted as they came and went, %d faults\n", SOME, faults);
+    return faults != 0;
+}

@@ -1,0 +1,237 @@
+/* A session of the library, the objects of it that live, and what is let go once its object is gone.
+ *
+ * The end of an object only notes its number, since it may come at any time. A later call lets go of what was noted: it releases ranges,
+ * iterators, walkers and observers, and discards each tree of which no node has an object. */
+#ifndef HUCKLEPORT_LEAVING_H
+#define HUCKLEPORT_LEAVING_H
+
+#include "table.h"
+
+/* Numbers of what may go. */
+typedef struct {
+    uint32_t *at;
+    size_t length, room;
+} Leaving;
+
+/* A session, and the objects of it that live. */
+typedef struct {
+    PyObject_HEAD
+    hp_session session;
+    Table kept;
+    /* Counts what may have let nodes go: what is known of them is asked for anew then. */
+    uint32_t epoch;
+    /* What was noted, by families, and whether there is any; and the roots of trees that were held or in use when they were tried. */
+    Leaving noted[FAMILIES], held;
+    bool is_due;
+    /* How many steps it takes to try those roots again, and how many numbers were noted since they were tried. */
+    size_t steps, since;
+    /* How many answers are being made objects of; what they name may have none yet. */
+    size_t making;
+    /* Whether a line was answered. Lines name nodes by their numbers, so none goes by itself then. */
+    bool has_lines;
+} Calls;
+
+/* An object with a number in a session. */
+typedef struct {
+    PyObject_HEAD
+    PyObject *session;
+    Calls *calls;
+    PyObject *name;
+    uint32_t number;
+    uint32_t epoch;
+    uint8_t family;
+    bool is_kept;
+    /* Whether its end is noted: of what a call of Python made, and among nodes of those that may be roots. */
+    char is_own;
+} Thing;
+
+/* ---- numbers */
+
+/* Where memory is wanting a number is not taken down, and what it names stays until the session ends. */
+static void leaving_push(Leaving *it, uint32_t number)
+{
+    if (it->length == it->room) {
+        size_t room = it->room ? 2 * it->room : 32;
+        uint32_t *wider = PyMem_Realloc(it->at, room * sizeof(uint32_t));
+        if (!wider)
+            return;
+        it->at = wider;
+        it->room = room;
+    }
+    it->at[it->length++] = number;
+}
+
+static void leaving_drop(Leaving *it)
+{
+    PyMem_Free(it->at);
+    *it = (Leaving){ NULL, 0, 0 };
+}
+
+/* Room for many is given back. */
+static void leaving_clear(Leaving *it)
+{
+    it->length = 0;
+    if (it->room > 1024)
+        leaving_drop(it);
+}
+
+static void note(Calls *it, uint32_t family, uint32_t number)
+{
+    leaving_push(&it->noted[family], number);
+    it->is_due = true;
+}
+
+static void leaving_end(Calls *it)
+{
+    for (int family = 0; family < FAMILIES; family++)
+        leaving_drop(&it->noted[family]);
+    leaving_drop(&it->held);
+}
+
+/* ---- objects */
+
+/* The object of a number, without a reference. One that is going already is none. */
+static Thing *living(const Calls *it, uint32_t number, uint32_t family)
+{
+    PyObject *found = it->kept.entries ? entry_of(&it->kept, number, family)->object : NULL;
+    return found && (uint32_t)Py_REFCNT(found) > 0 ? (Thing *)found : NULL;
+}
+
+/* Whether a number that was noted has an object again, whose end is noted then. */
+static bool is_found_again(const Calls *it, uint32_t number, uint32_t family)
+{
+    Thing *found = living(it, number, family);
+    if (found)
+        found->is_own = true;
+    return found != NULL;
+}
+
+/* The node behind another in tree order, within a tree, or none. */
+static uint32_t following(Calls *it, uint32_t at, uint32_t root)
+{
+    hp_node_links links;
+    bool is_there = hp_links(&it->session, at, &links) == HP_OK;
+    if (is_there && links.first_child != HP_NONE)
+        return links.first_child;
+    while (is_there && at != root && links.next == HP_NONE) {
+        at = links.parent;
+        is_there = hp_links(&it->session, at, &links) == HP_OK;
+    }
+    return is_there && at != root ? links.next : HP_NONE;
+}
+
+/* Whether a node of a tree has an object. Counts the nodes that are asked. */
+static bool is_held(Calls *it, uint32_t root, size_t *steps)
+{
+    for (uint32_t at = root; at != HP_NONE; at = following(it, at, root)) {
+        ++*steps;
+        if (living(it, at, FAMILY_NODE))
+            return true;
+    }
+    return false;
+}
+
+/* ---- letting go */
+
+typedef uint8_t Release(hp_session *, uint32_t);
+
+static Release *const RELEASES[FAMILIES] = {
+    [FAMILY_RANGE] = hp_release_range,          [FAMILY_STATIC_RANGE] = hp_release_static_range,
+    [FAMILY_NODE_ITERATOR] = hp_release_iterator, [FAMILY_TREE_WALKER] = hp_release_walker,
+    [FAMILY_OBSERVER] = hp_release_observer,
+};
+
+static void release_noted(Calls *it, uint32_t family)
+{
+    Leaving *noted = &it->noted[family];
+    while (noted->length) {
+        uint32_t number = noted->at[--noted->length];
+        if (is_found_again(it, number, family))
+            continue;
+        RELEASES[family](&it->session, number);
+        it->since++;
+    }
+    leaving_clear(noted);
+}
+
+/* Discards the tree of a root, unless it is held or in use. A node that stands in a tree goes with that one. */
+static void discard_noted(Calls *it, uint32_t node)
+{
+    hp_node_links links;
+    size_t steps = 0;
+    if (is_found_again(it, node, FAMILY_NODE) || hp_links(&it->session, node, &links) != HP_OK || links.parent != HP_NONE)
+        return;
+    if (is_held(it, node, &steps) || hp_discard(&it->session, node) == HP_IN_USE) {
+        leaving_push(&it->held, node);
+        it->steps += steps;
+    }
+}
+
+/* Puts the roots that were held or in use among those that are tried. */
+static void try_again(Calls *it)
+{
+    for (size_t at = 0; at < it->held.length; at++)
+        note(it, FAMILY_NODE, it->held.at[at]);
+    leaving_clear(&it->held);
+    it->steps = it->since = 0;
+}
+
+/* Trying again waits until as many numbers were noted as it takes steps, so that nothing is asked over and over. */
+static void discard_all_noted(Calls *it)
+{
+    Leaving *noted = &it->noted[FAMILY_NODE];
+    it->since += noted->length;
+    if (it->since >= it->steps)
+        try_again(it);
+    while (noted->length && !it->has_lines)
+        discard_noted(it, noted->at[--noted->length]);
+    leaving_clear(noted);
+}
+
+/* Lets go of what was noted, at the start of a call. No code of Python runs meanwhile. */
+static void let_go_noted(Calls *it)
+{
+    if (!it->is_due || it->making)
+        return;
+    it->is_due = false;
+    for (uint32_t family = FAMILY_RANGE; family < FAMILIES; family++)
+        release_noted(it, family);
+    discard_all_noted(it);
+}
+
+/* Lets go of all that nobody holds: what is let go may be what another tree waited for. */
+static void let_all_go(Calls *it)
+{
+    size_t before;
+    do {
+        before = it->held.length + it->noted[FAMILY_NODE].length;
+        try_again(it);
+        it->is_due = true;
+        let_go_noted(it);
+    } while (it->held.length && it->held.length < before);
+}
+
+/* ---- nodes that the call which is made next may leave without a parent, though they have no object */
+
+static void note_children(Calls *it, uint32_t node)
+{
+    hp_node_links links;
+    uint32_t child = HP_NONE;
+    hp_first_child(&it->session, node, &child);
+    while (child != HP_NONE && hp_links(&it->session, child, &links) == HP_OK) {
+        note(it, FAMILY_NODE, child);
+        child = links.next;
+    }
+}
+
+/* Notes the Texts that normalizing may take out: empty ones, and those behind another node. */
+static void note_texts(Calls *it, uint32_t root)
+{
+    hp_node_links links;
+    for (uint32_t at = root; at != HP_NONE && hp_links(&it->session, at, &links) == HP_OK; at = following(it, at, root)) {
+        if (links.kind == KIND_TEXT && (links.length == 0 || links.previous != HP_NONE))
+            note(it, FAMILY_NODE, at);
+    }
+}
+
+#endif
