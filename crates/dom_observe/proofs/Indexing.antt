@@ -13,11 +13,11 @@ use Rattle.dom_model.proofs.PlainLists.Numbers.{same_or, same, apart}
 use Rattle.dom_observe.specs.declared.registration.Ended.{Ended}
 use Rattle.dom_observe.specs.declared.registration.Ended.TheVariants.{Transient, Of, From}
 use Rattle.dom_observe.specs.Registrations.{is_live, left_by, lasts_for, passes_for, Placed, Owned, Stands, Added, NewKey, transient_under, with_new_options}
-use Rattle.dom_observe.specs.Kept.{AllThere, IsIndexed}
+use Rattle.dom_observe.specs.Kept.{AllThere, PlacedOnce, IsIndexed}
 use Rattle.dom_observe.proofs.EndedOnes.{stays_by, stays_off}
 use Rattle.dom_observe.proofs.Hearing.{stay-last, there-last}
 use Rattle.dom_observe.proofs.Owning.{lasting-kind, passing-kind, not_both, not_both2, owned-ended, owned-other, owned-new, owned-beside, owned-changed, placed-added, placed-changed, left-from}
-use Rattle.dom_observe.proofs.KeysOnce.{once-set, once-new, once-ended}
+use Rattle.dom_observe.proofs.KeysOnce.{once-set, once-new, once-ended, placed_once-added}
 use Rattle.dom_observe.proofs.Queued.{not_before}
 use Rattle.dom_observe.proofs.Tables.{all_at, all_imply, transient_shape}
 
@@ -25,6 +25,7 @@ use Rattle.dom_observe.proofs.Tables.{all_at, all_imply, transient_shape}
 pub indexed-pended : (u : ℕ → Option Registration) (lists : List (ℕ × List ℕ)) (ls ps : List (List ℕ)) (some : List ℕ) (there : ℕ → Bool) (o : ℕ) → there o ≡ true → IsIndexed u lists ls ps some there → IsIndexed u lists ls ps (with_last some o) there
 indexed-pended u lists ls ps some there o held_there ix = record {
   placed = ix.placed;
+  placed_once = ix.placed_once;
   lasting = ix.lasting;
   passing = ix.passing;
   lasting_once = ix.lasting_once;
@@ -39,6 +40,7 @@ module _ (u : ℕ → Option Registration) (lists : List (ℕ × List ℕ)) (r :
   pub indexed-transient : is_some r.source ≡ true → (ps' : List (List ℕ)) → r.observer < length ps → keys ≡ slice_index_or ps r.observer [] → ps' ≡ slice_set ps r.observer keys' → among r.observer some ≡ true → IsIndexed v lists' ls ps' some there
   indexed-transient source ps' lt had set in_some = record {
     placed = placed-added u lists r v lists' a ix.placed;
+    placed_once = placed_once-added u lists r v lists' a ix.placed ix.placed_once;
     lasting = owned-beside u v r keys keys' key lasts_for (λ j. refl) (λ j. off (r.observer == j) r.source source) ls ix.lasting;
     passing = owned-new u v r keys keys' key passes_for passing-kind (λ j. on_its (r.observer == j) r.source source) ps ps' lt had set ix.passing;
     lasting_once = ix.lasting_once;
@@ -64,6 +66,7 @@ module _ (u : ℕ → Option Registration) (lists : List (ℕ × List ℕ)) (r :
   pub indexed-lasting : r.source ≡ None → (ls' : List (List ℕ)) → r.observer < length ls → keys ≡ slice_index_or ls r.observer [] → ls' ≡ slice_set ls r.observer keys' → IsIndexed v lists' ls' ps some there
   indexed-lasting source ls' lt had set = record {
     placed = placed-added u lists r v lists' a ix.placed;
+    placed_once = placed_once-added u lists r v lists' a ix.placed ix.placed_once;
     lasting = owned-new u v r keys keys' key lasts_for lasting-kind (λ j. ap (λ s. (r.observer == j) && is_none s) source ∙ on_its (r.observer == j)) ls ls' lt had set ix.lasting;
     passing = owned-beside u v r keys keys' key passes_for (λ j. refl) (λ j. ap (λ s. (r.observer == j) && is_some s) source ∙ off (r.observer == j)) ps ix.passing;
     lasting_once = once-new u v r keys keys' key lasts_for (λ j. refl) ls ls' lt had set ix.lasting ix.lasting_once;
@@ -81,11 +84,12 @@ module _ (u : ℕ → Option Registration) (lists : List (ℕ × List ℕ)) (r :
       on_its false = refl
 
 -- Registrations of an observer end, of those that last or of the transient ones.
-module _ (u v : ℕ → Option Registration) (lists lists' : List (ℕ × List ℕ)) (ls ps : List (List ℕ)) (some : List ℕ) (there : ℕ → Bool) (o : ℕ) (ended : Ended) (ix : IsIndexed u lists ls ps some there) (placed : Placed v lists') where
+module _ (u v : ℕ → Option Registration) (lists lists' : List (ℕ × List ℕ)) (ls ps : List (List ℕ)) (some : List ℕ) (there : ℕ → Bool) (o : ℕ) (ended : Ended) (ix : IsIndexed u lists ls ps some there) (placed : Placed v lists') (placed_once : PlacedOnce lists') where
   pub indexed-lasting_ended : (ls' : List (List ℕ)) → o < length ls → ((k : ℕ) → v k ≡ (if among k (slice_index_or ls o []) then left_by ended (u k) else u k))
       → ls' ≡ slice_set ls o (filter (is_live v) (slice_index_or ls o [])) → IsIndexed v lists' ls' ps some there
   indexed-lasting_ended ls' lt left set = record {
     placed = placed;
+    placed_once = placed_once;
     lasting = owned-ended lasts_for lasting-kind u v ls o ix.lasting (stays_by u v (slice_index_or ls o []) ended left) (stays_off u v (slice_index_or ls o []) ended left) ls' lt set;
     passing = owned-other lasts_for lasting-kind u v ls o ix.lasting (stays_by u v (slice_index_or ls o []) ended left) (stays_off u v (slice_index_or ls o []) ended left) passes_for (λ j. refl) (not_both o) ps ix.passing;
     lasting_once = once-ended ls ls' o (is_live v) lt set ix.lasting_once;
@@ -98,6 +102,7 @@ module _ (u v : ℕ → Option Registration) (lists lists' : List (ℕ × List �
       → ps' ≡ slice_set ps o (filter (is_live v) (slice_index_or ps o [])) → IsIndexed v lists' ls ps' some there
   indexed-passing_ended ps' lt left set = record {
     placed = placed;
+    placed_once = placed_once;
     lasting = owned-other passes_for passing-kind u v ps o ix.passing (stays_by u v (slice_index_or ps o []) ended left) (stays_off u v (slice_index_or ps o []) ended left) lasts_for (λ j. refl) (not_both2 o) ls ix.lasting;
     passing = owned-ended passes_for passing-kind u v ps o ix.passing (stays_by u v (slice_index_or ps o []) ended left) (stays_off u v (slice_index_or ps o []) ended left) ps' lt set;
     lasting_once = ix.lasting_once;
@@ -150,7 +155,7 @@ module _ (o : ℕ) (t : Registration → Bool) where
   ]
 
 module _ (u v : ℕ → Option Registration) (lists lists' : List (ℕ × List ℕ)) (ls ps : List (List ℕ)) (some : List ℕ) (there : ℕ → Bool) (o : ℕ) (ix : IsIndexed u lists ls ps some there)
-    (within1 : o < length ls) (within2 : o < length ps) (placed : Placed v lists') (left : (k : ℕ) → v k ≡ left_by (Of o) (u k)) where
+    (within1 : o < length ls) (within2 : o < length ps) (placed : Placed v lists') (placed_once : PlacedOnce lists') (left : (k : ℕ) → v k ≡ left_by (Of o) (u k)) where
   none_left : (p : ℕ) → slice_index_or ps p [] ≡ [] → slice_index_or (slice_set ps o []) p [] ≡ []
   none_left p none = elim (same_or p o) [
     | same e t ↦ ap (λ q. slice_index_or (slice_set ps o []) q []) e ∙ get_or-set_same ps o [] [] within2
@@ -161,6 +166,7 @@ module _ (u v : ℕ → Option Registration) (lists lists' : List (ℕ × List �
   pub indexed-left : (some' : List ℕ) (there' : ℕ → Bool) → ((p : ℕ) → among p some' ≡ false → (p ≡ o) ⊎ (among p some ≡ false)) → AllThere there' some' → IsIndexed v lists' (slice_set ls o []) (slice_set ps o []) some' there'
   indexed-left some' there' out known = record {
     placed = placed;
+    placed_once = placed_once;
     lasting = owned-left o (λ (r : Registration). is_none r.source) u v ls within1 left ix.lasting;
     passing = owned-left o (λ (r : Registration). is_some r.source) u v ps within2 left ix.passing;
     lasting_once = once-set ls (slice_set ls o []) o [] within1 refl (λ k. omega arith) ix.lasting_once;
@@ -183,6 +189,7 @@ pub indexed-changed : (u v : ℕ → Option Registration) (lists : List (ℕ × 
     → IsIndexed u lists ls ps some there → IsIndexed v lists ls ps some there
 indexed-changed u v lists ls ps some there key options changed others ix = record {
   placed = placed-changed u v key options changed others lists ix.placed;
+  placed_once = ix.placed_once;
   lasting = owned-changed u v key options changed others lasts_for lasting-kind ls ix.lasting;
   passing = owned-changed u v key options changed others passes_for passing-kind ps ix.passing;
   lasting_once = ix.lasting_once;
@@ -197,6 +204,7 @@ pub indexed-alike : (u : ℕ → Option Registration) (lists : List (ℕ × List
     → IsIndexed u lists ls ps some there → IsIndexed u lists ls' ps' some there'
 indexed-alike u lists ls ls' ps ps' some there there' same1 same2 more ix = record {
   placed = ix.placed;
+  placed_once = ix.placed_once;
   lasting = λ i k. ap (among k) (same1 i) ∙ ix.lasting i k;
   passing = λ i k. ap (among k) (same2 i) ∙ ix.passing i k;
   lasting_once = λ i k. subst (λ keys. hits k keys ≤ 1) (sym (same1 i)) (ix.lasting_once i k);
@@ -206,10 +214,11 @@ indexed-alike u lists ls ls' ps ps' some there there' same1 same2 more ix = reco
 }
 
 -- everybody is notified
-pub indexed-notified : (u v : ℕ → Option Registration) (lists lists' : List (ℕ × List ℕ)) (ls ps ps' : List (List ℕ)) (some some' : List ℕ) (there : ℕ → Bool) → IsIndexed u lists ls ps some there → Placed v lists' → ((k : ℕ) → v k ≡ left_by Transient (u k))
+pub indexed-notified : (u v : ℕ → Option Registration) (lists lists' : List (ℕ × List ℕ)) (ls ps ps' : List (List ℕ)) (some some' : List ℕ) (there : ℕ → Bool) → IsIndexed u lists ls ps some there → Placed v lists' → PlacedOnce lists' → ((k : ℕ) → v k ≡ left_by Transient (u k))
     → Owned passes_for v ps' → ((o : ℕ) → slice_index_or ps' o [] ≡ []) → some' ≡ [] → IsIndexed v lists' ls ps' some' there
-indexed-notified u v lists lists' ls ps ps' some some' there ix placed left owned none gone = record {
+indexed-notified u v lists lists' ls ps ps' some some' there ix placed placed_once left owned none gone = record {
   placed = placed;
+  placed_once = placed_once;
   lasting = λ i k. ix.lasting i k ∙ sym (ap (lasts_for i) (left k) ∙ stays i (u k));
   passing = owned;
   lasting_once = ix.lasting_once;

@@ -6,7 +6,7 @@ use Rattle.dom_model.specs.Worlds.World.{Registration}
 use Rattle.dom_observe.specs.declared.registration.Ended.TheVariants.{Of}
 use Rattle.dom_observe.specs.declared.roster.Observer.{Observer}
 use Rattle.dom_observe.specs.Registrations.{left_by, Placed}
-use Rattle.dom_observe.specs.Kept.{has_queue, AllThere, IsIndexed}
+use Rattle.dom_observe.specs.Kept.{has_queue, AllThere, PlacedOnce, IsIndexed}
 use Rattle.dom_observe.specs.Roster.{keys_by, first_keys, second_keys, lasting_by, passing_by, queues_by}
 use Rattle.dom_observe.proofs.Indexing.{indexed-alike, indexed-left}
 use Rattle.dom_observe.proofs.QueueLists.{has-more}
@@ -36,9 +36,9 @@ indexed-by u lists some new ls ps there lasting passing more ix =
 
 -- an observer loses all its registrations
 module _ (u v : ℕ → Option Registration) (lists lists' : List (ℕ × List ℕ)) (old new : List (Option Observer)) (some : List ℕ) (o : ℕ)
-    (ix : IsIndexed u lists (lasting_by old) (passing_by old) some (has_queue (queues_by old))) (held_there : has_queue (queues_by old) o ≡ true) (placed : Placed v lists') (left : (k : ℕ) → v k ≡ left_by (Of o) (u k))
+    (ix : IsIndexed u lists (lasting_by old) (passing_by old) some (has_queue (queues_by old))) (held_there : has_queue (queues_by old) o ≡ true) (placed : Placed v lists') (placed_once : PlacedOnce lists') (left : (k : ℕ) → v k ≡ left_by (Of o) (u k))
     (lasting : lasting_by new ≡ slice_set (lasting_by old) o []) (passing : passing_by new ≡ slice_set (passing_by old) o []) where
   pub indexed-lost : (some' : List ℕ) → ((p : ℕ) → among p some' ≡ false → (p ≡ o) ⊎ (among p some ≡ false)) → AllThere (has_queue (queues_by new)) some' → IsIndexed v lists' (lasting_by new) (passing_by new) some' (has_queue (queues_by new))
   indexed-lost some' out known =
       indexed-by v lists' some' new (slice_set (lasting_by old) o []) (slice_set (passing_by old) o []) (has_queue (queues_by new)) lasting passing (λ i there. there)
-      (indexed-left u v lists lists' (lasting_by old) (passing_by old) some (has_queue (queues_by old)) o ix (within-lasting old o held_there) (within-passing old o held_there) placed left some' (has_queue (queues_by new)) out known)
+      (indexed-left u v lists lists' (lasting_by old) (passing_by old) some (has_queue (queues_by old)) o ix (within-lasting old o held_there) (within-passing old o held_there) placed placed_once left some' (has_queue (queues_by new)) out known)

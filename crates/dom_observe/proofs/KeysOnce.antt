@@ -1,5 +1,5 @@
 -- No list gets a key twice: what comes in has a key that was vacant, and what ends takes keys out.
-use Rattle.std.proofs.Common.{◌≡◌, ℕ, ◌<◌, ◌≤◌, Bool, false, List, [], ◌∷◌, ◌++◌, length, filter, Option, None, refl, ap, sym, ◌∙◌, subst, arith}
+use Rattle.std.proofs.Common.{◌≡◌, ℕ, ◌<◌, ◌≤◌, ◌==◌, Bool, true, false, if◌then◌else◌, List, [], ◌∷◌, ◌++◌, length, filter, Option, None, refl, ap, sym, ◌∙◌, subst, arith}
 use Rattle.std.specs.Prelude.{slice_index_or, slice_set}
 use Rattle.std.proofs.lemmas.List.{get_or-set_same, get_or-set_other}
 use Rattle.dom_model.specs.PlainLists.Lists.{hits, among}
@@ -7,8 +7,9 @@ use Rattle.dom_model.specs.Worlds.World.{Registration}
 use Rattle.dom_model.proofs.Forests.Climbing.{hits-append, not_among-hits}
 use Rattle.dom_model.proofs.PlainLists.Numbers.{same_or, same, apart}
 use Rattle.dom_model.proofs.RangesAndContents.DrawnPaths.{hits-filter}
-use Rattle.dom_observe.specs.Kept.{HaveOnce}
-use Rattle.dom_observe.specs.Registrations.{Owned, NewKey}
+use Rattle.dom_observe.specs.Watchers.{on}
+use Rattle.dom_observe.specs.Kept.{PlacedOnce, HaveOnce}
+use Rattle.dom_observe.specs.Registrations.{is_on, Placed, Owned, Added, NewKey}
 
 -- a list is put in place of another
 pub once-set : (lists lists' : List (List ℕ)) (i : ℕ) (keys : List ℕ) → i < length lists → lists' ≡ slice_set lists i keys → ((k : ℕ) → hits k keys ≤ 1) → HaveOnce lists → HaveOnce lists'
@@ -37,3 +38,18 @@ once-new u v r keys keys' a kind nothing lists lists' lt had set owned once =
     (hits-last a.key keys
     (ap (among a.key) had ∙ owned r.observer a.key ∙ ap (kind r.observer) a.vacant ∙ nothing r.observer)
     (λ m. subst (λ ks. hits m ks ≤ 1) (sym had) (once r.observer m)) k)) once
+
+-- The keys of nodes.
+
+-- some go
+pub placed_once-swept : (lists lists' : List (ℕ × List ℕ)) (live : ℕ → Bool) → ((n : ℕ) → on n lists' ≡ filter live (on n lists)) → PlacedOnce lists → PlacedOnce lists'
+placed_once-swept lists lists' live swept once n k =
+    subst (λ ks. hits k ks ≤ 1) (sym (swept n)) (let few = hits-filter k live (on n lists) in let one = once n k in omega arith)
+
+-- a key that was vacant comes in
+pub placed_once-added : (u : ℕ → Option Registration) (lists : List (ℕ × List ℕ)) (r : Registration) (v : ℕ → Option Registration) (lists' : List (ℕ × List ℕ)) → Added u lists r v lists' → Placed u lists → PlacedOnce lists → PlacedOnce lists'
+placed_once-added u lists r v lists' a placed once n k = subst (λ ks. hits k ks ≤ 1) (sym (a.keys n)) (go (n == r.node))
+  where
+    go : (b : Bool) → hits k (on n lists ++ (if b then a.key ∷ [] else [])) ≤ 1
+    go true = hits-last a.key (on n lists) (placed n a.key ∙ ap (is_on n) a.vacant) (once n) k
+    go false = let all = hits-append k (on n lists) [] in let few = once n k in let none : hits k [] ≡ 0 = refl in omega arith

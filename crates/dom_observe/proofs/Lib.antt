@@ -29,9 +29,11 @@ pub mod QueuesCounted
 pub mod Quiet
 pub mod Registered
 pub mod Releasing
+pub mod Removals
 pub mod Rosters
 pub mod Sounding
 pub mod Sources
+pub mod Summed
 pub mod Tables
 pub mod Transients
 pub mod Waiting

@@ -19,6 +19,10 @@ pub on_err : {A E : Type 0} (r : Result A E) {P Q : Type 0} → OnErr r P → (P
 on_err (Ok x) h f = h
 on_err (Err e) h f = f h
 
+pub at_err : {A E : Type 0} (r : Result A E) {P : Type 0} → P → OnErr r P
+at_err (Ok x) h = tt
+at_err (Err e) h = h
+
 pub by_errors : {A E : Type 0} (r : Result A E) {P O B Q : Type 0} → OnErr r P → OnErr r O → OnErr r B → (P → O → B → Q) → OnErr r Q
 by_errors (Ok x) h o b f = h
 by_errors (Err e) h o b f = f h o b

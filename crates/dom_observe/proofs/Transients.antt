@@ -13,7 +13,7 @@ use Rattle.dom_observe.specs.Once.{same_registration, once}
 use Rattle.dom_observe.specs.Watchers.{on}
 use Rattle.dom_observe.specs.Registrations.{origin, deep_at, StandsOn, AllStand, Agree, with_transient, with_transients_of, with_added_transients}
 use Rattle.dom_observe.proofs.Once.{same-is, same-itself, with_once, with_all_once, once-append, walk, walk-standing}
-use Rattle.dom_observe.proofs.Keeping.{found_deep}
+use Rattle.dom_observe.proofs.Keeping.{found_standing, found_deep}
 use Rattle.dom_observe.proofs.Tables.{all_append}
 
 abbrev is_deep : Registration → Bool
@@ -165,27 +165,44 @@ anyhow [] = tt
 anyhow (k ∷ keys) = (refl, anyhow keys)
 
 module _ (u : ℕ → Option Registration) (lists : List (ℕ × List ℕ)) (there : ℕ → Bool) (agree : Agree u) (stand : AllStand u there lists) (rs : List Registration)
-    (has : (n : ℕ) → filter_map u (on n lists) ≡ once (registered_on n rs)) (node : ℕ) (above keys : List ℕ) (is : keys ≡ flat_map (λ n. filter (deep_at u) (on n lists)) above) where
-  here : with_transients_of node (filter_map u (on node lists)) (filter_map u keys) ≡ once (registered_on node rs ++ map (transient_of node) (filter (λ (r : Registration). r.options.subtree) (standing_on above rs)))
-  here =
-      both_walks node agree.options (filter_map u (on node lists)) (filter_map u keys)
-      (all_found u (λ t. (t.options ≡ agree.options t.observer (origin t)) × (t.node ≡ node)) (StandsOn u there node)
-      (λ k r e s. (agree.alike k r e, (let d : s.registration ≡ r = (let f : Some s.registration ≡ Some r = sym s.is ∙ e in cc f) in ap (λ (t : Registration). t.node) (sym d) ∙ s.node)))
-      (on node lists) (stand node))
-      (all_found u (λ t. t.options ≡ agree.options t.observer (origin t)) (λ k. k ≡ k) (λ k r e _. agree.alike k r e) keys (anyhow keys))
-      ∙ ap (walk (taken node) (filter_map u (on node lists))) (ap (filter_map u) is ∙ found_deep u lists rs has above)
-      ∙ deep_taken node (filter_map u (on node lists)) (flat_map (λ n. once (registered_on n rs)) above)
-      ∙ walk-standing (taken node) (Has node) (gets node) (keeps node) (again node) (filter_map u (on node lists)) above rs
-      ∙ ap (λ ts. walk (taken node) ts (standing_on above rs)) (has node)
-      ∙ sym (all_taken node (once (registered_on node rs)) (standing_on above rs))
-      ∙ sym (once-append (registered_on node rs) (map (transient_of node) (filter (λ (r : Registration). r.options.subtree) (standing_on above rs))))
+    (has : (n : ℕ) → filter_map u (on n lists) ≡ once (registered_on n rs)) (node : ℕ) (above keys : List ℕ) where
+  module _ (walked : walk (taken node) (filter_map u (on node lists)) (filter_map u keys) ≡ walk (taken node) (filter_map u (on node lists)) (standing_on above rs)) where
+    here : with_transients_of node (filter_map u (on node lists)) (filter_map u keys) ≡ once (registered_on node rs ++ map (transient_of node) (filter (λ (r : Registration). r.options.subtree) (standing_on above rs)))
+    here =
+        both_walks node agree.options (filter_map u (on node lists)) (filter_map u keys)
+        (all_found u (λ t. (t.options ≡ agree.options t.observer (origin t)) × (t.node ≡ node)) (StandsOn u there node)
+        (λ k r e s. (agree.alike k r e, (let d : s.registration ≡ r = (let f : Some s.registration ≡ Some r = sym s.is ∙ e in cc f) in ap (λ (t : Registration). t.node) (sym d) ∙ s.node)))
+        (on node lists) (stand node))
+        (all_found u (λ t. t.options ≡ agree.options t.observer (origin t)) (λ k. k ≡ k) (λ k r e _. agree.alike k r e) keys (anyhow keys))
+        ∙ walked
+        ∙ ap (λ ts. walk (taken node) ts (standing_on above rs)) (has node)
+        ∙ sym (all_taken node (once (registered_on node rs)) (standing_on above rs))
+        ∙ sym (once-append (registered_on node rs) (map (transient_of node) (filter (λ (r : Registration). r.options.subtree) (standing_on above rs))))
 
-  pub transients-once : (n : ℕ) → with_added_transients node (filter_map u keys) n (filter_map u (on n lists))
+    walked-once : (n : ℕ) → with_added_transients node (filter_map u keys) n (filter_map u (on n lists))
+        ≡ once (registered_on n rs ++ (if node == n then map (transient_of node) (filter (λ (r : Registration). r.options.subtree) (standing_on above rs)) else []))
+    walked-once n = elim (same_or node n) [
+      | same e t ↦ rw t (subst (λ m. with_transients_of node (filter_map u (on m lists)) (filter_map u keys) ≡ once (registered_on m rs ++ map (transient_of node) (filter (λ (r : Registration). r.options.subtree) (standing_on above rs)))) e here)
+      | apart ne t ↦ rw t (has n ∙ ap once (sym (append-nil (registered_on n rs))))
+    ]
+
+  standing-walked : walk (taken node) (filter_map u (on node lists)) (flat_map (λ n. once (registered_on n rs)) above) ≡ walk (taken node) (filter_map u (on node lists)) (standing_on above rs)
+  standing-walked = walk-standing (taken node) (Has node) (gets node) (keeps node) (again node) (filter_map u (on node lists)) above rs
+
+  -- by the keys with subtree
+  pub transients-once : keys ≡ flat_map (λ n. filter (deep_at u) (on n lists)) above → (n : ℕ) → with_added_transients node (filter_map u keys) n (filter_map u (on n lists))
       ≡ once (registered_on n rs ++ (if node == n then map (transient_of node) (filter (λ (r : Registration). r.options.subtree) (standing_on above rs)) else []))
-  transients-once n = elim (same_or node n) [
-    | same e t ↦ rw t (subst (λ m. with_transients_of node (filter_map u (on m lists)) (filter_map u keys) ≡ once (registered_on m rs ++ map (transient_of node) (filter (λ (r : Registration). r.options.subtree) (standing_on above rs)))) e here)
-    | apart ne t ↦ rw t (has n ∙ ap once (sym (append-nil (registered_on n rs))))
-  ]
+  transients-once is = walked-once
+      (ap (walk (taken node) (filter_map u (on node lists))) (ap (filter_map u) is ∙ found_deep u lists rs has above)
+      ∙ deep_taken node (filter_map u (on node lists)) (flat_map (λ n. once (registered_on n rs)) above)
+      ∙ standing-walked)
+
+  -- by all keys
+  pub transients-of_all : keys ≡ flat_map (λ n. on n lists) above → (n : ℕ) → with_added_transients node (filter_map u keys) n (filter_map u (on n lists))
+      ≡ once (registered_on n rs ++ (if node == n then map (transient_of node) (filter (λ (r : Registration). r.options.subtree) (standing_on above rs)) else []))
+  transients-of_all is = walked-once
+      (ap (walk (taken node) (filter_map u (on node lists))) (ap (filter_map u) is ∙ found_standing u lists rs has above)
+      ∙ standing-walked)
 
 -- nothing stands there
 pub none-added-there : (node n : ℕ) (rs : List Registration) → with_added_transients node [] n rs ≡ rs

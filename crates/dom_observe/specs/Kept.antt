@@ -8,7 +8,7 @@ use Rattle.dom_model.specs.Worlds.World as model
 use Rattle.dom_model.specs.MutationObservers.Record.{Record}
 use Rattle.dom_observe.specs.declared.registration.Registration.{Registration}
 use Rattle.dom_observe.specs.Registrations.{at, found, listed, lasts_for, passes_for, AllStand, HaveKeys, Placed, Owned}
-use Rattle.dom_observe.specs.Watchers.{queue_at, records_at}
+use Rattle.dom_observe.specs.Watchers.{on, queue_at, records_at}
 
 -- each node with the registrations on it
 abbrev pub registered_nodes : {A : Type 0} → Slab Registration → List (ℕ × Vec ℕ A) → List (ℕ × List model.Registration)
@@ -36,6 +36,10 @@ pub record IsKept {A : Type 0} (table : Slab Registration) (entries : List (ℕ 
 abbrev pub HaveNone : List ℕ → List (List ℕ) → Type 0
 HaveNone fleeting lists = (o : ℕ) → among o fleeting ≡ false → slice_index_or lists o [] ≡ []
 
+-- no node has a key twice
+abbrev pub PlacedOnce : List (ℕ × List ℕ) → Type 0
+PlacedOnce lists = (n key : ℕ) → hits key (on n lists) ≤ 1
+
 -- no list has a key twice
 abbrev pub HaveOnce : List (List ℕ) → Type 0
 HaveOnce lists = (i key : ℕ) → hits key (slice_index_or lists i []) ≤ 1
@@ -45,6 +49,7 @@ HaveOnce lists = (i key : ℕ) → hits key (slice_index_or lists i []) ≤ 1
 pub record IsIndexed (under : ℕ → Option model.Registration) (lists : List (ℕ × List ℕ)) (lasts passes : List (List ℕ)) (some : List ℕ)
     (there : ℕ → Bool) : Type 0 where
   pub placed : Placed under lists
+  pub placed_once : PlacedOnce lists
   pub lasting : Owned lasts_for under lasts
   pub passing : Owned passes_for under passes
   pub lasting_once : HaveOnce lasts

@@ -7,6 +7,7 @@ pub mod Notifying
 pub mod Once
 pub mod Origins
 pub mod Registrations
+pub mod Removed
 pub mod Roster
 pub mod Sound
 pub mod Telling

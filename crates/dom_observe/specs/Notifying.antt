@@ -1,7 +1,10 @@
--- What pending observers are told.
-use Rattle.std.specs.Prelude.{ℕ, List, map, Option, Vec}
+-- What pending observers are told, and what that leaves.
+use Rattle.std.specs.Prelude.{◌≡◌, ℕ, if◌then◌else◌, List, [], map, filter, take, Option, is_none, Vec}
+use Rattle.dom_model.specs.PlainLists.Lists.{among}
+use Rattle.dom_model.specs.Worlds.World.{Registration}
 use Rattle.dom_model.specs.MutationObservers.Record.{Record, Told}
-use Rattle.dom_observe.specs.Watchers.{records_at}
+use Rattle.dom_model.specs.MutationObservers.Records.{has_records}
+use Rattle.dom_observe.specs.Watchers.{Watchers, on, records_at}
 
 -- observers with their records, as the definitions have them
 abbrev pub told_of : {A : Type 0} → List (ℕ × Vec Record A) → List Told
@@ -10,3 +13,24 @@ told_of told = map (λ t. record { observer = t.0; records = t.1.items }) told
 -- an observer and what is in its queue
 abbrev pub waiting_for : List (Option (List Record)) → ℕ → Told
 waiting_for queues o = record { observer = o; records = records_at queues o }
+
+-- of several observers those for which records wait, in their order, each with all of these
+abbrev pub waiting_in : List (Option (List Record)) → List ℕ → List Told
+waiting_in queues ps = filter has_records (map (waiting_for queues) ps)
+
+-- Everybody was told: nobody is pending, no record waits, and of the registrations on a node those that are not transient are left.
+pub record IsNotified (old new : Watchers) : Type 0 where
+  pub pending : new.pending ≡ []
+  pub queues : (i : ℕ) → records_at new.queues i ≡ []
+  pub nodes : (n : ℕ) → on n new.nodes ≡ filter (λ (r : Registration). is_none r.source) (on n old.nodes)
+
+-- the queues of the first of these observers are empty, and each other one is as it was
+pub record EmptiesFirst (ps : List ℕ) (old new : List (Option (List Record))) : Type 0 where
+  pub count : ℕ
+  pub queues : (i : ℕ) → records_at new i ≡ (if among i (take count ps) then [] else records_at old i)
+
+-- Only the queues of the first pending observers were emptied: all registrations stand, and the same observers are pending.
+pub record IsPartlyTold (old new : Watchers) : Type 0 where
+  pub nodes : new.nodes ≡ old.nodes
+  pub pending : new.pending ≡ old.pending
+  pub queues : EmptiesFirst old.pending old.queues new.queues

@@ -1,5 +1,5 @@
 -- What observers keep: registrations by node, a queue for each observer, the observers that are pending; and the observing part that it stands for.
-use Rattle.std.specs.Prelude.{◌≡◌, ℕ, ◌==◌, ◌≤◌, if◌then◌else◌, List, [], ◌∷◌, length, filter, Option, None, is_some, IfSome, unwrap_or, slice_index_or}
+use Rattle.std.specs.Prelude.{◌≡◌, ℕ, ◌==◌, ◌≤◌, if◌then◌else◌, List, [], ◌∷◌, length, filter, sum_by, Option, None, is_some, IfSome, unwrap_or, slice_index_or}
 use Rattle.dom_model.specs.Worlds.World.{Registration, Observing}
 use Rattle.dom_model.specs.MutationObservers.Observing.{registered_on}
 use Rattle.dom_model.specs.MutationObservers.Record.{Record}
@@ -17,6 +17,10 @@ pub record Watchers : Type 0 where
 abbrev pub on : {A : Type 0} → ℕ → List (ℕ × List A) → List A
 on n [] = []
 on n (e ∷ es) = if n == e.0 then e.1 else on n es
+
+-- how many registrations all nodes have together
+abbrev pub registrations_in : Watchers → ℕ
+registrations_in o = sum_by (λ (e : ℕ × List Registration). length e.1) o.nodes
 
 -- the queue under a number; none where the number was not given out, or its observer was released
 abbrev pub queue_at : List (Option (List Record)) → ℕ → Option (List Record)

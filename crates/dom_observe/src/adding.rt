@@ -99,6 +99,7 @@ pub(crate) fn add_transients(
     requires there { AllByRecursion (Stands (at table.old) (is_there roster.old)) standing.now }
     ensures ok { OnOk result ((n : ℕ) → found table.new (on n (listed nodes.new.entries))
         ≡ with_added_transients node (found table.old standing.now) n (found table.old (on n (listed nodes.old.entries)))) }
+    ensures stay { AllByRecursion (λ key. at table.new key ≡ at table.old key) standing.now }
     ensures all_stand { (p : ℕ → Bool) → AllByRecursion (Stands (at table.old) p) standing.now → AllStand (at table.old) p (listed nodes.old.entries) →
         AllStand (at table.new) p (listed nodes.new.entries) }
     ensures names { (p : ℕ → Bool) → p node ≡ false → AllByRecursion (λ key. names_one p (at table.old key) ≡ false) standing.now →

@@ -1,12 +1,12 @@
 //! The records that pending observers are told.
 
-ghost use Rattle.std.specs.Prelude.{◌≡◌, ℕ, Bool, [], filter, map, nat_eq, true, OnOk, IfOk};
+ghost use Rattle.std.specs.Prelude.{◌≡◌, ℕ, Bool, [], filter, map, nat_eq, true, OnOk, OnErr, IfOk};
 ghost use Rattle.std.specs.List.{IsDistinct};
 ghost use Rattle.dom_model.specs.PlainLists.Lists.{among};
 ghost use Rattle.dom_model.specs.MutationObservers.Records.{has_records};
 ghost use Rattle.dom_observe.specs.Kept.{AllThere};
 ghost use Rattle.dom_observe.specs.Naming.{TellsNone};
-ghost use Rattle.dom_observe.specs.Notifying.{told_of, waiting_for};
+ghost use Rattle.dom_observe.specs.Notifying.{told_of, waiting_for, EmptiesFirst};
 ghost use Rattle.dom_observe.specs.Roster.{keys_by, queues_by, is_there, records_of};
 
 use crate::observer_id::ObserverId;
@@ -25,6 +25,7 @@ pub(crate) fn gather(
     requires { AllThere (is_there roster.old) pending.now.keys }
     ensures told { IfOk result (λ told. told_of told.items ≡ filter has_records (map (waiting_for (queues_by roster.old)) pending.now.keys)) }
     ensures emptied { OnOk result ((p : ℕ) → among p pending.now.keys ≡ true → records_of roster.new p ≡ []) }
+    ensures lost { OnErr result (EmptiesFirst pending.now.keys (queues_by roster.old) (queues_by roster.new)) }
     ensures empty { (p : ℕ) → records_of roster.old p ≡ [] → records_of roster.new p ≡ [] }
     ensures names { (p : ℕ → Bool) → TellsNone p (queues_by roster.old) → TellsNone p (queues_by roster.new) }
     ensures keys { keys_by roster.new ≡ keys_by roster.old }

@@ -1,6 +1,6 @@
 //! The observers of a tree: their registrations, their queues and the pending list.
 
-ghost use Rattle.std.specs.Prelude.{◌≡◌, ℕ, ◌<◌, [], ◌∷◌, ◌++◌, length, count_by, slice_get, slice_set, Some, None, IsSome, is_some, IfOk, OnOk, OnErr, true};
+ghost use Rattle.std.specs.Prelude.{◌≡◌, ℕ, ◌<◌, [], ◌∷◌, ◌++◌, ◌==◌, length, count_by, slice_get, slice_set, Some, None, IsSome, is_some, IfOk, OnOk, OnErr, true, false};
 ghost use Rattle.dom_model.specs.Forests.Forest.{HasNode, ancestors, inclusive_descendants};
 ghost use Rattle.dom_model.specs.PlainLists.Lists.{among};
 ghost use Rattle.dom_model.specs.MutationAlgorithms.Discarding.{observed_nodes};
@@ -9,10 +9,11 @@ ghost use Rattle.dom_model.specs.MutationObservers.Observing.{standing_on, noted
 ghost use Rattle.dom_model.specs.MutationObservers.Records.{queue_of, observed, with_observer, records_taken, disconnected, released_observer, told, after_notify};
 ghost use Rattle.dom_observe.specs.Held.{named, nodes_of_mutation, NamesNoneOf, NamesOnly, SameObservers};
 ghost use Rattle.std.specs.List.{list_any};
-ghost use Rattle.dom_observe.specs.Notifying.{told_of};
+ghost use Rattle.dom_observe.specs.Notifying.{told_of, waiting_in, IsNotified, IsPartlyTold};
 ghost use Rattle.dom_observe.specs.Once.{once};
+ghost use Rattle.dom_observe.specs.Removed.{removed_below};
 ghost use Rattle.dom_observe.specs.Sound.{IsSound};
-ghost use Rattle.dom_observe.specs.Watchers.{queue_in, Watches};
+ghost use Rattle.dom_observe.specs.Watchers.{queue_in, records_at, registrations_in, Watches};
 
 use crate::adding::{add, add_transients, find_standing, find_standing_deep};
 use crate::ending::{end_all, end_own, end_transients};
@@ -127,7 +128,8 @@ impl Observers {
 
     /// How many registrations there are, the transient ones with them, in constant time. Those that are equal in every field are one.
     pub fn registrations(&self) -> usize
-        ensures { (x : Observing) → Watches self.now x → result ≡ length (once x.registrations) }
+        ensures watched { (x : Observing) → Watches self.now x → result ≡ length (once x.registrations) }
+        ensures own { result ≡ registrations_in self.now }
     {
         self.table.len()
     }
@@ -143,6 +145,7 @@ impl Observers {
     pub fn is_idle(&self) -> bool
         ensures idle { (x : Observing) → Watches self.now x → result ≡ true → x.registrations ≡ [] }
         ensures observing { (x : Observing) → Watches self.now x → x.registrations ≡ [] → result ≡ true }
+        ensures own { result ≡ (length self.now.nodes == 0) }
     {
         self.nodes.is_empty()
     }
@@ -248,11 +251,13 @@ impl Observers {
         self.roster.release(observer);
     }
 
-    /// Takes the records of an observer out of its queue ("takeRecords").
+    /// Takes the records of an observer out of its queue ("takeRecords"). It stays pending where it is.
     pub fn take(&mut self, observer: ObserverId) -> Vec<Record>
         requires held { IsSome (queue_in self.old observer) }
         ensures records { (x : Observing) → Watches self.old x → result.items ≡ queue_of observer x }
         ensures taken { (x : Observing) → Watches self.old x → Watches self.new (records_taken observer x) }
+        ensures own { result.items ≡ records_at self.old.queues observer }
+        ensures left { self.new ≡ record self.old { queues = slice_set self.old.queues observer (Some []) } }
         ensures names { NamesOnly [] self.old self.new }
         ensures made { SameObservers self.old self.new }
     {
@@ -320,12 +325,61 @@ impl Observers {
         )
     }
 
+    /// Leaves transient registrations on a node that was taken from its parent, and then queues a record of that for each observer that it interests:
+    /// what `transients` and then `queue` do, with one climb from the parent, which is the mutation's target.
+    ///
+    /// Call it once the node has left its parent. After an error some of the transient registrations may be missing, or some observers may have their
+    /// record and others not, but where none of the parent's inclusive ancestors is named nothing has changed.
+    pub fn removed<X>(
+        &mut self,
+        tree: &Tree<X>,
+        node: NodeId,
+        mutation: &Mutation<'_>,
+    ) -> Result<(), AllocError>
+        requires held { HasNode tree.now.forest mutation.now.target }
+        requires apart { among node (ancestors mutation.now.target tree.now.forest) ≡ false }
+        ensures removed { OnOk result ((x : Observing) → Watches self.old x →
+            Watches self.new (removed_below node (ancestors mutation.now.target tree.now.forest) mutation.now x)) }
+        ensures names { NamesOnly (node ∷ nodes_of_mutation mutation.now) self.old self.new }
+        ensures made { SameObservers self.old self.new }
+        ensures quiet { NamesNoneOf (ancestors mutation.now.target tree.now.forest) self.old → self.new ≡ self.old }
+    {
+        if self.is_idle() {
+            return Ok(());
+        }
+        let parent = mutation.target;
+        find_standing(&self.nodes, tree, parent, &mut self.standing)?;
+        if self.standing.is_empty() {
+            return Ok(());
+        }
+        add_transients(
+            &mut self.table,
+            &mut self.nodes,
+            &mut self.roster,
+            &mut self.fleeting,
+            self.standing.as_slice(),
+            node,
+            self.alloc,
+        )?;
+        tell(
+            &self.table,
+            self.standing.as_slice(),
+            &mut self.roster,
+            &mut self.pending,
+            mutation,
+            self.alloc,
+        )
+    }
+
     /// Tells the pending observers their records, and ends every transient registration ("notify mutation observers").
     ///
-    /// After an error some records may be lost.
+    /// After an error the records of the first pending observers are lost; all else is as it was.
     pub fn notify(&mut self) -> Result<Vec<(ObserverId, Vec<Record>)>, AllocError>
         ensures told { IfOk result (λ all. (x : Observing) → Watches self.old x → told_of all.items ≡ told x) }
         ensures after { OnOk result ((x : Observing) → Watches self.old x → Watches self.new (after_notify x)) }
+        ensures own { IfOk result (λ all. told_of all.items ≡ waiting_in self.old.queues self.old.pending) }
+        ensures notified { OnOk result (IsNotified self.old self.new) }
+        ensures lost { OnErr result (IsPartlyTold self.old self.new) }
         ensures names { NamesOnly [] self.old self.new }
         ensures made { SameObservers self.old self.new }
     {

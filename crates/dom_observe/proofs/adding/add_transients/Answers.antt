@@ -1,6 +1,7 @@
 -- Each key gives the node one more transient registration, or none.
 use Rattle.std.proofs.Common.{◌≡◌, refl, List, if◌then◌else◌, ◌==◌, Bool, true, false, Some, None, option_map, ap, sym, ◌∙◌, subst}
 use Rattle.std.specs.Prelude.{slice_index_or, slice_set}
+use Rattle.std.specs.List.{AllByRecursion}
 use Rattle.dom_observe.specs.Watchers.{on}
 use Rattle.dom_observe.specs.Registrations.{plain, at, listed, AllStand, HaveSources, Agree, transient_under}
 use Rattle.dom_observe.proofs.Agreeing.{agree-made, agree-transient}
@@ -39,6 +40,10 @@ loop-key-init c = record {
   queues = refl;
   full = λ full. full;
 }
+
+pub returns-in_err-add-clause-stay : goal.returns-in_err-add-clause-stay
+returns-in_err-add-clause-stay c =
+    subst (λ slots. AllByRecursion (λ k. option_map plain (slice_index_or slots k None) ≡ at c.args.table.now k) c.args.standing.now) (sym c.in_err-add.ensures.err_table) c.loop-key.invariant.standing
 
 pub returns-in_err-add-clause-all_stand : goal.returns-in_err-add-clause-all_stand
 returns-in_err-add-clause-all_stand c = λ there bounded all.

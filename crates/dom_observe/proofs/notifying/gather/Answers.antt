@@ -9,7 +9,7 @@ use Rattle.dom_model.specs.MutationObservers.Records.{has_records}
 use Rattle.dom_observe.specs.Kept.{has_queue}
 use Rattle.dom_model.specs.MutationAlgorithms.Discarding.{nodes_of_record}
 use Rattle.dom_observe.specs.Naming.{TellsNone}
-use Rattle.dom_observe.specs.Notifying.{told_of, waiting_for}
+use Rattle.dom_observe.specs.Notifying.{told_of, waiting_for, EmptiesFirst}
 use Rattle.dom_observe.specs.Roster.{queues_by}
 use Rattle.dom_observe.specs.Watchers.{records_at}
 use Rattle.dom_observe.proofs.EndedOnes.{at-get}
@@ -17,6 +17,7 @@ use Rattle.dom_observe.proofs.Rosters.{has-same}
 use Rattle.dom_observe.proofs.Gathered.{told-some, told-none, left-next}
 use Rattle.dom_observe.proofs.Hearing.{take-none}
 use Rattle.dom_observe.proofs.Holding.{tells-emptied, tells-left}
+use Rattle.dom_observe.proofs.Outcomes.{at_err}
 use Rattle.dom_observe.proofs.notifying.gather.Goals as goal
 use Rattle.dom_observe.proofs.notifying.gather.Goals.{in-Some+then-not-is_empty+in_ok-push, in-Some+else-not-is_empty, in_default}
 
@@ -114,3 +115,18 @@ returns-in_err-push-clause-names c = λ p none.
     (tells-emptied p (queues_by c.loop-index.roster) c.in-Some.observer.now there (λ o.
     ap (list_any (λ r. list_any p (nodes_of_record r))) (c.loop-index.invariant.left o)
     ∙ tells-left p (among o (take c.loop-index.index c.args.pending.now.keys)) (records_at (queues_by c.args.roster.now) o) (none o)))
+
+-- an observer more has an empty queue, whom nobody told
+pub returns-in_err-push-clause-lost : goal.returns-in_err-push-clause-lost
+returns-in_err-push-clause-lost c =
+    let keys = c.args.pending.now.keys in
+    let i = c.loop-index.index in
+    let o = c.in-Some.observer.now in
+    let qs0 = queues_by c.args.roster.now in
+    let at : slice_get keys i ≡ Some o = sym c.get_index.ensures.key ∙ ap option_copied c.in-Some.is in
+    let there = has-same c.args.roster.now c.loop-index.roster c.loop-index.invariant.keys o ∙ at-get (λ p. has_queue qs0 p ≡ true) keys i o c.requires at in
+    let lost : EmptiesFirst keys qs0 (queues_by c.take_from-records.new.roster) = record {
+      count = suc i;
+      queues = left-next qs0 (queues_by c.loop-index.roster) (queues_by c.take_from-records.new.roster) keys i o at c.len-index-end.ensures.unique there c.loop-index.invariant.left c.take_from-records.ensures.emptied;
+    } in
+    at_err c.from_residual.result lost

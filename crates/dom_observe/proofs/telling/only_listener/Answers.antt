@@ -1,10 +1,10 @@
 -- Each key gives one more listener, or none.
-use Rattle.std.proofs.Common.{◌≡◌, ℕ, ◌++◌, Bool, true, Some, None, take, refl, ap, sym, ◌∙◌, subst, append-nil, arith}
+use Rattle.std.proofs.Common.{◌≡◌, ℕ, ◌++◌, Bool, Some, None, take, refl, ap, sym, ◌∙◌, subst, append-nil, arith}
 use Rattle.std.proofs.lemmas.List.{take_all}
 use Rattle.std.specs.Prelude.{slice_index_or, option_to_list}
 use Rattle.dom_observe.specs.Names.{text_of}
 use Rattle.dom_observe.specs.Registrations.{at, Stands}
-use Rattle.dom_observe.specs.Telling.{listener_under, listeners, joined}
+use Rattle.dom_observe.specs.Telling.{listener_under, listeners}
 use Rattle.dom_observe.proofs.Alone.{AreAlone, alone-joined, joined-known, only-of}
 use Rattle.dom_observe.proofs.Hearing.{listener-there}
 use Rattle.dom_observe.proofs.Tables.{all_at, found_more}

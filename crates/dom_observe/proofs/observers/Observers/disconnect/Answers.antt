@@ -7,7 +7,7 @@ use Rattle.dom_model.specs.MutationObservers.Records.{disconnected}
 use Rattle.dom_observe.specs.declared.registration.Ended.TheVariants.{Of}
 use Rattle.dom_observe.specs.declared.roster.Observer.{Observer}
 use Rattle.dom_observe.specs.Watchers.{Watchers, Watches, on}
-use Rattle.dom_observe.specs.Registrations.{at, listed, spares}
+use Rattle.dom_observe.specs.Registrations.{at, listed, is_live, spares}
 use Rattle.dom_observe.specs.Kept.{registered_nodes, has_queue, AllThere, IsKept}
 use Rattle.dom_observe.specs.Roster.{lasting_by, passing_by, queues_by}
 use Rattle.dom_observe.specs.Naming.{TellsNone}
@@ -15,6 +15,7 @@ use Rattle.dom_observe.proofs.Agreeing.{agree-ended}
 use Rattle.dom_observe.proofs.Holding.{names-only, none-ended, tells-emptied, same-there}
 use Rattle.dom_observe.proofs.Keeping.{on-registered_nodes, kept-emptied, kept_table, found-ended, stand-ended}
 use Rattle.dom_observe.proofs.Keyrings.{indexed-lost}
+use Rattle.dom_observe.proofs.KeysOnce.{placed_once-swept}
 use Rattle.dom_observe.proofs.QueueLists.{has-set}
 use Rattle.dom_observe.proofs.Rosters.{has-kept, lasting-there, passing-there, lasting-set, passing-set, queues-set}
 use Rattle.dom_observe.proofs.Sources.{sources-ended}
@@ -56,7 +57,8 @@ invariant_of-self c =
     (all_imply (λ p. has_queue qs p ≡ true) (λ p. has_queue (slice_set qs o (Some [])) p ≡ true) (λ p there. has-set qs o held_there [] p ∙ there) a.fleeting.keys c.self.invariant.1.known) in (
       subst (λ q. IsKept c.end_all.new.table c.end_all.new.nodes.entries q a.pending.keys) (sym queues)
           (kept-emptied c.end_all.new.table c.end_all.new.nodes.entries qs a.pending.keys kept o held_there),
-      indexed-lost u v lists lists' a.roster roster' a.fleeting.keys o c.self.invariant.1 held_there c.end_all.ensures.placed c.end_all.ensures.left lasting passing a.fleeting.keys (λ p off. inr off) known,
+      indexed-lost u v lists lists' a.roster roster' a.fleeting.keys o c.self.invariant.1 held_there c.end_all.ensures.placed
+          (placed_once-swept lists lists' (is_live v) c.end_all.ensures.swept c.self.invariant.1.placed_once) c.end_all.ensures.left lasting passing a.fleeting.keys (λ p off. inr off) known,
       sources-ended u v (Of o) c.end_all.ensures.left c.self.invariant.2,
       agree-ended u v (Of o) c.end_all.ensures.left c.self.invariant.3,
     )

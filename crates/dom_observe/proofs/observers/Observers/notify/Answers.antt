@@ -5,9 +5,11 @@ use Rattle.dom_model.specs.PlainLists.Lists.{among}
 use Rattle.dom_model.specs.Worlds.World.{Registration}
 use Rattle.dom_model.specs.MutationObservers.Record.{Record}
 use Rattle.dom_model.specs.MutationObservers.Records.{has_records, told_in}
-use Rattle.dom_observe.specs.Watchers.{Watchers, Watches, records_at}
+use Rattle.dom_observe.specs.Notifying.{waiting_in, EmptiesFirst, IsPartlyTold}
+use Rattle.dom_observe.proofs.Outcomes.{at_err}
+use Rattle.dom_observe.specs.Watchers.{Watchers, Watches, on, records_at}
 use Rattle.dom_observe.specs.Naming.{TellsNone}
-use Rattle.dom_observe.specs.Registrations.{at, listed, passes_for, Owned}
+use Rattle.dom_observe.specs.Registrations.{at, listed, is_live, passes_for, Owned}
 use Rattle.dom_observe.specs.Kept.{registered_nodes, has_queue, AllThere, HaveNone, IsKept}
 use Rattle.dom_observe.specs.Roster.{first_keys, second_keys, lasting_by, passing_by, queues_by}
 use Rattle.dom_observe.proofs.Holding.{names-only, none-ended, same-there}
@@ -15,6 +17,7 @@ use Rattle.dom_observe.specs.declared.registration.Ended.TheVariants.{Transient}
 use Rattle.dom_observe.proofs.Indexing.{indexed-notified}
 use Rattle.dom_observe.proofs.Keeping.{on-registered_nodes, stand-alike, stand-ended, found-ended, kept_queues}
 use Rattle.dom_observe.proofs.Keyrings.{indexed-same, indexed-by}
+use Rattle.dom_observe.proofs.KeysOnce.{placed_once-swept}
 use Rattle.dom_observe.proofs.Rosters.{has-same, length-same}
 use Rattle.dom_observe.proofs.Tables.{all_imply}
 use Rattle.dom_observe.proofs.Gathered.{waiting-told}
@@ -58,7 +61,7 @@ invariant_of-self-2 c =
       indexed-by v lists' c.clear-2.new.self.keys c.end_transients.new.roster (lasting_by a.roster) (passing_by c.end_transients.new.roster) (has_queue qs)
           (c.end_transients.ensures.lasting ∙ ap (map first_keys) c.gather.ensures.keys) refl (λ i there. same i ∙ there)
           (indexed-notified u v lists lists' (lasting_by a.roster) (passing_by a.roster) (passing_by c.end_transients.new.roster) a.fleeting.keys c.clear-2.new.self.keys (has_queue qs) c.self.invariant.1
-          c.end_transients.ensures.placed c.end_transients.ensures.left c.end_transients.ensures.owned c.end_transients.ensures.none c.clear-2.ensures.empty),
+          c.end_transients.ensures.placed (placed_once-swept lists lists' (is_live v) c.end_transients.ensures.swept c.self.invariant.1.placed_once) c.end_transients.ensures.left c.end_transients.ensures.owned c.end_transients.ensures.none c.clear-2.ensures.empty),
       sources-ended u v Transient c.end_transients.ensures.left c.self.invariant.2,
       agree-ended u v Transient c.end_transients.ensures.left c.self.invariant.3,
     )
@@ -154,3 +157,32 @@ invariant_of-self c =
       c.self.invariant.2,
       c.self.invariant.3,
     )
+
+pub returns-clause-own : goal.returns-clause-own
+returns-clause-own c = c.in_ok-told.ensures.told ∙ ap (λ (o : Watchers). waiting_in o.queues o.pending) c.self.view_is
+
+pub returns-clause-notified : goal.returns-clause-notified
+returns-clause-notified c =
+    let a = c.self.inside in
+    let empty = all_empty a.pending.keys (queues_by a.roster) (queues_by c.gather.new.roster) c.self.invariant.0.waiting c.in_ok-told.ensures.emptied c.gather.ensures.empty in
+    let found = λ (n : ℕ). found-ended (at a.table) (at c.end_transients.new.table) Transient (listed a.nodes.entries) (listed c.end_transients.new.nodes.entries) c.end_transients.ensures.left c.end_transients.ensures.swept n in
+    record {
+      pending = c.clear.ensures.empty;
+      queues = λ i. ap (λ q. records_at q i) c.end_transients.ensures.queues ∙ empty i;
+      nodes = λ n.
+          on-registered_nodes c.end_transients.new.table n c.end_transients.new.nodes.entries
+          ∙ found n
+          ∙ ap (filter (λ (r : Registration). is_none r.source)) (sym (on-registered_nodes a.table n a.nodes.entries))
+          ∙ ap (λ (o : Watchers). filter (λ (r : Registration). is_none r.source) (on n o.nodes)) c.self.view_is;
+    }
+
+pub returns-in_err-told-clause-lost : goal.returns-in_err-told-clause-lost
+returns-in_err-told-clause-lost c =
+    let a = c.self.inside in
+    let new : Watchers = record { nodes = registered_nodes a.table a.nodes.entries; queues = queues_by c.gather.new.roster; pending = a.pending.keys } in
+    let lost : IsPartlyTold c.args.self.now new = record {
+      nodes = ap (λ (o : Watchers). o.nodes) c.self.view_is;
+      pending = ap (λ (o : Watchers). o.pending) c.self.view_is;
+      queues = subst (λ (o : Watchers). EmptiesFirst o.pending o.queues (queues_by c.gather.new.roster)) c.self.view_is c.in_err-told.ensures.lost;
+    } in
+    at_err c.from_residual.result lost

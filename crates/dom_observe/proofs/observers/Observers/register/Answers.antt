@@ -22,6 +22,7 @@ use Rattle.dom_observe.proofs.Counting.{tally, count-filter}
 use Rattle.dom_observe.proofs.Tables.{live_of_stands, found-added, stands-added}
 use Rattle.dom_observe.proofs.Keeping.{on-registered_nodes, kept_table}
 use Rattle.dom_observe.proofs.Keyrings.{indexed-by}
+use Rattle.dom_observe.proofs.KeysOnce.{placed_once-swept}
 use Rattle.dom_observe.proofs.Rosters.{has-kept, within-lasting, within-passing, lasting-there, passing-there, lasting-set, passing-set, lasting-same, passing-same, queues-same}
 use Rattle.dom_observe.specs.Naming.{NamesNone, TellsNone}
 use Rattle.dom_observe.specs.declared.registration.Ended.TheVariants.{From}
@@ -80,7 +81,8 @@ invariant_of-self c =
           (kept_table a.table a.nodes.entries (queues_by a.roster) a.pending.keys c.self.invariant.0 c.set_options.new.table c.end_own.new.nodes.entries c.end_own.ensures.unique stand (c.end_own.ensures.full c.self.invariant.0.full)),
       indexed-by w lists' a.fleeting.keys roster' (lasting_by a.roster) (slice_set (passing_by a.roster) o (filter (is_live v) (slice_index_or (passing_by a.roster) o []))) there lasting passing (λ i yet. ap (λ qs. has_queue qs i) same ∙ yet)
           (indexed-changed v w lists' (lasting_by a.roster) (slice_set (passing_by a.roster) o (filter (is_live v) (slice_index_or (passing_by a.roster) o []))) a.fleeting.keys there c.in-Some.key c.args.options.value c.set_options.ensures.changed c.set_options.ensures.others
-          (indexed-passing_ended u v lists lists' (lasting_by a.roster) (passing_by a.roster) a.fleeting.keys there o (From o c.args.node) c.self.invariant.1 c.end_own.ensures.placed _ (within-passing a.roster o held_there) ended refl)),
+          (indexed-passing_ended u v lists lists' (lasting_by a.roster) (passing_by a.roster) a.fleeting.keys there o (From o c.args.node) c.self.invariant.1 c.end_own.ensures.placed
+          (placed_once-swept lists lists' (is_live v) c.end_own.ensures.swept c.self.invariant.1.placed_once) _ (within-passing a.roster o held_there) ended refl)),
       sources-changed v w c.in-Some.key c.args.options.value c.set_options.ensures.changed c.set_options.ensures.others (sources-ended u v (From o c.args.node) left c.self.invariant.2),
       agree-again u v w lists o c.args.node c.in-Some.key c.args.options.value left found_key c.set_options.ensures.changed c.set_options.ensures.others c.self.invariant.3,
     )

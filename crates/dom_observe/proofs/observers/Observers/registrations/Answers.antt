@@ -1,10 +1,16 @@
-use Rattle.std.proofs.Common.{sym, ◌∙◌, subst}
-use Rattle.dom_observe.specs.Watchers.{Watchers, Watches}
+use Rattle.std.proofs.Common.{ap, sym, ◌∙◌, subst}
+use Rattle.dom_observe.specs.Watchers.{Watchers, Watches, registrations_in}
 use Rattle.dom_observe.proofs.Registered.{registrations-counted}
+use Rattle.dom_observe.proofs.Summed.{registrations-summed}
 use Rattle.dom_observe.proofs.observers.Observers.registrations.Goals as goal
 
-pub returns : goal.returns
-returns c = λ x w.
+pub returns-clause-watched : goal.returns-clause-watched
+returns-clause-watched c = λ x w.
     let a = c.self.inside in
     let shown = subst (λ (o : Watchers). Watches o x) (sym c.self.view_is) w in
     c.len.ensures ∙ registrations-counted a.table a.nodes.entries c.self.invariant.1.placed x.registrations shown.registrations
+
+pub returns-clause-own : goal.returns-clause-own
+returns-clause-own c =
+    let a = c.self.inside in
+    c.len.ensures ∙ registrations-summed a.table a.nodes.entries c.self.invariant.0.unique c.self.invariant.1.placed c.self.invariant.1.placed_once ∙ ap registrations_in c.self.view_is

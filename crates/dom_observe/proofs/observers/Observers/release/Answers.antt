@@ -6,7 +6,7 @@ use Rattle.dom_model.specs.MutationObservers.Record.{Record}
 use Rattle.dom_model.specs.MutationObservers.Records.{released_observer}
 use Rattle.dom_observe.specs.declared.registration.Ended.TheVariants.{Of}
 use Rattle.dom_observe.specs.Watchers.{Watchers, Watches, on}
-use Rattle.dom_observe.specs.Registrations.{at, listed, spares}
+use Rattle.dom_observe.specs.Registrations.{at, listed, is_live, spares}
 use Rattle.dom_observe.specs.Kept.{registered_nodes, has_queue, AllThere, IsKept}
 use Rattle.dom_observe.specs.Roster.{lasting_by, passing_by, queues_by}
 use Rattle.dom_observe.specs.Naming.{TellsNone}
@@ -14,6 +14,7 @@ use Rattle.dom_observe.proofs.Agreeing.{agree-ended}
 use Rattle.dom_observe.proofs.Holding.{names-only, none-ended, tells-released}
 use Rattle.dom_observe.proofs.Keeping.{on-registered_nodes, found-ended}
 use Rattle.dom_observe.proofs.Keyrings.{indexed-lost}
+use Rattle.dom_observe.proofs.KeysOnce.{placed_once-swept}
 use Rattle.dom_observe.proofs.QueueLists.{queue_within}
 use Rattle.dom_observe.proofs.Releasing.{taken-out, out-taken, there-taken, others-there, kept-released}
 use Rattle.dom_observe.proofs.Rosters.{has-kept, lasting-there, passing-there, length-queues, lasting-gone, passing-gone, queues-gone}
@@ -64,7 +65,8 @@ invariant_of-self c =
       subst (λ ps. IsKept c.end_all.new.table c.end_all.new.nodes.entries (queues_by new) ps) (sym pending)
           (subst (λ q. IsKept c.end_all.new.table c.end_all.new.nodes.entries q (left_out o a.pending.keys)) (sym queues)
           (kept-released a.table a.nodes.entries qs a.pending.keys c.self.invariant.0 c.end_all.new.table c.end_all.new.nodes.entries o c.end_all.ensures.left c.end_all.ensures.swept c.end_all.ensures.unique (c.end_all.ensures.full c.self.invariant.0.full))),
-      indexed-lost u v lists lists' a.roster new a.fleeting.keys o c.self.invariant.1 held_there c.end_all.ensures.placed c.end_all.ensures.left (ap lasting_by gone ∙ lasting-gone a.roster o) (ap passing_by gone ∙ passing-gone a.roster o)
+      indexed-lost u v lists lists' a.roster new a.fleeting.keys o c.self.invariant.1 held_there c.end_all.ensures.placed
+          (placed_once-swept lists lists' (is_live v) c.end_all.ensures.swept c.self.invariant.1.placed_once) c.end_all.ensures.left (ap lasting_by gone ∙ lasting-gone a.roster o) (ap passing_by gone ∙ passing-gone a.roster o)
           c.swap_remove.new.self.keys (out-taken o a.fleeting.keys c.swap_remove.new.self.keys taken) known,
       sources-ended u v (Of o) c.end_all.ensures.left c.self.invariant.2,
       agree-ended u v (Of o) c.end_all.ensures.left c.self.invariant.3,

@@ -1,8 +1,10 @@
 -- One queue is emptied.
-use Rattle.std.proofs.Common.{◌≡◌, true, [], ap, sym, ◌∙◌, subst, List, Option}
+use Rattle.std.proofs.Common.{◌≡◌, ℕ, true, [], ap, sym, ◌∙◌, subst, List, Option, Some}
+use Rattle.std.specs.Prelude.{slice_set}
+use Rattle.dom_model.specs.Worlds.World.{Registration}
 use Rattle.dom_model.specs.MutationObservers.Record.{Record}
 use Rattle.dom_model.specs.MutationObservers.Records.{records_taken}
-use Rattle.dom_observe.specs.Watchers.{Watchers, Watches}
+use Rattle.dom_observe.specs.Watchers.{Watchers, Watches, records_at}
 use Rattle.dom_observe.specs.Registrations.{at, listed}
 use Rattle.dom_observe.specs.Kept.{registered_nodes, has_queue, IsKept}
 use Rattle.dom_observe.specs.Roster.{queues_by}
@@ -59,3 +61,17 @@ returns-clause-made c =
     let new : Watchers = record { nodes = registered_nodes a.table a.nodes.entries; queues = queues_by c.take_from.new.roster; pending = a.pending.keys } in
     same-there c.args.self.now new (queues_by a.roster) (ap (λ (o : Watchers). o.queues) c.self.view_is)
     (length-same a.roster c.take_from.new.roster c.take_from.ensures.keys) (has-same a.roster c.take_from.new.roster c.take_from.ensures.keys)
+
+pub returns-clause-own : goal.returns-clause-own
+returns-clause-own c = c.take_from.ensures.records ∙ ap (λ (o : Watchers). records_at o.queues c.args.observer) c.self.view_is
+
+abbrev with_queues : List (ℕ × List Registration) → List ℕ → List (Option (List Record)) → Watchers
+with_queues nodes pending queues = record { nodes = nodes; queues = queues; pending = pending }
+
+abbrev with_emptied : ℕ → Watchers → Watchers
+with_emptied i o = record o { queues = slice_set o.queues i (Some []) }
+
+pub returns-clause-left : goal.returns-clause-left
+returns-clause-left c =
+    let a = c.self.inside in
+    ap (with_queues (registered_nodes a.table a.nodes.entries) a.pending.keys) c.take_from.ensures.emptied ∙ ap (with_emptied c.args.observer) c.self.view_is

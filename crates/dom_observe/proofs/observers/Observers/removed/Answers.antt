@@ -1,0 +1,272 @@
+-- Transient registrations are made, and then each observer that the mutation interests gets its record.
+use Rattle.std.proofs.Common.{◌≡◌, ℕ, ◌==◌, true, List, [], ◌∷◌, ◌++◌, length, refl, ap, sym, ◌∙◌, subst, arith}
+use Rattle.std.specs.Prelude.{flat_map, filter_map, option_to_list}
+use Rattle.std.proofs.lemmas.Bool.{true≢false, or_parts}
+use Rattle.dom_model.specs.Forests.Forest.{ancestors}
+use Rattle.dom_model.specs.Worlds.World.{Mutation}
+use Rattle.dom_model.specs.MutationObservers.Observing.{standing_on, registered_on, with_transients}
+use Rattle.dom_model.specs.MutationObservers.Records.{observers_of, record_for}
+use Rattle.dom_model.specs.PlainLists.Lists.{among}
+use Rattle.dom_model.specs.PlainLists.LastOnce.{with_all_last}
+use Rattle.dom_model.proofs.PlainLists.Numbers.{same_or, same, apart}
+use Rattle.dom_observe.specs.Once.{once}
+use Rattle.dom_observe.specs.Watchers.{Watchers, Watches, records_at, on}
+use Rattle.dom_observe.specs.Registrations.{at, listed}
+use Rattle.dom_observe.specs.Kept.{registered_nodes, has_queue}
+use Rattle.dom_observe.specs.Roster.{lasting_by, passing_by, queues_by}
+use Rattle.dom_observe.specs.Naming.{TellsNone}
+use Rattle.dom_observe.specs.Held.{nodes_of_mutation}
+use Rattle.dom_observe.specs.Telling.{listeners}
+use Rattle.dom_observe.proofs.Holding.{names-only, names-same, same-queues, same-there}
+use Rattle.dom_observe.proofs.Hearing.{all_last-there}
+use Rattle.dom_observe.proofs.Keeping.{on-registered_nodes}
+use Rattle.dom_observe.proofs.Keyrings.{indexed-by, indexed-same}
+use Rattle.dom_observe.proofs.Outcomes.{on_both}
+use Rattle.dom_observe.proofs.Queued.{standing_on-none, standing_stands, kept-queued, told-queued, pended-queued}
+use Rattle.dom_observe.proofs.Quiet.{not_nothing, none-stand, none-standing}
+use Rattle.dom_observe.proofs.Releasing.{each-there}
+use Rattle.dom_observe.proofs.Removals.{listeners-alike, stood, standing-live, standing-unnamed, kept-left, standing-left, watches-none_above}
+use Rattle.dom_observe.proofs.Rosters.{has-same, length-same}
+use Rattle.dom_observe.proofs.Tables.{live_of_stands}
+use Rattle.dom_observe.proofs.Transients.{transients-of_all}
+use Rattle.dom_observe.proofs.Watching.{watches-transients, watches-noted}
+use Rattle.dom_observe.proofs.observers.Observers.removed.Goals as goal
+
+none : {A : Type 0} (xs : List A) → length xs ≡ 0 → xs ≡ []
+none [] h = refl
+none (x ∷ xs) h = absurd (omega arith)
+
+pub returns-then-is_idle-clause-removed : goal.returns-then-is_idle-clause-removed
+returns-then-is_idle-clause-removed g c = λ x w.
+    let ns = ancestors c.args.mutation.now.target c.args.tree.now.forest in
+    watches-none_above c.args.self.now x w c.args.node ns c.args.mutation.now c.requires.apart (ap (standing_on ns) (c.is_idle.ensures.idle x w c.if-is_idle.true) ∙ standing_on-none ns)
+
+pub returns-then-is_idle-clause-names : goal.returns-then-is_idle-clause-names
+returns-then-is_idle-clause-names g c =
+    let a = c.self.inside in
+    names-same a.table a.nodes.entries (queues_by a.roster) a.pending.keys c.self.invariant.0 c.args.self.now c.self.view_is (c.args.node ∷ nodes_of_mutation c.args.mutation.now)
+
+pub returns-then-is_idle-clause-quiet : goal.returns-then-is_idle-clause-quiet
+returns-then-is_idle-clause-quiet g c unnamed = refl
+
+pub returns-in_err-find_standing-clause-names : goal.returns-in_err-find_standing-clause-names
+returns-in_err-find_standing-clause-names g c =
+    let a = c.self.inside in
+    names-only a.table a.nodes.entries (queues_by a.roster) a.pending.keys c.args.self.now c.self.view_is a.table a.nodes.entries (queues_by a.roster) a.pending.keys c.self.invariant.0 (c.args.node ∷ nodes_of_mutation c.args.mutation.now) (λ p _ names tells. (names, tells))
+
+pub returns-in_err-find_standing-clause-quiet : goal.returns-in_err-find_standing-clause-quiet
+returns-in_err-find_standing-clause-quiet g c unnamed = c.self.view_is
+
+-- nothing stands above
+
+pub returns-then-is_empty-clause-removed : goal.returns-then-is_empty-clause-removed
+returns-then-is_empty-clause-removed g c = λ x w.
+    let a = c.self.inside in
+    let ns = ancestors c.args.mutation.now.target c.args.tree.now.forest in
+    let shown = subst (λ (o : Watchers). Watches o x) (sym c.self.view_is) w in
+    let target = ap (λ (k : Mutation). k.target) c.mutation.view_is in
+    let full = c.find_standing.new.keys.ok.0 in
+    let t : (c.find_standing.new.keys.len == 0) ≡ true = sym c.is_empty.ensures ∙ c.if-is_empty.true in
+    let nothing : c.find_standing.new.keys.items ≡ [] =
+    none c.find_standing.new.keys.items (elim (same_or c.find_standing.new.keys.len 0) [ same e _ ↦ omega (arith, full, e) | apart _ f ↦ absurd (true≢false (sym t ∙ f)) ]) in
+    let keys = ap (λ k. flat_map (λ n. on n (listed a.nodes.entries)) (ancestors k c.args.tree.now.forest)) (sym target) ∙ sym c.in_ok-find_standing.ensures ∙ nothing in
+    let o : Watchers = record { nodes = registered_nodes a.table a.nodes.entries; queues = queues_by a.roster; pending = a.pending.keys } in
+    watches-none_above o x shown c.args.node ns c.args.mutation.now c.requires.apart (none-standing a.table a.nodes.entries x.registrations shown.registrations ns keys)
+
+pub returns-then-is_empty-clause-names : goal.returns-then-is_empty-clause-names
+returns-then-is_empty-clause-names g c =
+    let a = c.self.inside in
+    names-only a.table a.nodes.entries (queues_by a.roster) a.pending.keys c.args.self.now c.self.view_is a.table a.nodes.entries (queues_by a.roster) a.pending.keys c.self.invariant.0 (c.args.node ∷ nodes_of_mutation c.args.mutation.now) (λ p _ names tells. (names, tells))
+
+pub returns-then-is_empty-clause-quiet : goal.returns-then-is_empty-clause-quiet
+returns-then-is_empty-clause-quiet g c unnamed = c.self.view_is
+
+pub invariant_of-self : goal.invariant_of-self
+invariant_of-self g c = c.self.invariant
+
+-- transient registrations
+
+pub add_transients-requires-clause-live : goal.add_transients-requires-clause-live
+add_transients-requires-clause-live g c = λ n.
+    let a = c.self.inside in
+    live_of_stands (at a.table) (has_queue (queues_by a.roster)) n (on n (listed a.nodes.entries)) (c.self.invariant.0.stand n)
+
+pub add_transients-requires-clause-standing : goal.add_transients-requires-clause-standing
+add_transients-requires-clause-standing g c =
+    let a = c.self.inside in
+    standing-live (at a.table) (listed a.nodes.entries) _ c.as_slice.result.now (c.as_slice.ensures.value ∙ c.in_ok-find_standing.ensures) (has_queue (queues_by a.roster)) c.self.invariant.0.stand
+
+pub add_transients-requires-clause-there : goal.add_transients-requires-clause-there
+add_transients-requires-clause-there g c =
+    let a = c.self.inside in
+    standing_stands (at a.table) (has_queue (queues_by a.roster)) (listed a.nodes.entries) _ c.as_slice.result.now c.self.invariant.0.stand (c.as_slice.ensures.value ∙ c.in_ok-find_standing.ensures)
+
+-- what add_transients leaves, after an error too
+
+pub invariant_of-self-in_err-add_transients : goal.invariant_of-self-in_err-add_transients
+invariant_of-self-in_err-add_transients g c =
+    let a = c.self.inside in
+    let b = c.add_transients.new in
+    let qs = queues_by a.roster in
+    let there = has_queue qs in
+    let bounded = standing_stands (at a.table) there (listed a.nodes.entries) _ c.as_slice.result.now c.self.invariant.0.stand (c.as_slice.ensures.value ∙ c.in_ok-find_standing.ensures) in
+    let s = c.add_transients.ensures in (
+      kept-left a.table a.nodes.entries qs a.pending.keys c.self.invariant.0 b.table b.nodes.entries (queues_by b.roster) s.queues s.unique (s.all_stand there bounded c.self.invariant.0.stand) (s.full c.self.invariant.0.full),
+      indexed-by (at b.table) (listed b.nodes.entries) b.fleeting.keys b.roster (lasting_by a.roster) (passing_by b.roster) there s.lasting refl
+          (λ i held_there. ap (λ q. has_queue q i) s.queues ∙ held_there) (s.indexed (lasting_by a.roster) there bounded c.self.invariant.1),
+      s.sources c.self.invariant.2,
+      s.agree c.self.invariant.3,
+    )
+
+pub returns-in_err-add_transients-clause-names : goal.returns-in_err-add_transients-clause-names
+returns-in_err-add_transients-clause-names g c =
+    let a = c.self.inside in
+    let b = c.add_transients.new in
+    let qs = queues_by a.roster in
+    let there = has_queue qs in
+    let lists = listed a.nodes.entries in
+    let is = c.as_slice.ensures.value ∙ c.in_ok-find_standing.ensures in
+    let bounded = standing_stands (at a.table) there lists _ c.as_slice.result.now c.self.invariant.0.stand is in
+    let s = c.add_transients.ensures in
+    let kept = kept-left a.table a.nodes.entries qs a.pending.keys c.self.invariant.0 b.table b.nodes.entries (queues_by b.roster) s.queues s.unique (s.all_stand there bounded c.self.invariant.0.stand) (s.full c.self.invariant.0.full) in
+    names-only a.table a.nodes.entries qs a.pending.keys c.args.self.now c.self.view_is b.table b.nodes.entries (queues_by b.roster) a.pending.keys kept (c.args.node ∷ nodes_of_mutation c.args.mutation.now)
+    (λ p nameless names tells. (
+      s.names p (or_parts (p c.args.node) _ nameless).0 (standing-unnamed (at a.table) lists _ c.as_slice.result.now is p names) names,
+      subst (TellsNone p) (sym s.queues) tells,
+    ))
+
+pub returns-in_err-add_transients-clause-made : goal.returns-in_err-add_transients-clause-made
+returns-in_err-add_transients-clause-made g c =
+    let a = c.self.inside in
+    let b = c.add_transients.new in
+    let new : Watchers = record { nodes = registered_nodes b.table b.nodes.entries; queues = queues_by b.roster; pending = a.pending.keys } in
+    same-queues c.args.self.now new (c.add_transients.ensures.queues ∙ ap (λ (o : Watchers). o.queues) c.self.view_is)
+
+pub returns-in_err-add_transients-clause-quiet : goal.returns-in_err-add_transients-clause-quiet
+returns-in_err-add_transients-clause-quiet g c unnamed =
+    let a = c.self.inside in
+    let target = ap (λ (k : Mutation). k.target) c.mutation.view_is in
+    let none-there = none-stand a.table a.nodes.entries (has_queue (queues_by a.roster)) c.self.invariant.0.stand (queues_by a.roster) a.pending.keys c.args.self.now c.self.view_is (ancestors c.args.mutation.now.target c.args.tree.now.forest) unnamed in
+    let nothing = c.in_ok-find_standing.ensures ∙ ap (λ k. flat_map (λ n. on n (listed a.nodes.entries)) (ancestors k c.args.tree.now.forest)) target ∙ none-there in
+    absurd (not_nothing c.find_standing.new.keys.items c.find_standing.new.keys.len (sym c.find_standing.new.keys.ok.0) (sym c.is_empty.ensures ∙ c.if-is_empty.false) nothing)
+
+-- the record
+
+pub tell-requires : goal.tell-requires
+tell-requires g c =
+    let a = c.self.inside in
+    let b = c.add_transients.new in
+    let qs = queues_by a.roster in
+    let bounded = standing_stands (at a.table) (has_queue qs) (listed a.nodes.entries) _ c.as_slice.result.now c.self.invariant.0.stand (c.as_slice.ensures.value ∙ c.in_ok-find_standing.ensures) in
+    stood (at a.table) (at b.table) qs (queues_by b.roster) c.as_slice.result.now c.as_slice-2.result.now (c.as_slice-2.ensures.value ∙ sym c.as_slice.ensures.value) c.add_transients.ensures.queues c.add_transients.ensures.stay bounded
+
+pub invariant_of-self-2 : goal.invariant_of-self-2
+invariant_of-self-2 g c =
+    let a = c.self.inside in
+    let b = c.add_transients.new in
+    let d = c.tell.new in
+    let qs = queues_by a.roster in
+    let qs' = queues_by b.roster in
+    let there = has_queue qs in
+    let bounded = standing_stands (at a.table) there (listed a.nodes.entries) _ c.as_slice.result.now c.self.invariant.0.stand (c.as_slice.ensures.value ∙ c.in_ok-find_standing.ensures) in
+    let s = c.add_transients.ensures in
+    let kept = kept-left a.table a.nodes.entries qs a.pending.keys c.self.invariant.0 b.table b.nodes.entries qs' s.queues s.unique (s.all_stand there bounded c.self.invariant.0.stand) (s.full c.self.invariant.0.full) in
+    let indexed = indexed-by (at b.table) (listed b.nodes.entries) b.fleeting.keys b.roster (lasting_by a.roster) (passing_by b.roster) there s.lasting refl
+    (λ i held_there. ap (λ q. has_queue q i) s.queues ∙ held_there) (s.indexed (lasting_by a.roster) there bounded c.self.invariant.1) in
+    let bounded' = stood (at a.table) (at b.table) qs qs' c.as_slice.result.now c.as_slice-2.result.now (c.as_slice-2.ensures.value ∙ sym c.as_slice.ensures.value) s.queues s.stay bounded in (
+      kept-queued b.table b.nodes.entries qs' a.pending.keys kept (queues_by d.roster) d.pending.keys
+          (has-same b.roster d.roster c.tell.ensures.keys)
+          c.tell.ensures.stay (c.tell.ensures.there (has_queue qs') bounded' kept.there)
+          c.tell.ensures.others,
+      indexed-same (at b.table) (listed b.nodes.entries) b.fleeting.keys b.roster d.roster indexed c.tell.ensures.keys,
+      s.sources c.self.invariant.2,
+      s.agree c.self.invariant.3,
+    )
+
+pub returns-clause-removed : goal.returns-clause-removed
+returns-clause-removed g c =
+    on_both c.tell.result c.tell.ensures.told c.tell.ensures.pending (λ told pends x w.
+    let a = c.self.inside in
+    let b = c.add_transients.new in
+    let d = c.tell.new in
+    let m = c.args.mutation.now in
+    let node = c.args.node in
+    let ns = ancestors m.target c.args.tree.now.forest in
+    let u = at a.table in
+    let v = at b.table in
+    let lists = listed a.nodes.entries in
+    let qs = queues_by a.roster in
+    let qs' = queues_by b.roster in
+    let there = has_queue qs in
+    let keys = c.as_slice.result.now in
+    let keys' = c.as_slice-2.result.now in
+    let same_keys : keys' ≡ keys = c.as_slice-2.ensures.value ∙ sym c.as_slice.ensures.value in
+    let s = c.add_transients.ensures in
+    let o : Watchers = record { nodes = registered_nodes a.table a.nodes.entries; queues = qs; pending = a.pending.keys } in
+    let shown = subst (λ (o : Watchers). Watches o x) (sym c.self.view_is) w in
+    let has : (n : ℕ) → filter_map u (on n lists) ≡ once (registered_on n x.registrations) = λ n. sym (on-registered_nodes a.table n a.nodes.entries) ∙ shown.registrations n in
+    let target = ap (λ (k : Mutation). k.target) c.mutation.view_is in
+    let standing : keys ≡ flat_map (λ n. on n lists) _ = c.as_slice.ensures.value ∙ c.in_ok-find_standing.ensures in
+    let is : keys ≡ flat_map (λ n. on n lists) ns = standing ∙ ap (λ t. flat_map (λ n. on n lists) (ancestors t c.args.tree.now.forest)) target in
+    let y = with_transients node ns x in
+    let mid : Watchers = record { nodes = registered_nodes b.table b.nodes.entries; queues = qs'; pending = a.pending.keys } in
+    let left : Watches mid y =
+    subst (λ q. Watches (record { nodes = registered_nodes b.table b.nodes.entries; queues = q; pending = a.pending.keys }) y) (sym s.queues)
+    (watches-transients o x shown node ns (registered_nodes b.table b.nodes.entries)
+    (λ n. on-registered_nodes b.table n b.nodes.entries ∙ c.in_ok-add_transients.ensures.ok n ∙ transients-of_all u lists there c.self.invariant.3 c.self.invariant.0.stand x.registrations has node ns keys is n)) in
+    let stood_as : Mutation = record m { standing = standing_on ns y.registrations } in
+    let alike : record m { standing = standing_on ns x.registrations } ≡ stood_as = ap (λ rs. record m { standing = rs }) (sym (standing-left node ns x c.requires.apart)) in
+    let ls = listeners v m.type m.target m.name keys' in
+    let heard : ls ≡ listeners u m.type m.target m.name keys = ap (listeners v m.type m.target m.name) same_keys ∙ listeners-alike u v m.type m.target m.name keys s.stay in
+    let pended : d.pending.keys ≡ with_all_last a.pending.keys (observers_of stood_as) =
+    pends ∙ pended-queued u lists x.registrations has m ns keys is ls heard a.pending.keys ∙ ap (λ k. with_all_last a.pending.keys (observers_of k)) alike in
+    let bounded = standing_stands u there lists _ keys c.self.invariant.0.stand standing in
+    let bounded' = stood u v qs qs' keys keys' same_keys s.queues s.stay bounded in
+    let kept = kept-left a.table a.nodes.entries qs a.pending.keys c.self.invariant.0 b.table b.nodes.entries qs' s.queues s.unique (s.all_stand there bounded c.self.invariant.0.stand) (s.full c.self.invariant.0.full) in
+    watches-noted mid y left stood_as (queues_by d.roster) d.pending.keys
+    (length-same b.roster d.roster c.tell.ensures.keys)
+    (has-same b.roster d.roster c.tell.ensures.keys)
+    (λ p. told p ∙ ap (λ rs. records_at qs' p ++ rs) (told-queued u lists x.registrations has m ns keys is ls heard p ∙ ap (λ k. option_to_list (record_for p k)) alike))
+    pended
+    (λ i k. each-there (has_queue qs') d.pending.keys (c.tell.ensures.there (has_queue qs') bounded' kept.there) i
+    (ap (among i) pended ∙ all_last-there i a.pending.keys (observers_of stood_as) k)))
+
+pub returns-clause-names : goal.returns-clause-names
+returns-clause-names g c =
+    let a = c.self.inside in
+    let b = c.add_transients.new in
+    let d = c.tell.new in
+    let qs = queues_by a.roster in
+    let qs' = queues_by b.roster in
+    let there = has_queue qs in
+    let lists = listed a.nodes.entries in
+    let is = c.as_slice.ensures.value ∙ c.in_ok-find_standing.ensures in
+    let bounded = standing_stands (at a.table) there lists _ c.as_slice.result.now c.self.invariant.0.stand is in
+    let s = c.add_transients.ensures in
+    let kept = kept-left a.table a.nodes.entries qs a.pending.keys c.self.invariant.0 b.table b.nodes.entries qs' s.queues s.unique (s.all_stand there bounded c.self.invariant.0.stand) (s.full c.self.invariant.0.full) in
+    let bounded' = stood (at a.table) (at b.table) qs qs' c.as_slice.result.now c.as_slice-2.result.now (c.as_slice-2.ensures.value ∙ sym c.as_slice.ensures.value) s.queues s.stay bounded in
+    let kept' = kept-queued b.table b.nodes.entries qs' a.pending.keys kept (queues_by d.roster) d.pending.keys
+    (has-same b.roster d.roster c.tell.ensures.keys)
+    c.tell.ensures.stay (c.tell.ensures.there (has_queue qs') bounded' kept.there)
+    c.tell.ensures.others in
+    names-only a.table a.nodes.entries qs a.pending.keys c.args.self.now c.self.view_is b.table b.nodes.entries (queues_by d.roster) d.pending.keys kept' (c.args.node ∷ nodes_of_mutation c.args.mutation.now)
+    (λ p nameless names tells. (
+      s.names p (or_parts (p c.args.node) _ nameless).0 (standing-unnamed (at a.table) lists _ c.as_slice.result.now is p names) names,
+      c.tell.ensures.names p (or_parts (p c.args.node) _ nameless).1 (subst (TellsNone p) (sym s.queues) tells),
+    ))
+
+pub returns-clause-made : goal.returns-clause-made
+returns-clause-made g c =
+    let a = c.self.inside in
+    let b = c.add_transients.new in
+    let d = c.tell.new in
+    let new : Watchers = record { nodes = registered_nodes b.table b.nodes.entries; queues = queues_by d.roster; pending = d.pending.keys } in
+    same-there c.args.self.now new (queues_by b.roster) (c.add_transients.ensures.queues ∙ ap (λ (o : Watchers). o.queues) c.self.view_is) (length-same b.roster d.roster c.tell.ensures.keys) (has-same b.roster d.roster c.tell.ensures.keys)
+
+pub returns-clause-quiet : goal.returns-clause-quiet
+returns-clause-quiet g c unnamed =
+    let a = c.self.inside in
+    let target = ap (λ (k : Mutation). k.target) c.mutation.view_is in
+    let none-there = none-stand a.table a.nodes.entries (has_queue (queues_by a.roster)) c.self.invariant.0.stand (queues_by a.roster) a.pending.keys c.args.self.now c.self.view_is (ancestors c.args.mutation.now.target c.args.tree.now.forest) unnamed in
+    let nothing = c.in_ok-find_standing.ensures ∙ ap (λ k. flat_map (λ n. on n (listed a.nodes.entries)) (ancestors k c.args.tree.now.forest)) target ∙ none-there in
+    absurd (not_nothing c.find_standing.new.keys.items c.find_standing.new.keys.len (sym c.find_standing.new.keys.ok.0) (sym c.is_empty.ensures ∙ c.if-is_empty.false) nothing)
