@@ -13,8 +13,8 @@ use Rattle.dom_edit.specs.Leaving.{LeavesAll}
 use Rattle.dom_content.specs.Paths.{StillHeld}
 
 -- the tree is as it was
-pub labels-same : (a b : World) → b.tree ≡ a.tree → KeepsLabels a b
-labels-same a b e = (nodes-same a b e).labelled
+pub labels-same : (a b : World) → b.tree ≡ a.tree → b.statics ≡ a.statics → b.walkers ≡ a.walkers → KeepsLabels a b
+labels-same a b e statics walkers = (nodes-same a b e statics walkers).labelled
 
 -- what is new stands behind what was there
 pub labels-left : (a b : World) → LeavesAll a b → KeepsLabels a b
@@ -24,6 +24,8 @@ labels-left a b l =
     record {
       held = λ n h. subst (λ e. IsSome e) (sym (same n h)) h;
       labels = λ n h. ap label_in (same n h);
+      statics = l.static_ranges;
+      walkers = l.walkers;
     }
 
 -- each node that was there is there

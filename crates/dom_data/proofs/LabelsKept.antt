@@ -20,8 +20,8 @@ pub numbers-then : (a b c : World) → KeepsNumbers a b → KeepsNumbers b c →
 numbers-then a b c f s = record { labelled = labels-then a b c f.labelled s.labelled; made = s.made ∙ f.made }
 
 -- the tree is as it was
-pub numbers-same : (a b : World) → b.tree ≡ a.tree → KeepsNumbers a b
-numbers-same a b e = numbers-kept a b (nodes-same a b e)
+pub numbers-same : (a b : World) → b.tree ≡ a.tree → b.statics ≡ a.statics → b.walkers ≡ a.walkers → KeepsNumbers a b
+numbers-same a b e statics walkers = numbers-kept a b (nodes-same a b e statics walkers)
 
 -- other data
 label-with_data : (f : Forest Content) (n : ℕ) (text : List ℕ) (m : ℕ) → label_of (with_node n (with_data text) f) m ≡ label_of f m
@@ -35,13 +35,15 @@ label-with_data f n text m = ap label_in (entry-with_node (with_data text) (λ x
     go None = refl
     go (Some e) = ap Some (either (m == n) e.value)
 
-pub numbers-replaced : (a b : World) (n : ℕ) (text : List ℕ) → b.tree ≡ record a.tree { forest = with_node n (with_data text) a.tree.forest } → KeepsNumbers a b
-numbers-replaced a b n text e =
+pub numbers-replaced : (a b : World) (n : ℕ) (text : List ℕ) → b.tree ≡ record a.tree { forest = with_node n (with_data text) a.tree.forest } → b.statics ≡ a.statics → b.walkers ≡ a.walkers → KeepsNumbers a b
+numbers-replaced a b n text e statics walkers =
     let same : (m : ℕ) → label_of b.tree.forest m ≡ label_of a.tree.forest m = λ m. ap (λ (t : Grove Content). label_of t.forest m) e ∙ label-with_data a.tree.forest n text m in
     record {
       labelled = record {
         held = λ m h. labelled-there (entry_in b.tree.forest m) (entry_in a.tree.forest m) (same m) h;
         labels = λ m h. same m;
+        statics = statics;
+        walkers = walkers;
       };
       made = ap (λ (t : Grove Content). t.made) e;
     }

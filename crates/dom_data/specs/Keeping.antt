@@ -3,7 +3,7 @@ use Rattle.std.specs.Prelude.{◌≡◌}
 use Rattle.dom_edit.specs.declared.world.World.{World}
 use Rattle.dom_edit.specs.Keeping.{KeepsLabels}
 
--- each node that was held is held, with its label, and no number was given out
+-- each node that was held is held, with its label, static ranges and walkers are as they were, and no number was given out
 pub record KeepsNumbers (old new : World) : Type 0 where
   pub labelled : KeepsLabels old new
   pub made : new.tree.made ≡ old.tree.made

@@ -18,7 +18,7 @@ use Rattle.dom_edit.specs.declared.world.World.{World}
 use Rattle.dom_edit.specs.Whole.{IsWhole, Follows, unwatched}
 use Rattle.dom_edit.specs.Keeping.{KeepsLabels}
 use Rattle.dom_edit.proofs.Following.{sound-unwatched}
-use Rattle.dom_edit.proofs.InsertedNodes.{forest-after}
+use Rattle.dom_edit.proofs.InsertedNodes.{forest-after, statics-after, walkers-after}
 
 -- The forest after a call extends the one before it, but for the parents of the nodes that move.
 
@@ -43,6 +43,8 @@ labels-made a b d label body f =
     record {
       held = λ n h. HasNode-occurs b.tree.forest n (e.there n (occurs-HasNode a.tree.forest n h));
       labels = λ n h. ap (λ t. t.0) (e.tags n (occurs-HasNode a.tree.forest n h));
+      statics = statics-after a b (made_node d label body) f;
+      walkers = walkers-after a b (made_node d label body) f;
     }
 
 -- What is read off there, of a node that was held.

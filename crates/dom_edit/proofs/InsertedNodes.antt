@@ -36,6 +36,13 @@ forest-after a b s f = sym (f.keeps (unwatched a) (keeps-unwatched a)).forest
 pub made-after : (a b : World) (s : model.World → model.World) → Follows a b s → b.tree.made ≡ (s (unwatched a)).made
 made-after a b s f = sym (f.keeps (unwatched a) (keeps-unwatched a)).made
 
+-- the static ranges, and the walkers
+pub statics-after : (a b : World) (s : model.World → model.World) → Follows a b s → b.statics ≡ (s (unwatched a)).static_ranges
+statics-after a b s f = sym (f.keeps (unwatched a) (keeps-unwatched a)).static_ranges
+
+pub walkers-after : (a b : World) (s : model.World → model.World) → Follows a b s → b.walkers ≡ (s (unwatched a)).walkers
+walkers-after a b s f = sym (f.keeps (unwatched a) (keeps-unwatched a)).walkers
+
 -- Nodes that are removed one after another.
 
 pub remove_all-more : (ns : List ℕ) (n : ℕ) (w : model.World) → remove_all (ns ++ n ∷ []) w ≡ remove true n (remove_all ns w)
@@ -96,6 +103,8 @@ nodes-placed a b parent child ns h ready f =
     let e = forest-after a b (placing parent child ns) f ∙ ap (λ (w : model.World). w.forest) placed in
     kept-told a b (λ m. ap (λ (g : Forest Content). told_of g m) e ∙ told-all_placed a.tree h.forest parent child ns ready m)
     (made-after a b (placing parent child ns) f ∙ ap (λ (w : model.World). w.made) placed)
+    (statics-after a b (placing parent child ns) f ∙ ap (λ (w : model.World). w.static_ranges) placed)
+    (walkers-after a b (placing parent child ns) f ∙ ap (λ (w : model.World). w.walkers) placed)
 
 pub follows-insert_all : (a b c : World) (parent : ℕ) (child : Option ℕ) (ns : List ℕ) (suppressed : Bool) (previous : Option ℕ) → suppressed ≡ false → previous ≡ previous_to a.tree.forest parent child →
     Follows a b (placing parent child ns) → Follows b c (tree_record parent ns [] previous child) → Follows a c (insert_all suppressed parent child ns)

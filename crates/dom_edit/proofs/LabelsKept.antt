@@ -29,11 +29,13 @@ labelled-there None None e h = h
 labelled-there None (Some p) e h = absurd (cc e)
 labelled-there (Some o) p e h = refl
 
-pub kept-told : (a b : World) → ((n : ℕ) → told_of b.tree.forest n ≡ told_of a.tree.forest n) → b.tree.made ≡ a.tree.made → KeepsNodes a b
-kept-told a b same made = record {
+pub kept-told : (a b : World) → ((n : ℕ) → told_of b.tree.forest n ≡ told_of a.tree.forest n) → b.tree.made ≡ a.tree.made → b.statics ≡ a.statics → b.walkers ≡ a.walkers → KeepsNodes a b
+kept-told a b same made statics walkers = record {
   labelled = record {
     held = λ n h. labelled-there (entry_in b.tree.forest n) (entry_in a.tree.forest n) (ap (λ p. p.0) (same n)) h;
     labels = λ n h. ap (λ p. p.0) (same n);
+    statics = statics;
+    walkers = walkers;
   };
   contents = λ n h. ap (λ p. p.1) (same n);
   made = made;

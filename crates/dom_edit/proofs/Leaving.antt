@@ -1,5 +1,7 @@
 -- A node leaves its parent: what follows, and that the world stays whole.
-use Rattle.std.proofs.Common.{◌≡◌, ℕ, Bool, true, List, [], ◌∷◌, Option, Some, None, IfSome, refl, ap, sym, ◌∙◌, subst, arith}
+use Rattle.std.proofs.Common.{◌≡◌, ℕ, ◌<◌, ◌≤◌, Bool, true, false, List, [], ◌∷◌, Option, Some, None, IfSome, refl, ap, sym, ◌∙◌, subst, ⊎_elim, arith}
+use Rattle.std.proofs.lemmas.Bool.{cases_lt}
+use Rattle.dom_model.specs.PlainLists.Lists.{hits, among}
 use Rattle.dom_model.specs.Forests.Forest.{HasNode, one_at, occurs, parent_of, previous_of, next_of, index_of, inclusive_descendants, ancestors, cut}
 use Rattle.dom_model.specs.Forests.Documents.{HasOneDocument}
 use Rattle.dom_model.specs.Worlds.World as model
@@ -10,10 +12,12 @@ use Rattle.dom_model.specs.MutationAlgorithms.PreRemoval.{pre_removed_all}
 use Rattle.dom_model.specs.MutationAlgorithms.Editing.{taken_out, transients_made, tree_record_unless, removed_from, remove}
 use Rattle.dom_model.specs.MutationObservers.Observing.{standing_on}
 use Rattle.dom_model.specs.Soundness.Owners.{HasOwners, IsOwnedWell}
+use Rattle.dom_model.proofs.Forests.Climbing.{hits-not_among}
 use Rattle.dom_model.proofs.Forests.Entries.{HasNode-occurs}
 use Rattle.dom_model.proofs.Forests.Indices.{parent-there}
-use Rattle.dom_model.proofs.Forests.Paths.{parent-path}
+use Rattle.dom_model.proofs.Forests.Paths.{parent-path, outside-cut}
 use Rattle.dom_model.proofs.Forests.Totals.{total-cut}
+use Rattle.dom_model.proofs.Forests.WaysMeeting.{above-higher, depth-child}
 use Rattle.dom_model.proofs.Soundness.SoundWorlds.{there_after_cut, statics-kept, sound-remove}
 use Rattle.dom_model.proofs.MutationAlgorithms.OwnersKept.{owned-cut}
 use Rattle.dom_ranges.specs.Tables.{RangeTable, IsCovered}
@@ -22,6 +26,7 @@ use Rattle.dom_observe.specs.Watchers.{Watches}
 use Rattle.dom_observe.proofs.HeldNames.{held-kept}
 use Rattle.dom_observe.proofs.Watching.{watches-unstood}
 use Rattle.dom_edit.specs.declared.world.World.{World}
+use Rattle.dom_edit.specs.Removed.{removal_noted}
 use Rattle.dom_edit.specs.Whole.{AreCovered, IsWhole, Keeps, Follows, unwatched}
 pub use Rattle.dom_edit.proofs.Following.{sound-unwatched}
 use Rattle.dom_edit.proofs.Following.{keeps-unwatched, whole-sound}
@@ -90,6 +95,20 @@ whole-taken v new n p h e f covered observers =
     (subst (NamesHeld new.tree.forest) (sym observers)
     (held-kept v.tree.forest new.tree.forest v.observers (λ m there. subst (λ g. HasNode g m) k.forest (there_after_cut v.tree.forest n m there)) h.observers))
 
+-- a node that left its parent is not above it any more, as it never was
+pub left-apart : (v new : World) (n p : ℕ) → IsWhole v → parent_of v.tree.forest n ≡ Some p → Follows v new (taken_out n p) → among n (ancestors p new.tree.forest) ≡ false
+left-apart v new n p h e f =
+    let g = v.tree.forest in
+    let o = h.forest.once in
+    let there = parent-there g n p e in
+    let above = (parent-path g o n p there e).0 in
+    let none : hits n (ancestors p g) ≡ 0 =
+    ⊎_elim
+    (λ (lt : 0 < hits n (ancestors p g)). absurd (omega (arith, above-higher g o n p above lt, depth-child g o n p there e)))
+    (λ (le : hits n (ancestors p g) ≤ 0). omega arith)
+    (cases_lt 0 (hits n (ancestors p g))) in
+    subst (λ t. among n (ancestors p t) ≡ false) (f.keeps (unwatched v) (keeps-unwatched v)).forest (outside-cut g o n p (hits-not_among n (ancestors p g) none))
+
 -- Transient registrations.
 
 none-standing : (ns : List ℕ) → standing_on ns [] ≡ []
@@ -137,6 +156,16 @@ follows-removed a b c d n p suppressed e taken made noted = record {
       subst (λ (u : model.World). Watches d.observers u.observing) (after-removal a n p suppressed w e k)
       (noted.watches (transients_made n p (taken_out n p w)) (made.keeps (taken_out n p w) (taken.keeps w k))
       (made.watches (taken_out n p w) (taken.keeps w k) (taken.watches w k o)));
+}
+
+-- the same, with the record at once
+pub follows-noted : (a b d : World) (n p : ℕ) → parent_of a.tree.forest n ≡ Some p → Follows a b (taken_out n p)
+    → Follows b d (removal_noted n p (previous_of a.tree.forest n) (next_of a.tree.forest n)) → Follows a d (remove false n)
+follows-noted a b d n p e taken noted = record {
+  keeps = λ w k. subst (λ u. Keeps d u) (after-removal a n p false w e k) (noted.keeps (taken_out n p w) (taken.keeps w k));
+  watches = λ w k o.
+      subst (λ (u : model.World). Watches d.observers u.observing) (after-removal a n p false w e k)
+      (noted.watches (taken_out n p w) (taken.keeps w k) (taken.watches w k o));
 }
 
 -- a node that is held is so after it left its parent

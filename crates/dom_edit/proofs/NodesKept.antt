@@ -28,6 +28,8 @@ pub labels-then : (a b c : World) → KeepsLabels a b → KeepsLabels b c → Ke
 labels-then a b c f s = record {
   held = λ n h. s.held n (f.held n h);
   labels = λ n h. s.labels n (f.held n h) ∙ f.labels n h;
+  statics = s.statics ∙ f.statics;
+  walkers = s.walkers ∙ f.walkers;
 }
 
 pub nodes-then : (a b c : World) → KeepsNodes a b → KeepsNodes b c → KeepsNodes a c
@@ -37,19 +39,19 @@ nodes-then a b c f s = record {
   made = s.made ∙ f.made;
 }
 
-pub nodes-same : (a b : World) → b.tree ≡ a.tree → KeepsNodes a b
+pub nodes-same : (a b : World) → b.tree ≡ a.tree → b.statics ≡ a.statics → b.walkers ≡ a.walkers → KeepsNodes a b
 nodes-same a b e = kept-told a b (λ n. ap (λ (t : Grove Content). told_of t.forest n) e) (ap (λ (t : Grove Content). t.made) e)
 
 pub nodes-observed : (a b : World) → b ≡ record a { observers = b.observers } → KeepsNodes a b
-nodes-observed a b e = nodes-same a b (ap (λ (v : World). v.tree) e)
+nodes-observed a b e = nodes-same a b (ap (λ (v : World). v.tree) e) (ap (λ (v : World). v.statics) e) (ap (λ (v : World). v.walkers) e)
 
 -- a tree whose node was cut
-pub nodes-cut : (a b : World) (n : ℕ) → IsWhole a → b.tree ≡ record a.tree { forest = cut n a.tree.forest } → KeepsNodes a b
+pub nodes-cut : (a b : World) (n : ℕ) → IsWhole a → b.tree ≡ record a.tree { forest = cut n a.tree.forest } → b.statics ≡ a.statics → b.walkers ≡ a.walkers → KeepsNodes a b
 nodes-cut a b n h e =
     kept-told a b (λ m. ap (λ (t : Grove Content). told_of t.forest m) e ∙ told-cut a.tree.forest h.forest.once n m) (ap (λ (t : Grove Content). t.made) e)
 
 -- a tree in which nodes got another document
-pub nodes-adopted : (a b : World) (n d : ℕ) → b.tree ≡ record { forest = adopted n d a.tree.forest; made = a.tree.made } → KeepsNodes a b
+pub nodes-adopted : (a b : World) (n d : ℕ) → b.tree ≡ record { forest = adopted n d a.tree.forest; made = a.tree.made } → b.statics ≡ a.statics → b.walkers ≡ a.walkers → KeepsNodes a b
 nodes-adopted a b n d e =
     kept-told a b (λ m. ap (λ (t : Grove Content). told_of t.forest m) e ∙ told-adopted n d a.tree.forest m) (ap (λ (t : Grove Content). t.made) e)
 

@@ -5,4 +5,6 @@ pub mod Leaving
 pub mod Markers
 pub mod Refusals
 pub mod Inserting
+pub mod Removed
 pub mod Used
+pub mod Seats

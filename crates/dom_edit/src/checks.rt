@@ -1,18 +1,20 @@
 //! The checks ahead of an insertion and of a replacement (DOM Standard, "Mutation algorithms": ensure pre-insertion validity; replace).
 
-ghost use Rattle.std.specs.Prelude.{◌≡◌, None, Some, MatchResult, not, ◌||◌, ◌&&◌};
+ghost use Rattle.std.specs.Prelude.{◌≡◌, Bool, None, Some, MatchResult, not, ◌||◌, ◌&&◌};
 ghost use Rattle.std.specs.Option.{ForSome};
+ghost use Rattle.dom_model.specs.declared.Kind.{Kind};
 ghost use Rattle.dom_model.specs.declared.Kind.TheVariants.{Text, Document, DocumentType};
 ghost use Rattle.dom_model.specs.Forests.Kinds.{may_be_parent, is_kind};
-ghost use Rattle.dom_model.specs.PlainLists.Lists.{is_number, first_refusal};
-ghost use Rattle.dom_model.specs.Forests.Forest.{HasNode, parent_of};
+ghost use Rattle.dom_model.specs.PlainLists.Lists.{among, is_number, first_refusal};
+ghost use Rattle.dom_model.specs.Forests.Forest.{HasNode, parent_of, inclusive_descendants};
+ghost use Rattle.dom_model.specs.Forests.Nodes.{kind_passes};
 ghost use Rattle.dom_model.specs.MutationAlgorithms.Checks.{if_given, check_insert, check_replace};
 ghost use Rattle.dom_edit.specs.Places.{child_of, conditions_at};
 
 use crate::content::Content;
 use crate::surroundings::{Place, is_refused};
 use dom_kinds::{DomError, Kind, may_be_parent};
-use dom_tree::{NodeId, Tree};
+use dom_tree::{At, NodeId, Tree};
 
 // Whether a kind may stand nowhere under the other: a Document, a Text under a Document, a doctype under anything else.
 fn is_misplaced(parent: Kind, kind: Kind) -> bool
@@ -42,6 +44,35 @@ fn is_elsewhere(tree: &Tree<Content>, parent: NodeId, child: Option<NodeId>) -> 
     }
 }
 
+// The kind of a node.
+fn kind_at(node: &At<'_, Content>) -> Kind
+    ensures { (test : Kind → Bool) → kind_passes test node.now.tree.forest node.now.node ≡ test result }
+{
+    node.sound();
+    node.label().kind
+}
+
+// Whether a node stands inside another. Nothing is climbed where the other has no children.
+fn is_inside(top: &At<'_, Content>, node: At<'_, Content>) -> bool
+    requires { node.tree ≡ top.now.tree }
+    ensures { result ≡ among node.entry.node (inclusive_descendants top.now.tree.forest top.now.node) }
+{
+    top.sound();
+    let end = top.number();
+    if top.first().is_none() {
+        return node.number() == end;
+    }
+    node.sound();
+    let mut here = node;
+    while here.number() != end {
+        let Some(above) = here.parent() else {
+            return false;
+        };
+        here = above;
+    }
+    true
+}
+
 // The check at a place. All refusals but one have one name, so that what costs least is asked first.
 fn check(tree: &Tree<Content>, parent: NodeId, node: NodeId, place: Place) -> Result<(), DomError>
     requires parent_held { HasNode tree.now.forest parent }
@@ -51,19 +82,21 @@ fn check(tree: &Tree<Content>, parent: NodeId, node: NodeId, place: Place) -> Re
         (λ e. first_refusal (conditions_at place tree.now.forest parent node) ≡ Some e) }
 {
     tree.sound();
-    let above = tree.label(parent).kind;
-    let kind = tree.label(node).kind;
+    let parent_at = tree.at(parent);
+    let node_at = tree.at(node);
+    let above = kind_at(&parent_at);
+    let kind = kind_at(&node_at);
     if !may_be_parent(above) {
         return Err(DomError::HierarchyRequestError);
     }
     if is_elsewhere(tree, parent, place.child()) {
-        return Err(if tree.is_inside(node, parent) {
+        return Err(if is_inside(&node_at, parent_at) {
             DomError::HierarchyRequestError
         } else {
             DomError::NotFoundError
         });
     }
-    if is_misplaced(above, kind) || tree.is_inside(node, parent) {
+    if is_misplaced(above, kind) || is_inside(&node_at, parent_at) {
         return Err(DomError::HierarchyRequestError);
     }
     if above == Kind::Document && is_refused(tree, parent, node, kind, place) {

@@ -52,6 +52,7 @@ impl World {
         requires held { HasNode self.old.tree.forest top }
         requires unused { is_used self.old top ≡ false }
         ensures discarded { Follows self.old self.new (discarded top) }
+        ensures observers { self.new.observers ≡ self.old.observers }
         ensures whole { IsWhole self.new }
     {
         self.ranges.forget(&self.tree, top);

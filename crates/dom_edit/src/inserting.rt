@@ -1,7 +1,9 @@
 //! Nodes come in under a parent, from wherever they stand (DOM Standard, "Mutation algorithms", insert).
 
 ghost use Rattle.std.specs.Prelude.{◌≡◌, [], ◌∷◌, None, IfOk, OnOk, true, false};
+ghost use Rattle.dom_model.specs.declared.Kind.TheVariants.{DocumentFragment};
 ghost use Rattle.dom_model.specs.Forests.Forest.{HasNode, children_of};
+ghost use Rattle.dom_model.specs.Forests.Nodes.{is_of_kind};
 ghost use Rattle.dom_model.specs.MutationAlgorithms.Editing.{remove_all, freed, previous_to, insert_all, insert};
 ghost use Rattle.dom_model.specs.MutationAlgorithms.Insertable.{IsInsertable};
 ghost use Rattle.dom_edit.specs.Inserting.{AreThere, IsUnreferred, listed, entering, IsOpen};
@@ -65,6 +67,18 @@ pub(crate) fn entering(
     Ok(NodeList::One([node]))
 }
 
+// Whether a node is a fragment, told by what comes in with it: where it is none that is the node alone, and no fragment is among its own children.
+fn is_fragment(tree: &Tree<Content>, node: NodeId, nodes: &[NodeId]) -> bool
+    requires { nodes.now ≡ entering tree.now.forest node }
+    ensures { result ≡ is_of_kind DocumentFragment tree.now.forest node }
+{
+    tree.sound();
+    match nodes.first().copied() {
+        Some(first) => first != node,
+        None => true,
+    }
+}
+
 // What stands before a place under a parent: the sibling before the child, or the last child.
 fn previous_to(tree: &Tree<Content>, parent: NodeId, child: Option<NodeId>) -> Option<NodeId>
     requires { IsOpen tree.now.forest parent child [] }
@@ -116,7 +130,7 @@ impl World {
         ensures kept { KeepsNodes self.old self.new }
         ensures whole { IsWhole self.new }
     {
-        if self.tree.is_of_kind(node, Kind::DocumentFragment) {
+        if is_fragment(&self.tree, node, nodes) {
             self.remove_all(alloc, nodes)?;
             return self.queue_tree_record(alloc, node, &[], nodes, None, None);
         }
@@ -139,7 +153,7 @@ impl World {
         ensures kept { KeepsNodes self.old self.new }
         ensures whole { IsWhole self.new }
     {
-        if !self.tree.is_of_kind(node, Kind::DocumentFragment) {
+        if !is_fragment(&self.tree, node, nodes) {
             return self.remove_node(alloc, node, false);
         }
         self.remove_all_unreferred(node, nodes)?;

@@ -1,6 +1,8 @@
 //! A node leaves its parent (DOM Standard, "Mutation algorithms", remove).
 
-ghost use Rattle.std.specs.Prelude.{◌≡◌, [], ◌∷◌, true, Some, None, OnOk, IsSome, IfSome};
+ghost use Rattle.std.specs.Prelude.{◌≡◌, [], ◌∷◌, true, false, Some, None, OnOk, IfSome, MatchOption};
+ghost use Rattle.std.specs.Option.{ForSome};
+ghost use Rattle.dom_model.specs.PlainLists.Lists.{among};
 ghost use Rattle.dom_model.specs.Forests.Forest.{HasNode, parent_of, ancestors, cut};
 ghost use Rattle.dom_model.specs.MutationAlgorithms.PreRemoval.{pre_removed_all};
 ghost use Rattle.dom_model.specs.MutationAlgorithms.Editing.{taken_out, transients_made, remove};
@@ -8,50 +10,87 @@ ghost use Rattle.dom_edit.specs.Inserting.{IsUnreferred};
 ghost use Rattle.dom_edit.specs.Whole.{IsWhole, Follows, Moves};
 ghost use Rattle.dom_edit.specs.Keeping.{KeepsNodes};
 ghost use Rattle.dom_edit.specs.Leaving.{LeavesOlder};
+ghost use Rattle.dom_edit.specs.Removed.{removal_noted};
+ghost use Rattle.dom_edit.specs.Seats.{IsSeat};
 ghost use Rattle.dom_observe.specs.Held.{NamesNoneOf};
+ghost use Rattle.dom_tree.specs.Spots.{node_at};
 
+use crate::content::Content;
 use crate::world::World;
-use dom_tree::NodeId;
+use dom_model::RecordType;
+use dom_observe::Mutation;
+use dom_tree::{At, NodeId, Tree};
 use std::alloc::{AllocError, Global};
 
+// Where a child stands: under its parent, between two siblings.
+#[derive(Clone, Copy)]
+struct Seat {
+    parent: NodeId,
+    previous: Option<NodeId>,
+    next: Option<NodeId>,
+}
+
+// The number of a node, where there is one.
+fn number(node: Option<At<'_, Content>>) -> Option<NodeId>
+    ensures { result ≡ node_at node.entry }
+{
+    match node {
+        Some(node) => Some(node.number()),
+        None => None,
+    }
+}
+
+// Where a node stands; none for a root. It is looked up once.
+fn seat_of(tree: &Tree<Content>, node: NodeId) -> Option<Seat>
+    requires { HasNode tree.now.forest node }
+    ensures { MatchOption result (parent_of tree.now.forest node ≡ None) (λ s. IsSeat tree.now.forest node s) }
+{
+    let here = tree.at(node);
+    let parent = number(here.parent())?;
+    let previous = number(here.prev());
+    let next = number(here.next());
+    Some(Seat {
+        parent,
+        previous,
+        next,
+    })
+}
+
 impl World {
-    // Makes the index of a node known where an end stands in its parent. The ends asked for it, and will ask for those of its siblings.
-    fn find_index(&mut self, node: NodeId)
+    // Makes the index of a child known where an end stands in its parent. The ends asked for it, and will ask for those of its siblings.
+    fn find_index(&mut self, parent: NodeId, node: NodeId)
         requires { HasNode self.old.tree.forest node }
         ensures { self.new ≡ self.old }
     {
-        let Some(parent) = self.tree.parent(node) else {
-            return;
-        };
         if self.ranges.stands_in(parent) {
             let _ = self.tree.found_index(node);
         }
     }
 
     // Iterators give way, and then the node becomes a root.
-    fn cut_out(&mut self, node: NodeId)
+    fn cut_out(&mut self, parent: NodeId, node: NodeId)
         requires held { HasNode self.old.tree.forest node }
-        requires child { IsSome (parent_of self.old.tree.forest node) }
+        requires child { parent_of self.old.tree.forest node ≡ Some parent }
         ensures { self.new ≡ record self.old {
           tree = record self.old.tree { forest = cut node self.old.tree.forest };
           iterators = pre_removed_all self.old.tree.forest node self.old.iterators;
         } }
     {
-        self.find_index(node);
+        self.find_index(parent, node);
         self.iterators.removing(&self.tree, node);
         self.tree.cut(node);
     }
 
     // Live range ends and iterators give way, and then the node becomes a root.
-    fn take_out(&mut self, node: NodeId)
+    fn take_out(&mut self, parent: NodeId, node: NodeId)
         requires whole { IsWhole self.old }
-        requires child { IsSome (parent_of self.old.tree.forest node) }
+        requires child { parent_of self.old.tree.forest node ≡ Some parent }
         ensures taken { IfSome (parent_of self.old.tree.forest node) (λ parent. Follows self.old self.new (taken_out node parent)) }
         ensures kept { KeepsNodes self.old self.new }
         ensures whole { IsWhole self.new }
     {
         self.ranges.removing(&self.tree, node);
-        self.cut_out(node);
+        self.cut_out(parent, node);
     }
 
     // A node that left its parent is still watched as the parent is; nothing is looked for where nobody observes.
@@ -70,10 +109,41 @@ impl World {
         self.observers.transients(&self.tree, parent, node)
     }
 
+    // The same, and then a record of it for each observer that it interests, with one climb for both.
+    fn note_removal(
+        &mut self,
+        parent: NodeId,
+        node: NodeId,
+        previous: Option<NodeId>,
+        next: Option<NodeId>,
+    ) -> Result<(), AllocError>
+        requires whole { IsWhole self.old }
+        requires held { HasNode self.old.tree.forest parent }
+        requires node_held { HasNode self.old.tree.forest node }
+        requires apart { among node (ancestors parent self.old.tree.forest) ≡ false }
+        requires previous { ForSome previous (λ n. HasNode self.old.tree.forest n) }
+        requires next { ForSome next (λ n. HasNode self.old.tree.forest n) }
+        ensures noted { OnOk result (Follows self.old self.new (removal_noted node parent previous next)) }
+        ensures parts { self.new ≡ record self.old { observers = self.new.observers } }
+        ensures whole { IsWhole self.new }
+    {
+        let mutation = Mutation {
+            what: RecordType::ChildList,
+            target: parent,
+            added: &[],
+            removed: &[node],
+            previous,
+            next,
+            name: None,
+            old_value: None,
+        };
+        self.observers.removed(&self.tree, node, &mutation)
+    }
+
     /// Takes a node out of its parent, with a record of it or, where it is suppressed, without one. A root stays as it is.
     pub(crate) fn remove_node(
         &mut self,
-        alloc: Global,
+        _alloc: Global,
         node: NodeId,
         suppressed: bool,
     ) -> Result<(), AllocError>
@@ -85,18 +155,19 @@ impl World {
         ensures kept { KeepsNodes self.old self.new }
         ensures whole { IsWhole self.new }
     {
-        let Some(parent) = self.tree.parent(node) else {
+        let Some(seat) = seat_of(&self.tree, node) else {
             return Ok(());
         };
-        let previous = self.tree.prev(node);
-        let next = self.tree.next(node);
-        self.take_out(node);
-        self.make_transients(parent, node)?;
+        let parent = seat.parent;
+        let previous = seat.previous;
+        let next = seat.next;
+        self.take_out(parent, node);
         if suppressed {
-            return Ok(());
+            return self.make_transients(parent, node);
         }
-        self.queue_tree_record(alloc, parent, &[], &[node], previous, next)
+        self.note_removal(parent, node, previous, next)
     }
+
     /// Takes a child out of a parent inside which no live range end stands, with no record of it.
     pub(crate) fn remove_unreferred(
         &mut self,
@@ -112,7 +183,7 @@ impl World {
         ensures kept { KeepsNodes self.old self.new }
         ensures whole { IsWhole self.new }
     {
-        self.cut_out(node);
+        self.cut_out(parent, node);
         self.make_transients(parent, node)
     }
 }

@@ -12,7 +12,7 @@ remove-requires-clause-held c =
 pub loop-node-init : goal.loop-node-init
 loop-node-init c = record {
   leaving = record { whole = c.requires.whole; there = c.requires.held; rest = λ final f. f };
-  kept = labels-same c.args.world.now c.args.world.now refl;
+  kept = labels-same c.args.world.now c.args.world.now refl refl refl;
 }
 
 pub loop-node-preserved : goal.loop-node-preserved

@@ -12,7 +12,7 @@ use Rattle.dom_content.proofs.partial.close_all.Goals as goal
 pub loop-partial-init : goal.loop-partial-init
 loop-partial-init c = record {
   closing = closing-first c.args.world.now c.args.moves c.args.partials.items c.requires.whole c.requires.may c.requires.room;
-  kept = labels-same c.args.world.now c.args.world.now refl;
+  kept = labels-same c.args.world.now c.args.world.now refl refl refl;
   left = λ still a h newer l. (newer, l);
 }
 

@@ -8,7 +8,7 @@ use Rattle.dom_content.proofs.pieces.children_into.Goals as goal
 pub loop-node-init : goal.loop-node-init
 loop-node-init c = record {
   filling = filling-first c.args.world.now c.args.moves c.args.into c.args.nodes.now c.requires.whole c.requires.may c.requires.room;
-  kept = labels-same c.args.world.now c.args.world.now refl;
+  kept = labels-same c.args.world.now c.args.world.now refl refl refl;
   left = λ still a h newer l. l;
 }
 

@@ -19,7 +19,7 @@ pub loop-next-init : goal.loop-next-init
 loop-next-init c = record {
   down = rw c.new-partials.ensures.items
       (down-first c.args.world.now c.args.moves c.args.offset (λ i ns. tail_into c.args.moves i c.args.offset ns) c.args.into (c.args.first ∷ c.args.below.now) c.requires.whole c.requires.may c.requires.way c.requires.room);
-  kept = labels-same c.args.world.now c.args.world.now refl;
+  kept = labels-same c.args.world.now c.args.world.now refl refl refl;
   left = λ still a h newer l. (rw c.new-partials.ensures.items newer, l);
 }
 

@@ -15,7 +15,7 @@ normalize_below-requires-clause-told c =
 pub loop-text-init : goal.loop-text-init
 loop-text-init c = record {
   turn = turn-first c.args.world.now c.args.top c.args.texts.now c.requires.whole c.requires.kinds c.requires.told;
-  kept = numbers-same c.args.world.now c.args.world.now refl;
+  kept = numbers-same c.args.world.now c.args.world.now refl refl refl;
 }
 
 pub loop-text-preserved : goal.loop-text-preserved

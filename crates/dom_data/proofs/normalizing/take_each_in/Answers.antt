@@ -7,7 +7,7 @@ use Rattle.dom_data.proofs.normalizing.take_each_in.Goals as goal
 pub loop-text-init : goal.loop-text-init
 loop-text-init c = record {
   taking = taking-first c.args.world.now c.args.node c.args.parent c.args.base c.args.texts.now c.requires.whole c.requires.joinable;
-  kept = numbers-same c.args.world.now c.args.world.now refl;
+  kept = numbers-same c.args.world.now c.args.world.now refl refl refl;
 }
 
 pub take_in-requires-clause-next : goal.take_in-requires-clause-next

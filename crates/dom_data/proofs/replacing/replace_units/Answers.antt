@@ -36,5 +36,6 @@ pub returns-clause-nodes : goal.returns-clause-nodes
 returns-clause-nodes c =
     let told = c.tell_data.new.world in
     let new : World = record told { tree = c.splice_data.new.tree; ranges = c.spliced.new.self } in
-    numbers-then c.args.world.now told new (numbers-same c.args.world.now told (ap (λ (v : World). v.tree) c.tell_data.ensures.kept))
-    (numbers-replaced told new c.args.node _ c.in_ok-splice_data.ensures.ok)
+    numbers-then c.args.world.now told new
+    (numbers-same c.args.world.now told (ap (λ (v : World). v.tree) c.tell_data.ensures.kept) (ap (λ (v : World). v.statics) c.tell_data.ensures.kept) (ap (λ (v : World). v.walkers) c.tell_data.ensures.kept))
+    (numbers-replaced told new c.args.node _ c.in_ok-splice_data.ensures.ok refl refl)

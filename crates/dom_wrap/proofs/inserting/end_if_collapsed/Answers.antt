@@ -38,7 +38,7 @@ returns-then-eq-clause-whole c =
 pub returns-then-eq-clause-kept : goal.returns-then-eq-clause-kept
 returns-then-eq-clause-kept c =
     let v = c.args.world.now in
-    rw c.set_end.ensures.kept (labels-same v (record v { ranges = c.set_end.new.self }) refl)
+    rw c.set_end.ensures.kept (labels-same v (record v { ranges = c.set_end.new.self }) refl refl refl)
 
 pub set_end-requires-clause-stands : goal.set_end-requires-clause-stands
 set_end-requires-clause-stands c = grind (arith, common_steps)

@@ -36,7 +36,7 @@ pub returns-clause-whole : goal.returns-clause-whole
 returns-clause-whole c = search (tests, rules)
 
 pub returns-in-Err-clause-kept : goal.returns-in-Err-clause-kept
-returns-in-Err-clause-kept c = labels-same c.args.world.now c.args.world.now refl
+returns-in-Err-clause-kept c = labels-same c.args.world.now c.args.world.now refl refl refl
 
 pub returns-clause-kept : goal.returns-clause-kept
 returns-clause-kept c = c.surround_allowed.ensures.kept

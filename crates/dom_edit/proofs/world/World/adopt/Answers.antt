@@ -81,4 +81,4 @@ pub returns-then-ne-clause-kept : goal.returns-then-ne-clause-kept
 returns-then-ne-clause-kept c =
     let out = c.remove_node.new.self in
     let new : World = record { tree = c.set_document.new.self; ranges = out.ranges; statics = out.statics; iterators = out.iterators; walkers = out.walkers; observers = out.observers } in
-    nodes-then c.args.self.now out new c.remove_node.ensures.kept (nodes-adopted out new c.args.node c.args.document c.set_document.ensures)
+    nodes-then c.args.self.now out new c.remove_node.ensures.kept (nodes-adopted out new c.args.node c.args.document c.set_document.ensures refl refl)

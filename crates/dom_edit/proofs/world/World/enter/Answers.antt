@@ -22,7 +22,7 @@ pub returns-then-is_empty-clause-inserted : goal.returns-then-is_empty-clause-in
 returns-then-is_empty-clause-inserted c = search (tests, rules)
 
 pub returns-then-is_empty-clause-kept : goal.returns-then-is_empty-clause-kept
-returns-then-is_empty-clause-kept c = nodes-same c.args.self.now c.args.self.now refl
+returns-then-is_empty-clause-kept c = nodes-same c.args.self.now c.args.self.now refl refl refl
 
 pub returns-then-is_empty-clause-whole : goal.returns-then-is_empty-clause-whole
 returns-then-is_empty-clause-whole c = search (tests, rules)

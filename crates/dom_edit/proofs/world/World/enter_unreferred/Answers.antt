@@ -30,7 +30,7 @@ pub returns-clause-whole : goal.returns-clause-whole
 returns-clause-whole c = search (tests, rules)
 
 pub returns-then-is_empty-clause-kept : goal.returns-then-is_empty-clause-kept
-returns-then-is_empty-clause-kept c = nodes-same c.args.self.now c.args.self.now refl
+returns-then-is_empty-clause-kept c = nodes-same c.args.self.now c.args.self.now refl refl refl
 
 pub returns-clause-kept : goal.returns-clause-kept
 returns-clause-kept c = nodes-then c.args.self.now c.free_unreferred.new.self c.insert_all.new.self c.free_unreferred.ensures.kept c.insert_all.ensures.kept

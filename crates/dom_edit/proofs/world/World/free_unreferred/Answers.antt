@@ -11,7 +11,7 @@ use Rattle.dom_edit.proofs.world.World.free_unreferred.Goals as goal
 
 pub remove_all_unreferred-requires-clause-nodes : goal.remove_all_unreferred-requires-clause-nodes
 remove_all_unreferred-requires-clause-nodes c =
-    entering-fragment c.args.self.now.tree.forest c.args.node (sym c.is_of_kind.ensures ∙ c.if-not-is_of_kind.false) c.args.nodes.now c.requires.nodes
+    entering-fragment c.args.self.now.tree.forest c.args.node (sym c.is_fragment.ensures ∙ c.if-not-is_fragment.false) c.args.nodes.now c.requires.nodes
 
 pub queue_tree_record-requires-clause-held : goal.queue_tree_record-requires-clause-held
 queue_tree_record-requires-clause-held c = c.remove_all_unreferred.ensures.kept.labelled.held c.args.node c.requires.held
@@ -22,7 +22,7 @@ queue_tree_record-requires-clause-added c = none-there c.remove_all_unreferred.n
 pub queue_tree_record-requires-clause-removed : goal.queue_tree_record-requires-clause-removed
 queue_tree_record-requires-clause-removed c =
     let v = c.args.self.now in
-    let held = entering-there v c.args.node c.requires.whole (sym c.is_of_kind.ensures ∙ c.if-not-is_of_kind.false) c.args.nodes.now c.requires.nodes in
+    let held = entering-there v c.args.node c.requires.whole (sym c.is_fragment.ensures ∙ c.if-not-is_fragment.false) c.args.nodes.now c.requires.nodes in
     stay-there v c.remove_all_unreferred.new.self c.remove_all_unreferred.ensures.kept c.args.nodes.now held
 
 pub queue_tree_record-requires-clause-previous : goal.queue_tree_record-requires-clause-previous
@@ -39,27 +39,27 @@ returns-clause-freed c =
     let mid = c.remove_all_unreferred.new.self in
     let new = c.queue_tree_record.new.self in
     on_ok_weaker c.queue_tree_record.result
-    (λ r. follows-as v new (emptied_fragment n ns) (freed n ns) (freed-fragment v n ns (sym c.is_of_kind.ensures ∙ c.if-not-is_of_kind.false))
+    (λ r. follows-as v new (emptied_fragment n ns) (freed n ns) (freed-fragment v n ns (sym c.is_fragment.ensures ∙ c.if-not-is_fragment.false))
     (follows-then v mid new (remove_all ns) (tree_record n [] ns None None) c.in_ok-remove_all_unreferred.ensures.removed r))
     c.queue_tree_record.ensures.queued
 
 pub returns-clause-whole : goal.returns-clause-whole
 returns-clause-whole c = search (tests, rules)
 
-pub returns-then-not-is_of_kind-clause-freed : goal.returns-then-not-is_of_kind-clause-freed
-returns-then-not-is_of_kind-clause-freed c = search (tests, rules)
+pub returns-then-not-is_fragment-clause-freed : goal.returns-then-not-is_fragment-clause-freed
+returns-then-not-is_fragment-clause-freed c = search (tests, rules)
 
-pub returns-then-not-is_of_kind-clause-whole : goal.returns-then-not-is_of_kind-clause-whole
-returns-then-not-is_of_kind-clause-whole c = search (tests, rules)
+pub returns-then-not-is_fragment-clause-whole : goal.returns-then-not-is_fragment-clause-whole
+returns-then-not-is_fragment-clause-whole c = search (tests, rules)
 
 pub returns-clause-kept : goal.returns-clause-kept
 returns-clause-kept c =
     nodes-then c.args.self.now c.remove_all_unreferred.new.self c.queue_tree_record.new.self c.remove_all_unreferred.ensures.kept
     (nodes-observed c.remove_all_unreferred.new.self c.queue_tree_record.new.self c.queue_tree_record.ensures.parts)
 
-pub returns-then-not-is_of_kind-clause-left : goal.returns-then-not-is_of_kind-clause-left
-returns-then-not-is_of_kind-clause-left c root a h newer l =
-    same-left a h c.args.self.now c.remove_node.new.self (c.remove_node.ensures.root (root (sym c.is_of_kind.ensures ∙ c.if-not-is_of_kind.true))) l
+pub returns-then-not-is_fragment-clause-left : goal.returns-then-not-is_fragment-clause-left
+returns-then-not-is_fragment-clause-left c root a h newer l =
+    same-left a h c.args.self.now c.remove_node.new.self (c.remove_node.ensures.root (root (sym c.is_fragment.ensures ∙ c.if-not-is_fragment.true))) l
 
 pub returns-in_err-remove_all_unreferred-clause-left : goal.returns-in_err-remove_all_unreferred-clause-left
 returns-in_err-remove_all_unreferred-clause-left c root a h newer l = c.remove_all_unreferred.ensures.left a h newer l

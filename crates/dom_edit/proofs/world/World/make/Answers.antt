@@ -32,7 +32,7 @@ returns-clause-labelled c =
     let ranges = ap (λ r. r.ranges) c.in_ok-cover.ensures.ok in
     by_outcome c.make.result c.make.ensures.made c.make.ensures.unchanged c.make.ensures.unchanged
     (λ made. labels-made v new (unwrap_or c.args.document v.tree.made) c.args.label c.args.content (follows-made v new c.args.document c.args.label c.args.content made ranges refl refl refl refl))
-    (λ same again. (nodes-same v new same).labelled)
+    (λ same again. (nodes-same v new same refl refl).labelled)
 
 pub returns-clause-parts : goal.returns-clause-parts
 returns-clause-parts c = refl

@@ -23,7 +23,7 @@ loop-node-init c =
         under = λ m k. child-parent v.tree.forest c.requires.whole.forest.once m p k;
         once = λ m. child-once v.tree.forest c.requires.whole.forest.once m p;
       });
-      kept = nodes-same v v refl;
+      kept = nodes-same v v refl refl refl;
       older = λ a h newer l. l;
     }
 

@@ -1,4 +1,4 @@
-use Rattle.std.proofs.Common.{[], ◌∷◌, true, refl, ap, ◌∙◌, arith}
+use Rattle.std.proofs.Common.{[], ◌∷◌, true, ap, ◌∙◌, arith}
 use Rattle.std.proofs.lemmas.Result.{on_ok_weaker}
 use Rattle.dom_model.specs.MutationAlgorithms.Editing.{taken_out}
 use Rattle.dom_model.proofs.Forests.Climbing.{hits-first}
@@ -19,7 +19,7 @@ cut_out-requires-clause-held c =
     HasNode-occurs f c.args.node (parent-there f c.args.node c.args.parent c.requires.child)
 
 pub cut_out-requires-clause-child : goal.cut_out-requires-clause-child
-cut_out-requires-clause-child c = rw c.requires.child refl
+cut_out-requires-clause-child c = c.requires.child
 
 pub make_transients-requires-clause-whole : goal.make_transients-requires-clause-whole
 make_transients-requires-clause-whole c =
@@ -64,7 +64,7 @@ pub returns-clause-kept : goal.returns-clause-kept
 returns-clause-kept c =
     let mid = c.cut_out.new.self in
     nodes-then c.args.self.now mid c.make_transients.new.self
-    (nodes-cut c.args.self.now mid c.args.node c.requires.whole (ap (λ (w : World). w.tree) c.cut_out.ensures))
+    (nodes-cut c.args.self.now mid c.args.node c.requires.whole (ap (λ (w : World). w.tree) c.cut_out.ensures) (ap (λ (w : World). w.statics) c.cut_out.ensures) (ap (λ (w : World). w.walkers) c.cut_out.ensures))
     (nodes-observed mid c.make_transients.new.self c.make_transients.ensures.parts)
 
 pub returns-clause-left : goal.returns-clause-left

@@ -1,7 +1,6 @@
 use Rattle.std.proofs.Common.{ap, ◌∙◌}
 use Rattle.dom_model.specs.Forests.Forest.{parent_of}
 use Rattle.dom_model.specs.MutationAlgorithms.Editing.{taken_out}
-use Rattle.dom_model.proofs.Forests.Changes.{seen, nothing, just}
 use Rattle.dom_edit.specs.declared.world.World.{World}
 use Rattle.dom_edit.specs.Whole.{Follows}
 use Rattle.dom_edit.proofs.Leaving.{if_some, it_is, held-covered, parent-held, follows-cut_out, whole-taken}
@@ -12,10 +11,8 @@ pub removing-requires-clause-parent : goal.removing-requires-clause-parent
 removing-requires-clause-parent c =
     let v = c.args.self.now in
     let h = c.requires.whole in
-    elim (seen (parent_of v.tree.forest c.args.node)) [
-      | nothing e ↦ absurd (let k = rw e at c.requires.child in cc k)
-      | just p e ↦ rw e (held-covered v h p (parent-held v h c.args.node p e))
-    ]
+    let p = c.args.parent in
+    rw c.requires.child (held-covered v h p (parent-held v h c.args.node p c.requires.child))
 
 pub returns-clause-taken : goal.returns-clause-taken
 returns-clause-taken c =
@@ -28,14 +25,11 @@ pub returns-clause-whole : goal.returns-clause-whole
 returns-clause-whole c =
     let v = c.args.self.now in
     let n = c.args.node in
+    let p = c.args.parent in
     let new = c.cut_out.new.self in
-    elim (seen (parent_of v.tree.forest n)) [
-      | nothing e ↦ absurd (let k = rw e at c.requires.child in cc k)
-      | just p e ↦
-          let moved = it_is _ (parent_of v.tree.forest n) p e c.removing.ensures in
-          whole-taken v new n p c.requires.whole e (follows-cut_out v new n p c.removing.new.self moved c.cut_out.ensures)
-          (ap (λ (w : World). w.ranges.covered) c.cut_out.ensures ∙ ap (λ r. r.covered) moved) (ap (λ (w : World). w.observers) c.cut_out.ensures)
-    ]
+    let moved = it_is _ (parent_of v.tree.forest n) p c.requires.child c.removing.ensures in
+    whole-taken v new n p c.requires.whole c.requires.child (follows-cut_out v new n p c.removing.new.self moved c.cut_out.ensures)
+    (ap (λ (w : World). w.ranges.covered) c.cut_out.ensures ∙ ap (λ r. r.covered) moved) (ap (λ (w : World). w.observers) c.cut_out.ensures)
 
 pub returns-clause-kept : goal.returns-clause-kept
-returns-clause-kept c = nodes-cut c.args.self.now c.cut_out.new.self c.args.node c.requires.whole (ap (λ (w : World). w.tree) c.cut_out.ensures)
+returns-clause-kept c = nodes-cut c.args.self.now c.cut_out.new.self c.args.node c.requires.whole (ap (λ (w : World). w.tree) c.cut_out.ensures) (ap (λ (w : World). w.statics) c.cut_out.ensures) (ap (λ (w : World). w.walkers) c.cut_out.ensures)

@@ -1,0 +1,17 @@
+-- The node is named, and those that the record names.
+use Rattle.std.proofs.Common.{[], ◌∷◌, ◌++◌, refl}
+use Rattle.dom_model.specs.MutationAlgorithms.Discarding.{if_any}
+use Rattle.dom_edit.proofs.Named.{there-append, there-told, whole-named}
+use Rattle.dom_edit.proofs.NodesKept.{none-there, one-there}
+use Rattle.dom_edit.proofs.world.World.note_removal.Goals as goal
+
+pub returns-clause-whole : goal.returns-clause-whole
+returns-clause-whole c =
+    let v = c.args.self.now in
+    let a = c.args in
+    let r = c.requires in
+    let f = v.tree.forest in
+    let told = a.parent ∷ ([] ++ ((a.node ∷ []) ++ (if_any a.previous ++ if_any a.next))) in
+    whole-named v (record v { observers = c.removed.new.self }) (a.node ∷ told) refl r.whole c.removed.ensures.names
+    (there-append f (a.node ∷ []) told (one-there f a.node r.node_held)
+    (there-told f a.parent [] (a.node ∷ []) a.previous a.next r.held (none-there f) (one-there f a.node r.node_held) r.previous r.next))
