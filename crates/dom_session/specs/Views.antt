@@ -176,7 +176,7 @@ answer_view (Order o) = model_reply.Order o
 answer_view (Units u) = model_reply.Units u
 answer_view (MaybeUnits u) = model_reply.MaybeUnits u
 answer_view (Names names) = model_reply.Names (map string_bytes names.items)
-answer_view (NodeAt d) = model_reply.NodeAt d
+answer_view (NodeAt d) = model_reply.NodeAt d.value
 answer_view (Rows rows) = model_reply.Rows rows.items
 answer_view (Ends start end) = model_reply.Ends (record { start = start; end = end })
 answer_view (StaticEnds start end valid) = model_reply.StaticEnds (record { start = start; end = end }) valid

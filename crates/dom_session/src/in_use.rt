@@ -3,7 +3,7 @@
 ghost use Rattle.std.specs.Prelude.{◌≡◌};
 ghost use Rattle.dom_model.specs.Worlds.World.{World as PlainWorld};
 ghost use Rattle.dom_edit.specs.Whole.{Shows};
-ghost use Rattle.dom_session.specs.InUse.{in_use_of};
+ghost use Rattle.dom_session.specs.InUse.{in_use_of, in_use_in};
 
 use dom_edit::World;
 
@@ -23,7 +23,8 @@ pub struct Counts {
 
 /// How many there are of each kind.
 pub(crate) fn in_use(world: &World) -> Counts
-    ensures { (w : PlainWorld) → Shows world.now w → result ≡ in_use_of w }
+    ensures shown { (w : PlainWorld) → Shows world.now w → result ≡ in_use_of w }
+    ensures own { result ≡ in_use_in world.now }
 {
     Counts {
         nodes: world.tree.live() as usize,

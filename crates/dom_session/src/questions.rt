@@ -24,13 +24,15 @@ pub(crate) fn describe_node(world: &World, alloc: Global, node: NodeId) -> Resul
         return Ok(Reply::Own(OwnError::NoSuchObject));
     }
     let label = world.tree.label(node).try_clone(alloc)?;
-    Ok(Reply::Done(Answer::NodeAt(Description {
+    let description = Description {
         document: world.tree.document_of(node),
         label,
         next: world.tree.next(node),
         parent: world.tree.parent(node),
         previous: world.tree.prev(node),
-    })))
+    };
+    let boxed = Box::new(alloc, description)?;
+    Ok(Reply::Done(Answer::NodeAt(boxed)))
 }
 
 // The numbers of the children of a node, in order.

@@ -87,8 +87,8 @@ pub enum Answer {
     MaybeUnits(Option<Units>),
     /// Names, in order.
     Names(Vec<String>),
-    /// A node, where it stands.
-    NodeAt(Description),
+    /// A node, where it stands. It lies apart, so that other answers are small.
+    NodeAt(Box<Description>),
     /// A printed tree, in tree order.
     Rows(Vec<TreeRow>),
     /// The start and the end of a live range.

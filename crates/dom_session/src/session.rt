@@ -7,7 +7,7 @@ ghost use Rattle.dom_model.specs.Commands.Reply.{is_refusal};
 ghost use Rattle.dom_session.specs.Views.{command_view, making_view, editing_view, traversing_view, reply_view};
 ghost use Rattle.dom_session.specs.Stands.{StandsFor, IsAnswered};
 ghost use Rattle.dom_session.specs.Bounding.{bounds_of};
-ghost use Rattle.dom_session.specs.InUse.{in_use_of};
+ghost use Rattle.dom_session.specs.InUse.{in_use_of, in_use_in};
 ghost use Rattle.dom_session.specs.Links.{links_in, first_child_in, last_child_in, child_in, count_in, laid_over};
 
 use crate::answering::answered;
@@ -166,29 +166,35 @@ impl Session {
     }
 
     /// What a node is, and what stands around it, in constant time. No command is applied, and no memory taken.
+    ///
+    /// As each call that reads, it answers of a session that has ended too: of what the last call left.
     pub fn links(&self, node: NodeId) -> Result<Links, OwnError>
-        ensures { (w : PlainWorld) → StandsFor self.now w → result ≡ links_in w.forest node }
+        ensures shown { (w : PlainWorld) → StandsFor self.now w → result ≡ links_in w.forest node }
+        ensures own { result ≡ links_in self.now.world.tree.forest node }
     {
         links::links_at(&self.world.tree, node)
     }
 
     /// The first child of a node, where it has one, in constant time.
     pub fn first_child(&self, node: NodeId) -> Result<Option<NodeId>, OwnError>
-        ensures { (w : PlainWorld) → StandsFor self.now w → result ≡ first_child_in w.forest node }
+        ensures shown { (w : PlainWorld) → StandsFor self.now w → result ≡ first_child_in w.forest node }
+        ensures own { result ≡ first_child_in self.now.world.tree.forest node }
     {
         links::first_child(&self.world.tree, node)
     }
 
     /// The last child of a node, where it has one, in constant time.
     pub fn last_child(&self, node: NodeId) -> Result<Option<NodeId>, OwnError>
-        ensures { (w : PlainWorld) → StandsFor self.now w → result ≡ last_child_in w.forest node }
+        ensures shown { (w : PlainWorld) → StandsFor self.now w → result ≡ last_child_in w.forest node }
+        ensures own { result ≡ last_child_in self.now.world.tree.forest node }
     {
         links::last_child(&self.world.tree, node)
     }
 
     /// The child of a node at an index, where there is one. It goes there from the nearer end.
     pub fn child_at(&self, node: NodeId, index: usize) -> Result<Option<NodeId>, OwnError>
-        ensures { (w : PlainWorld) → StandsFor self.now w → result ≡ child_in index w.forest node }
+        ensures shown { (w : PlainWorld) → StandsFor self.now w → result ≡ child_in index w.forest node }
+        ensures own { result ≡ child_in index self.now.world.tree.forest node }
     {
         links::child_at(&self.world.tree, node, index)
     }
@@ -198,13 +204,16 @@ impl Session {
     pub fn copy_children(&self, node: NodeId, into: &mut [u32]) -> Result<usize, OwnError>
         ensures count { (w : PlainWorld) → StandsFor self.now w → result ≡ count_in w.forest node }
         ensures copied { (w : PlainWorld) → StandsFor self.now w → into.new ≡ laid_over (children_of w.forest node) into.old }
+        ensures own_count { result ≡ count_in self.now.world.tree.forest node }
+        ensures own_copied { into.new ≡ laid_over (children_of self.now.world.tree.forest node) into.old }
     {
         links::copy_children(&self.world.tree, node, into)
     }
 
     /// How many there are of each kind of object, in constant time. No command is applied, and no memory taken.
     pub fn in_use(&self) -> Counts
-        ensures { (w : PlainWorld) → StandsFor self.now w → result ≡ in_use_of w }
+        ensures shown { (w : PlainWorld) → StandsFor self.now w → result ≡ in_use_of w }
+        ensures own { result ≡ in_use_in self.now.world }
     {
         in_use::in_use(&self.world)
     }

@@ -114,7 +114,7 @@ fn printed_nodes(rt: HostRuntime) -> Result<(), Fail> {
     };
     let wanted =
         "{\"document\":8,\"name\":\"b\",\"next\":null,\"parent\":1,\"previous\":2,\"type\":1}";
-    assert!(rt; prints(alloc, Answer::NodeAt(node), wanted)?);
+    assert!(rt; prints(alloc, Answer::NodeAt(Box::new(alloc, node)?), wanted)?);
     node = Description {
         document: NodeId::new(0),
         label: label(alloc, Kind::DocumentType, "html")?,
@@ -124,7 +124,7 @@ fn printed_nodes(rt: HostRuntime) -> Result<(), Fail> {
     };
     let wanted =
         "{\"document\":0,\"name\":\"html\",\"next\":null,\"parent\":null,\"previous\":null,\"public\":\"\",\"system\":\"\",\"type\":10}";
-    assert!(rt; prints(alloc, Answer::NodeAt(node), wanted)?);
+    assert!(rt; prints(alloc, Answer::NodeAt(Box::new(alloc, node)?), wanted)?);
     Ok(())
 }
 

@@ -14,5 +14,5 @@ returns c b =
     let n = c.args.node in
     let h : is_some (entry_in v.tree.forest n) ≡ true = cc in
     let label = subst (λ l. IfSome (entry_in v.tree.forest n) (λ e. l ≡ e.value.label)) (sym c.in_ok-label.ensures) c.label.ensures in
-    step-stays b (DescribeNode n) (Done (NodeAt (record { document = c.document_of.result; label = c.in_ok-label.label; next = c.next.result; parent = c.parent.result; previous = c.prev.result }))) v
-    (λ w shown. answer-node v b n c.document_of.result c.in_ok-label.label c.next.result c.parent.result c.prev.result w shown h c.document_of.ensures label c.next.ensures c.parent.ensures c.prev.ensures)
+    step-stays b (DescribeNode n) (Done (NodeAt c.in_ok-boxed.boxed)) v
+    (λ w shown. rw c.in_ok-boxed.ensures.ok (answer-node v b n c.document_of.result c.in_ok-label.label c.next.result c.parent.result c.prev.result w shown h c.document_of.ensures label c.next.ensures c.parent.ensures c.prev.ensures))
