@@ -1,4 +1,5 @@
 pub mod Cells
+pub mod Held
 pub mod Paging
 pub mod Taken
 pub mod Written

@@ -4,7 +4,9 @@
 //! very little for the numbers that went.
 #![tactic(auto)]
 
+mod cell;
 mod page;
 mod pages;
 
+pub use cell::Cell;
 pub use pages::Pages;

@@ -3,22 +3,24 @@
 ghost use Rattle.std.specs.Prelude.{◌≡◌, ◌<◌, [], length, Some, None, IfOk, IsTrue, false, slice_index_or, slice_set};
 ghost use Rattle.dom_pages.specs.Paged.{page_size, AllVacant};
 
+use crate::cell::Cell;
 use std::alloc::{AllocError, Global};
-use std::marker::Model;
+use std::marker::{Model, PhantomData};
 
 /// How many numbers a page is for.
 pub(crate) const PAGE: usize = 1024;
 
 /// The cells of a page, none where it gave its memory back.
 #[derive(Drop)]
-pub(crate) struct Page<T> {
-    cells: Vec<Option<T>>,
+pub(crate) struct Page<T, C: Cell<T>> {
+    cells: Vec<C>,
     // In how many of the cells something stands.
     count: usize,
+    of: PhantomData<T>,
 }
 
-impl<T> Model for Page<T> {
-    ghost use Rattle.std.specs.Prelude.{◌≡◌, List, Option, length, vec_capacity};
+impl<T, C: Cell<T>> Model for Page<T, C> {
+    ghost use Rattle.std.specs.Prelude.{◌≡◌, List, Option, length, map, vec_capacity};
     ghost use Rattle.std.specs.Coded.{coded_list, coded_option};
     ghost use Rattle.dom_pages.specs.Paged.{taken_in};
 
@@ -26,22 +28,26 @@ impl<T> Model for Page<T> {
 
     ghost coded = { coded_list (coded_option T.code) };
 
-    ghost view = { λ p. p.cells.items };
+    ghost view = { λ p. map C.held p.cells.items };
 
-    ghost invariant = { λ p. (p.count ≡ taken_in p.cells.items) × (vec_capacity p.cells ≡ length p.cells.items) };
+    ghost invariant = { λ p. (p.count ≡ taken_in (map C.held p.cells.items)) × (vec_capacity p.cells ≡ length p.cells.items) };
 }
 
-impl<T: Copy> Page<T> {
+impl<T: Copy, C: Cell<T>> Page<T, C> {
     /// A page with nothing in its cells.
-    pub(crate) fn blank(alloc: Global) -> Result<Page<T>, AllocError>
+    pub(crate) fn blank(alloc: Global) -> Result<Page<T, C>, AllocError>
         ensures cells { IfOk result (λ p. length p ≡ page_size) }
         ensures vacant { IfOk result (λ p. AllVacant p) }
     {
         let mut cells = Vec::with_capacity(alloc, PAGE)?;
         for _ in 0..PAGE {
-            cells.push_reserved(None);
+            cells.push_reserved(C::vacant());
         }
-        Ok(Page { cells, count: 0 })
+        Ok(Page {
+            cells,
+            count: 0,
+            of: PhantomData,
+        })
     }
 
     /// What stands in a cell; none past the cells.
@@ -49,7 +55,7 @@ impl<T: Copy> Page<T> {
         ensures { result ≡ slice_index_or self.now cell None }
     {
         match self.cells.get(cell) {
-            Some(item) => *item,
+            Some(cell) => cell.item(),
             None => None,
         }
     }
@@ -59,10 +65,10 @@ impl<T: Copy> Page<T> {
         requires { cell < length self.old }
         ensures { self.new ≡ slice_set self.old cell (Some item) }
     {
-        if self.cells[cell].is_none() {
+        if self.cells[cell].item().is_none() {
             self.count += 1;
         }
-        self.cells[cell] = Some(item);
+        self.cells[cell] = C::of(item);
     }
 
     /// Empties a cell, where there is one.
@@ -71,7 +77,7 @@ impl<T: Copy> Page<T> {
     {
         if self.get(cell).is_some() {
             self.count -= 1;
-            self.cells[cell] = None;
+            self.cells[cell] = C::vacant();
         }
     }
 

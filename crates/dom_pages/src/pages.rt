@@ -4,18 +4,19 @@ ghost use Rattle.std.specs.Prelude.{◌≡◌, ◌+◌, ◌/◌, ◌<◌, ◌≤
 ghost use Rattle.dom_pages.specs.Numbered.{item_at};
 ghost use Rattle.dom_pages.specs.Paged.{page_size, IsTakenBack};
 
+use crate::cell::Cell;
 use crate::page::{PAGE, Page};
 use std::alloc::{AllocError, Global};
 use std::marker::Model;
 
-/// What stands under each number that was given out.
+/// What stands under each number that was given out, each in a cell: an `Option`, unless a smaller one is named.
 #[derive(Drop)]
-pub struct Pages<T> {
-    pages: Vec<Page<T>>,
+pub struct Pages<T, C: Cell<T> = Option<T>> {
+    pages: Vec<Page<T, C>>,
     len: usize,
 }
 
-impl<T> Model for Pages<T> {
+impl<T, C: Cell<T>> Model for Pages<T, C> {
     ghost use Rattle.std.specs.Prelude.{◌*◌, ◌-◌, length};
     ghost use Rattle.dom_pages.specs.Numbered.{Numbered, numbered_code};
     ghost use Rattle.dom_pages.specs.Paged.{page_size, cells_of, IsPaged};
@@ -29,9 +30,9 @@ impl<T> Model for Pages<T> {
     ghost invariant = { λ p. IsPaged p.pages.items p.len };
 }
 
-impl<T: Copy> Pages<T> {
+impl<T: Copy, C: Cell<T>> Pages<T, C> {
     /// A table with no number, and room for none.
-    pub fn new(alloc: Global) -> Pages<T>
+    pub fn new(alloc: Global) -> Pages<T, C>
         ensures { result ≡ record { items = []; room = 0 } }
     {
         Pages {

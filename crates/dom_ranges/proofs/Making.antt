@@ -1,5 +1,5 @@
 -- What the calls that make, release and move ranges leave in order.
-use Rattle.std.proofs.Common.{◌≡◌, ℕ, ◌+◌, ◌-◌, ◌≤◌, ◌<◌, ◌^◌, List, [], ◌∷◌, ◌++◌, length, count_by, get_or, set, take, Option, Some, None, is_some, refl, sym, ap, subst, ◌∙◌, arith, length-append, length-set}
+use Rattle.std.proofs.Common.{◌≡◌, ℕ, ◌+◌, ◌-◌, ◌≤◌, ◌<◌, List, [], ◌∷◌, ◌++◌, length, count_by, get_or, set, take, Option, Some, None, is_some, refl, sym, ap, subst, ◌∙◌, arith, length-append, length-set}
 use Rattle.std.proofs.lemmas.Grind.{get_or_default_zero}
 use Rattle.std.proofs.lemmas.List.{length-take-le}
 use Rattle.std.specs.Prelude.{swap_remove}
@@ -135,7 +135,7 @@ module _ (t : List End) (heads : Heads) (slots : List (Option ℕ)) (numbers : L
       ap (by_slot (paired (points_of t'))) pushed ∙ ap (λ ps. by_slot ps (slots ++ Some s ∷ [])) pairs-added
       ∙ ranges-added new_range (paired (points_of t)) slots numbers k.numbered (many t heads slots numbers k) s new
 
-  pub made-order : HasChains t' heads' → length numbers < 2 ^ 32 → (numbers' : List ℕ) → numbers' ≡ numbers ++ length slots ∷ [] → IsInOrder t' heads' slots' numbers'
+  pub made-order : HasChains t' heads' → length numbers < 4294967295 → (numbers' : List ℕ) → numbers' ≡ numbers ++ length slots ∷ [] → IsInOrder t' heads' slots' numbers'
   made-order chains few numbers' given =
       let w : length numbers' ≡ length numbers + 1 = ap length given ∙ length-append numbers (length slots ∷ []) in
       let long : length t' ≡ length t + 2 = sym (points-length t') ∙ ap length added ∙ length-append (points_of t) (Some p ∷ Some q ∷ []) ∙ ap (λ n. n + 2) (points-length t) in

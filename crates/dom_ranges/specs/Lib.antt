@@ -1,4 +1,5 @@
 pub mod Chained
+pub mod Kept
 pub mod Markers
 pub mod Shifting
 pub mod StaticEnds

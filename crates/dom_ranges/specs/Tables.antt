@@ -131,11 +131,11 @@ pub record HaveSlots (pairs : List (Option Range)) (slots : List (Option ℕ)) (
   pub held : (s : ℕ) → s < length numbers → slot_at slots (range_in_slot numbers s) ≡ Some s
 
 -- what the live ranges keep of their ends, of the slots of their numbers, and of the numbers of their slots. There are as many slots as live
--- ranges, and two ends to each
+-- ranges, and two ends to each, and the highest number of 32 bits is no slot
 pub record IsInOrder (t : List End) (heads : Heads) (slots : List (Option ℕ)) (numbers : List ℕ) : Type 0 where
   pub chains : HasChains t heads
   pub pairs : IsPaired (points_of t)
   pub numbered : HaveSlots (paired (points_of t)) slots numbers
   pub long : length t ≡ length numbers + length numbers
   pub counted : length numbers ≡ live_count (by_slot (paired (points_of t)) slots)
-  pub small : length t ≤ 2 ^ 33
+  pub small : length t ≤ 8589934590

@@ -13,7 +13,7 @@ ghost use Rattle.dom_ranges.specs.Chained.{free_end, end_at, head_at, covers, co
 ghost use Rattle.dom_ranges.specs.Shifting.{shifted};
 ghost use Rattle.dom_ranges.specs.Tables.{nodes_at, without_slot};
 
-use crate::numbers::{EndId, RangeSlot};
+use crate::numbers::{EndId, HeadCell, RangeSlot};
 use crate::shift::Shift;
 use dom_pages::Pages;
 use dom_point::Point;
@@ -32,7 +32,7 @@ pub(crate) struct End {
 #[derive(Drop)]
 pub(crate) struct Chains {
     pub(crate) table: Vec<End>,
-    pub(crate) heads: Pages<Option<EndId>>,
+    pub(crate) heads: Pages<Option<EndId>, HeadCell>,
 }
 
 // The node of a point.

@@ -1,7 +1,11 @@
-//! The numbers of live ranges, of their slots, and of their ends.
+//! The numbers of live ranges, of their slots, and of their ends, and what tables keep of them.
+//!
+//! A table keeps a number alone: the highest ones, which nothing has, stand for what is not there.
 
-ghost use Rattle.std.specs.Prelude.{◌≡◌, ◌+◌};
+ghost use Rattle.std.specs.Prelude.{◌≡◌, ◌+◌, ◌<◌};
+ghost use Rattle.dom_ranges.specs.Kept.{slot_kept, head_kept};
 
+use dom_pages::Cell;
 use std::marker::Model;
 
 /// The number by which callers name a live range: the first that is made has 0, and no number is used again.
@@ -46,19 +50,20 @@ pub(crate) struct RangeSlot {
 }
 
 impl Model for RangeSlot {
-    ghost use Rattle.std.specs.Prelude.{ℕ, ◌<◌, ◌^◌};
+    ghost use Rattle.std.specs.Prelude.{ℕ, ◌<◌};
 
     ghost Value = { ℕ };
 
     ghost view = { λ s. s.index };
 
-    ghost invariant = { λ s. s.index < 2 ^ 32 };
+    ghost invariant = { λ s. s.index < 4294967295 };
 
     ghost inverse = { λ n. record { index = n } };
 }
 
 impl RangeSlot {
     pub(crate) fn new(index: u32) -> RangeSlot
+        requires { index < 4294967295 }
         ensures { result ≡ index }
     {
         RangeSlot { index }
@@ -92,19 +97,20 @@ pub(crate) struct EndId {
 }
 
 impl Model for EndId {
-    ghost use Rattle.std.specs.Prelude.{ℕ, ◌<◌, ◌^◌};
+    ghost use Rattle.std.specs.Prelude.{ℕ, ◌<◌};
 
     ghost Value = { ℕ };
 
     ghost view = { λ e. e.index };
 
-    ghost invariant = { λ e. e.index < 2 ^ 64 };
+    ghost invariant = { λ e. e.index < 18446744073709551614 };
 
     ghost inverse = { λ n. record { index = n } };
 }
 
 impl EndId {
     pub(crate) fn new(index: usize) -> EndId
+        requires { index < 18446744073709551614 }
         ensures { result ≡ index }
     {
         EndId { index }
@@ -114,5 +120,64 @@ impl EndId {
         ensures { result ≡ self }
     {
         self.index
+    }
+}
+
+/// The slot of a live range, or none for one that was released.
+#[derive(Clone, Copy)]
+pub(crate) struct SlotCell {
+    index: u32,
+}
+
+impl Cell<RangeSlot> for SlotCell {
+    ghost held = { λ cell. slot_kept cell.index };
+
+    fn vacant() -> SlotCell {
+        SlotCell { index: u32::MAX }
+    }
+
+    fn of(item: RangeSlot) -> SlotCell {
+        SlotCell { index: item.index }
+    }
+
+    fn item(self) -> Option<RangeSlot> {
+        if self.index == u32::MAX {
+            None
+        } else {
+            Some(RangeSlot { index: self.index })
+        }
+    }
+}
+
+const NOT_COVERED: usize = usize::MAX;
+
+const NO_END: usize = usize::MAX - 1;
+
+/// The first end in the chain of a covered node, or none for a node that is not covered.
+#[derive(Clone, Copy)]
+pub(crate) struct HeadCell {
+    index: usize,
+}
+
+impl Cell<Option<EndId>> for HeadCell {
+    ghost held = { λ cell. head_kept cell.index };
+
+    fn vacant() -> HeadCell {
+        HeadCell { index: NOT_COVERED }
+    }
+
+    fn of(item: Option<EndId>) -> HeadCell {
+        match item {
+            Some(end) => HeadCell { index: end.index },
+            None => HeadCell { index: NO_END },
+        }
+    }
+
+    fn item(self) -> Option<Option<EndId>> {
+        match self.index {
+            NOT_COVERED => None,
+            NO_END => Some(None),
+            index => Some(Some(EndId { index })),
+        }
     }
 }

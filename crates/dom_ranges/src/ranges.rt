@@ -9,7 +9,7 @@ ghost use Rattle.dom_ranges.specs.Chained.{covers, covered_to, uncovered};
 ghost use Rattle.dom_ranges.specs.Tables.{IsCovered, AreCovered, range_in, slot_at, live_nodes, IsRangeIn};
 
 use crate::chains::Chains;
-use crate::numbers::{RangeId, RangeSlot};
+use crate::numbers::{RangeId, RangeSlot, SlotCell};
 use dom_pages::Pages;
 use dom_point::Point;
 use dom_tree::{Body, NodeId, Tree};
@@ -24,7 +24,7 @@ use std::marker::Model;
 #[derive(Drop)]
 pub struct Ranges {
     pub(crate) chains: Chains,
-    slots: Pages<RangeSlot>,
+    slots: Pages<RangeSlot, SlotCell>,
     numbers: Vec<RangeId>,
 }
 
@@ -40,7 +40,7 @@ impl Model for Ranges {
 }
 
 // The slot of a number, where it has one.
-fn slot_of(slots: &Pages<RangeSlot>, r: RangeId) -> Option<RangeSlot>
+fn slot_of(slots: &Pages<RangeSlot, SlotCell>, r: RangeId) -> Option<RangeSlot>
     ensures { result ≡ slot_at slots.now.items r }
 {
     slots.get(r.number() as usize)
@@ -196,7 +196,7 @@ impl Ranges {
     /// A law: it does nothing, and its contract tells what holds of all live ranges at any time.
     ///
     /// The ends that stand in a node are its chain, each of them once, and a node that is not covered has no chain. So where
-    /// [`Ranges::stands_in`] answers yes, [`Ranges::is_covered`] does too. And each live range has two ends in a table of at most 2 ^ 33.
+    /// [`Ranges::stands_in`] answers yes, [`Ranges::is_covered`] does too. And each live range has two ends in a table of fewer than 2 ^ 33.
     pub fn sound(&self)
         ensures covered { AreCovered self.now }
         ensures few { count_by is_some self.now.ranges ≤ 2 ^ 32 }

@@ -8,17 +8,17 @@ ghost use Rattle.dom_model.specs.Forests.Forest.{HasNode, entry_in, parent_of, c
 use crate::item::Item;
 use crate::nearby::{self, number_of, place_of};
 use crate::node_id::NodeId;
+use crate::table::Table;
 use crate::tree::Tree;
 use dom_kinds::Label;
 use dom_links::{Place, Store};
-use dom_pages::Pages;
 use std::marker::Model;
 
 /// A node of a tree that is lent. Its number was looked up once: from here each step goes straight to the node beside, above or below it.
 #[derive(Drop)]
 pub struct At<'a, X> {
     links: &'a Store<Item<X>>,
-    table: &'a Pages<Place>,
+    table: &'a Table,
     place: Place,
 }
 

@@ -13,6 +13,7 @@ mod kinds;
 mod meeting;
 mod nearby;
 mod node_id;
+mod table;
 mod tree;
 mod upkeep;
 mod walks;

@@ -10,11 +10,11 @@ ghost use Rattle.dom_tree.specs.Places.{slots_in, called, Leads, ArePlaced, IsLi
 
 use crate::item::Item;
 use crate::node_id::NodeId;
+use crate::table::Table;
 use dom_links::{Link, Place, Store};
-use dom_pages::Pages;
 
 /// The place of a number, where the table has one.
-pub(crate) fn place_at<X>(links: &Store<Item<X>>, table: &Pages<Place>, id: NodeId) -> Option<Place>
+pub(crate) fn place_at<X>(links: &Store<Item<X>>, table: &Table, id: NodeId) -> Option<Place>
     requires { ArePlaced links.now table.now.items }
     ensures { Leads links.now result (slot_in (slots_in links.now table.now.items) id) }
 {
@@ -23,7 +23,7 @@ pub(crate) fn place_at<X>(links: &Store<Item<X>>, table: &Pages<Place>, id: Node
 }
 
 /// The place of a number that the table has.
-pub(crate) fn place_of<X>(links: &Store<Item<X>>, table: &Pages<Place>, id: NodeId) -> Place
+pub(crate) fn place_of<X>(links: &Store<Item<X>>, table: &Table, id: NodeId) -> Place
     requires { IsListed links.now table.now.items id }
     ensures { Leads links.now (Some result) (slot_in (slots_in links.now table.now.items) id) }
 {
@@ -32,7 +32,7 @@ pub(crate) fn place_of<X>(links: &Store<Item<X>>, table: &Pages<Place>, id: Node
 }
 
 /// Leads to the place of a number, where there is one.
-pub(crate) fn link_to<X>(links: &Store<Item<X>>, table: &Pages<Place>, id: Option<NodeId>) -> Link
+pub(crate) fn link_to<X>(links: &Store<Item<X>>, table: &Table, id: Option<NodeId>) -> Link
     requires { ForSome id (IsListed links.now table.now.items) }
     ensures { Leads links.now result (slot_for (slots_in links.now table.now.items) id) }
 {

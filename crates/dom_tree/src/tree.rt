@@ -13,6 +13,7 @@ ghost use Rattle.dom_tree.specs.Standing.{MayStand};
 use crate::item::Item;
 use crate::nearby::{link_to, named, place_of};
 use crate::node_id::NodeId;
+use crate::table::Table;
 use crate::upkeep::{number_cut, number_put};
 use dom_kinds::Label;
 use dom_links::{Place, Store};
@@ -26,7 +27,7 @@ use std::marker::Model;
 #[derive(Drop)]
 pub struct Tree<X> {
     pub(crate) links: Store<Item<X>>,
-    pub(crate) table: Pages<Place>,
+    pub(crate) table: Table,
     pub(crate) live: u64,
     pub(crate) strays: bool,
 }

@@ -8,6 +8,9 @@ use Rattle.dom_ranges.proofs.EndsAsked.{moved-inside, stays-outside, asked-stays
 use Rattle.dom_ranges.proofs.chains.Chains.gather.Goals as goal
 use Rattle.dom_ranges.proofs.chains.Chains.gather.Goals.{then-stands_inside, else-stands_inside}
 
+pub new-id-requires : goal.new-id-requires
+new-id-requires g c = let table = c.args.self.now.table in omega (arith, c.loop-index-test.true, c.count-index-end.ensures, table.ok, table.small)
+
 pub loop-index-preserved : goal.loop-index-preserved
 loop-index-preserved g c =
     let inside = inclusive_descendants c.args.tree.now.forest c.args.top in

@@ -12,6 +12,9 @@ invariant_of-self-in_err-add g c =
 pub overflow_cast-len-2 : goal.overflow_cast-len-2
 overflow_cast-len-2 g c = omega (arith, c.len-2.ensures, ap length c.reserve-2.ensures.items, fewer _ _ _ _ c.self.invariant _ c.self.view_is, c.requires.room)
 
+pub new-requires : goal.new-requires
+new-requires g c = omega (arith, c.len-2.ensures, ap length c.reserve-2.ensures.items, fewer _ _ _ _ c.self.invariant _ c.self.view_is, c.requires.room)
+
 pub invariant_of-self-2 : goal.invariant_of-self-2
 invariant_of-self-2 g c =
     made-order _ _ _ _ c.self.invariant _ c.self.view_is c.args.start c.args.end _ _ c.in_ok-add.ensures.added _ c.new.result (omega (arith, c.new.ensures, c.len-2.ensures, ap length c.reserve-2.ensures.items))

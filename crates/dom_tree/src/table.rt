@@ -1,0 +1,31 @@
+//! The table from numbers to places.
+
+use dom_links::{Link, Place};
+use dom_pages::{Cell, Pages};
+
+/// By number the place of a node.
+pub(crate) type Table = Pages<Place, PlaceCell>;
+
+/// The place of a node, or none for a number whose node went. It is kept as a link, in eight bytes: none is null.
+#[derive(Clone, Copy)]
+pub(crate) struct PlaceCell {
+    link: Link,
+}
+
+impl Cell<Place> for PlaceCell {
+    ghost held = { λ cell. cell.link };
+
+    fn vacant() -> PlaceCell {
+        PlaceCell { link: Link::none() }
+    }
+
+    fn of(item: Place) -> PlaceCell {
+        PlaceCell {
+            link: Link::to(item),
+        }
+    }
+
+    fn item(self) -> Option<Place> {
+        self.link.get()
+    }
+}
