@@ -44,7 +44,7 @@ fn row_told(row: &TreeRow) -> Row
         depth: row.depth,
         node: row.number.number(),
         type_: row.label.kind.number(),
-        attributes: row.body.attrs.len(),
+        attributes: row.body.attribute_count(),
     }
 }
 
@@ -53,7 +53,7 @@ fn row_text_of(row: &TreeRow) -> Option<&[u16]>
     ensures { option_map (λ text. text.now) result ≡ row_text_of row.now }
 {
     match row.label.kind {
-        Kind::Text | Kind::ProcessingInstruction | Kind::Comment => Some(row.body.text.units()),
+        Kind::Text | Kind::ProcessingInstruction | Kind::Comment => Some(row.body.text()),
         Kind::Element | Kind::Document | Kind::DocumentType | Kind::DocumentFragment => None,
     }
 }
@@ -61,7 +61,7 @@ fn row_text_of(row: &TreeRow) -> Option<&[u16]>
 fn attribute_name_in(row: &TreeRow, at: usize) -> Option<&[u8]>
     ensures { option_map (λ name. name.now) result ≡ attribute_name_in at row.now }
 {
-    match row.body.attrs.at(at) {
+    match row.body.attribute_at(at) {
         Some((name, _)) => Some(name.as_bytes()),
         None => None,
     }
@@ -70,7 +70,7 @@ fn attribute_name_in(row: &TreeRow, at: usize) -> Option<&[u8]>
 fn attribute_value_in(row: &TreeRow, at: usize) -> Option<&[u16]>
     ensures { option_map (λ value. value.now) result ≡ attribute_value_in at row.now }
 {
-    match row.body.attrs.at(at) {
+    match row.body.attribute_at(at) {
         Some((_, value)) => Some(value.units()),
         None => None,
     }

@@ -88,7 +88,7 @@ fn same_attributes(tree: &Tree<Content>, left: NodeId, right: NodeId) -> bool
 {
     let body = tree.body(left);
     let other = tree.body(right);
-    body.attrs.same(&other.attrs)
+    body.same_attributes(other)
 }
 
 // Whether two nodes have the same data.
@@ -100,5 +100,5 @@ fn same_text(tree: &Tree<Content>, left: NodeId, right: NodeId) -> bool
 {
     let body = tree.body(left);
     let other = tree.body(right);
-    body.text.units() == other.text.units()
+    body.text() == other.text()
 }

@@ -18,13 +18,12 @@ ghost use Rattle.dom_edit.specs.Leaving.{LeavesAll, LeavesOlder, IsFragmentOrRoo
 ghost use Rattle.dom_content.specs.Paths.{HasRoom, Stays, KindsStay, DataStays};
 ghost use Rattle.dom_content.specs.Coming.{MayDraw};
 
-use dom_attrs::Attrs;
 use dom_clone::clone_node;
 use dom_data::replace_data_checked;
 use dom_edit::{Content, World, data_in, document_in};
 use dom_kinds::{Kind, Label};
 use dom_tree::{NodeId, Tree};
-use dom_units::Units;
+use dom_units::{Units, units_within};
 use std::alloc::{AllocError, Global};
 
 // Makes a fragment without children in a document. Its number is the next one.
@@ -45,12 +44,8 @@ pub(crate) fn new_fragment(
     ensures kept { KeepsLabels world.old world.new }
     ensures whole { IsWhole world.new }
 {
-    let label = Label::named(Kind::DocumentFragment, String::new(alloc));
-    let content = Content {
-        text: Units::new(alloc),
-        attrs: Attrs::new(alloc),
-    };
-    world.make(alloc, label, content, Some(document))
+    let label = Label::nameless(Kind::DocumentFragment);
+    world.make(alloc, label, Content::nothing(), Some(document))
 }
 
 // Puts a new node, or the children of a new fragment, last under a parent that may have it: no end of a live range stands inside it.
@@ -130,7 +125,7 @@ fn part_of(
 {
     let data = data_in(tree, node);
     let count = count.min(data.len() - offset);
-    Units::from_units(alloc, data.slice(offset, count))
+    Units::from_units(alloc, units_within(data, offset, count))
 }
 
 // Copies a node's label and attributes, with other data. Its number is the next one.
@@ -155,9 +150,9 @@ fn copy_with(
     ensures whole { IsWhole world.new }
 {
     let label = world.tree.label(node).try_clone(alloc)?;
-    let attrs = world.tree.body(node).attrs.try_clone(alloc)?;
+    let attrs = world.tree.body(node).copied_attributes(alloc)?;
     let document = document_in(&world.tree, node);
-    let content = Content { text: units, attrs };
+    let content = Content::new(alloc, units, attrs)?;
     world.make(alloc, label, content, Some(document))
 }
 

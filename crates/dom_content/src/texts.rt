@@ -21,7 +21,7 @@ use dom_kinds::Kind;
 use dom_point::Point;
 use dom_ranges::RangeId;
 use dom_tree::{NodeId, Tree};
-use dom_units::Units;
+use dom_units::{Units, units_within};
 use std::alloc::{AllocError, Global};
 
 // Puts a part of the data of a node behind a text, where the node is a Text.
@@ -41,7 +41,7 @@ fn append_part(
         return Ok(());
     }
     let end = text.len();
-    text.splice(end, 0, data_in(tree, node).slice(from, to - from))
+    text.splice(end, 0, units_within(data_in(tree, node), from, to - from))
 }
 
 // Puts the data of a node from a point on behind a text, where the node is a Text.

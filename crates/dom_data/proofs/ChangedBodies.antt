@@ -71,7 +71,3 @@ module _ (f : Forest Content) (o : IsOnce f) (n : ℕ) (v : Content) where
       go : (r : Option (Entry (Node Content))) → IsSome r → IfSome r (λ e. v ≡ e.value.body) → v ≡ content_in r
       go None s k = absurd (false≢true s)
       go (Some e) s k = k
-
--- the value behind a borrow is what was read
-pub read_through : (f : Forest Content) (n : ℕ) (v w : Content) → v ≡ w → IfSome (entry_in f n) (λ e. w ≡ e.value.body) → IfSome (entry_in f n) (λ e. v ≡ e.value.body)
-read_through f n v w e h = subst (λ (u : Content). IfSome (entry_in f n) (λ e. u ≡ e.value.body)) (sym e) h

@@ -30,7 +30,7 @@ pub fn set_attribute(
     ensures whole { IsWhole world.new }
 {
     tell_attribute(world, alloc, node, name.as_str())?;
-    set_in(&mut world.tree, node, name, value)
+    set_in(&mut world.tree, alloc, node, name, value)
 }
 
 /// Removes an attribute, with a record of its value; nothing where it is not there ("remove an attribute by name").

@@ -10,7 +10,7 @@ use dom_edit::Content;
 use dom_kinds::Kind;
 use dom_tree::{NodeId, Tree};
 use dom_units::Units;
-use std::alloc::AllocError;
+use std::alloc::{AllocError, Global};
 
 // The kind of a node.
 pub(crate) fn kind_in(tree: &Tree<Content>, node: NodeId) -> Kind
@@ -21,16 +21,20 @@ pub(crate) fn kind_in(tree: &Tree<Content>, node: NodeId) -> Kind
 }
 
 // The value of an attribute of a node.
-pub(crate) fn value_in<'a>(tree: &'a Tree<Content>, node: NodeId, name: &str) -> Option<&'a Units>
+pub(crate) fn value_in<'a>(tree: &'a Tree<Content>, node: NodeId, name: &str) -> Option<&'a [u16]>
     requires held { HasNode tree.now.forest node }
     ensures { option_copied result ≡ attribute_value name.now (content_in (entry_in tree.now.forest node)).attributes }
 {
-    tree.body(node).attrs.get(name)
+    match tree.body(node).attribute(name) {
+        Some(value) => Some(value.units()),
+        None => None,
+    }
 }
 
 // Puts `added` in place of the `count` units of a node's data from `offset` on.
 pub(crate) fn splice_data(
     tree: &mut Tree<Content>,
+    alloc: Global,
     node: NodeId,
     offset: usize,
     count: usize,
@@ -47,9 +51,9 @@ pub(crate) fn splice_data(
 {
     tree.sound();
     let content = tree.body_mut(node);
-    let outcome = content.text.splice(offset, count, added);
+    let outcome = content.splice(alloc, offset, count, added);
     // a law: so many units fit the memory
-    let _ = content.text.len();
+    let _ = content.text().len();
     outcome
 }
 
@@ -58,12 +62,13 @@ pub(crate) fn has_in(tree: &Tree<Content>, node: NodeId, name: &str) -> bool
     requires held { HasNode tree.now.forest node }
     ensures { result ≡ is_some (attribute_value name.now (content_in (entry_in tree.now.forest node)).attributes) }
 {
-    tree.body(node).attrs.get(name).is_some()
+    tree.body(node).attribute(name).is_some()
 }
 
 // Sets an attribute of a node, in place or last.
 pub(crate) fn set_in(
     tree: &mut Tree<Content>,
+    alloc: Global,
     node: NodeId,
     name: String,
     value: Units,
@@ -77,7 +82,7 @@ pub(crate) fn set_in(
 {
     tree.sound();
     let content = tree.body_mut(node);
-    let _ = content.attrs.set(name, value)?;
+    let _ = content.set_attribute(alloc, name, value)?;
     Ok(())
 }
 
@@ -91,5 +96,5 @@ pub(crate) fn remove_in(tree: &mut Tree<Content>, node: NodeId, name: &str)
 {
     tree.sound();
     let content = tree.body_mut(node);
-    let _ = content.attrs.remove(name);
+    let _ = content.remove_attribute(name);
 }

@@ -31,7 +31,7 @@ fn append_data(tree: &Tree<Content>, node: NodeId, text: &mut Units) -> Result<(
         return Ok(());
     }
     let end = text.len();
-    text.splice(end, 0, data_in(tree, node).units())
+    text.splice(end, 0, data_in(tree, node))
 }
 
 // The data of the Texts below a node, one after another ("descendant text content").
@@ -61,7 +61,7 @@ pub fn text_content(world: &World, alloc: Global, node: NodeId) -> Result<Option
             Ok(Some(text))
         }
         Kind::Text | Kind::ProcessingInstruction | Kind::Comment => {
-            let data = data_in(&world.tree, node).try_clone(alloc)?;
+            let data = Units::from_units(alloc, data_in(&world.tree, node))?;
             Ok(Some(data))
         }
         Kind::Document | Kind::DocumentType => Ok(None),

@@ -7,7 +7,6 @@ ghost use Rattle.dom_model.specs.Forests.Nodes.{is_of_kind};
 ghost use Rattle.dom_edit.specs.Whole.{IsWhole, Follows};
 ghost use Rattle.dom_edit.specs.Keeping.{KeepsLabels};
 
-use dom_attrs::Attrs;
 use dom_edit::{Content, World};
 use dom_kinds::{Kind, Label};
 use dom_tree::NodeId;
@@ -29,10 +28,6 @@ pub(crate) fn make_text(
     ensures kept { KeepsLabels world.old world.new }
     ensures whole { IsWhole world.new }
 {
-    let label = Label::named(Kind::Text, String::new(alloc));
-    let content = Content {
-        text,
-        attrs: Attrs::new(alloc),
-    };
-    world.make(alloc, label, content, Some(document))
+    let content = Content::of_text(alloc, text)?;
+    world.make(alloc, Label::nameless(Kind::Text), content, Some(document))
 }

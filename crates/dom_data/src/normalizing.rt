@@ -93,7 +93,7 @@ fn data_among(tree: &Tree<Content>, alloc: Global, nodes: &[NodeId]) -> Result<U
     let mut data = Units::new(alloc);
     for node in nodes {
         let end = data.len();
-        data.splice(end, 0, data_in(tree, *node).units())?;
+        data.splice(end, 0, data_in(tree, *node))?;
     }
     Ok(data)
 }

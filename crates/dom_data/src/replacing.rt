@@ -17,7 +17,7 @@ use crate::records::tell_data;
 use dom_edit::{Refusal, World, data_in};
 use dom_kinds::DomError;
 use dom_tree::NodeId;
-use dom_units::Units;
+use dom_units::{Units, units_within};
 use std::alloc::{AllocError, Global};
 
 // Puts `added` in place of the `count` units from `offset` on, with a record of the old data.
@@ -38,7 +38,7 @@ pub(crate) fn replace_units(
     ensures whole { IsWhole world.new }
 {
     tell_data(world, alloc, node)?;
-    splice_data(&mut world.tree, node, offset, count, added)?;
+    splice_data(&mut world.tree, alloc, node, offset, count, added)?;
     world.ranges.spliced(node, offset, count, added.len());
     Ok(())
 }
@@ -134,6 +134,6 @@ pub fn substring(
         return Err(Refusal::Dom(DomError::IndexSizeError));
     }
     let count = count.min(length - offset);
-    let units = Units::from_units(alloc, data.slice(offset, count))?;
+    let units = Units::from_units(alloc, units_within(data, offset, count))?;
     Ok(units)
 }

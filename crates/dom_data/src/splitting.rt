@@ -19,7 +19,7 @@ use crate::replacing::replace_data_checked;
 use dom_edit::{Content, Refusal, World, data_in, document_in};
 use dom_kinds::DomError;
 use dom_tree::{NodeId, Tree};
-use dom_units::Units;
+use dom_units::{Units, units_within};
 use std::alloc::{AllocError, Global};
 
 // A law: the count of the children fits a number of the machine.
@@ -126,7 +126,7 @@ pub fn split_checked(
 {
     let data = data_in(&world.tree, node);
     let count = data.len() - offset;
-    let tail = Units::from_units(alloc, data.slice(offset, count))?;
+    let tail = Units::from_units(alloc, units_within(data, offset, count))?;
     let document = document_in(&world.tree, node);
     let new = make_text(world, alloc, document, tail)?;
     part(world, alloc, node, offset, new)?;

@@ -1,3 +1,4 @@
+pub mod NoAttributes
 pub mod AmongChildren
 pub mod Placing
 pub mod Following

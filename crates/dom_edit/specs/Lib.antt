@@ -1,3 +1,4 @@
+pub mod Contents
 pub mod Places
 pub mod Whole
 pub mod Keeping

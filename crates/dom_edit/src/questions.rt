@@ -11,7 +11,6 @@ ghost use Rattle.dom_edit.specs.Inserting.{reference_in};
 
 use crate::content::Content;
 use dom_tree::{NodeId, Tree};
-use dom_units::Units;
 
 /// What a node comes in before: the child, or the node's next sibling where the child is the node itself; none where it comes in last.
 pub fn reference_child(tree: &Tree<Content>, node: NodeId, child: Option<NodeId>) -> Option<NodeId>
@@ -35,9 +34,9 @@ pub fn document_in(tree: &Tree<Content>, node: NodeId) -> NodeId
 }
 
 /// The data of a node, lent as the tree keeps it.
-pub fn data_in(tree: &Tree<Content>, node: NodeId) -> &Units
+pub fn data_in(tree: &Tree<Content>, node: NodeId) -> &[u16]
     requires held { HasNode tree.now.forest node }
     ensures { result.now ≡ (content_in (entry_in tree.now.forest node)).text }
 {
-    &tree.body(node).text
+    tree.body(node).text()
 }

@@ -17,7 +17,6 @@ use dom_observe::Observers;
 use dom_ranges::{Ranges, Statics};
 use dom_traverse::{NodeIterators, Walkers};
 use dom_tree::{NodeId, Tree};
-use dom_units::Units;
 use std::alloc::{AllocError, Global};
 
 /// The nodes of a session, its live and static ranges, iterators and walkers, and its observers.
@@ -58,10 +57,9 @@ impl World {
     pub fn new(alloc: Global) -> Result<World, AllocError>
         ensures { IfOk result (λ world. Shows world first_world) }
     {
-        let label = Label::named(Kind::Document, String::new(alloc));
-        let content = Content::of_text(alloc, Units::new(alloc));
+        let label = Label::nameless(Kind::Document);
         let mut world = World::empty(alloc);
-        let _ = world.make(alloc, label, content, None)?;
+        let _ = world.make(alloc, label, Content::nothing(), None)?;
         Ok(world)
     }
 

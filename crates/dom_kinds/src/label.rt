@@ -1,48 +1,54 @@
 //! What a node is labelled with.
-ghost use Rattle.std.specs.Prelude.{◌≡◌, IfOk, string_bytes};
+ghost use Rattle.std.specs.Prelude.{◌≡◌, [], IfOk, string_bytes};
 ghost use Rattle.dom_model.specs.Forests.Kinds.{node_name};
 ghost use Rattle.dom_model.specs.Worlds.Making.{named};
 ghost use Rattle.dom_model.specs.Commands.AnswerMaking.{doctype_label};
 
+use crate::texts::Texts;
+use arrayvec::ArrayString;
 use dom_model::Kind;
 use std::alloc::{AllocError, Global};
 use std::marker::Model;
 
-/// What stands on a node besides its data, attributes and children.
+/// What stands on a node besides its data, attributes and children. It takes 32 bytes.
 ///
 /// It has the name of an Element or a DocumentType or the target of a ProcessingInstruction, and the ids of a
 /// DocumentType; where the kind has none, the text is empty.
 #[derive(Debug, Drop)]
 pub struct Label {
     pub kind: Kind,
-    name: String,
-    // the public and the system id; none where both are empty, since few nodes are doctypes
-    ids: Option<Box<(String, String)>>,
+    texts: Texts,
 }
 
 impl Model for Label {
-    ghost use Rattle.std.specs.Prelude.{string_bytes};
     ghost use Rattle.dom_model.specs.Forests.Kinds.{Label as PlainLabel};
-    ghost use Rattle.dom_kinds.specs.Ids.{public_in, system_in};
+    ghost use Rattle.dom_kinds.specs.Texts.{name_in, public_in, system_in};
 
     ghost Value = { PlainLabel };
 
-    ghost view = { λ l. record { kind = l.kind; name = string_bytes l.name; public_id = public_in l.ids; system_id = system_in l.ids } };
+    ghost view = { λ l. record { kind = l.kind; name = name_in l.texts; public_id = public_in l.texts; system_id = system_in l.texts } };
 }
 
 impl Label {
-    /// A label without ids. It takes no memory.
-    pub fn named(kind: Kind, name: String) -> Label
-        ensures { result ≡ named kind (string_bytes name) }
+    /// A label without ids. It takes memory only where the name has more than 8 bytes.
+    pub fn named(alloc: Global, kind: Kind, name: &str) -> Result<Label, AllocError>
+        ensures { IfOk result (λ made. made ≡ named kind name.now) }
+    {
+        let texts = Texts::named(alloc, name)?;
+        Ok(Label { kind, texts })
+    }
+
+    /// A label of a kind that has no name. It takes no memory.
+    pub fn nameless(kind: Kind) -> Label
+        ensures { result ≡ named kind [] }
     {
         Label {
             kind,
-            name,
-            ids: None,
+            texts: Texts::Short(ArrayString::new()),
         }
     }
 
-    /// The label of a DocumentType. It takes memory where an id is not empty.
+    /// The label of a DocumentType. It takes memory where an id is not empty, or the name is long.
     pub fn doctype(
         alloc: Global,
         name: String,
@@ -52,12 +58,12 @@ impl Label {
         ensures { IfOk result (λ made. made ≡ doctype_label (string_bytes name) (string_bytes public_id) (string_bytes system_id)) }
     {
         if public_id.is_empty() && system_id.is_empty() {
-            return Ok(Label::named(Kind::DocumentType, name));
+            return Label::named(alloc, Kind::DocumentType, name.as_str());
         }
+        let texts = Box::new(alloc, (name, public_id, system_id))?;
         Ok(Label {
             kind: Kind::DocumentType,
-            name,
-            ids: Some(Box::new(alloc, (public_id, system_id))?),
+            texts: Texts::Doctype(texts),
         })
     }
 
@@ -65,42 +71,31 @@ impl Label {
     pub fn name(&self) -> &str
         ensures { result.now ≡ self.now.name }
     {
-        self.name.as_str()
+        self.texts.name()
     }
 
     /// The public id of a DocumentType.
     pub fn public_id(&self) -> &str
         ensures { result.now ≡ self.now.public_id }
     {
-        match &self.ids {
-            None => "",
-            Some(ids) => ids.0.as_str(),
-        }
+        self.texts.public_id()
     }
 
     /// The system id of a DocumentType.
     pub fn system_id(&self) -> &str
         ensures { result.now ≡ self.now.system_id }
     {
-        match &self.ids {
-            None => "",
-            Some(ids) => ids.1.as_str(),
-        }
+        self.texts.system_id()
     }
 
     /// A copy, in memory of its own.
     pub fn try_clone(&self, alloc: Global) -> Result<Label, AllocError>
         ensures { IfOk result (λ copy. copy ≡ self.now) }
     {
-        let name = String::from_str(alloc, self.name.as_str())?;
-        let ids = match &self.ids {
-            None => None,
-            Some(ids) => Some(copied_ids(alloc, ids)?),
-        };
+        let texts = self.texts.try_clone(alloc)?;
         Ok(Label {
             kind: self.kind,
-            name,
-            ids,
+            texts,
         })
     }
 
@@ -109,21 +104,11 @@ impl Label {
         ensures { result.now ≡ node_name self.now }
     {
         match self.kind {
-            Kind::Element | Kind::ProcessingInstruction | Kind::DocumentType => self.name.as_str(),
+            Kind::Element | Kind::ProcessingInstruction | Kind::DocumentType => self.texts.name(),
             Kind::Text => "#text",
             Kind::Comment => "#comment",
             Kind::Document => "#document",
             Kind::DocumentFragment => "#document-fragment",
         }
     }
-}
-
-// A copy of both ids, in memory of its own.
-fn copied_ids(alloc: Global, ids: &(String, String)) -> Result<Box<(String, String)>, AllocError>
-    ensures public { IfOk result (λ copy. string_bytes copy.value.0 ≡ string_bytes ids.now.0) }
-    ensures system { IfOk result (λ copy. string_bytes copy.value.1 ≡ string_bytes ids.now.1) }
-{
-    let public_id = String::from_str(alloc, ids.0.as_str())?;
-    let system_id = String::from_str(alloc, ids.1.as_str())?;
-    Ok(Box::new(alloc, (public_id, system_id))?)
 }

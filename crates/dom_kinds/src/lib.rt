@@ -5,6 +5,7 @@ pub mod error;
 pub mod kind;
 pub mod label;
 pub mod names;
+mod texts;
 
 pub use dom_model::{DomError, Kind};
 pub use error::Exception;

@@ -5,16 +5,18 @@ ghost use Rattle.dom_links.specs.Wiring.{alone_node};
 use crate::place::Link;
 
 /// A value with its links. It takes 48 bytes beside the value.
+///
+/// What a walk reads comes first: the links that lead up, on and down, and how the value begins.
 #[derive(Drop)]
 pub struct Node<T> {
-    pub(crate) slot: u32,
-    pub(crate) count: u32,
     pub(crate) parent: Link,
-    pub(crate) prev: Link,
     pub(crate) next: Link,
     pub(crate) first: Link,
-    pub(crate) last: Link,
     pub(crate) value: T,
+    pub(crate) prev: Link,
+    pub(crate) last: Link,
+    pub(crate) slot: u32,
+    pub(crate) count: u32,
 }
 
 /// A node that is linked to nothing.
@@ -22,14 +24,14 @@ pub(crate) fn alone<T>(slot: u32, value: T) -> Node<T>
     ensures { result ≡ alone_node slot value }
 {
     Node {
-        slot,
-        count: 0,
         parent: Link::none(),
-        prev: Link::none(),
         next: Link::none(),
         first: Link::none(),
-        last: Link::none(),
         value,
+        prev: Link::none(),
+        last: Link::none(),
+        slot,
+        count: 0,
     }
 }
 
@@ -38,14 +40,14 @@ pub(crate) fn value_of<T>(node: Node<T>) -> T
     ensures { result ≡ node.value }
 {
     let Node {
-        slot: _,
-        count: _,
         parent: _,
-        prev: _,
         next: _,
         first: _,
-        last: _,
         value,
+        prev: _,
+        last: _,
+        slot: _,
+        count: _,
     } = node;
     value
 }

@@ -14,7 +14,6 @@ ghost use Rattle.dom_session.specs.Stands.{IsStep};
 use crate::command::Attributes;
 use crate::refusing::kind_refusal;
 use crate::reply::{Answer, Reply};
-use dom_attrs::Attrs;
 use dom_edit::{Content, World};
 use dom_kinds::{DomError, Kind, is_attribute_name};
 use dom_tree::{NodeId, Tree};
@@ -42,12 +41,12 @@ pub(crate) fn set_attribute(
     Ok(Reply::Done(Answer::Nothing))
 }
 
-// The attributes of a node.
-fn attributes_in(tree: &Tree<Content>, node: NodeId) -> &Attrs
+// The data and the attributes of a node.
+fn content_in(tree: &Tree<Content>, node: NodeId) -> &Content
     requires { HasNode tree.now.forest node }
-    ensures { result.now ≡ (content_in (entry_in tree.now.forest node)).attributes }
+    ensures { result.now ≡ content_in (entry_in tree.now.forest node) }
 {
-    &tree.body(node).attrs
+    tree.body(node)
 }
 
 // A copy of the value of an attribute, where there is one.
@@ -60,7 +59,7 @@ fn value_in(
     requires { HasNode tree.now.forest element }
     ensures { IfOk result (λ value. value ≡ attribute_value name.now (content_in (entry_in tree.now.forest element)).attributes) }
 {
-    match attributes_in(tree, element).get(name) {
+    match content_in(tree, element).attribute(name) {
         None => Ok(None),
         Some(value) => Ok(Some(value.try_clone(alloc)?)),
     }
@@ -88,7 +87,7 @@ fn has_in(tree: &Tree<Content>, element: NodeId, name: &str) -> bool
     requires { HasNode tree.now.forest element }
     ensures { result ≡ is_some (attribute_value name.now (content_in (entry_in tree.now.forest element)).attributes) }
 {
-    attributes_in(tree, element).get(name).is_some()
+    content_in(tree, element).attribute(name).is_some()
 }
 
 /// Whether an element has an attribute of that name.
@@ -141,21 +140,21 @@ pub(crate) fn toggle_attribute(
 }
 
 // The attribute at an index that is below the length.
-fn pair_at(attrs: &Attrs, index: usize) -> (&str, &Units)
-    requires { index < length attrs.now }
-    ensures { slice_get attrs.now index ≡ Some (attribute_at result) }
+fn pair_at(content: &Content, index: usize) -> (&str, &Units)
+    requires { index < length content.now.attributes }
+    ensures { slice_get content.now.attributes index ≡ Some (attribute_at result) }
 {
-    attrs.at(index).unwrap()
+    content.attribute_at(index).unwrap()
 }
 
 // Copies of the names of attributes, in order.
-fn names_in(attrs: &Attrs, alloc: Global) -> Result<Vec<String>, AllocError>
-    ensures { IfOk result (λ names. map string_bytes names.items ≡ attribute_names attrs.now) }
+fn names_in(content: &Content, alloc: Global) -> Result<Vec<String>, AllocError>
+    ensures { IfOk result (λ names. map string_bytes names.items ≡ attribute_names content.now.attributes) }
 {
-    let count = attrs.len();
+    let count = content.attribute_count();
     let mut names: Vec<String> = Vec::with_capacity(alloc, count)?;
     for index in 0..count {
-        let (name, _) = pair_at(attrs, index);
+        let (name, _) = pair_at(content, index);
         names.push(String::from_str(alloc, name)?)?;
     }
     Ok(names)
@@ -173,7 +172,7 @@ pub(crate) fn attribute_names(
     if let Some(reply) = kind_refusal(world, element, Kind::Element) {
         return Ok(reply);
     }
-    let names = names_in(attributes_in(&world.tree, element), alloc)?;
+    let names = names_in(content_in(&world.tree, element), alloc)?;
     Ok(Reply::Done(Answer::Names(names)))
 }
 

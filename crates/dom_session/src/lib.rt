@@ -28,7 +28,6 @@ pub use command::{
     Asking, Attributes, Command, Comparing, Contents, Copying, Editing, Making, Observing, Ranging,
     Setting, StaticRanging, Texts, Traversing,
 };
-pub use dom_attrs::Attrs;
 pub use dom_edit::Content;
 pub use dom_kinds::{DomError, Kind, Label};
 pub use dom_model::{Move, OwnError, RecordType, Verdict};
@@ -37,7 +36,7 @@ pub use dom_point::Point;
 pub use dom_ranges::{RangeId, StaticId};
 pub use dom_traverse::{Filter, IteratorId, Rule, WalkerId};
 pub use dom_tree::NodeId;
-pub use dom_units::Units;
+pub use dom_units::{Units, text_of};
 pub use in_use::Counts;
 pub use links::Links;
 pub use reply::{Answer, Description, Reply, Told, TreeRow};

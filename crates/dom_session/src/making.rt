@@ -20,10 +20,10 @@ use dom_units::Units;
 use std::alloc::{AllocError, Global};
 
 /// The label of a Document.
-pub(crate) fn document_label(alloc: Global) -> Label
+pub(crate) fn document_label() -> Label
     ensures { result ≡ document_label }
 {
-    Label::named(Kind::Document, String::new(alloc))
+    Label::nameless(Kind::Document)
 }
 
 // Why a document may not get a new node.
@@ -55,8 +55,7 @@ pub(crate) fn new_document(
     if numbers <= world.tree.made() {
         return Ok(Reply::Own(OwnError::Limit));
     }
-    let body = Content::of_text(alloc, Units::new(alloc));
-    let id = world.make(alloc, document_label(alloc), body, None)?;
+    let id = world.make(alloc, document_label(), Content::nothing(), None)?;
     Ok(Reply::Done(Answer::Number(id.number())))
 }
 
@@ -78,13 +77,8 @@ pub(crate) fn create_element(
     if !is_element_name(name.as_str()) {
         return Ok(Reply::Dom(DomError::InvalidCharacterError));
     }
-    let body = Content::of_text(alloc, Units::new(alloc));
-    let id = world.make(
-        alloc,
-        Label::named(Kind::Element, name),
-        body,
-        Some(document),
-    )?;
+    let label = Label::named(alloc, Kind::Element, name.as_str())?;
+    let id = world.make(alloc, label, Content::nothing(), Some(document))?;
     Ok(Reply::Done(Answer::Number(id.number())))
 }
 
@@ -103,8 +97,8 @@ pub(crate) fn create_text(
     if let Some(reply) = refusal(world, numbers, document) {
         return Ok(reply);
     }
-    let label = Label::named(Kind::Text, String::new(alloc));
-    let id = world.make(alloc, label, Content::of_text(alloc, text), Some(document))?;
+    let body = Content::of_text(alloc, text)?;
+    let id = world.make(alloc, Label::nameless(Kind::Text), body, Some(document))?;
     Ok(Reply::Done(Answer::Number(id.number())))
 }
 
@@ -123,8 +117,8 @@ pub(crate) fn create_comment(
     if let Some(reply) = refusal(world, numbers, document) {
         return Ok(reply);
     }
-    let label = Label::named(Kind::Comment, String::new(alloc));
-    let id = world.make(alloc, label, Content::of_text(alloc, text), Some(document))?;
+    let body = Content::of_text(alloc, text)?;
+    let id = world.make(alloc, Label::nameless(Kind::Comment), body, Some(document))?;
     Ok(Reply::Done(Answer::Number(id.number())))
 }
 
@@ -164,8 +158,9 @@ pub(crate) fn create_instruction(
     if closes_instruction(text.units()) {
         return Ok(Reply::Dom(DomError::InvalidCharacterError));
     }
-    let label = Label::named(Kind::ProcessingInstruction, target);
-    let id = world.make(alloc, label, Content::of_text(alloc, text), Some(document))?;
+    let label = Label::named(alloc, Kind::ProcessingInstruction, target.as_str())?;
+    let body = Content::of_text(alloc, text)?;
+    let id = world.make(alloc, label, body, Some(document))?;
     Ok(Reply::Done(Answer::Number(id.number())))
 }
 
@@ -191,8 +186,7 @@ pub(crate) fn create_doctype(
         return Ok(Reply::Dom(DomError::InvalidCharacterError));
     }
     let label = Label::doctype(alloc, name, public_id, system_id)?;
-    let body = Content::of_text(alloc, Units::new(alloc));
-    let id = world.make(alloc, label, body, Some(document))?;
+    let id = world.make(alloc, label, Content::nothing(), Some(document))?;
     Ok(Reply::Done(Answer::Number(id.number())))
 }
 
@@ -210,9 +204,8 @@ pub(crate) fn create_fragment(
     if let Some(reply) = refusal(world, numbers, document) {
         return Ok(reply);
     }
-    let label = Label::named(Kind::DocumentFragment, String::new(alloc));
-    let body = Content::of_text(alloc, Units::new(alloc));
-    let id = world.make(alloc, label, body, Some(document))?;
+    let label = Label::nameless(Kind::DocumentFragment);
+    let id = world.make(alloc, label, Content::nothing(), Some(document))?;
     Ok(Reply::Done(Answer::Number(id.number())))
 }
 

@@ -41,7 +41,7 @@ pub(crate) fn data(world: &World, alloc: Global, node: NodeId) -> Result<Reply, 
     if let Some(reply) = refusal(world, node) {
         return Ok(reply);
     }
-    let text = data_in(&world.tree, node).try_clone(alloc)?;
+    let text = Units::from_units(alloc, data_in(&world.tree, node))?;
     Ok(Reply::Done(Answer::Units(text)))
 }
 

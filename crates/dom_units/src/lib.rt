@@ -88,7 +88,7 @@ impl Units {
         requires enough { count ≤ length self.now - at }
         ensures { result.now ≡ substring at count self.now }
     {
-        &self.units[at..at + count]
+        units_within(self.units.as_slice(), at, count)
     }
 
     /// Puts `added` in place of the `count` units from `at` on ("replace data").
@@ -119,8 +119,7 @@ impl Units {
     pub fn to_text(&self, alloc: Global) -> Result<Option<String>, AllocError>
         ensures { IfOk result (λ text. option_map string_bytes text ≡ text_of_units self.now) }
     {
-        let text = String::from_utf16(alloc, self.units.as_slice())?;
-        Ok(text.ok())
+        text_of(alloc, self.units.as_slice())
     }
 
     /// A copy, in memory of its own.
@@ -130,4 +129,21 @@ impl Units {
         let units = Vec::from_slice(alloc, self.units.as_slice())?;
         Ok(Units { units })
     }
+}
+
+/// The text of these units, where it is well-formed; `None` where a surrogate has no partner.
+pub fn text_of(alloc: Global, units: &[u16]) -> Result<Option<String>, AllocError>
+    ensures { IfOk result (λ text. option_map string_bytes text ≡ text_of_units units.now) }
+{
+    let text = String::from_utf16(alloc, units)?;
+    Ok(text.ok())
+}
+
+/// `count` of these units from `at` on ("substring data").
+pub fn units_within(units: &[u16], at: usize, count: usize) -> &[u16]
+    requires within { at ≤ length units.now }
+    requires enough { count ≤ length units.now - at }
+    ensures { result.now ≡ substring at count units.now }
+{
+    &units[at..at + count]
 }

@@ -80,7 +80,7 @@ fn write_answer(alloc: Global, answer: &Answer, writer: &mut Writer) -> Result<(
         Answer::Numbers(numbers) => write_numbers(numbers.as_slice(), writer),
         Answer::Flag(flag) => writer.boolean(*flag),
         Answer::Order(order) => write_order(*order, writer),
-        Answer::Units(units) => write_units(alloc, units, writer),
+        Answer::Units(units) => write_units(alloc, units.units(), writer),
         Answer::MaybeUnits(units) => write_maybe_units(alloc, units, writer),
         Answer::Names(names) => write_names(names.as_slice(), writer),
         Answer::NodeAt(node) => write_description(node, writer),

@@ -8,7 +8,7 @@ ghost use Rattle.dom_wire.specs.Prints.{tokens_of, tokens_of_all, Adds};
 
 use crate::values::write_units;
 use dom_kinds::NodeType;
-use dom_session::{Attrs, Kind, Label, TreeRow, Units};
+use dom_session::{Content, Kind, Label, TreeRow, Units};
 use json::Writer;
 use std::alloc::{AllocError, Global};
 
@@ -45,33 +45,33 @@ fn write_detail(alloc: Global, row: &TreeRow, writer: &mut Writer) -> Result<(),
         (tokens_of_all (detail_json row.now.label.kind row.now.label row.now.body)) }
 {
     match row.label.kind {
-        Kind::Element => write_attributes(alloc, &row.body.attrs, writer),
+        Kind::Element => write_attributes(alloc, &row.body, writer),
         Kind::Text | Kind::ProcessingInstruction | Kind::Comment => {
-            write_units(alloc, &row.body.text, writer)
+            write_units(alloc, row.body.text(), writer)
         }
         Kind::Document | Kind::DocumentFragment => Ok(()),
         Kind::DocumentType => write_ids(&row.label, writer),
     }
 }
 
-fn write_attributes(alloc: Global, attrs: &Attrs, writer: &mut Writer) -> Result<(), AllocError>
+fn write_attributes(alloc: Global, body: &Content, writer: &mut Writer) -> Result<(), AllocError>
     ensures { Adds result writer.old writer.new
-        (tokens_of (list_json (map attribute_json attrs.now))) }
+        (tokens_of (list_json (map attribute_json body.now.attributes))) }
 {
     writer.begin_array()?;
-    for index in 0..attrs.len() {
-        let (name, value) = pair_at(attrs, index);
+    for index in 0..body.attribute_count() {
+        let (name, value) = pair_at(body, index);
         write_attribute(alloc, name, value, writer)?;
     }
     writer.end_array()
 }
 
 // The attribute at an index that is below the length.
-fn pair_at(attrs: &Attrs, index: usize) -> (&str, &Units)
-    requires { index < length attrs.now }
-    ensures { slice_get attrs.now index ≡ Some (attribute_at result) }
+fn pair_at(body: &Content, index: usize) -> (&str, &Units)
+    requires { index < length body.now.attributes }
+    ensures { slice_get body.now.attributes index ≡ Some (attribute_at result) }
 {
-    attrs.at(index).unwrap()
+    body.attribute_at(index).unwrap()
 }
 
 fn write_attribute(
@@ -85,7 +85,7 @@ fn write_attribute(
 {
     writer.begin_array()?;
     writer.string(name)?;
-    write_units(alloc, value, writer)?;
+    write_units(alloc, value.units(), writer)?;
     writer.end_array()
 }
 

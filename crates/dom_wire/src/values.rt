@@ -6,7 +6,7 @@ ghost use Rattle.dom_model.specs.Commands.Printed.{or_null, number_json, numbers
 ghost use Rattle.dom_observe.specs.Names.{name_of};
 ghost use Rattle.dom_wire.specs.Prints.{tokens_of, Adds};
 
-use dom_session::{NodeId, Units};
+use dom_session::{NodeId, Units, text_of};
 use json::Writer;
 use std::alloc::{AllocError, Global};
 use std::cmp::Ordering;
@@ -62,21 +62,21 @@ pub(crate) fn write_maybe_units(
 {
     match units {
         None => writer.null(),
-        Some(units) => write_units(alloc, units, writer),
+        Some(units) => write_units(alloc, units.units(), writer),
     }
 }
 
 /// A string where the units are well-formed, or else their numbers.
 pub(crate) fn write_units(
     alloc: Global,
-    units: &Units,
+    units: &[u16],
     writer: &mut Writer,
 ) -> Result<(), AllocError>
     ensures { Adds result writer.old writer.new (tokens_of (units_json units.now)) }
 {
-    match units.to_text(alloc)? {
+    match text_of(alloc, units)? {
         Some(text) => writer.string(text.as_str()),
-        None => write_each_unit(units.units(), writer),
+        None => write_each_unit(units, writer),
     }
 }
 

@@ -37,6 +37,9 @@ returns-in_err-label-clause-left c = left-same c.args.world.now
 pub returns-in_err-attrs-clause-left : goal.returns-in_err-attrs-clause-left
 returns-in_err-attrs-clause-left c = left-same c.args.world.now
 
+pub returns-in_err-content-clause-left : goal.returns-in_err-content-clause-left
+returns-in_err-content-clause-left c = left-same c.args.world.now
+
 pub returns-clause-left : goal.returns-clause-left
 returns-clause-left c =
     either-way c.make.result c.make.ensures.made c.make.ensures.kept

@@ -8,6 +8,6 @@ use Rattle.dom_content.proofs.pieces.part_of.Goals as goal
 pub returns : goal.returns
 returns c =
     let text = c.data_in-data.result.now in
-    let within : c.min-count.result ≡ min c.args.count (length text - c.args.offset) = c.min-count.ensures ∙ ap (λ n. min c.args.count (n - c.args.offset)) c.len.ensures in
+    let within : c.min-count.result ≡ min c.args.count (length text - c.args.offset) = c.min-count.ensures in
     subst (λ (ns : List ℕ). IfOk c.from_units.result (λ copy. copy ≡ ns))
-    (c.slice.ensures ∙ substring-within c.args.offset c.args.count c.min-count.result text within ∙ ap (substring c.args.offset c.args.count) c.data_in-data.ensures) c.from_units.ensures
+    (c.units_within.ensures ∙ substring-within c.args.offset c.args.count c.min-count.result text within ∙ ap (substring c.args.offset c.args.count) c.data_in-data.ensures) c.from_units.ensures

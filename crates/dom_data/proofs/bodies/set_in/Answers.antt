@@ -5,27 +5,29 @@ use Rattle.dom_model.specs.Forests.Attributes.{with_attribute}
 use Rattle.dom_model.specs.Forests.Forest.{with_node}
 use Rattle.dom_model.specs.Worlds.World.{Content}
 use Rattle.dom_model.specs.DataAndCopies.Data.{with_attributes}
-use Rattle.dom_data.proofs.ChangedBodies.{attributes-written, body-written, content-read, read_through}
+use Rattle.dom_data.proofs.ChangedBodies.{attributes-written, body-written, content-read}
 use Rattle.dom_data.proofs.Outcomes.{on_err}
 use Rattle.dom_data.proofs.bodies.set_in.Goals as goal
 
-pub returns-in_err-set-clause-err : goal.returns-in_err-set-clause-err
-returns-in_err-set-clause-err c =
+pub returns-in_err-set_attribute-clause-err : goal.returns-in_err-set_attribute-clause-err
+returns-in_err-set_attribute-clause-err c =
     let f = c.args.tree.now.forest in
     let n = c.args.node in
-    let v : Content = record { text = c.content.inside.text; attributes = c.content.inside.attrs } in
-    let read = read_through f n v _ c.content.view_is c.body_mut-content.ensures.value in
+    let v = c.body_mut-content.result.now in
+    let read = c.body_mut-content.ensures.value in
     on_err c.from_residual.result
     (ap (λ g. record { forest = g; made = c.args.tree.now.made })
-    (ap (λ attributes. with_node n (λ x. record x { body = record v { attributes = attributes } }) f) c.in_err-set.ensures.err ∙ body-written f c.sound.ensures.once n v read))
+    (ap (λ (b : Content). with_node n (λ x. record x { body = b }) f) c.in_err-set_attribute.ensures.err ∙ body-written f c.sound.ensures.once n v read))
 
 pub returns-clause-ok : goal.returns-clause-ok
 returns-clause-ok c =
     let f = c.args.tree.now.forest in
     let n = c.args.node in
-    let v : Content = record { text = c.content.inside.text; attributes = c.content.inside.attrs } in
-    let read = read_through f n v _ c.content.view_is c.body_mut-content.ensures.value in
+    let v = c.body_mut-content.result.now in
+    let read = c.body_mut-content.ensures.value in
+    let set = with_attribute (string_bytes c.args.name) c.args.value in
     let before = ap (λ (b : Content). b.attributes) (content-read f c.sound.ensures.once n v c.requires.held read) in
     ap (λ g. record { forest = g; made = c.args.tree.now.made })
-    (attributes-written f c.sound.ensures.once n v read c.set.new.self
-    ∙ ap (λ attributes. with_node n (with_attributes attributes) f) (c.in_ok-set.ensures.ok ∙ ap (with_attribute (string_bytes c.args.name) c.args.value) before))
+    (ap (λ (b : Content). with_node n (λ x. record x { body = b }) f) c.in_ok-set_attribute.ensures.ok
+    ∙ attributes-written f c.sound.ensures.once n v read (set v.attributes)
+    ∙ ap (λ attributes. with_node n (with_attributes attributes) f) (ap set before))

@@ -9,9 +9,9 @@ use Rattle.dom_data.proofs.normalizing.take_in.Goals as goal
 
 pub merged-requires-clause-fit : goal.merged-requires-clause-fit
 merged-requires-clause-fit c =
-    let small : length c.data_in-2.result.now < 2 ^ 64 = let l = c.len.ensures in omega arith in
+    let small : length c.data_in.result.now < 2 ^ 64 = search (tests, rules) in
     first-fits c.args.world.now c.requires.whole c.args.node c.args.parent c.args.base c.args.next c.requires.next.rest c.requires.next.joinable
-    (subst (λ (units : List ℕ). length units < 2 ^ 64) c.data_in-2.ensures small) c.index_if_asked-index.result
+    (subst (λ (units : List ℕ). length units < 2 ^ 64) c.data_in.ensures small) c.index_if_asked-index.result
 
 pub merged-requires-clause-into_covered : goal.merged-requires-clause-into_covered
 merged-requires-clause-into_covered c =

@@ -1,20 +1,20 @@
 use Rattle.std.proofs.Common.{tests, rules}
 use Rattle.dom_data.proofs.replacing.replace_data.Goals as goal
 
-pub returns-then-offset-len-clause-allowed : goal.returns-then-offset-len-clause-allowed
-returns-then-offset-len-clause-allowed c = search (tests, rules)
+pub returns-then-offset-data_in-clause-allowed : goal.returns-then-offset-data_in-clause-allowed
+returns-then-offset-data_in-clause-allowed c = search (tests, rules)
 
-pub returns-then-offset-len-clause-replaced : goal.returns-then-offset-len-clause-replaced
-returns-then-offset-len-clause-replaced c = search (tests, rules)
+pub returns-then-offset-data_in-clause-replaced : goal.returns-then-offset-data_in-clause-replaced
+returns-then-offset-data_in-clause-replaced c = search (tests, rules)
 
-pub returns-then-offset-len-clause-markers : goal.returns-then-offset-len-clause-markers
-returns-then-offset-len-clause-markers c = search (tests, rules)
+pub returns-then-offset-data_in-clause-markers : goal.returns-then-offset-data_in-clause-markers
+returns-then-offset-data_in-clause-markers c = search (tests, rules)
 
-pub returns-then-offset-len-clause-refused : goal.returns-then-offset-len-clause-refused
-returns-then-offset-len-clause-refused c = search (tests, rules)
+pub returns-then-offset-data_in-clause-refused : goal.returns-then-offset-data_in-clause-refused
+returns-then-offset-data_in-clause-refused c = search (tests, rules)
 
-pub returns-then-offset-len-clause-whole : goal.returns-then-offset-len-clause-whole
-returns-then-offset-len-clause-whole c = search (tests, rules)
+pub returns-then-offset-data_in-clause-whole : goal.returns-then-offset-data_in-clause-whole
+returns-then-offset-data_in-clause-whole c = search (tests, rules)
 
 pub returns-clause-allowed : goal.returns-clause-allowed
 returns-clause-allowed c = search (tests, rules)

@@ -8,11 +8,12 @@ use Rattle.dom_data.proofs.replacing.replace_data_checked.Goals as goal
 
 pub returns-clause-replaced : goal.returns-clause-replaced
 returns-clause-replaced c =
-    let whole = c.len-length.ensures ∙ ap (λ (units : List ℕ). length units) c.data_in.ensures in
-    let within : c.args.offset ≤ c.len-length.result = subst (λ l. c.args.offset ≤ l) (sym whole) c.requires.within in
+    let long = length c.data_in-length.result.now in
+    let whole = ap (λ (units : List ℕ). length units) c.data_in-length.ensures in
+    let within : c.args.offset ≤ long = subst (λ l. c.args.offset ≤ l) (sym whole) c.requires.within in
     on_ok_weaker c.replace_units.result
     (follows-cut c.args.world.now c.replace_units.new.world c.args.node c.args.offset c.args.count c.min-count.result c.args.added.now
-    (c.min-count.ensures ∙ count-cut c.len-length.result c.args.offset c.args.count within ∙ ap (λ l. cut_count l c.args.offset c.args.count) whole))
+    (c.min-count.ensures ∙ count-cut long c.args.offset c.args.count within ∙ ap (λ l. cut_count l c.args.offset c.args.count) whole))
     c.replace_units.ensures.replaced
 
 pub returns-clause-markers : goal.returns-clause-markers

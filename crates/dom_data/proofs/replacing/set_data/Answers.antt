@@ -1,5 +1,5 @@
 -- All units, from the first on.
-use Rattle.std.proofs.Common.{ℕ, List, length, ap, ◌∙◌, tests, rules}
+use Rattle.std.proofs.Common.{ℕ, List, length, ap, tests, rules}
 use Rattle.std.proofs.lemmas.Result.{on_ok_weaker}
 use Rattle.dom_data.proofs.Marking.{stand-by_set_data}
 use Rattle.dom_data.proofs.StaysWhole.{follows-set}
@@ -7,7 +7,7 @@ use Rattle.dom_data.proofs.replacing.set_data.Goals as goal
 
 pub returns-clause-set : goal.returns-clause-set
 returns-clause-set c =
-    on_ok_weaker c.replace_units.result (follows-set c.args.world.now c.replace_units.new.world c.args.node c.len-length.result c.args.text.now (c.len-length.ensures ∙ ap (λ (units : List ℕ). length units) c.data_in.ensures)) c.replace_units.ensures.replaced
+    on_ok_weaker c.replace_units.result (follows-set c.args.world.now c.replace_units.new.world c.args.node (length c.data_in-length.result.now) c.args.text.now (ap (λ (units : List ℕ). length units) c.data_in-length.ensures)) c.replace_units.ensures.replaced
 
 pub returns-clause-markers : goal.returns-clause-markers
 returns-clause-markers c =

@@ -1,23 +1,23 @@
 use Rattle.std.proofs.Common.{tests, rules}
 use Rattle.dom_data.proofs.splitting.split.Goals as goal
 
-pub returns-then-offset-len-clause-number : goal.returns-then-offset-len-clause-number
-returns-then-offset-len-clause-number c = search (tests, rules)
+pub returns-then-offset-data_in-clause-number : goal.returns-then-offset-data_in-clause-number
+returns-then-offset-data_in-clause-number c = search (tests, rules)
 
-pub returns-then-offset-len-clause-allowed : goal.returns-then-offset-len-clause-allowed
-returns-then-offset-len-clause-allowed c = search (tests, rules)
+pub returns-then-offset-data_in-clause-allowed : goal.returns-then-offset-data_in-clause-allowed
+returns-then-offset-data_in-clause-allowed c = search (tests, rules)
 
-pub returns-then-offset-len-clause-split : goal.returns-then-offset-len-clause-split
-returns-then-offset-len-clause-split c = search (tests, rules)
+pub returns-then-offset-data_in-clause-split : goal.returns-then-offset-data_in-clause-split
+returns-then-offset-data_in-clause-split c = search (tests, rules)
 
-pub returns-then-offset-len-clause-markers : goal.returns-then-offset-len-clause-markers
-returns-then-offset-len-clause-markers c = search (tests, rules)
+pub returns-then-offset-data_in-clause-markers : goal.returns-then-offset-data_in-clause-markers
+returns-then-offset-data_in-clause-markers c = search (tests, rules)
 
-pub returns-then-offset-len-clause-refused : goal.returns-then-offset-len-clause-refused
-returns-then-offset-len-clause-refused c = search (tests, rules)
+pub returns-then-offset-data_in-clause-refused : goal.returns-then-offset-data_in-clause-refused
+returns-then-offset-data_in-clause-refused c = search (tests, rules)
 
-pub returns-then-offset-len-clause-whole : goal.returns-then-offset-len-clause-whole
-returns-then-offset-len-clause-whole c = search (tests, rules)
+pub returns-then-offset-data_in-clause-whole : goal.returns-then-offset-data_in-clause-whole
+returns-then-offset-data_in-clause-whole c = search (tests, rules)
 
 pub returns-clause-number : goal.returns-clause-number
 returns-clause-number c = search (tests, rules)

@@ -1,5 +1,5 @@
 -- A new Text, its place behind the old one, and the old one without what is beyond.
-use Rattle.std.proofs.Common.{ℕ, ◌-◌, ◌≤◌, List, drop, length, ap, sym, ◌∙◌, subst, tests, rules}
+use Rattle.std.proofs.Common.{ℕ, ◌-◌, ◌≤◌, List, drop, length, ap, refl, sym, ◌∙◌, subst, tests, rules}
 use Rattle.dom_model.specs.declared.Kind.TheVariants.{Text}
 use Rattle.dom_model.specs.Forests.Kinds.{is_kind}
 use Rattle.dom_data.proofs.NewTexts.{old-kind}
@@ -15,22 +15,22 @@ part-requires-clause-kind c =
 pub part-requires-clause-tail : goal.part-requires-clause-tail
 part-requires-clause-tail c =
     let old = c.args.world.now in
-    let count = c.len.result - c.args.offset in
     let units = c.data_in-data.result.now in
+    let count = length units - c.args.offset in
     let within : c.args.offset ≤ length units = subst (λ (xs : List ℕ). c.args.offset ≤ length xs) (sym c.data_in-data.ensures) c.requires.within in
-    let tail = c.in_ok-tail.ensures ∙ c.slice.ensures ∙ tail-cut c.args.offset count units within (ap (λ l. l - c.args.offset) c.len.ensures) in
+    let tail = c.in_ok-tail.ensures ∙ c.units_within.ensures ∙ tail-cut c.args.offset count units within refl in
     is-tail old c.make_text.new.world c.args.node c.args.offset c.document_in-document.result c.in_ok-new.new c.in_ok-tail.tail c.requires.whole c.requires.kind
     c.requires.within c.document_in-document.ensures.document c.in_ok-new.ensures.number (tail ∙ ap (drop c.args.offset) c.data_in-data.ensures) c.in_ok-new.ensures.made
 
 pub returns-clause-split : goal.returns-clause-split
 returns-clause-split c =
-    let count = c.len.result - c.args.offset in
     let units = c.data_in-data.result.now in
+    let count = length units - c.args.offset in
     let within : c.args.offset ≤ length units = subst (λ (xs : List ℕ). c.args.offset ≤ length xs) (sym c.data_in-data.ensures) c.requires.within in
-    let tail = c.in_ok-tail.ensures ∙ c.slice.ensures ∙ tail-cut c.args.offset count units within (ap (λ l. l - c.args.offset) c.len.ensures) in
+    let tail = c.in_ok-tail.ensures ∙ c.units_within.ensures ∙ tail-cut c.args.offset count units within refl in
     follows-split c.args.world.now c.make_text.new.world c.part.new.world c.replace_data_checked.new.world c.args.node c.args.offset count c.document_in-document.result c.in_ok-new.new c.in_ok-tail.tail
     (text-held c.args.world.now.tree.forest c.args.node c.requires.kind) c.document_in-document.ensures.document c.in_ok-new.ensures.number (tail ∙ ap (drop c.args.offset) c.data_in-data.ensures)
-    (length-tail c.args.offset count c.in_ok-tail.tail units (ap (λ l. l - c.args.offset) c.len.ensures) tail)
+    (length-tail c.args.offset count c.in_ok-tail.tail units refl tail)
     c.in_ok-new.ensures.made c.in_ok-part.ensures.parted c.in_ok-replace_data_checked.ensures.replaced
 
 pub returns-clause-markers : goal.returns-clause-markers

@@ -13,7 +13,7 @@ returns c = record {
   step = step-makes c.args.world.now c.make.new.self (numbered c.args.numbers) (CreateComment c.args.document c.args.text) c.args.document c.number.result (named Comment []) (with_text c.args.text)
       (λ w shown. answer-create_comment c.args.world.now c.args.numbers c.args.document c.args.text w shown (sym c.in_default.ensures))
       (c.number.ensures ∙ c.in_ok-id.ensures.number)
-      (rw (c.named-label.ensures, c.of_text.ensures, c.new.ensures.bytes) at c.in_ok-id.ensures.made) c.make.ensures.whole;
+      (rw (c.nameless.ensures, c.in_ok-body.ensures) at c.in_ok-id.ensures.made) c.make.ensures.whole;
 }
 
 pub returns-in-Some : goal.returns-in-Some

@@ -19,7 +19,7 @@ returns c =
       step = step-makes c.args.world.now c.make.new.self (numbered c.args.numbers) (CreateDoctype c.args.document name public_id system_id) c.args.document c.number.result (doctype_label name public_id system_id) no_content
           (λ w shown. answer-create_doctype c.args.world.now c.args.numbers c.args.document name public_id system_id w shown (sym c.in_default.ensures) valid)
           (c.number.ensures ∙ c.in_ok-id.ensures.number)
-          (rw (c.in_ok-label.ensures, c.of_text-body.ensures, c.new.ensures) at c.in_ok-id.ensures.made) c.make.ensures.whole;
+          (rw (c.in_ok-label.ensures, c.nothing.ensures) at c.in_ok-id.ensures.made) c.make.ensures.whole;
     }
 
 pub returns-in-Some : goal.returns-in-Some

@@ -18,7 +18,7 @@ returns c =
       step = step-makes c.args.world.now c.make.new.self (numbered c.args.numbers) (CreateElement c.args.document name) c.args.document c.number.result (named Element name) no_content
           (λ w shown. answer-create_element c.args.world.now c.args.numbers c.args.document name w shown (sym c.in_default.ensures) valid)
           (c.number.ensures ∙ c.in_ok-id.ensures.number)
-          (rw (c.named.ensures, c.of_text-body.ensures, c.new.ensures) at c.in_ok-id.ensures.made) c.make.ensures.whole;
+          (rw (c.in_ok-label.ensures, c.as_str-2.ensures.value, c.nothing.ensures) at c.in_ok-id.ensures.made) c.make.ensures.whole;
     }
 
 pub returns-in-Some : goal.returns-in-Some

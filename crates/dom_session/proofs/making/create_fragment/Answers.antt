@@ -14,7 +14,7 @@ returns c = record {
   step = step-makes c.args.world.now c.make.new.self (numbered c.args.numbers) (CreateFragment c.args.document) c.args.document c.number.result (named DocumentFragment []) no_content
       (λ w shown. answer-create_fragment c.args.world.now c.args.numbers c.args.document w shown (sym c.in_default.ensures))
       (c.number.ensures ∙ c.in_ok-id.ensures.number)
-      (rw (c.named-label.ensures, c.of_text-body.ensures, c.new-2.ensures, c.new.ensures.bytes) at c.in_ok-id.ensures.made) c.make.ensures.whole;
+      (rw (c.nameless-label.ensures, c.nothing.ensures) at c.in_ok-id.ensures.made) c.make.ensures.whole;
 }
 
 pub returns-in-Some : goal.returns-in-Some

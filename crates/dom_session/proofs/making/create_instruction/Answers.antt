@@ -19,7 +19,7 @@ returns c =
       step = step-makes c.args.world.now c.make.new.self (numbered c.args.numbers) (CreatePI c.args.document target c.args.text) c.args.document c.number.result (named ProcessingInstruction target) (with_text c.args.text)
           (λ w shown. answer-create_instruction c.args.world.now c.args.numbers c.args.document target c.args.text w shown (sym c.in_default.ensures) valid apart)
           (c.number.ensures ∙ c.in_ok-id.ensures.number)
-          (rw (c.named-label.ensures, c.of_text.ensures) at c.in_ok-id.ensures.made) c.make.ensures.whole;
+          (rw (c.in_ok-label.ensures, c.as_str-2.ensures.value, c.in_ok-body.ensures) at c.in_ok-id.ensures.made) c.make.ensures.whole;
     }
 
 pub returns-in-Some : goal.returns-in-Some

@@ -14,5 +14,5 @@ returns c =
       step = step-makes old c.make.new.self (numbered c.args.numbers) NewDocument old.tree.made c.number.result document_label no_content
           (λ w shown. answer-new_document old c.args.numbers w shown room)
           (c.number.ensures ∙ c.in_ok-id.ensures.number)
-          (rw (c.document_label.ensures, c.of_text-body.ensures, c.new.ensures) at c.in_ok-id.ensures.made) c.make.ensures.whole;
+          (rw (c.document_label.ensures, c.nothing.ensures) at c.in_ok-id.ensures.made) c.make.ensures.whole;
     }

@@ -1,5 +1,5 @@
 use Rattle.std.proofs.Common.{tests, rules}
-use Rattle.dom_units.proofs.Units.slice.Goals as goal
+use Rattle.dom_units.proofs.units_within.Goals as goal
 
 pub returns : goal.returns
 returns c = search (tests, rules)

@@ -1,0 +1,88 @@
+//! The texts of a label.
+
+ghost use Rattle.std.specs.Prelude.{◌≡◌, [], IfOk, string_bytes};
+ghost use Rattle.dom_kinds.specs.Texts.{name_in, public_in, system_in};
+
+use arrayvec::ArrayString;
+use std::alloc::{AllocError, Global};
+
+/// A name, or the name, the public and the system id of a doctype: few nodes are doctypes with an id.
+///
+/// A name of at most 8 bytes lies in place. So most nodes take no memory for their texts.
+#[derive(Debug, Drop)]
+pub(crate) enum Texts {
+    Short(ArrayString<8>),
+    Long(Box<String>),
+    Doctype(Box<(String, String, String)>),
+}
+
+impl Texts {
+    /// A name alone. It takes memory only where the name is long.
+    pub(crate) fn named(alloc: Global, name: &str) -> Result<Texts, AllocError>
+        ensures name { IfOk result (λ made. name_in made ≡ name.now) }
+        ensures public_id { IfOk result (λ made. public_in made ≡ []) }
+        ensures system_id { IfOk result (λ made. system_in made ≡ []) }
+    {
+        if let Ok(short) = ArrayString::from(name) {
+            return Ok(Texts::Short(short));
+        }
+        let name = String::from_str(alloc, name)?;
+        Ok(Texts::Long(Box::new(alloc, name)?))
+    }
+
+    pub(crate) fn name(&self) -> &str
+        ensures { result.now ≡ name_in self.now }
+    {
+        match self {
+            Texts::Short(name) => name.as_str(),
+            Texts::Long(name) => name.as_str(),
+            Texts::Doctype(texts) => texts.0.as_str(),
+        }
+    }
+
+    pub(crate) fn public_id(&self) -> &str
+        ensures { result.now ≡ public_in self.now }
+    {
+        match self {
+            Texts::Doctype(texts) => texts.1.as_str(),
+            Texts::Short(_) | Texts::Long(_) => "",
+        }
+    }
+
+    pub(crate) fn system_id(&self) -> &str
+        ensures { result.now ≡ system_in self.now }
+    {
+        match self {
+            Texts::Doctype(texts) => texts.2.as_str(),
+            Texts::Short(_) | Texts::Long(_) => "",
+        }
+    }
+
+    /// A copy, in memory of its own.
+    pub(crate) fn try_clone(&self, alloc: Global) -> Result<Texts, AllocError>
+        ensures name { IfOk result (λ copy. name_in copy ≡ name_in self.now) }
+        ensures public_id { IfOk result (λ copy. public_in copy ≡ public_in self.now) }
+        ensures system_id { IfOk result (λ copy. system_in copy ≡ system_in self.now) }
+    {
+        match self {
+            Texts::Short(name) => Texts::named(alloc, name.as_str()),
+            Texts::Long(name) => Texts::named(alloc, name.as_str()),
+            Texts::Doctype(texts) => Ok(Texts::Doctype(copied(alloc, texts)?)),
+        }
+    }
+}
+
+// A copy of the texts of a doctype, in memory of its own.
+fn copied(
+    alloc: Global,
+    texts: &(String, String, String),
+) -> Result<Box<(String, String, String)>, AllocError>
+    ensures name { IfOk result (λ copy. string_bytes copy.value.0 ≡ string_bytes texts.now.0) }
+    ensures public_id { IfOk result (λ copy. string_bytes copy.value.1 ≡ string_bytes texts.now.1) }
+    ensures system_id { IfOk result (λ copy. string_bytes copy.value.2 ≡ string_bytes texts.now.2) }
+{
+    let name = String::from_str(alloc, texts.0.as_str())?;
+    let public_id = String::from_str(alloc, texts.1.as_str())?;
+    let system_id = String::from_str(alloc, texts.2.as_str())?;
+    Ok(Box::new(alloc, (name, public_id, system_id))?)
+}
