@@ -139,10 +139,10 @@ pub(crate) fn find_standing<X>(
 {
     tree.sound();
     keys.clear();
-    let mut here = node;
+    let mut here = tree.at(node);
     loop {
-        keys.extend_from_slice(keys_on(nodes, here))?;
-        match tree.parent(here) {
+        keys.extend_from_slice(keys_on(nodes, here.number()))?;
+        match here.parent() {
             Some(parent) => here = parent,
             None => return Ok(()),
         }
@@ -189,10 +189,10 @@ pub(crate) fn find_standing_deep<X>(
 {
     tree.sound();
     keys.clear();
-    let mut here = node;
+    let mut here = tree.at(node);
     loop {
-        push_deep(keys, table, keys_on(nodes, here))?;
-        match tree.parent(here) {
+        push_deep(keys, table, keys_on(nodes, here.number()))?;
+        match here.parent() {
             Some(parent) => here = parent,
             None => return Ok(()),
         }

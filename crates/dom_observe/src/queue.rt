@@ -14,6 +14,9 @@ use std::alloc::{AllocError, Global};
 use std::marker::Model;
 use std::mem;
 
+// Room for so many numbers is kept for the records that come after those that were taken.
+const ROOM: usize = 8192;
+
 // The records of an observer, in the order in which they came.
 #[derive(Drop)]
 pub struct Queue {
@@ -58,12 +61,16 @@ impl Queue {
         Ok(())
     }
 
-    // Takes the records out. It takes no memory.
+    // Takes the records out. It takes no memory, and keeps room for the numbers of some nodes.
     pub fn take(&mut self, alloc: Global) -> Vec<Record>
         ensures records { result.items ≡ self.old }
         ensures emptied { self.new ≡ [] }
     {
-        self.named = IndexSet::new(alloc);
+        if self.named.capacity() <= ROOM {
+            self.named.clear();
+        } else {
+            self.named = IndexSet::new(alloc);
+        }
         mem::replace(&mut self.records, Vec::new(alloc))
     }
 

@@ -55,7 +55,7 @@ pub struct Mutation<'a> {
     pub previous: Option<NodeId>,
     pub next: Option<NodeId>,
     pub name: Option<&'a str>,
-    pub old_value: Option<&'a Units>,
+    pub old_value: Option<&'a [u16]>,
 }
 
 impl<'a> Model for Mutation<'a> {
@@ -91,7 +91,7 @@ fn copied_name(alloc: Global, name: Option<&str>) -> Result<Option<String>, Allo
 // A copy of a value, where it is asked for.
 fn copied_value(
     alloc: Global,
-    value: Option<&Units>,
+    value: Option<&[u16]>,
     asked: bool,
 ) -> Result<Option<Units>, AllocError>
     ensures { IfOk result (λ copy. copy ≡ (if asked then text_of value.entry else None)) }
@@ -101,7 +101,7 @@ fn copied_value(
     }
     match value {
         None => Ok(None),
-        Some(value) => Ok(Some(value.try_clone(alloc)?)),
+        Some(value) => Ok(Some(Units::from_units(alloc, value)?)),
     }
 }
 

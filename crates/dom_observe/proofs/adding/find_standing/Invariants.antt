@@ -6,12 +6,13 @@ use Rattle.dom_observe.specs.Watchers.{on}
 use Rattle.dom_observe.specs.Registrations.{listed}
 use Rattle.dom_observe.proofs.adding.find_standing.Given as goal
 
-abbrev pub invariant-loop-parent : goal.invariant-loop-parent
-invariant-loop-parent g l = record {
-  there : HasNode l.tree.forest l.here;
-  so_far : l.keys.items ++ flat_map (λ n. on n (listed l.nodes.entries)) (ancestors l.here l.tree.forest)
+abbrev pub invariant-loop-here : goal.invariant-loop-here
+invariant-loop-here g l = record {
+  tree : l.here.tree ≡ l.tree;
+  there : HasNode l.tree.forest l.here.node;
+  so_far : l.keys.items ++ flat_map (λ n. on n (listed l.nodes.entries)) (ancestors l.here.node l.tree.forest)
       ≡ flat_map (λ n. on n (listed l.nodes.entries)) (ancestors l.fn.node l.tree.forest);
 }
 
-abbrev pub decreases-loop-parent : goal.decreases-loop-parent
-decreases-loop-parent g l = length (ancestors l.here l.tree.forest)
+abbrev pub decreases-loop-here : goal.decreases-loop-here
+decreases-loop-here g l = length (ancestors l.here.node l.tree.forest)
