@@ -34,15 +34,15 @@ fn set(
 fn count(rt: &impl Abort, world: &World) -> usize {
     let node = NodeId::new(1);
     assert!(rt; world.tree.holds(node));
-    world.tree.body(node).attrs.len()
+    world.tree.body(node).attribute_count()
 }
 
 // That element 1 has that attribute.
 fn expect_value(rt: &impl Abort, world: &World, key: &str, value: &str) {
     let node = NodeId::new(1);
     assert!(rt; world.tree.holds(node));
-    match world.tree.body(node).attrs.get(key) {
-        Some(found) => expect_units(rt, found, value),
+    match world.tree.body(node).attribute(key) {
+        Some(found) => expect_units(rt, found.units(), value),
         None => assert!(rt; false, "no attribute {key}"),
     }
 }

@@ -3,7 +3,6 @@
 ghost use Rattle.std.specs.Prelude.{◌≡◌, IfOk};
 ghost use Rattle.dom_edit.specs.Whole.{IsWhole};
 
-use dom_attrs::Attrs;
 use dom_edit::{Content, Refusal, World};
 use dom_kinds::{Kind, Label};
 use dom_observe::{ObserverId, RawOptions, settle};
@@ -29,19 +28,12 @@ pub(crate) fn name(alloc: Global, text: &str) -> Result<String, AllocError> {
     }
 }
 
-/// A label without names.
-pub(crate) fn label(alloc: Global, kind: Kind) -> Label
-    ensures { result.kind ≡ kind }
-{
-    Label::named(kind, String::new(alloc))
-}
-
-/// Data without attributes.
+/// Data without attributes. Where a growth is refused, it is made at the second try.
 pub(crate) fn content(alloc: Global, text: &str) -> Result<Content, AllocError> {
-    Ok(Content {
-        text: units(alloc, text)?,
-        attrs: Attrs::new(alloc),
-    })
+    match Content::of_text(alloc, units(alloc, text)?) {
+        Ok(content) => Ok(content),
+        Err(_) => Content::of_text(alloc, units(alloc, text)?),
+    }
 }
 
 /// Makes a root with that data in document 0.
@@ -60,7 +52,7 @@ pub(crate) fn made(
     assert!(rt; world.tree.holds(document));
     assert!(rt; world.tree.is_of_kind(document, Kind::Document));
     assert!(rt; world.tree.made() < 4294967295);
-    world.make(alloc, label(alloc, kind), content, Some(document))
+    world.make(alloc, Label::nameless(kind), content, Some(document))
 }
 
 /// What a call answers that no exception stands in the way of.
@@ -236,21 +228,13 @@ pub(crate) fn second_document(
     ensures { IsWhole world.new }
 {
     assert!(rt; world.tree.made() == 13);
-    match world.make(
-        alloc,
-        label(alloc, Kind::Document),
-        content(alloc, "")?,
-        None,
-    ) {
+    let label = Label::nameless(Kind::Document);
+    match world.make(alloc, label, Content::nothing(), None) {
         Ok(document) => Ok(document),
         Err(_) => {
             assert!(rt; world.tree.made() == 13);
-            world.make(
-                alloc,
-                label(alloc, Kind::Document),
-                content(alloc, "")?,
-                None,
-            )
+            let label = Label::nameless(Kind::Document);
+            world.make(alloc, label, Content::nothing(), None)
         }
     }
 }
@@ -300,18 +284,12 @@ pub(crate) fn expect_document(rt: &impl Abort, world: &World, node: u32, documen
 pub(crate) fn expect_data(rt: &impl Abort, world: &World, node: u32, text: &str) {
     let node = NodeId::new(node);
     assert!(rt; world.tree.holds(node));
-    expect_units(rt, &world.tree.body(node).text, text);
+    expect_units(rt, world.tree.body(node).text(), text);
 }
 
 /// That these are the units of a text, each below 128.
-pub(crate) fn expect_units(rt: &impl Abort, units: &Units, text: &str) {
-    assert!(rt;
-        units
-            .units()
-            .iter()
-            .copied()
-            .eq(text.bytes().map(u16::from))
-    );
+pub(crate) fn expect_units(rt: &impl Abort, units: &[u16], text: &str) {
+    assert!(rt; units.iter().copied().eq(text.bytes().map(u16::from)));
 }
 
 /// That the nodes below a number are held.

@@ -25,7 +25,7 @@ impl Scene for TheTextOfARange {
             Ok(text) => text,
             Err(_) => range_text(world, alloc, range)?,
         };
-        expect_units(rt, &text, "bcde");
+        expect_units(rt, text.units(), "bcde");
         Ok(())
     }
 }

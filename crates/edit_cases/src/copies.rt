@@ -1,10 +1,8 @@
 //! The calls on a small tree and its copies.
-use dom_attrs::Attrs;
 use dom_clone::{contains, is_equal, position};
 use dom_edit::Content;
 use dom_kinds::{Kind, Label};
 use dom_tree::{NodeId, Tree};
-use dom_units::Units;
 use std::alloc::{AllocError, Global};
 use std::process::Abort;
 use std::test::Fail;
@@ -12,18 +10,12 @@ use std::test::Fail;
 /// Makes a nameless node in the document of a tree, or the document itself.
 fn made(
     rt: &impl Abort,
-    alloc: Global,
     tree: &mut Tree<Content>,
     kind: Kind,
     document: Option<NodeId>,
 ) -> Result<NodeId, AllocError> {
     assert!(rt; tree.made() < 4294967295);
-    let label = Label::named(kind, String::new(alloc));
-    let content = Content {
-        text: Units::new(alloc),
-        attrs: Attrs::new(alloc),
-    };
-    tree.make(label, content, document)
+    tree.make(Label::nameless(kind), Content::nothing(), document)
 }
 
 /// Puts an element last into an element.
@@ -41,14 +33,14 @@ fn put(rt: &impl Abort, tree: &mut Tree<Content>, parent: NodeId, child: NodeId)
 /// A document, and an element with two others in it, the second of which has one of its own.
 fn five_nodes(rt: &impl Abort, alloc: Global) -> Result<Tree<Content>, AllocError> {
     let mut tree = Tree::new(alloc);
-    let document = made(rt, alloc, &mut tree, Kind::Document, None)?;
-    let top = made(rt, alloc, &mut tree, Kind::Element, Some(document))?;
+    let document = made(rt, &mut tree, Kind::Document, None)?;
+    let top = made(rt, &mut tree, Kind::Element, Some(document))?;
     let mut last = top;
     for _ in 0..2 {
-        last = made(rt, alloc, &mut tree, Kind::Element, Some(document))?;
+        last = made(rt, &mut tree, Kind::Element, Some(document))?;
         put(rt, &mut tree, top, last);
     }
-    let inner = made(rt, alloc, &mut tree, Kind::Element, Some(document))?;
+    let inner = made(rt, &mut tree, Kind::Element, Some(document))?;
     put(rt, &mut tree, last, inner);
     Ok(tree)
 }

@@ -27,7 +27,7 @@ fn read_text(rt: &impl Abort, world: &World, alloc: Global) -> Result<(), AllocE
         Err(AllocError) => text_content(world, alloc, node)?,
     };
     match text {
-        Some(text) => expect_units(rt, &text, "abcdef"),
+        Some(text) => expect_units(rt, text.units(), "abcdef"),
         None => assert!(rt; false, "no text"),
     }
     Ok(())
@@ -185,7 +185,7 @@ fn read_part(rt: &impl Abort, world: &World, alloc: Global) -> Result<(), AllocE
         Ok(part) => part,
         Err(AllocError) => allowed(rt, substring(world, alloc, node, 1, 9))?,
     };
-    expect_units(rt, &part, "f");
+    expect_units(rt, part.units(), "f");
     match substring(world, alloc, node, 3, 0) {
         Ok(_) => assert!(rt; false, "past the end"),
         Err(refusal) => assert_eq!(rt; refusal, Refusal::Dom(DomError::IndexSizeError)),

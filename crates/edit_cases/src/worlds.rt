@@ -9,6 +9,7 @@ use dom_kinds::{DomError, Kind, Label};
 use dom_tree::NodeId;
 use dom_units::Units;
 use std::alloc::{AllocError, Global};
+use std::mem::size_of;
 use std::process::Abort;
 use std::test::Fail;
 
@@ -23,15 +24,13 @@ fn fill(attrs: &mut Attrs, alloc: Global) -> Result<(), Fail> {
 fn filled(alloc: Global) -> Result<Content, Fail> {
     let mut attrs = Attrs::new(alloc);
     fill(&mut attrs, alloc)?;
-    Ok(Content {
-        text: Units::from_str(alloc, "é!")?,
-        attrs,
-    })
+    let text = Units::from_str(alloc, "é!")?;
+    Ok(Content::new(alloc, text, attrs)?)
 }
 
 // That the attribute at an index has that name and that value.
-fn expect_attribute(rt: &impl Abort, attrs: &Attrs, index: usize, name: &str, value: &[u16]) {
-    match attrs.at(index) {
+fn expect_attribute(rt: &impl Abort, content: &Content, index: usize, name: &str, value: &[u16]) {
+    match content.attribute_at(index) {
         None => assert!(rt; false, "there is none"),
         Some((found, units)) => {
             assert_eq!(rt; found, name);
@@ -42,10 +41,10 @@ fn expect_attribute(rt: &impl Abort, attrs: &Attrs, index: usize, name: &str, va
 
 // That a content has that text and these attributes, in their order.
 fn expect_filled(rt: &impl Abort, content: &Content) {
-    assert_eq!(rt; content.text.units(), [233, 33].as_slice());
-    assert_eq!(rt; content.attrs.len(), 2);
-    expect_attribute(rt, &content.attrs, 0, "b", &[49]);
-    expect_attribute(rt, &content.attrs, 1, "a", &[]);
+    assert_eq!(rt; content.text(), [233, 33].as_slice());
+    assert_eq!(rt; content.attribute_count(), 2);
+    expect_attribute(rt, content, 0, "b", &[49]);
+    expect_attribute(rt, content, 1, "a", &[]);
 }
 
 fn expect_copied(rt: &impl Abort, alloc: Global, content: &Content) -> Result<(), Fail> {
@@ -58,6 +57,11 @@ fn expect_copied(rt: &impl Abort, alloc: Global, content: &Content) -> Result<()
 fn copied_content(rt: HostRuntime) -> Result<(), Fail> {
     let content = filled(rt.alloc())?;
     expect_copied(&rt, rt.alloc(), &content)
+}
+
+#[test]
+fn bytes_of_a_content(rt: HostRuntime) {
+    assert_eq!(rt; size_of::<Content>(), 16);
 }
 
 // A node without a name: a Document, or a Text in a document.
@@ -75,11 +79,8 @@ fn made(
     } else {
         Kind::Document
     };
-    let label = Label::named(kind, String::new(alloc));
-    let content = Content {
-        text: Units::new(alloc),
-        attrs: Attrs::new(alloc),
-    };
+    let label = Label::nameless(kind);
+    let content = Content::nothing();
     assert!(rt; world.tree.made() < 4294967295);
     match document {
         None => world.make(alloc, label, content, None),

@@ -1,7 +1,7 @@
 //! Values that count how often they are dropped: what a store lets go of is dropped, once.
 
-use super::nodes::{made, nameless, put};
-use dom_kinds::Kind;
+use super::nodes::{made, put};
+use dom_kinds::{Kind, Label};
 use dom_links::{Links, Slot};
 use dom_tree::{NodeId, Tree};
 use std::alloc::{AllocError, Global};
@@ -75,7 +75,7 @@ fn element(
     let body = Counted {
         drops: drops.clone()?,
     };
-    made(rt, tree, nameless(alloc, Kind::Element), body, None)
+    made(rt, tree, Label::nameless(Kind::Element), body, None)
 }
 
 // A root with two children is let go of, beside one that stays.

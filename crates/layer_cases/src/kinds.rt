@@ -1,8 +1,11 @@
 //! Examples of names at the edges of the rules, of numbers, names and codes, and of a copied label.
+use super::marks::{begins, ends};
 use dom_kinds::{
     DomError, Exception, Kind, Label, NodeType, is_attribute_name, is_doctype_name, is_element_name,
 };
 use std::alloc::{AllocError, Global};
+use std::mem::size_of;
+use std::process::Abort;
 use std::test::Fail;
 
 #[test]
@@ -88,4 +91,42 @@ fn copied_label(rt: HostRuntime) -> Result<(), Fail> {
     assert!(rt; copy.public_id() == "é");
     assert!(rt; copy.system_id() == "");
     Ok(())
+}
+
+// A label of an element and a copy of it have the name, and no ids.
+fn expect_name(rt: &impl Abort, alloc: Global, name: &str) -> Result<(), AllocError> {
+    let label = Label::named(alloc, Kind::Element, name)?;
+    let copy = label.try_clone(alloc)?;
+    for made in [&label, &copy] {
+        assert!(rt; made.kind == Kind::Element);
+        assert_eq!(rt; made.name(), name);
+        assert_eq!(rt; made.public_id(), "");
+        assert_eq!(rt; made.system_id(), "");
+    }
+    Ok(())
+}
+
+// Names of up to 8 bytes lie in the label.
+#[test]
+fn short_names_without_a_growth(rt: HostRuntime) -> Result<(), Fail> {
+    begins(rt.alloc())?;
+    for name in ["", "p", "été-ab", "abcdefgh"] {
+        expect_name(&rt, rt.alloc(), name)?;
+    }
+    assert_eq!(rt; Label::nameless(Kind::Text).node_name(), "#text");
+    ends(rt.alloc());
+    Ok(())
+}
+
+#[test]
+fn long_names(rt: HostRuntime) -> Result<(), Fail> {
+    for name in ["abcdefghi", "élément", "un-nom-très-très-très-long"] {
+        expect_name(&rt, rt.alloc(), name)?;
+    }
+    Ok(())
+}
+
+#[test]
+fn bytes_of_a_label(rt: HostRuntime) {
+    assert_eq!(rt; size_of::<Label>(), 32);
 }

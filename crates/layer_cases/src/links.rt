@@ -1,7 +1,8 @@
 //! Slots that are linked, cut, taken and taken again, and the memory under them.
 use super::marks::{begins, ends};
-use dom_links::{Links, NodePtr, Pool, Slot};
+use dom_links::{Links, Node, NodePtr, Pool, Slot};
 use std::alloc::{AllocError, Global};
+use std::mem::size_of;
 use std::process::Abort;
 use std::test::Fail;
 use std_alloc::room::Vacant;
@@ -271,4 +272,10 @@ fn through_a_pointer(alloc: Global) -> Option<(u32, u32, u32)> {
 fn puts_reads_changes_and_takes(rt: HostRuntime) -> Result<(), Fail> {
     assert!(rt; through_a_pointer(rt.alloc()) == Some((5, 7, 1)));
     Ok(())
+}
+
+// Five links and two numbers of four bytes stand beside the value.
+#[test]
+fn bytes_of_a_node(rt: HostRuntime) {
+    assert_eq!(rt; size_of::<Node<u64>>(), 56);
 }

@@ -6,18 +6,8 @@ ghost use Rattle.dom_model.specs.Forests.Nodes.{is_of_kind};
 
 use dom_kinds::{Kind, Label};
 use dom_tree::{NodeId, Tree};
-use std::alloc::{AllocError, Global};
+use std::alloc::AllocError;
 use std::process::Abort;
-
-/// A label with a name and no ids.
-pub(crate) fn named(alloc: Global, kind: Kind, name: &str) -> Result<Label, AllocError> {
-    Ok(Label::named(kind, String::from_str(alloc, name)?))
-}
-
-/// A label with no name.
-pub(crate) fn nameless(alloc: Global, kind: Kind) -> Label {
-    Label::named(kind, String::new(alloc))
-}
 
 /// Makes a node in the document of a tree, or a document of its own.
 pub(crate) fn made<X: Drop>(

@@ -2,8 +2,8 @@
 
 ghost use Rattle.std.specs.Prelude.{◌<◌, ◌^◌};
 
-use super::nodes::{made, nameless, put};
-use dom_kinds::Kind;
+use super::nodes::{made, put};
+use dom_kinds::{Kind, Label};
 use dom_point::{Point, common, order};
 use dom_tree::{NodeId, Tree};
 use std::alloc::{AllocError, Global};
@@ -13,7 +13,7 @@ use std::test::Fail;
 
 // A new element, which is a root.
 fn element(rt: &impl Abort, alloc: Global, tree: &mut Tree<()>) -> Result<NodeId, AllocError> {
-    made(rt, tree, nameless(alloc, Kind::Element), (), None)
+    made(rt, tree, Label::nameless(Kind::Element), (), None)
 }
 
 // A new element, the last child of another.

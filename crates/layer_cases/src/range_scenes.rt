@@ -8,8 +8,8 @@ ghost use Rattle.dom_model.specs.BoundaryPoints.Points.{order_of};
 ghost use Rattle.dom_model.specs.Forests.Nodes.{is_of_kind};
 ghost use Rattle.dom_ranges.specs.Tables.{IsBoundaryIn};
 
-use super::nodes::{made, nameless, put};
-use dom_kinds::Kind;
+use super::nodes::{made, put};
+use dom_kinds::{Kind, Label};
 use dom_point::{Point, order};
 use dom_ranges::{RangeId, Ranges};
 use dom_tree::{Body, NodeId, Tree};
@@ -35,7 +35,7 @@ pub(crate) fn element(
     alloc: Global,
     tree: &mut Tree<Units>,
 ) -> Result<NodeId, AllocError> {
-    made(rt, tree, nameless(alloc, Kind::Element), Units(0), None)
+    made(rt, tree, Label::nameless(Kind::Element), Units(0), None)
 }
 
 // A new element, the last child of another.
@@ -58,7 +58,7 @@ fn text(
     parent: NodeId,
     units: usize,
 ) -> Result<NodeId, AllocError> {
-    let id = made(rt, tree, nameless(alloc, Kind::Text), Units(units), None)?;
+    let id = made(rt, tree, Label::nameless(Kind::Text), Units(units), None)?;
     put(rt, tree, parent, id, None);
     Ok(id)
 }

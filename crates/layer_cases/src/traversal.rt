@@ -4,8 +4,8 @@ ghost use Rattle.std.specs.Prelude.{IsSome};
 ghost use Rattle.std.specs.Option.{ForSome};
 ghost use Rattle.dom_traverse.specs.Standing.{iterator_in, StandsInside};
 
-use super::nodes::{made, named, put};
-use dom_kinds::Kind;
+use super::nodes::{made, put};
+use dom_kinds::{Kind, Label};
 use dom_traverse::{Filter, IteratorId, Move, NodeIterators, Rule, Verdict, WalkerId, Walkers};
 use dom_tree::{NodeId, Tree};
 use std::alloc::{AllocError, Global};
@@ -19,14 +19,14 @@ fn element(
     tree: &mut Tree<()>,
     name: &str,
 ) -> Result<NodeId, AllocError> {
-    let label = named(alloc, Kind::Element, name)?;
+    let label = Label::named(alloc, Kind::Element, name)?;
     made(rt, tree, label, (), Some(NodeId::new(0)))
 }
 
 // A Document, numbered 0, and elements of these names, numbered from 1.
 fn elements(rt: &impl Abort, alloc: Global, names: &[&str]) -> Result<Tree<()>, AllocError> {
     let mut tree = Tree::new(alloc);
-    let _ = made(rt, &mut tree, named(alloc, Kind::Document, "")?, (), None)?;
+    let _ = made(rt, &mut tree, Label::nameless(Kind::Document), (), None)?;
     for name in names {
         let _ = element(rt, alloc, &mut tree, name)?;
     }

@@ -1,7 +1,7 @@
 //! Indices that are kept or found, and trees that are let go of.
 use super::marks::{begins, ends};
-use super::nodes::{made, nameless, put};
-use dom_kinds::Kind;
+use super::nodes::{made, put};
+use dom_kinds::{Kind, Label};
 use dom_tree::{NodeId, Tree};
 use std::alloc::{AllocError, Global};
 use std::process::Abort;
@@ -79,14 +79,14 @@ fn free(rt: &impl Abort, tree: &mut Tree<u32>, top: NodeId) {
 
 /// A new element in the document 0.
 fn element(rt: &impl Abort, alloc: Global, tree: &mut Tree<u32>) -> Result<NodeId, AllocError> {
-    let label = nameless(alloc, Kind::Element);
+    let label = Label::nameless(Kind::Element);
     made(rt, tree, label, 7, Some(NodeId::new(0)))
 }
 
 /// The document 0, and the element 1 with four others in it, in the order in which they were made.
 fn four_children(rt: &impl Abort, alloc: Global) -> Result<Tree<u32>, AllocError> {
     let mut tree = Tree::new(alloc);
-    let _ = made(rt, &mut tree, nameless(alloc, Kind::Document), 7, None)?;
+    let _ = made(rt, &mut tree, Label::nameless(Kind::Document), 7, None)?;
     let parent = element(rt, alloc, &mut tree)?;
     for _ in 0..4 {
         let child = element(rt, alloc, &mut tree)?;
@@ -191,7 +191,7 @@ fn an_index_is_found_within_steps(rt: HostRuntime) -> Result<(), Fail> {
 /// The document 0, and the element 1 with so many others in it, each put in front of those that were there.
 fn put_in_front(rt: &impl Abort, alloc: Global, count: u32) -> Result<Tree<u32>, AllocError> {
     let mut tree = Tree::new(alloc);
-    let _ = made(rt, &mut tree, nameless(alloc, Kind::Document), 7, None)?;
+    let _ = made(rt, &mut tree, Label::nameless(Kind::Document), 7, None)?;
     let parent = element(rt, alloc, &mut tree)?;
     for _ in 0..count {
         let child = element(rt, alloc, &mut tree)?;

@@ -20,8 +20,8 @@ pub(crate) fn nothing() -> RawOptions {
 }
 
 /// A label of a Text, which these tests ask nothing of.
-pub(crate) fn label(alloc: Global) -> Label {
-    Label::named(Kind::Text, String::new(alloc))
+pub(crate) fn label() -> Label {
+    Label::nameless(Kind::Text)
 }
 
 /// An observer watches a node.

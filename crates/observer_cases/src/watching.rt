@@ -11,9 +11,9 @@ use std::test::Fail;
 // A root.
 fn root(rt: &impl Abort, tree: &mut Tree<u8>, alloc: Global) -> Result<NodeId, AllocError> {
     assert!(rt; tree.made() < 10);
-    match tree.make(label(alloc), 0, None) {
+    match tree.make(label(), 0, None) {
         Ok(node) => Ok(node),
-        Err(_) => tree.make(label(alloc), 0, None),
+        Err(_) => tree.make(label(), 0, None),
     }
 }
 
@@ -76,7 +76,7 @@ fn change(
         previous: None,
         next: None,
         name: None,
-        old_value: Some(&old_value),
+        old_value: Some(old_value.units()),
     };
     observers.queue(tree, &mutation)
 }

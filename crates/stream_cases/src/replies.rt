@@ -10,17 +10,20 @@ use std::alloc::{AllocError, Global};
 use std::cmp::Ordering;
 use std::test::Fail;
 
-fn label(alloc: Global, kind: Kind, name: &str) -> Result<Label, AllocError> {
-    Ok(Label::named(kind, String::from_str(alloc, name)?))
-}
-
-fn row(alloc: Global, depth: usize, number: u32, label: Label, text: Units) -> TreeRow {
-    TreeRow {
+fn row(
+    alloc: Global,
+    depth: usize,
+    number: u32,
+    label: Label,
+    text: Units,
+) -> Result<TreeRow, AllocError> {
+    let body = Content::of_text(alloc, text)?;
+    Ok(TreeRow {
         depth,
         number: NodeId::new(number),
         label,
-        body: Content::of_text(alloc, text),
-    }
+        body,
+    })
 }
 
 #[test]
@@ -43,10 +46,10 @@ fn short_replies(rt: HostRuntime) -> Result<(), Fail> {
 
 // Puts rows of a Document, of an element in it, and of two Texts in that behind others.
 fn push_rows(rows: &mut Vec<TreeRow>, alloc: Global) -> Result<(), AllocError> {
-    let document = label(alloc, Kind::Document, "")?;
-    rows.push(row(alloc, 0, 0, document, Units::new(alloc)))?;
-    let element = label(alloc, Kind::Element, "p")?;
-    rows.push(row(alloc, 1, 1, element, Units::new(alloc)))?;
+    let document = Label::nameless(Kind::Document);
+    rows.push(row(alloc, 0, 0, document, Units::new(alloc))?)?;
+    let element = Label::named(alloc, Kind::Element, "p")?;
+    rows.push(row(alloc, 1, 1, element, Units::new(alloc))?)?;
     push_text(rows, alloc, 3, &[55357])?;
     push_text(rows, alloc, 4294967295, &[97, 34, 98])
 }
@@ -57,9 +60,9 @@ fn push_text(
     number: u32,
     units: &[u16],
 ) -> Result<(), AllocError> {
-    let label = label(alloc, Kind::Text, "")?;
+    let label = Label::nameless(Kind::Text);
     let data = Units::from_units(alloc, units)?;
-    rows.push(row(alloc, 2, number, label, data))?;
+    rows.push(row(alloc, 2, number, label, data)?)?;
     Ok(())
 }
 
@@ -107,7 +110,7 @@ fn printed_nodes(rt: HostRuntime) -> Result<(), Fail> {
     let alloc = rt.alloc();
     let mut node = Description {
         document: NodeId::new(8),
-        label: label(alloc, Kind::Element, "b")?,
+        label: Label::named(alloc, Kind::Element, "b")?,
         next: None,
         parent: Some(NodeId::new(1)),
         previous: Some(NodeId::new(2)),
@@ -117,7 +120,7 @@ fn printed_nodes(rt: HostRuntime) -> Result<(), Fail> {
     assert!(rt; prints(alloc, Answer::NodeAt(Box::new(alloc, node)?), wanted)?);
     node = Description {
         document: NodeId::new(0),
-        label: label(alloc, Kind::DocumentType, "html")?,
+        label: Label::named(alloc, Kind::DocumentType, "html")?,
         next: None,
         parent: None,
         previous: None,
@@ -220,12 +223,12 @@ fn set_one(attrs: &mut Attrs, alloc: Global) -> Result<(), AllocError> {
 fn attributed(alloc: Global) -> Result<TreeRow, AllocError> {
     let mut attrs = Attrs::new(alloc);
     set_one(&mut attrs, alloc)?;
-    let text = Units::new(alloc);
+    let body = Content::new(alloc, Units::new(alloc), attrs)?;
     Ok(TreeRow {
         depth: 0,
         number: NodeId::new(1),
-        label: label(alloc, Kind::Element, "p")?,
-        body: Content { text, attrs },
+        label: Label::named(alloc, Kind::Element, "p")?,
+        body,
     })
 }
 

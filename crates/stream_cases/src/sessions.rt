@@ -73,7 +73,7 @@ fn text(alloc: Global, data: &str) -> Result<Command, AllocError> {
 fn has_a_text_below(reply: &Reply) -> bool {
     match reply {
         Reply::Done(Answer::Rows(rows)) => {
-            rows.len() == 2 && rows[1].depth == 1 && rows[1].body.text.len() == 2
+            rows.len() == 2 && rows[1].depth == 1 && rows[1].body.text().len() == 2
         }
         _ => false,
     }

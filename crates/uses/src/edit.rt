@@ -2,7 +2,6 @@
 
 ghost use Rattle.std.specs.Prelude.{◌≡◌, ◌<◌, true, IfOk};
 ghost use Rattle.dom_model.specs.declared.Kind.TheVariants.{Document};
-ghost use Rattle.dom_model.specs.Worlds.Making.{named};
 ghost use Rattle.dom_model.specs.Forests.Forest.{HasNode, entry_in};
 ghost use Rattle.dom_model.specs.Forests.Nodes.{is_of_kind};
 ghost use Rattle.dom_model.specs.Forests.Texts.{units_of};
@@ -17,23 +16,15 @@ use dom_tree::NodeId;
 use dom_units::Units;
 use std::alloc::{AllocError, Global};
 
-// A label with a name alone.
-fn named(alloc: Global, kind: Kind, name: &str) -> Result<Label, AllocError>
-    ensures { IfOk result (λ label. label ≡ named kind name.now) }
-{
-    Ok(Label::named(kind, String::from_str(alloc, name)?))
-}
-
 /// A Document with an element in it.
 pub fn empty_paragraph(alloc: Global) -> Result<World, AllocError>
     ensures keeps { IfOk result (λ world. Keeps world empty_paragraph) }
     ensures whole { IfOk result IsWhole }
 {
     let document = NodeId::new(0);
-    let label = named(alloc, Kind::Element, "p")?;
-    let no_data = Content::of_text(alloc, Units::new(alloc));
+    let label = Label::named(alloc, Kind::Element, "p")?;
     let mut world = World::new(alloc)?;
-    let element = world.make(alloc, label, no_data, Some(document))?;
+    let element = world.make(alloc, label, Content::nothing(), Some(document))?;
     world.insert_checked(alloc, document, element, None)?;
     Ok(world)
 }
@@ -45,8 +36,8 @@ pub fn paragraph(alloc: Global, text: &str) -> Result<World, AllocError>
 {
     let document = NodeId::new(0);
     let element = NodeId::new(1);
-    let label = named(alloc, Kind::Text, "")?;
-    let data = Content::of_text(alloc, Units::from_str(alloc, text)?);
+    let label = Label::nameless(Kind::Text);
+    let data = Content::of_text(alloc, Units::from_str(alloc, text)?)?;
     let mut world = empty_paragraph(alloc)?;
     let child = world.make(alloc, label, data, Some(document))?;
     world.insert_checked(alloc, element, child, None)?;
@@ -69,8 +60,8 @@ pub fn append_text(
     ensures data { IfOk result (λ id. (content_in (entry_in world.new.tree.forest id)).text ≡ units_of text.now) }
     ensures whole { IsWhole world.new }
 {
-    let label = named(alloc, Kind::Text, "")?;
-    let data = Content::of_text(alloc, Units::from_str(alloc, text)?);
+    let label = Label::nameless(Kind::Text);
+    let data = Content::of_text(alloc, Units::from_str(alloc, text)?)?;
     let child = world.make(alloc, label, data, Some(document))?;
     world.append(alloc, parent, child)?;
     Ok(child)

@@ -1,9 +1,9 @@
 //! Calls of `dom_pages`.
 
-ghost use Rattle.std.specs.Prelude.{◌≡◌, ◌≢◌, ℕ, ◌+◌, ◌≤◌, length, Some, None, IfOk, OnErr};
+ghost use Rattle.std.specs.Prelude.{◌≡◌, ◌≢◌, ℕ, ◌+◌, ◌≤◌, ◌==◌, true, if◌then◌else◌, length, Some, None, IfOk, OnErr};
 ghost use Rattle.dom_pages.specs.Numbered.{item_at};
 
-use dom_pages::Pages;
+use dom_pages::{Cell, Pages};
 use std::alloc::AllocError;
 
 /// Gives out two numbers, or none where memory is wanting.
@@ -37,4 +37,44 @@ pub fn take(table: &mut Pages<u32>, number: usize) -> Option<u32>
         table.clear(number);
     }
     found
+}
+
+/// A yes, a no, or nothing. It takes one byte.
+#[derive(Clone, Copy)]
+pub struct Vote {
+    mark: u8,
+}
+
+impl Cell<bool> for Vote {
+    ghost held = { λ vote. if vote.mark == 0 then None else Some (vote.mark == 1) };
+
+    fn vacant() -> Vote {
+        Vote { mark: 0 }
+    }
+
+    fn of(item: bool) -> Vote {
+        Vote {
+            mark: if item { 1 } else { 2 },
+        }
+    }
+
+    fn item(self) -> Option<bool> {
+        if self.mark == 0 {
+            None
+        } else {
+            Some(self.mark == 1)
+        }
+    }
+}
+
+/// Gives out a number for a yes. The table takes a byte for each number.
+pub fn number_yes(table: &mut Pages<bool, Vote>) -> Result<usize, AllocError>
+    requires room { length table.old.items + 1 ≤ 4294967296 }
+    ensures yes { IfOk result (λ number. item_at table.new.items number ≡ Some true) }
+    ensures err { OnErr result (table.new.items ≡ table.old.items) }
+{
+    table.reserve(1)?;
+    let number = table.len();
+    table.push_reserved(true);
+    Ok(number)
 }

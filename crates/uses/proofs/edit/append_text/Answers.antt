@@ -24,5 +24,5 @@ returns-clause-data c =
     let child = c.in_ok-child.child in
     let there : HasNode c.make.new.self.tree.forest child = rw c.in_ok-child.ensures.number (new-held c.args.world.now c.make.new.self _ _ _ c.requires.whole c.in_ok-child.ensures.made) in
     let put = after-appended c.make.new.self c.append.new.self child c.args.parent c.in_ok-child.ensures.whole there c.in_ok-append.ensures.allowed c.in_ok-append.ensures.appended in
-    let given : (content_in (entry_in c.make.new.self.tree.forest child)).text ≡ c.of_text-data.result.text = rw c.in_ok-child.ensures.number (new-data c.args.world.now c.make.new.self _ _ _ c.requires.whole c.in_ok-child.ensures.made) in
-    data-stays _ _ _ put child there ∙ (given ∙ (ap (λ b. b.text) c.of_text-data.ensures ∙ c.in_ok-from_str.ensures))
+    let given : (content_in (entry_in c.make.new.self.tree.forest child)).text ≡ c.in_ok-data.data.text = rw c.in_ok-child.ensures.number (new-data c.args.world.now c.make.new.self _ _ _ c.requires.whole c.in_ok-child.ensures.made) in
+    data-stays _ _ _ put child there ∙ (given ∙ (ap (λ b. b.text) c.in_ok-data.ensures ∙ c.in_ok-from_str.ensures))

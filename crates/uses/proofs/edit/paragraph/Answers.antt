@@ -25,8 +25,8 @@ insert_checked-requires-clause-node_held c =
     let d = c.new-document.ensures in
     let k0 = c.in_ok-world.ensures.keeps in
     let text = units_of c.args.text.now in
-    let words = c.of_text-data.ensures ∙ ap with_text c.in_ok-from_str.ensures in
-    let k1 = keeps-made c.in_ok-world.world c.make.new.self empty_paragraph _ _ _ _ _ d c.in_ok-label.ensures words k0 c.in_ok-child.ensures.made in
+    let words = c.in_ok-data.ensures ∙ ap with_text c.in_ok-from_str.ensures in
+    let k1 = keeps-made c.in_ok-world.world c.make.new.self empty_paragraph _ _ _ _ _ d c.nameless-label.ensures words k0 c.in_ok-child.ensures.made in
     let n : c.in_ok-child.child ≡ 2 = c.in_ok-child.ensures.number ∙ sym k0.made in
     rw n (of_kept (λ f. HasNode f 2) c.make.new.self (with_both text) k1 refl)
 
@@ -35,8 +35,8 @@ insert_checked-requires-clause-allowed c =
     let d = c.new-document.ensures in
     let k0 = c.in_ok-world.ensures.keeps in
     let text = units_of c.args.text.now in
-    let words = c.of_text-data.ensures ∙ ap with_text c.in_ok-from_str.ensures in
-    let k1 = keeps-made c.in_ok-world.world c.make.new.self empty_paragraph _ _ _ _ _ d c.in_ok-label.ensures words k0 c.in_ok-child.ensures.made in
+    let words = c.in_ok-data.ensures ∙ ap with_text c.in_ok-from_str.ensures in
+    let k1 = keeps-made c.in_ok-world.world c.make.new.self empty_paragraph _ _ _ _ _ d c.nameless-label.ensures words k0 c.in_ok-child.ensures.made in
     let e = c.new-element.ensures in
     let n : c.in_ok-child.child ≡ 2 = c.in_ok-child.ensures.number ∙ sym k0.made in
     rw (e, n) (of_kept (λ f. check_insert f 1 2 None ≡ None) c.make.new.self (with_both text) k1 refl)
@@ -46,8 +46,8 @@ returns-clause-keeps c =
     let d = c.new-document.ensures in
     let k0 = c.in_ok-world.ensures.keeps in
     let text = units_of c.args.text.now in
-    let words = c.of_text-data.ensures ∙ ap with_text c.in_ok-from_str.ensures in
-    let k1 = keeps-made c.in_ok-world.world c.make.new.self empty_paragraph _ _ _ _ _ d c.in_ok-label.ensures words k0 c.in_ok-child.ensures.made in
+    let words = c.in_ok-data.ensures ∙ ap with_text c.in_ok-from_str.ensures in
+    let k1 = keeps-made c.in_ok-world.world c.make.new.self empty_paragraph _ _ _ _ _ d c.nameless-label.ensures words k0 c.in_ok-child.ensures.made in
     let e = c.new-element.ensures in
     let n : c.in_ok-child.child ≡ 2 = c.in_ok-child.ensures.number ∙ sym k0.made in
     let k2 = keeps-appended c.make.new.self c.insert_checked.new.self (with_both text) _ _ 2 1 n e k1 c.in_ok-insert_checked.ensures.inserted in
