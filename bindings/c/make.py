@@ -99,10 +99,11 @@ def share(compiler, archive, names, folder):
     words += ["-Wl,--whole-archive", archive, "-Wl,--no-whole-archive"]
     call(compiler, *words, "-o", to)
     os.remove(script)
-    link = os.path.join(folder, "libhuckleport.so")
-    if os.path.lexists(link):
-        os.remove(link)
-    os.symlink(SONAME, link)
+    name = os.path.join(folder, "libhuckleport.so")
+    if os.path.lexists(name):
+        os.remove(name)
+    # (a second name of the file: rt takes no folder in which anything is a symbolic link)
+    os.link(to, name)
     return to
 
 
