@@ -1,9 +1,10 @@
 #!/usr/bin/env python3
 """Nanoseconds a call of scenes through the library for C, and of building, moving and walking by libxml2 where that is there; and the bytes that one
-more object of each kind takes in a session.
+more object of each kind takes.
 
 libxml2 checks nothing, keeps no ranges, iterators or observers, and its walk follows pointers in place of a call. Each scene is run a few
-times, each time in a program of its own, and the quickest run is told, for each program. The ratio is ours over libxml2's.
+times, each time in a program of its own, and the quickest run is told, for each program. The ratio is ours over libxml2's. With --instructions the
+instructions of a call are counted, by valgrind and once, since they are the same from run to run.
 """
 import os
 import subprocess
@@ -23,13 +24,13 @@ def compiled(given, name, work, *words):
     return to
 
 
-def of_libxml2(given, work):
-    """The program over libxml2, or None where that is not there."""
+def of_libxml2(given, name, work):
+    """The program of that name over libxml2, or None where that is not there."""
     try:
         said = subprocess.run(["pkg-config", "--cflags", "--libs", "libxml-2.0"], stdout=subprocess.PIPE, stderr=subprocess.DEVNULL)
     except OSError:
         return None
-    return None if said.returncode else compiled(given, "bench_libxml2", work, *said.stdout.decode().split())
+    return None if said.returncode else compiled(given, name, work, *said.stdout.decode().split())
 
 
 def lines(*words):
@@ -45,32 +46,53 @@ def quickest(program, scene, given):
     return min(found)
 
 
+def instructions(program, scene, given):
+    """Instructions a call, from the call of begin to that of end."""
+    with tempfile.TemporaryDirectory() as work:
+        out = os.path.join(work, "out")
+        words = ["valgrind", "-q", "--tool=callgrind", "--zero-before=begin", "--dump-before=end", "--callgrind-out-file=" + out]
+        calls = lines(*words, program, scene, str(given.count))[-1].split()[1]
+        with open(out + ".1") as profile:
+            found = next(line.split()[1] for line in profile if line.startswith("totals:"))
+    return int(found) / int(calls)
+
+
 def table(ours, other, given):
     of_other = set(lines(other)) if other else set()
-    print(f"| scene of {given.count} | ns a call | libxml2 | ratio |\n|---|---|---|---|")
+    measured, unit = (instructions, "instructions") if given.instructions else (quickest, "ns")
+    print(f"| scene of {given.count} | {unit} a call | libxml2 | ratio |\n|---|---|---|---|")
     for scene in lines(ours):
-        own = quickest(ours, scene, given)
-        its = quickest(other, scene, given) if scene in of_other else None
+        own = measured(ours, scene, given)
+        its = measured(other, scene, given) if scene in of_other else None
         beside = f"{its:.1f} | {own / its:.2f}" if its else " | "
         print(f"| {scene} | {own:.1f} | {beside} |", flush=True)
+
+
+def sizes(ours, other):
+    """Bytes that one more of each kind takes, in ours and in the other."""
+    its = dict(line.strip("| ").rsplit(" | ", 1) for line in lines(other)) if other else {}
+    print("\n| one more | bytes | libxml2 |\n|---|---|---|")
+    for line in lines(ours):
+        name = line.strip("| ").rsplit(" | ", 1)[0]
+        print(f"{line} {its.get(name, '')} |")
 
 
 def main():
     parser = words_of(__doc__)
     parser.add_argument("--count", type=int, default=100000, help="how many nodes, moves or steps a scene has (100000)")
     parser.add_argument("--times", type=int, default=3, help="how often each scene is run (3)")
+    parser.add_argument("--instructions", action="store_true", help="count instructions, by valgrind, in place of nanoseconds")
     given = parser.parse_args()
     if given.count < 100 or given.times < 1:
         parser.error("a scene has at least 100, and is run at least once")
     folder, _ = make(given)
     with tempfile.TemporaryDirectory() as work:
         ours = compiled(given, "bench", work, f"-I{folder}", os.path.join(folder, "libhuckleport.a"))
-        other = of_libxml2(given, work)
+        other = of_libxml2(given, "bench_libxml2", work)
         if not other:
             print("left out: libxml2, since pkg-config does not know libxml-2.0")
         table(ours, other, given)
-        print("\n| one more | bytes |\n|---|---|")
-        print("\n".join(lines(compiled(given, "sizes", work, f"-I{folder}", os.path.join(folder, "libhuckleport.a")))))
+        sizes(compiled(given, "sizes", work, f"-I{folder}", os.path.join(folder, "libhuckleport.a")), of_libxml2(given, "sizes_libxml2", work))
 
 
 if __name__ == "__main__":
