@@ -89,7 +89,8 @@ impl Course {
     pub fn past<'a, X>(&self, filter: &Judge, node: At<'a, X>) -> Option<At<'a, X>>
         requires { Ending node.tree.forest filter.now self.now (past_in node.tree.forest filter.now self.now node.node) }
         ensures tree { ForSome result (λ a. a.tree ≡ node.entry.tree) }
-        ensures leads { LeadsTo node.entry.tree.forest filter.now self.now (past_in node.entry.tree.forest filter.now self.now node.entry.node) (at_or (node_at result) (ended None)) }
+        ensures leads { LeadsTo node.entry.tree.forest filter.now self.now
+            (past_in node.entry.tree.forest filter.now self.now node.entry.node) (at_or (node_at result) (ended None)) }
     {
         let mut here = node;
         while !self.is_over(&here) {

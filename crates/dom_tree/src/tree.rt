@@ -44,7 +44,10 @@ impl<X> Model for Tree<X> {
 
     ghost coded = { grove_code X.code };
 
-    ghost view = { λ t. record { forest = shown (nodes_alone t.links.arena) (slots_in t.links t.table.items); made = length (slots_in t.links t.table.items) } };
+    ghost view = { λ t. record {
+      forest = shown (nodes_alone t.links.arena) (slots_in t.links t.table.items);
+      made = length (slots_in t.links t.table.items);
+    } };
 
     ghost invariant = { λ t. IsSeated t.links t.table.items t.live t.strays };
 }

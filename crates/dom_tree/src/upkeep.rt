@@ -135,7 +135,8 @@ fn child_ahead<X>(links: &Store<Item<X>>, parent: Place, child: Place, steps: u3
     requires placed { IsPlaced links.now child }
     requires child { parent_in (entry_at links.now.arena (slot_of links.now child)) ≡ Some (slot_of links.now parent) }
     requires within { steps ≤ place_in (slot_of links.now child) (children_in (entry_at links.now.arena (slot_of links.now parent))) }
-    ensures { Leads links.now (Some result) (slice_get (children_in (entry_at links.now.arena (slot_of links.now parent))) (place_in (slot_of links.now child) (children_in (entry_at links.now.arena (slot_of links.now parent))) - steps)) }
+    ensures { Leads links.now (Some result) (slice_get (children_in (entry_at links.now.arena (slot_of links.now parent)))
+        (place_in (slot_of links.now child) (children_in (entry_at links.now.arena (slot_of links.now parent))) - steps)) }
 {
     let mut here = child;
     for _passed in 0..steps {
