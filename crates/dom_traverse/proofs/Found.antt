@@ -1,7 +1,7 @@
 -- Items that are found by their roots and by where they stand.
 use Rattle.std.proofs.Common.{◌≡◌, ℕ, zero, suc, ◌+◌, ◌-◌, ◌<◌, ◌≤◌, ◌==◌, nat_eq, Bool, true, false, ◌||◌, if◌then◌else◌, List, [], ◌∷◌, ◌++◌, length, map, get_or, set, swap_remove, Option, Some, None, is_some, ◌⊎◌, inl, inr, refl, sym, ap, ◌∙◌, ⊎_elim, arith, length-set, length-append}
 use Rattle.std.specs.List.{list_any, flat_map}
-use Rattle.std.specs.Option.{unwrap_or}
+use Rattle.std.specs.Option.{IsSome, unwrap_or}
 use Rattle.std.specs.Map.{lookup}
 use Rattle.std.proofs.lemmas.Bool.{cases_Bool, cases_eq, eq-eqb, ne_eqb, or_right}
 use Rattle.std.proofs.lemmas.List.{map-set, map-append, set-get_or, get_or-map, length-map}
@@ -13,7 +13,9 @@ use Rattle.dom_model.proofs.Forests.Climbing.{hits-append, among-hits, not_among
 use Rattle.dom_slots.proofs.Places.{length-swap_remove}
 use Rattle.indexmap.specs.IndexMap.{IndexMap, get}
 use Rattle.dom_traverse.specs.Naming.{if_counted, count_at, Recounts, AreNames, AreFound, IteratorsFound}
-use Rattle.dom_traverse.specs.GivingWay.{references_of, GaveWay}
+use Rattle.dom_traverse.specs.GivingWay.{GaveWay}
+use Rattle.dom_traverse.specs.Whereabouts.{node_in, StandOrWait}
+use Rattle.dom_traverse.proofs.Settling.{all-stand, settled-end, stand-written, stand-kept, stand-more, stand-fewer}
 use Rattle.dom_traverse.proofs.Swapped.{map-swap_remove, hits-le-length, hits-swap_remove}
 
 -- what a count that is kept tells
@@ -39,10 +41,10 @@ module _ {A : Type 0} (root at : A → ℕ) where
       ⊎_elim (λ (b : (at x == n) ≡ true). rw (a, b) (sym (or_right (among n (map root xs)) true refl))) (λ (b : (at x == n) ≡ false). rw (a, b) (nodes-named xs n)) (cases_Bool (at x == n))) (cases_Bool (root x == n))
 
   module _ {S : Type 0} (xs : List A) (roots : IndexMap ℕ ℕ S) (standing : List (Option ℕ)) (are : AreFound root at xs roots standing) where
-    pub found-names : AreNames roots standing (flat_map (λ x. root x ∷ at x ∷ []) xs)
-    found-names n =
+    pub found-names : ((e : ℕ) → e < length standing → IsSome (node_in standing e)) → AreNames roots standing (flat_map (λ x. root x ∷ at x ∷ []) xs)
+    found-names all n =
         nodes-named xs n ∙ ap (λ b. b || list_any (λ o. is_number o n) (map (λ x. Some (at x)) xs)) (sym (ap is_some (are.counted n) ∙ counted-among n (map root xs)))
-        ∙ ap (λ ns. is_some (get nat_eq roots n) || list_any (λ o. is_number o n) ns) (sym are.stand)
+        ∙ ap (λ ns. is_some (get nat_eq roots n) || list_any (λ o. is_number o n) ns) (sym (settled-end at xs standing are.stand all))
 
     -- how many items have a root
     pub found-count : (n : ℕ) → count_at roots n ≡ hits n (map root xs)
@@ -51,21 +53,32 @@ module _ {A : Type 0} (root at : A → ℕ) where
     pub found-few : (roots0 : IndexMap ℕ ℕ S) (n : ℕ) → roots0.entries ≡ roots.entries → count_at roots0 n ≤ length xs
     found-few roots0 n same = omega (arith, ap (λ es. unwrap_or (lookup (nat_eq n) es) 0) same, found-count n, hits-le-length n (map root xs), length-map xs root)
 
+    -- all that wait have come to stand
+    pub found-settled : (standing' : List (Option ℕ)) → standing' ≡ map (λ x. Some (at x)) xs → AreFound root at xs roots standing'
+    found-settled standing' h = record { stand = all-stand at xs standing' h; counted = are.counted; few = are.few }
+
     -- an item has moved
-    pub found-written : (standing' : List (Option ℕ)) (id e r : ℕ) (x y : A) → e ≡ id → id < length xs → x ≡ get_or xs id x → root y ≡ root x → r ≡ at y → standing' ≡ set standing e (Some r) → AreFound root at (set xs id y) roots standing'
-    found-written standing' id e r x y q within is same p h = record {
-      stand =
-          h ∙ ap (λ n. set standing e (Some n)) p ∙ ap (λ k. set standing k (Some (at y))) q ∙ ap (λ ns. set ns id (Some (at y))) are.stand
-          ∙ sym (map-set (λ x. Some (at x)) xs id y);
-      counted = λ n. are.counted n ∙ ap (λ ns. if_counted (hits n ns)) (sym roots-same);
-      few = omega (arith, are.few, length-set xs id y);
-    }
-      where
-        roots-same : map root (set xs id y) ≡ map root xs
-        roots-same =
-            map-set root xs id y
-            ∙ ap (set (map root xs) id) (same ∙ ap root is ∙ sym (get_or-map root xs id x 0 within))
-            ∙ set-get_or (map root xs) id 0
+    module _ (id : ℕ) (x y : A) (within : id < length xs) (is : x ≡ get_or xs id x) (same : root y ≡ root x) where
+      found-moved : (standing' : List (Option ℕ)) → StandOrWait at (set xs id y) standing' → AreFound root at (set xs id y) roots standing'
+      found-moved standing' stand = record {
+        stand = stand;
+        counted = λ n. are.counted n ∙ ap (λ ns. if_counted (hits n ns)) (sym roots-same);
+        few = omega (arith, are.few, length-set xs id y);
+      }
+        where
+          roots-same : map root (set xs id y) ≡ map root xs
+          roots-same =
+              map-set root xs id y
+              ∙ ap (set (map root xs) id) (same ∙ ap root is ∙ sym (get_or-map root xs id x 0 within))
+              ∙ set-get_or (map root xs) id 0
+
+      -- and waits from then on
+      pub found-left : (standing' : List (Option ℕ)) → standing' ≡ set standing id None → AreFound root at (set xs id y) roots standing'
+      found-left standing' h = found-moved standing' (stand-written at xs standing are.stand id y None standing' within (inl refl) h)
+
+      -- or it has stayed
+      pub found-kept : at y ≡ at x → AreFound root at (set xs id y) roots standing
+      found-kept there = found-moved standing (stand-kept at xs standing are.stand id x y within is there)
 
     -- the counts of roots, where a node has one more or one fewer
     recounted : (roots0 roots1 : IndexMap ℕ ℕ S) (r count : ℕ) (ns : List ℕ) → roots0.entries ≡ roots.entries → Recounts roots0 roots1 r count → count ≡ hits r ns → ((n : ℕ) → (r ≡ n → ⊥) → hits n (map root xs) ≡ hits n ns)
@@ -79,9 +92,7 @@ module _ {A : Type 0} (root at : A → ℕ) where
     pub found-more : (xs' : List A) (roots0 roots1 : IndexMap ℕ ℕ S) (standing' : List (Option ℕ)) (x : A) (r : ℕ) → length xs < 4294967295 → roots0.entries ≡ roots.entries → root x ≡ r → at x ≡ r
         → Recounts roots0 roots1 r (count_at roots0 r + 1) → standing' ≡ standing ++ Some r ∷ [] → xs' ≡ xs ++ x ∷ [] → AreFound root at xs' roots1 standing'
     found-more xs' roots0 roots1 standing' x r room same p q told h pushed = record {
-      stand =
-          h ∙ ap (λ ns. ns ++ Some r ∷ []) are.stand ∙ ap (λ n. map (λ x. Some (at x)) xs ++ Some n ∷ []) (sym q) ∙ sym (map-append (λ x. Some (at x)) xs (x ∷ []))
-          ∙ ap (map (λ x. Some (at x))) (sym pushed);
+      stand = stand-more at xs standing are.stand xs' standing' x r q h pushed;
       counted = λ n. recounted roots0 roots1 r (count_at roots0 r + 1) (map root xs ++ r ∷ []) same told here elsewhere n ∙ ap (λ ns. if_counted (hits n ns)) with-root;
       few = omega (arith, room, ap length pushed, length-append xs (x ∷ []));
     }
@@ -117,8 +128,7 @@ module _ {A : Type 0} (root at : A → ℕ) where
         pub found-fewer : (xs' : List A) (roots1 : IndexMap ℕ ℕ S) (standing' : List (Option ℕ)) → Recounts roots roots1 r (count_at roots r - 1) → standing' ≡ swap_remove standing k None → xs' ≡ swap_remove xs k x
             → AreFound root at xs' roots1 standing'
         found-fewer xs' roots1 standing' told h removed = record {
-          stand =
-              h ∙ ap (λ ns. swap_remove ns k None) are.stand ∙ sym (map-swap_remove (λ x. Some (at x)) xs k x None within) ∙ ap (map (λ x. Some (at x))) (sym removed);
+          stand = stand-fewer at xs standing are.stand k x xs' standing' within h removed;
           counted = λ n.
               recounted roots roots1 r (count_at roots r - 1) (map root (swap_remove xs k x)) refl told here elsewhere n
               ∙ ap (λ ys. if_counted (hits n (map root ys))) (sym removed);
@@ -148,7 +158,7 @@ roots-kept step keeps (x ∷ old) (y ∷ new) l h =
     one (inr e) = ap (λ (i : Iterator). i.root) e
 
 pub found-gave : {S : Type 0} (step : Iterator → Iterator) (here : ℕ) (old new : List Iterator) (roots : IndexMap ℕ ℕ S) (standing standing' : List (Option ℕ)) → ((i : Iterator) → (step i).root ≡ i.root) → IteratorsFound old roots standing → GaveWay step here old new
-    → standing' ≡ references_of new → IteratorsFound new roots standing'
+    → StandOrWait (λ (i : Iterator). i.reference) new standing' → IteratorsFound new roots standing'
 found-gave step here old new roots standing standing' keeps are gave h = record {
   stand = h;
   counted = λ n. are.counted n ∙ ap (λ ns. if_counted (hits n ns)) (sym (roots-kept step keeps old new gave.long (λ k i w. kind (gave.each k i w))));

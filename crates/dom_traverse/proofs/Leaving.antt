@@ -1,12 +1,12 @@
--- Iterators that give way one after another, and then stand at their references.
+-- Iterators that give way one after another, and wait.
 use Rattle.std.proofs.Common.{◌≡◌, ℕ, zero, suc, ◌+◌, ◌<◌, List, [], ◌∷◌, length, get_or, set, Option, Some, None, is_some, subst, ◌⊎◌, inl, inr, refl, sym, ap, ◌∙◌, ⊎_elim, arith, length-set, get_or-set_same, get_or-set_other}
 use Rattle.std.specs.Option.{IsSome}
 use Rattle.std.proofs.lemmas.Bool.{cases_eq, false≢true}
-use Rattle.std.proofs.lemmas.List.{ext_get_or, get_or_default, length-map}
+use Rattle.std.proofs.lemmas.List.{get_or_default, length-map}
 use Rattle.dom_model.specs.Worlds.World.{Iterator}
-use Rattle.dom_traverse.specs.Whereabouts.{node_in}
+use Rattle.dom_traverse.specs.Whereabouts.{node_in, StandOrWait}
 use Rattle.dom_model.proofs.PlainLists.Numbers.{same_or, same, apart}
-use Rattle.dom_traverse.specs.GivingWay.{references_of, stepped_at, GaveWay, StandOrWait}
+use Rattle.dom_traverse.specs.GivingWay.{references_of, stepped_at, GaveWay}
 
 -- how many items stand, and how many wait
 abbrev pub standing : List (Option ℕ) → ℕ
@@ -108,7 +108,7 @@ module _ (step : Iterator → Iterator) (old new : List Iterator) (nodes : List 
       go k i (inl h) = inl h.0
       go k i (inr h) = inr (h.0, λ q. none k (h.1 ∙ ap Some q))
 
-  pub leaving-stand : StandOrWait new nodes
+  pub leaving-stand : StandOrWait (λ (i : Iterator). i.reference) new nodes
   leaving-stand = record {
     long = are.wide ∙ sym are.long;
     each = λ k i l. go k i (are.each k i (omega (arith, are.long)));
@@ -133,34 +133,3 @@ gave-there step node old new gave = record {
           | apart ne t ↦ inr (h ∙ (rw t refl), ne)
         ]
     go x y (inr h) = inr h
-
--- those that wait come to stand
-module _ (is : List Iterator) (nodes : List (Option ℕ)) (are : StandOrWait is nodes) where
-  pub settled-step : (id : ℕ) (x : Iterator) (nodes' : List (Option ℕ)) → id < length nodes → x ≡ get_or is id x → nodes' ≡ set nodes id (Some x.reference) → StandOrWait is nodes'
-  settled-step id x nodes' w is-x h = record {
-    long = ap length h ∙ length-set nodes id (Some x.reference) ∙ are.long;
-    each = λ k i l.
-        ⊎_elim (λ (q : k ≡ id). inr (ap (node_in nodes') q ∙ ap (λ ns. node_in ns id) h ∙ get_or-set_same nodes id (Some x.reference) None w ∙ ap (λ (y : Iterator). Some y.reference) (is-x ∙ get_or_default is id x i (omega (arith, w, are.long))) ∙ ap (λ m. Some (get_or is m i).reference) (sym q)))
-        (λ (d : k ≡ id → ⊥). kept k i d (are.each k i l)) (cases_eq k id);
-  }
-    where
-      node-kept : (k : ℕ) → (k ≡ id → ⊥) → node_in nodes' k ≡ node_in nodes k
-      node-kept k d = ap (λ ns. node_in ns k) h ∙ get_or-set_other nodes id k (Some x.reference) None d
-
-      kept : (k : ℕ) (i : Iterator) → (k ≡ id → ⊥) → (node_in nodes k ≡ None) ⊎ (node_in nodes k ≡ Some (get_or is k i).reference) → (node_in nodes' k ≡ None) ⊎ (node_in nodes' k ≡ Some (get_or is k i).reference)
-      kept k i d (inl g) = inl (node-kept k d ∙ g)
-      kept k i d (inr g) = inr (node-kept k d ∙ g)
-
-  pub settled-end : ((e : ℕ) → e < length nodes → IsSome (node_in nodes e)) → nodes ≡ references_of is
-  settled-end all = ext_get_or None nodes (references_of is) (are.long ∙ sym (references-length is)) (λ k l. there k l (item is k (omega (arith, l, are.long))))
-    where
-      item : (xs : List Iterator) (k : ℕ) → k < length xs → Iterator
-      item [] k l = absurd (omega arith)
-      item (x ∷ xs) k l = x
-
-      there : (k : ℕ) → k < length nodes → Iterator → node_in nodes k ≡ node_in (references_of is) k
-      there k l i = go (are.each k i (omega (arith, l, are.long)))
-        where
-          go : (node_in nodes k ≡ None) ⊎ (node_in nodes k ≡ Some (get_or is k i).reference) → node_in nodes k ≡ node_in (references_of is) k
-          go (inl h) = absurd (false≢true (sym (ap is_some h) ∙ all k l))
-          go (inr h) = h ∙ sym (reference-at is k i (omega (arith, l, are.long)))

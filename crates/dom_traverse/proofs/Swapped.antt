@@ -1,5 +1,5 @@
 -- Lists of which an item went, and the last came into its place.
-use Rattle.std.proofs.Common.{◌≡◌, ℕ, ◌+◌, ◌-◌, ◌<◌, ◌≤◌, ◌==◌, if◌then◌else◌, List, [], ◌∷◌, length, map, take, set, get_or, swap_remove, sum_by, refl, sym, ap, ◌∙◌, arith}
+use Rattle.std.proofs.Common.{◌≡◌, ℕ, ◌+◌, ◌-◌, ◌<◌, ◌≤◌, ◌==◌, if◌then◌else◌, List, [], ◌∷◌, length, map, take, set, get_or, swap_remove, sum_by, refl, sym, ap, ◌∙◌, arith, get_or-take, get_or-set_same, get_or-set_other}
 use Rattle.std.proofs.lemmas.List.{take-map, map-set, get_or-map, get_or_default, length-map}
 use Rattle.std.proofs.lemmas.List.Sums.{sum_by-swap_remove, sum_by-cons, count_by-le-length}
 use Rattle.dom_model.specs.PlainLists.Lists.{hits}
@@ -13,6 +13,20 @@ map-swap_remove f xs k d e lt =
     sym (take-map f (length xs - 1) (set xs k (get_or xs (length xs - 1) d)))
     ∙ ap (take (length xs - 1)) (map-set f xs k (get_or xs (length xs - 1) d) ∙ ap (set (map f xs) k) (sym (get_or-map f xs (length xs - 1) d e (omega (arith, lt)))))
     ∙ ap (λ l. take (l - 1) (set (map f xs) k (get_or (map f xs) (l - 1) e))) (sym (length-map xs f))
+
+-- what is read once an item went: the last in its place, the others where they were
+module _ {A : Type 0} (xs : List A) (k : ℕ) where
+  pub swapped-here : (d e : A) → k < length xs - 1 → get_or (swap_remove xs k d) k e ≡ get_or xs (length xs - 1) e
+  swapped-here d e l =
+      let last = get_or xs (length xs - 1) d in
+      get_or-take (length xs - 1) (set xs k last) k e l
+      ∙ get_or-set_same xs k last e (omega (arith, l))
+      ∙ get_or_default xs (length xs - 1) d e (omega (arith, l))
+
+  pub swapped-other : (j : ℕ) (d e : A) → (j ≡ k → ⊥) → j < length xs - 1 → get_or (swap_remove xs k d) j e ≡ get_or xs j e
+  swapped-other j d e other l =
+      let last = get_or xs (length xs - 1) d in
+      get_or-take (length xs - 1) (set xs k last) j e l ∙ get_or-set_other xs k j last e other
 
 -- how often a number stands in a list, as a sum
 hits-sum : (n : ℕ) (ns : List ℕ) → hits n ns ≡ sum_by (λ m. if m == n then 1 else 0) ns

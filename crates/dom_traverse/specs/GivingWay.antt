@@ -1,7 +1,6 @@
 -- Iterators found by their references, and how they give way before a node is removed.
-use Rattle.std.specs.Prelude.{◌≡◌, ℕ, ◌<◌, ◌==◌, if◌then◌else◌, List, length, map, slice_index_or, Option, Some, None, ◌⊎◌}
+use Rattle.std.specs.Prelude.{◌≡◌, ℕ, ◌<◌, ◌==◌, if◌then◌else◌, List, length, map, slice_index_or, Option, Some, ◌⊎◌}
 use Rattle.dom_model.specs.Worlds.World.{Iterator}
-use Rattle.dom_traverse.specs.Whereabouts.{node_in}
 
 -- the reference nodes
 abbrev pub references_of : List Iterator → List (Option ℕ)
@@ -17,8 +16,3 @@ pub record GaveWay (step : Iterator → Iterator) (node : ℕ) (old new : List I
   pub each : (k : ℕ) (i : Iterator) → k < length old →
       (slice_index_or new k i ≡ step (slice_index_or old k i)) ⊎ ((slice_index_or new k i ≡ slice_index_or old k i)
       × ((slice_index_or old k i).reference ≡ node → ⊥))
-
--- each iterator is at its reference, or waits
-pub record StandOrWait (is : List Iterator) (nodes : List (Option ℕ)) : Type 0 where
-  pub long : length nodes ≡ length is
-  pub each : (k : ℕ) (i : Iterator) → k < length is → (node_in nodes k ≡ None) ⊎ (node_in nodes k ≡ Some (slice_index_or is k i).reference)

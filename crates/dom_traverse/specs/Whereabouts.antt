@@ -1,10 +1,19 @@
 -- Items by number, each at a node or waiting, found by way of places that nodes share.
-use Rattle.std.specs.Prelude.{◌≡◌, ℕ, ◌+◌, ◌-◌, ◌%◌, ◌≤◌, List, length, map, slice_index_or, Option, Some, None}
+use Rattle.std.specs.Prelude.{◌≡◌, ℕ, ◌+◌, ◌-◌, ◌%◌, ◌<◌, ◌≤◌, List, length, map, slice_index_or, Option, Some, None, ◌⊎◌}
 use Rattle.dom_traverse.specs.Placing.{Placing}
 
 -- the node of an item, none where it waits or there is no such item
 abbrev pub node_in : List (Option ℕ) → ℕ → Option ℕ
 node_in nodes e = slice_index_or nodes e None
+
+-- an item is at its node, or waits
+abbrev pub StandsOrWaits : {A : Type 0} → (A → ℕ) → A → Option ℕ → Type 0
+StandsOrWaits at x o = (o ≡ None) ⊎ (o ≡ Some (at x))
+
+-- each of them does
+pub record StandOrWait {A : Type 0} (at : A → ℕ) (xs : List A) (nodes : List (Option ℕ)) : Type 0 where
+  pub long : length nodes ≡ length xs
+  pub each : (k : ℕ) (x : A) → k < length xs → StandsOrWaits at (slice_index_or xs k x) (node_in nodes k)
 
 -- the place for a node among so many; the first is for items that wait
 abbrev pub place_of : ℕ → Option ℕ → ℕ

@@ -5,8 +5,10 @@ ghost use Rattle.std.specs.Option.{ForSome};
 ghost use Rattle.dom_model.specs.PlainLists.Lists.{among};
 ghost use Rattle.dom_model.specs.Forests.Forest.{HasNode, inclusive_descendants};
 ghost use Rattle.dom_model.specs.MutationAlgorithms.PreRemoval.{pre_removed};
+ghost use Rattle.dom_model.specs.Worlds.World.{Iterator};
 ghost use Rattle.dom_traverse.specs.Exits.{IsExit};
-ghost use Rattle.dom_traverse.specs.GivingWay.{references_of, GaveWay, StandOrWait};
+ghost use Rattle.dom_traverse.specs.GivingWay.{references_of, GaveWay};
+ghost use Rattle.dom_traverse.specs.Whereabouts.{StandOrWait};
 
 use crate::exit::Exit;
 use crate::iterator::NodeIterator;
@@ -29,21 +31,21 @@ pub(crate) fn give_way<X>(
     requires found { ForSome last (IsExit tree.now.forest node) }
     requires stand { references.old ≡ references_of iterators.old }
     ensures gave { GaveWay (pre_removed tree.now.forest node) here iterators.old iterators.new }
-    ensures stand { StandOrWait iterators.new references.new }
+    ensures stand { StandOrWait (λ (i : Iterator). i.reference) iterators.new references.new }
     ensures found { ForSome result (IsExit tree.now.forest node) }
 {
     let mut last = last;
     while let Some(id) = references.first(here) {
         let iterator = &mut iterators[id as usize];
         last = iterator.removing_at(tree, node, here, last);
-        references.wait(id);
+        references.leave(id);
     }
     last
 }
 
 // Those that wait come to stand at their references.
 pub(crate) fn settle(iterators: &[NodeIterator], references: &mut Whereabouts)
-    requires { StandOrWait iterators.now references.old }
+    requires { StandOrWait (λ (i : Iterator). i.reference) iterators.now references.old }
     ensures { references.new ≡ references_of iterators.now }
 {
     while let Some(id) = references.waiting() {

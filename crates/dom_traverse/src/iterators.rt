@@ -172,9 +172,19 @@ impl NodeIterators {
         self.iterators.removing(tree, node);
     }
 
+    /// Lets `refers` find by the nodes inside what stands there: each iterator that stepped is put at its reference.
+    ///
+    /// It takes no memory, and one move for each iterator that stepped since the last call or that a removal left waiting, however often it
+    /// stepped.
+    pub fn settle(&mut self)
+        ensures { self.new ≡ self.old }
+    {
+        self.iterators.settle();
+    }
+
     /// Whether some iterator has its root or its reference among the inclusive descendants of a node.
     ///
-    /// It walks the nodes inside, or climbs from each iterator where that takes fewer steps.
+    /// It walks the nodes inside, or climbs from each iterator where that takes fewer steps, or where one has yet to be put at its reference.
     pub fn refers<X>(&self, tree: &Tree<X>, top: NodeId) -> bool
         requires { HasNode tree.now.forest top }
         ensures { result ≡ list_any (λ m. among m (inclusive_descendants tree.now.forest top)) (flat_map (nodes_unless_released nodes_of_iterator) self.now) }

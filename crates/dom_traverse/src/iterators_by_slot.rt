@@ -25,11 +25,12 @@ use indexmap::IndexMap;
 use std::alloc::{AllocError, Global};
 use std::marker::Model;
 
-// Node iterators by slot, each over the inclusive descendants of its root. They lie without gaps.
+// Node iterators by slot, each over the inclusive descendants of its root. They lie without gaps. One that stepped waits until a removal or a
+// discard asks which stand inside a node.
 #[derive(Drop)]
 pub(crate) struct IteratorsBySlot {
     iterators: Vec<NodeIterator>,
-    // where each stands: at its reference
+    // where each stands: at its reference, unless it waits
     references: Whereabouts,
     // how many have a node as their root, by its number
     roots: IndexMap<u32, u32>,
@@ -108,7 +109,7 @@ impl IteratorsBySlot {
     {
         let iterator = &mut self.iterators[slot];
         let found = iterator.next(tree);
-        self.references.set(slot as u32, iterator.reference);
+        self.references.leave(slot as u32);
         found
     }
 
@@ -121,7 +122,7 @@ impl IteratorsBySlot {
     {
         let iterator = &mut self.iterators[slot];
         let found = iterator.previous(tree);
-        self.references.set(slot as u32, iterator.reference);
+        self.references.leave(slot as u32);
         found
     }
 
@@ -173,7 +174,8 @@ impl IteratorsBySlot {
         }
     }
 
-    // The pre-removing steps of the iterators whose reference is `here`, inside the node, and of others that are found with them.
+    // The pre-removing steps of the iterators whose reference is `here`, inside the node, and of others that are found with them. First those
+    // that wait come to stand: all that stepped, or those that gave way at the node before.
     fn give_way<X>(
         &mut self,
         tree: &Tree<X>,
@@ -187,16 +189,15 @@ impl IteratorsBySlot {
         ensures gave { GaveWay (pre_removed tree.now.forest node) here self.old self.new }
         ensures found { ForSome result (IsExit tree.now.forest node) }
     {
-        let last = give_way(
+        settle(&self.iterators, &mut self.references);
+        give_way(
             &mut self.iterators,
             &mut self.references,
             tree,
             node,
             here,
             last,
-        );
-        settle(&self.iterators, &mut self.references);
-        last
+        )
     }
 
     // The pre-removing steps of one iterator.
@@ -215,8 +216,11 @@ impl IteratorsBySlot {
     {
         tree.sound();
         let iterator = &mut self.iterators[slot as usize];
+        let stood = iterator.reference;
         let last = iterator.removing(tree, node, last);
-        self.references.set(slot, iterator.reference);
+        if iterator.reference != stood {
+            self.references.leave(slot);
+        }
         last
     }
 
@@ -230,12 +234,22 @@ impl IteratorsBySlot {
         }
     }
 
+    // Those that wait come to stand at their references.
+    pub(crate) fn settle(&mut self)
+        ensures { self.new ≡ self.old }
+    {
+        settle(&self.iterators, &mut self.references);
+    }
+
     // Whether some iterator has its root or its reference among the inclusive descendants of a node. It walks the nodes inside, or climbs
-    // from each iterator where that takes fewer steps.
+    // from each iterator where that takes fewer steps, or where one waits.
     pub(crate) fn refers<X>(&self, tree: &Tree<X>, top: NodeId) -> bool
         requires { HasNode tree.now.forest top }
         ensures { result ≡ list_any (λ m. among m (inclusive_descendants tree.now.forest top)) (flat_map nodes_of_iterator self.now) }
     {
+        if self.references.waiting().is_some() {
+            return self.refer(tree, top);
+        }
         let steps = tree.steps_inside(top, |index| self.node(index));
         match names_inside(&self.roots, &self.references, tree, top, steps) {
             Some(answer) => answer,

@@ -1,13 +1,15 @@
 //! Tree walkers in slots that lie without gaps (DOM Standard, "Interface TreeWalker").
 
-ghost use Rattle.std.specs.Prelude.{◌≡◌, ◌<◌, [], ◌∷◌, ◌++◌, length, slice_get, slice_set, swap_remove, IfSome, OnOk, OnErr};
+ghost use Rattle.std.specs.Prelude.{◌≡◌, ◌<◌, [], ◌∷◌, ◌++◌, length, map, slice_get, slice_set, swap_remove, Some, IfSome, OnOk, OnErr};
 ghost use Rattle.std.specs.List.{list_any, flat_map};
 ghost use Rattle.std.specs.Option.{ForSome};
 ghost use Rattle.dom_model.specs.PlainLists.Lists.{among};
 ghost use Rattle.dom_model.specs.Forests.Forest.{HasNode, inclusive_descendants};
+ghost use Rattle.dom_model.specs.Worlds.World.{Walker};
 ghost use Rattle.dom_model.specs.Traversal.Walks.{new_walker, walk_found, walker_moved};
 ghost use Rattle.dom_model.specs.MutationAlgorithms.Discarding.{nodes_of_walker};
 ghost use Rattle.dom_traverse.specs.Standing.{StandsThere};
+ghost use Rattle.dom_traverse.specs.Whereabouts.{StandOrWait};
 
 use crate::filter::Filter;
 use crate::judge::Judge;
@@ -20,11 +22,12 @@ use indexmap::IndexMap;
 use std::alloc::{AllocError, Global};
 use std::marker::Model;
 
-// Tree walkers by slot. They lie without gaps. Removing a node does not adjust them.
+// Tree walkers by slot. They lie without gaps. Removing a node does not adjust them. One that moved waits until a discard asks which stand
+// inside a node.
 #[derive(Drop)]
 pub(crate) struct WalkersBySlot {
     walkers: Vec<TreeWalker>,
-    // where each stands: at its current node
+    // where each stands: at its current node, unless it waits
     currents: Whereabouts,
     // how many have a node as their root, by its number
     roots: IndexMap<u32, u32>,
@@ -41,6 +44,17 @@ impl Model for WalkersBySlot {
     ghost use Rattle.dom_traverse.specs.Naming.{WalkersFound};
 
     ghost invariant = { λ w. WalkersFound w.walkers.items w.roots w.currents };
+}
+
+// Those that wait come to stand at their current nodes.
+fn settle(walkers: &[TreeWalker], currents: &mut Whereabouts)
+    requires { StandOrWait (λ (k : Walker). k.current) walkers.now currents.old }
+    ensures { currents.new ≡ map (λ (k : Walker). Some k.current) walkers.now }
+{
+    while let Some(id) = currents.waiting() {
+        let walker = &walkers[id as usize];
+        currents.set(id, walker.current);
+    }
 }
 
 impl WalkersBySlot {
@@ -99,7 +113,7 @@ impl WalkersBySlot {
         ensures { IfSome (slice_get self.old slot) (λ w. self.new ≡ slice_set self.old slot (record w { current = node })) }
     {
         self.walkers[slot].current = node;
-        self.currents.set(slot as u32, node);
+        self.currents.leave(slot as u32);
     }
 
     // Makes one of the seven moves: to the node that it finds, where there is one.
@@ -111,7 +125,7 @@ impl WalkersBySlot {
     {
         let walker = &mut self.walkers[slot];
         let found = walker.step(tree, direction);
-        self.currents.set(slot as u32, walker.current);
+        self.currents.leave(slot as u32);
         found
     }
 
@@ -125,12 +139,22 @@ impl WalkersBySlot {
         }
     }
 
+    // Those that wait come to stand at their current nodes.
+    pub(crate) fn settle(&mut self)
+        ensures { self.new ≡ self.old }
+    {
+        settle(&self.walkers, &mut self.currents);
+    }
+
     // Whether some walker has its root or its current node among the inclusive descendants of a node. It walks the nodes inside, or climbs
-    // from each walker where that takes fewer steps.
+    // from each walker where that takes fewer steps, or where one waits.
     pub(crate) fn refers<X>(&self, tree: &Tree<X>, top: NodeId) -> bool
         requires { HasNode tree.now.forest top }
         ensures { result ≡ list_any (λ m. among m (inclusive_descendants tree.now.forest top)) (flat_map nodes_of_walker self.now) }
     {
+        if self.currents.waiting().is_some() {
+            return self.refer(tree, top);
+        }
         let steps = tree.steps_inside(top, |index| self.node(index));
         match names_inside(&self.roots, &self.currents, tree, top, steps) {
             Some(answer) => answer,

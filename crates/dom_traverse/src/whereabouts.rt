@@ -10,7 +10,8 @@ use dom_tree::NodeId;
 use std::alloc::{AllocError, Global};
 use std::marker::Model;
 
-// The node at which each item stands, none while it waits. Nodes share places by the remainders of their numbers; there are more places than
+// The node at which each item stands, none while it waits. An item that leaves its node waits until someone asks who stands where: so a step
+// that follows another changes nothing here. Nodes share places by the remainders of their numbers; there are more places than
 // items, so few nodes at which items stand share one.
 //
 // To find who stands at a node takes a time that grows with how many stand at its place. To move an item takes the same time however many
@@ -109,12 +110,14 @@ impl Whereabouts {
         self.write(id, Some(node.number()));
     }
 
-    // Lets an item wait.
-    pub(crate) fn wait(&mut self, id: u32)
+    // Lets an item wait from then on, where it does not wait yet.
+    pub(crate) fn leave(&mut self, id: u32)
         requires { id < length self.old }
         ensures { self.new ≡ slice_set self.old id None }
     {
-        self.write(id, None);
+        if self.nodes[id as usize].is_some() {
+            self.write(id, None);
+        }
     }
 
     // Takes an item out. The last item gets its number.

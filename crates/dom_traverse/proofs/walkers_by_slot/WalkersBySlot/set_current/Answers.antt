@@ -2,13 +2,13 @@
 use Rattle.std.proofs.Common.{length, refl, ap, arith}
 use Rattle.dom_model.specs.Worlds.World.{Walker}
 use Rattle.dom_traverse.proofs.Following.{written-at}
-use Rattle.dom_traverse.proofs.Found.{found-written}
+use Rattle.dom_traverse.proofs.Found.{found-left}
 use Rattle.dom_traverse.proofs.walkers_by_slot.WalkersBySlot.set_current.Goals as goal
 
 pub invariant_of-self : goal.invariant_of-self
 invariant_of-self c =
-    found-written (λ (k : Walker). k.root) (λ (k : Walker). k.current) c.self.inside.walkers.items c.self.inside.roots c.self.inside.currents c.self.invariant c.set.new.self c.args.slot c.args.slot c.args.node c.index_mut.result.now _
-    refl (omega (arith, c.requires, ap length c.self.view_is)) c.index_mut.ensures.value (ap (λ (k : Walker). k.root) c.behind-self.view_is) refl c.set.ensures
+    found-left (λ (k : Walker). k.root) (λ (k : Walker). k.current) c.self.inside.walkers.items c.self.inside.roots c.self.inside.currents c.self.invariant c.args.slot c.index_mut.result.now _
+    (omega (arith, c.requires, ap length c.self.view_is)) c.index_mut.ensures.value (ap (λ (k : Walker). k.root) c.behind-self.view_is) c.leave.new.self c.leave.ensures
 
 pub returns : goal.returns
 returns c =

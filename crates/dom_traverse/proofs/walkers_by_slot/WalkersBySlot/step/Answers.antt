@@ -3,14 +3,14 @@ use Rattle.std.proofs.Common.{◌≡◌, length, refl, ap, ◌∙◌, arith}
 use Rattle.dom_model.specs.Worlds.World.{Walker}
 use Rattle.dom_model.specs.Traversal.Walks.{walk_found, walker_moved}
 use Rattle.dom_traverse.proofs.Following.{told-at, written-at}
-use Rattle.dom_traverse.proofs.Found.{found-written, moved-walker_root}
+use Rattle.dom_traverse.proofs.Found.{found-left, moved-walker_root}
 use Rattle.dom_traverse.proofs.walkers_by_slot.WalkersBySlot.step.Goals as goal
 
 pub invariant_of-self : goal.invariant_of-self
 invariant_of-self g c =
-    found-written (λ (k : Walker). k.root) (λ (k : Walker). k.current) c.self.inside.walkers.items c.self.inside.roots c.self.inside.currents c.self.invariant c.set.new.self c.args.slot c.args.slot c.walker.inside.current c.index_mut-walker.result.now c.step-found.new.self
-    refl (omega (arith, c.requires.held, ap length c.self.view_is)) c.index_mut-walker.ensures.value
-    (ap (λ (k : Walker). k.root) c.step-found.ensures.moved ∙ moved-walker_root (walk_found c.args.direction c.args.tree.now.forest c.index_mut-walker.result.now) c.index_mut-walker.result.now) (ap (λ (k : Walker). k.current) c.walker.view_is) c.set.ensures
+    found-left (λ (k : Walker). k.root) (λ (k : Walker). k.current) c.self.inside.walkers.items c.self.inside.roots c.self.inside.currents c.self.invariant c.args.slot c.index_mut-walker.result.now c.step-found.new.self
+    (omega (arith, c.requires.held, ap length c.self.view_is)) c.index_mut-walker.ensures.value
+    (ap (λ (k : Walker). k.root) c.step-found.ensures.moved ∙ moved-walker_root (walk_found c.args.direction c.args.tree.now.forest c.index_mut-walker.result.now) c.index_mut-walker.result.now) c.leave.new.self c.leave.ensures
 
 pub returns-clause-found : goal.returns-clause-found
 returns-clause-found g c =
