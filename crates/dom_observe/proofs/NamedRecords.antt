@@ -1,34 +1,21 @@
 -- The nodes that the records of a queue name, as a set has them.
-use Rattle.std.proofs.Common.{◌≡◌, ℕ, ◌==◌, Bool, true, false, ◌||◌, if◌then◌else◌, List, [], ◌∷◌, ◌++◌, refl, ap, sym, ◌∙◌, append-nil, nat_eq}
+use Rattle.std.proofs.Common.{◌≡◌, ℕ, ◌+◌, ◌==◌, Bool, true, false, ◌||◌, if◌then◌else◌, List, ◌∷◌, ◌++◌, length, take, drop, refl, ap, sym, ◌∙◌, nat_eq, arith, length-append, take-append-drop, take_all, drop_of_length-le}
 use Rattle.std.specs.Prelude.{flat_map}
 use Rattle.std.specs.List.{list_any}
+use Rattle.std.proofs.lemmas.List.Concat.{flat_map-append}
+use Rattle.std.proofs.lemmas.List.Folds.{list_any-append}
 use Rattle.dom_model.specs.PlainLists.Lists.{among}
 use Rattle.dom_model.specs.MutationObservers.Record.{Record}
 use Rattle.dom_model.specs.MutationAlgorithms.Discarding.{nodes_of_record}
 use Rattle.dom_model.proofs.PlainLists.Searches.{among-both, any-same}
 use Rattle.indexmap.specs.IndexSet.{IndexSet, contains}
-use Rattle.dom_observe.specs.Naming.{NamesNodes}
+use Rattle.dom_observe.specs.Naming.{NamesNodes, IsSettled}
 use Rattle.dom_observe.proofs.Hearing.{among-list_any}
+use Rattle.dom_observe.proofs.Named.{any-flat}
 
 or-grouped : (a b c : Bool) → (a || (b || c)) ≡ ((a || b) || c)
 or-grouped true b c = refl
 or-grouped false b c = refl
-
--- one more record
-named-last : (n : ℕ) (rs : List Record) (r : Record) → among n (flat_map nodes_of_record (rs ++ r ∷ [])) ≡ (among n (flat_map nodes_of_record rs) || among n (nodes_of_record r))
-named-last n [] r = ap (among n) (append-nil (nodes_of_record r))
-named-last n (s ∷ rs) r =
-    among-both n (nodes_of_record s) (flat_map nodes_of_record (rs ++ r ∷ []))
-    ∙ ap (λ b. among n (nodes_of_record s) || b) (named-last n rs r)
-    ∙ or-grouped (among n (nodes_of_record s)) (among n (flat_map nodes_of_record rs)) (among n (nodes_of_record r))
-    ∙ sym (ap (λ b. b || among n (nodes_of_record r)) (among-both n (nodes_of_record s) (flat_map nodes_of_record rs)))
-
-pub names-more : {S : Type 0} (rs rs' : List Record) (old same new : IndexSet ℕ S) (r : Record) → NamesNodes rs old → same.keys ≡ old.keys → rs' ≡ rs ++ r ∷ []
-    → ((n : ℕ) → contains nat_eq new n ≡ (contains nat_eq same n || among n (nodes_of_record r))) → NamesNodes rs' new
-names-more rs rs' old same new r named kept pushed put n =
-    put n
-    ∙ ap (λ b. b || among n (nodes_of_record r)) (ap (list_any (nat_eq n)) kept ∙ named n)
-    ∙ sym (ap (λ xs. among n (flat_map nodes_of_record xs)) pushed ∙ named-last n rs r)
 
 -- a set of the names is searched where the nodes of the records are
 pub any-names : {S : Type 0} (p : ℕ → Bool) (rs : List Record) (names : IndexSet ℕ S) → NamesNodes rs names → list_any p names.keys ≡ list_any p (flat_map nodes_of_record rs)
@@ -54,3 +41,51 @@ name-parts n before target added removed previous next =
     turned false false false true c d = refl
     turned false false false false true d = refl
     turned false false false false false d = refl
+
+-- what the records name, those that are settled and the others
+any-parts : (p : ℕ → Bool) (settled : ℕ) (rs : List Record) → list_any p (flat_map nodes_of_record rs) ≡ (list_any p (flat_map nodes_of_record (take settled rs)) || list_any p (flat_map nodes_of_record (drop settled rs)))
+any-parts p settled rs =
+    ap (λ l. list_any p (flat_map nodes_of_record l)) (sym (take-append-drop settled rs))
+    ∙ ap (list_any p) (flat_map-append nodes_of_record (take settled rs) (drop settled rs))
+    ∙ list_any-append p (flat_map nodes_of_record (take settled rs)) (flat_map nodes_of_record (drop settled rs))
+
+pub any-settled : {S : Type 0} (p : ℕ → Bool) (rs : List Record) (named : IndexSet ℕ S) (settled owed : ℕ) → IsSettled rs named settled owed
+    → list_any p (flat_map nodes_of_record rs) ≡ (list_any p named.keys || list_any (λ r. list_any p (nodes_of_record r)) (drop settled rs))
+any-settled p rs named settled owed s =
+    any-parts p settled rs
+    ∙ (λ i. sym (any-names p (take settled rs) named s.first) i || any-flat p nodes_of_record (drop settled rs) i)
+
+-- the others are named too
+pub settled-all : {S : Type 0} (rs : List Record) (old new : IndexSet ℕ S) (settled owed all : ℕ) → IsSettled rs old settled owed → all ≡ length rs
+    → ((n : ℕ) → contains nat_eq new n ≡ (contains nat_eq old n || among n (flat_map nodes_of_record (drop settled rs)))) → IsSettled rs new all 0
+settled-all rs old new settled owed all s end put = record {
+  within = omega (arith, end);
+  first = λ n.
+      put n
+      ∙ ap (λ b. b || among n (flat_map nodes_of_record (drop settled rs))) (s.first n)
+      ∙ sym (parts n)
+      ∙ sym (ap (λ l. among n (flat_map nodes_of_record l)) (take_all all rs (omega (arith, end))));
+  others = omega (arith, none);
+  room = omega arith;
+}
+  where
+    none : length (flat_map nodes_of_record (drop all rs)) ≡ 0
+    none = ap (λ l. length (flat_map nodes_of_record l)) (drop_of_length-le rs (omega (arith, end)))
+
+    parts : (n : ℕ) → among n (flat_map nodes_of_record rs) ≡ (among n (flat_map nodes_of_record (take settled rs)) || among n (flat_map nodes_of_record (drop settled rs)))
+    parts n =
+        ap (λ l. among n (flat_map nodes_of_record l)) (sym (take-append-drop settled rs))
+        ∙ ap (among n) (flat_map-append nodes_of_record (take settled rs) (drop settled rs))
+        ∙ among-both n (flat_map nodes_of_record (take settled rs)) (flat_map nodes_of_record (drop settled rs))
+
+-- the nodes of the next record are named
+module _ (rs : List Record) (i : ℕ) (r : Record) (next : drop i rs ≡ r ∷ drop (i + 1) rs) where
+  pub named-next : (n : ℕ) (before after : Bool) → after ≡ (before || among n (nodes_of_record r))
+      → (after || among n (flat_map nodes_of_record (drop (i + 1) rs))) ≡ (before || among n (flat_map nodes_of_record (drop i rs)))
+  named-next n before after put =
+      ap (λ b. b || among n (flat_map nodes_of_record (drop (i + 1) rs))) put
+      ∙ sym (or-grouped before (among n (nodes_of_record r)) (among n (flat_map nodes_of_record (drop (i + 1) rs))))
+      ∙ sym (ap (λ b. before || b) (ap (λ l. among n (flat_map nodes_of_record l)) next ∙ among-both n (nodes_of_record r) (flat_map nodes_of_record (drop (i + 1) rs))))
+
+  pub length-next : length (flat_map nodes_of_record (drop i rs)) ≡ length (nodes_of_record r) + length (flat_map nodes_of_record (drop (i + 1) rs))
+  length-next = ap (λ l. length (flat_map nodes_of_record l)) next ∙ length-append (nodes_of_record r) (flat_map nodes_of_record (drop (i + 1) rs))

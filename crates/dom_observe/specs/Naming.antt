@@ -1,8 +1,8 @@
 -- The nodes that observers name: those of their registrations, and those of the records that wait.
-use Rattle.std.specs.Prelude.{◌≡◌, ℕ, Bool, false, List, Option, flat_map, nat_eq}
+use Rattle.std.specs.Prelude.{◌≡◌, ℕ, ◌≤◌, Bool, false, List, length, take, drop, Option, flat_map, nat_eq}
 use Rattle.std.specs.Option.{option_map_or}
 use Rattle.std.specs.List.{list_any, AllByRecursion}
-use Rattle.indexmap.specs.IndexSet.{IndexSet, contains}
+use Rattle.indexmap.specs.IndexSet.{IndexSet, contains, spare}
 use Rattle.dom_model.specs.PlainLists.Lists.{among}
 use Rattle.dom_model.specs.Worlds.World.{Registration}
 use Rattle.dom_model.specs.MutationObservers.Record.{Record}
@@ -28,3 +28,10 @@ TellsOnly these old new = (p : ℕ → Bool) → list_any p these ≡ false → 
 -- a set has the numbers of the nodes that records name, and no others
 abbrev pub NamesNodes : {S : Type 0} → List Record → IndexSet ℕ S → Type 0
 NamesNodes records named = (n : ℕ) → contains nat_eq named n ≡ among n (flat_map nodes_of_record records)
+
+-- a set has the numbers of the nodes that the first records name, and room for those of the others
+pub record IsSettled {S : Type 0} (records : List Record) (named : IndexSet ℕ S) (settled owed : ℕ) : Type 0 where
+  pub within : settled ≤ length records
+  pub first : NamesNodes (take settled records) named
+  pub others : length (flat_map nodes_of_record (drop settled records)) ≤ owed
+  pub room : owed ≤ spare named

@@ -21,7 +21,7 @@ use crate::naming::{is_named, is_told};
 use crate::notifying::gather;
 use crate::observer_id::ObserverId;
 use crate::options::Options;
-use crate::queues::take_from;
+use crate::queues::{settle_each, take_from};
 use crate::record::{Mutation, Record};
 use crate::registration::{Ended, Ending, Lifetime, Registration};
 use crate::roster::Roster;
@@ -395,11 +395,22 @@ impl Observers {
         Ok(told)
     }
 
+    /// Puts the nodes that waiting records name where `refers` finds them without going through the records. It takes no memory, and what is observed stays
+    /// as it is.
+    ///
+    /// A record is queued without that, since most are taken before anyone asks. It costs one look at each pending observer, and as much as the records name
+    /// that came since the last call: so call it before `refers` where it may be asked many times while the same records wait.
+    pub fn settle(&mut self)
+        ensures { self.new ≡ self.old }
+    {
+        settle_each(&mut self.roster, &self.pending);
+    }
+
     /// Whether a registration, or a record that waits, names a node inside another. It takes no memory.
     ///
     /// It walks the nodes inside, and asks of each whether a registration stands on it: so does one on the source of each transient one. Where climbs from
     /// the nodes with registrations take fewer steps, it asks these: walk and climbs are counted in step, as `Tree::steps_inside` says. It asks each queue
-    /// of a pending observer in the same way, by the nodes that its records name.
+    /// of a pending observer in the same way, by the nodes that its records name, and climbs from each node of the records that came since `settle`.
     pub fn refers<X>(&self, tree: &Tree<X>, top: NodeId) -> bool
         requires { HasNode tree.now.forest top }
         ensures observed { (x : Observing) → Watches self.now x →

@@ -21,8 +21,12 @@ const ROOM: usize = 8192;
 #[derive(Drop)]
 pub struct Queue {
     records: Vec<Record>,
-    // the numbers of the nodes that they name
+    // the numbers of the nodes that the first records name
     named: IndexSet<u32>,
+    // how many records these are
+    settled: usize,
+    // the room that is kept in the set for the nodes that the other records name
+    owed: usize,
 }
 
 impl Model for Queue {
@@ -33,9 +37,9 @@ impl Model for Queue {
 
     ghost view = { λ q. q.records.items };
 
-    ghost use Rattle.dom_observe.specs.Naming.{NamesNodes};
+    ghost use Rattle.dom_observe.specs.Naming.{IsSettled};
 
-    ghost invariant = { λ q. NamesNodes q.records.items q.named };
+    ghost invariant = { λ q. IsSettled q.records.items q.named q.settled q.owed };
 }
 
 impl Queue {
@@ -46,74 +50,131 @@ impl Queue {
         Queue {
             records: Vec::new(alloc),
             named: IndexSet::new(alloc),
+            settled: 0,
+            owed: 0,
         }
     }
 
-    // Puts a record last.
+    // Puts a record last. There is room for the numbers of its nodes then, which `settle` names.
     pub fn push(&mut self, told: Record) -> Result<(), AllocError>
         ensures ok { OnOk result (self.new ≡ self.old ++ told ∷ []) }
         ensures err { OnErr result (self.new ≡ self.old) }
     {
+        let owed = self.owed.checked_add(room_for(&told)).ok_or(AllocError)?;
         self.records.reserve(1)?;
-        self.named.reserve(room_for(&told))?;
-        name_nodes_of(&mut self.named, &told);
+        self.named.reserve(owed)?;
         self.records.push_reserved(told);
+        self.owed = owed;
         Ok(())
     }
 
+    // Names the nodes of the records that came since it was last called. It takes no memory: there is room for them.
+    pub fn settle(&mut self)
+        ensures { self.new ≡ self.old }
+    {
+        name_each(&mut self.named, &self.records.as_slice()[self.settled..]);
+        self.settled = self.records.len();
+        self.owed = 0;
+    }
+
     // Takes the records out. It takes no memory, and keeps room for the numbers of some nodes.
+    //
+    // To empty the set costs in proportion to its room: it is emptied only where a good part of that was used, and left as it is where no node was named.
     pub fn take(&mut self, alloc: Global) -> Vec<Record>
         ensures records { result.items ≡ self.old }
         ensures emptied { self.new ≡ [] }
     {
-        if self.named.capacity() <= ROOM {
-            self.named.clear();
-        } else {
+        let room = self.named.capacity();
+        let used = self.named.len();
+        if room > ROOM || (used > 0 && used < room / 4) {
             self.named = IndexSet::new(alloc);
+        } else if used > 0 {
+            self.named.clear();
         }
+        self.settled = 0;
+        self.owed = 0;
         mem::replace(&mut self.records, Vec::new(alloc))
     }
 
     // Whether a record names a node inside another.
     //
-    // It walks the nodes inside, or climbs from each node that the records name where that takes fewer steps.
+    // It asks the set for the nodes that are named there, and climbs from each node of the records that came since.
     pub fn names_inside<X>(&self, tree: &Tree<X>, top: NodeId) -> bool
         requires { HasNode tree.now.forest top }
         ensures { result ≡ list_any (λ m. among m (inclusive_descendants tree.now.forest top)) (flat_map nodes_of_record self.now) }
     {
-        let steps = tree.steps_inside(top, |index| self.named_at(index));
-        tree.any_inside(top, steps, |node| self.names(node))
-            .unwrap_or_else(|| self.has_name_inside(tree, top))
-    }
-
-    // The node that is named in a place of the set, as long as there is one.
-    fn named_at(&self, index: usize) -> Option<NodeId> {
-        let number = self.named.get_index(index)?;
-        Some(NodeId::new(*number))
-    }
-
-    // Whether a record names a node.
-    fn names(&self, node: NodeId) -> bool
-        ensures { result ≡ among node (flat_map nodes_of_record self.now) }
-    {
-        self.named.contains(&node.number())
-    }
-
-    // Whether a record names a node inside another. It asks each node that is named.
-    fn has_name_inside<X>(&self, tree: &Tree<X>, top: NodeId) -> bool
-        ensures { result ≡ list_any (λ m. among m (inclusive_descendants tree.now.forest top)) (flat_map nodes_of_record self.now) }
-    {
-        is_number_inside(tree, top, self.named.as_slice())
+        is_named_inside(tree, top, &self.named)
+            || is_told_inside(tree, top, &self.records.as_slice()[self.settled..])
     }
 }
 
-// Whether a node inside another has one of these numbers.
-fn is_number_inside<X>(tree: &Tree<X>, top: NodeId, numbers: &[u32]) -> bool
-    ensures { result ≡ list_any (λ m. among m (inclusive_descendants tree.now.forest top)) numbers.now }
+// The node whose number is in a place of the set, as long as there is one.
+fn node_at(named: &IndexSet<u32>, index: usize) -> Option<NodeId> {
+    let number = named.get_index(index)?;
+    Some(NodeId::new(*number))
+}
+
+// Whether a node has its number in the set.
+fn is_named(named: &IndexSet<u32>, node: NodeId) -> bool
+    ensures { result ≡ among node named.now.keys }
 {
-    numbers
+    named.contains(&node.number())
+}
+
+// Whether a node inside another has its number in the set.
+//
+// It walks the nodes inside, or climbs from each node of the set where that takes fewer steps.
+fn is_named_inside<X>(tree: &Tree<X>, top: NodeId, named: &IndexSet<u32>) -> bool
+    requires { HasNode tree.now.forest top }
+    ensures { result ≡ list_any (λ m. among m (inclusive_descendants tree.now.forest top)) named.now.keys }
+{
+    let steps = tree.steps_inside(top, |index| node_at(named, index));
+    tree.any_inside(top, steps, |node| is_named(named, node))
+        .unwrap_or_else(|| has_name_inside(tree, top, named))
+}
+
+// The same. It climbs from each node of the set.
+fn has_name_inside<X>(tree: &Tree<X>, top: NodeId, named: &IndexSet<u32>) -> bool
+    ensures { result ≡ list_any (λ m. among m (inclusive_descendants tree.now.forest top)) named.now.keys }
+{
+    named
         .iter()
         .any(|number| tree.is_inside(top, NodeId::new(*number)))
+}
+
+// Whether one of these nodes is inside another.
+fn is_any_inside<X>(tree: &Tree<X>, top: NodeId, nodes: &[NodeId]) -> bool
+    ensures { result ≡ list_any (λ m. among m (inclusive_descendants tree.now.forest top)) nodes.now }
+{
+    nodes.iter().any(|node| tree.is_inside(top, *node))
+}
+
+// Whether a node that may be missing is inside another.
+fn is_some_inside<X>(tree: &Tree<X>, top: NodeId, node: Option<NodeId>) -> bool
+    ensures { result ≡ list_any (λ m. among m (inclusive_descendants tree.now.forest top)) (if_any node) }
+{
+    match node {
+        Some(node) => tree.is_inside(top, node),
+        None => false,
+    }
+}
+
+// Whether a node that a record names is inside another.
+fn has_node_inside<X>(tree: &Tree<X>, top: NodeId, told: &Record) -> bool
+    ensures { result ≡ list_any (λ m. among m (inclusive_descendants tree.now.forest top)) (nodes_of_record told.now) }
+{
+    tree.is_inside(top, told.target)
+        || is_any_inside(tree, top, told.added.as_slice())
+        || is_any_inside(tree, top, told.removed.as_slice())
+        || is_some_inside(tree, top, told.previous)
+        || is_some_inside(tree, top, told.next)
+}
+
+// The same of the nodes that some records name.
+fn is_told_inside<X>(tree: &Tree<X>, top: NodeId, records: &[Record]) -> bool
+    ensures { result ≡ list_any (λ r. list_any (λ m. among m (inclusive_descendants tree.now.forest top)) (nodes_of_record r)) records.now }
+{
+    records.iter().any(|told| has_node_inside(tree, top, told))
 }
 
 // Room for the numbers of the nodes that a record names.
@@ -157,11 +218,22 @@ fn name_all(named: &mut IndexSet<u32>, nodes: &[NodeId])
 // The same of the nodes of a record.
 fn name_nodes_of(named: &mut IndexSet<u32>, told: &Record)
     requires { length (nodes_of_record told.now) ≤ spare named.old }
-    ensures { (n : ℕ) → contains nat_eq named.new n ≡ (contains nat_eq named.old n || among n (nodes_of_record told.now)) }
+    ensures named { (n : ℕ) → contains nat_eq named.new n ≡ (contains nat_eq named.old n || among n (nodes_of_record told.now)) }
+    ensures room { spare named.old ≤ spare named.new + length (nodes_of_record told.now) }
 {
     name(named, told.target);
     name_all(named, told.added.as_slice());
     name_all(named, told.removed.as_slice());
     name_any(named, told.previous);
     name_any(named, told.next);
+}
+
+// The same of the nodes of several records.
+fn name_each(named: &mut IndexSet<u32>, records: &[Record])
+    requires { length (flat_map nodes_of_record records.now) ≤ spare named.old }
+    ensures { (n : ℕ) → contains nat_eq named.new n ≡ (contains nat_eq named.old n || among n (flat_map nodes_of_record records.now)) }
+{
+    for told in records {
+        name_nodes_of(named, told);
+    }
 }

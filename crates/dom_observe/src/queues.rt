@@ -1,11 +1,13 @@
 //! The queues of records that wait for their observers.
 
 ghost use Rattle.std.specs.Prelude.{◌≡◌, [], Some, slice_set, true};
+ghost use Rattle.dom_observe.specs.Kept.{AllThere};
 ghost use Rattle.dom_observe.specs.Roster.{keys_by, queues_by, is_there, records_of};
 
 use crate::observer_id::ObserverId;
 use crate::record::Record;
 use crate::roster::Roster;
+use indexmap::IndexSet;
 use std::alloc::Global;
 
 // Takes the records out of an observer's queue.
@@ -17,4 +19,15 @@ pub(crate) fn take_from(roster: &mut Roster, observer: ObserverId, alloc: Global
 {
     let kept = roster.get_mut(observer);
     kept.queue.take(alloc)
+}
+
+// Settles the queue of each of some observers. It takes no memory.
+pub(crate) fn settle_each(roster: &mut Roster, observers: &IndexSet<ObserverId>)
+    requires { AllThere (is_there roster.old) observers.now.keys }
+    ensures { roster.new ≡ roster.old }
+{
+    for observer in observers.as_slice() {
+        let kept = roster.get_mut(*observer);
+        kept.queue.settle();
+    }
 }

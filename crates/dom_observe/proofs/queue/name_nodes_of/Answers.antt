@@ -7,8 +7,8 @@ use Rattle.dom_model.specs.MutationAlgorithms.Discarding.{if_any, nodes_of_recor
 use Rattle.dom_observe.proofs.NamedRecords.{name-parts}
 use Rattle.dom_observe.proofs.queue.name_nodes_of.Goals as goal
 
-pub returns : goal.returns
-returns c = λ n.
+pub returns-clause-named : goal.returns-clause-named
+returns-clause-named c = λ n.
     let r = c.told.inside in
     let before = contains nat_eq c.args.named.now n in
     let added = c.name_all.ensures.named n ∙ (λ i. c.name.ensures.named n i || among n (c.as_slice.ensures.value i)) in

@@ -1,12 +1,35 @@
--- The walk tells, or each node that is named.
-use Rattle.std.proofs.Common.{rules, of_calls}
+-- Either a node that is named is inside, or one of the records that came since.
+use Rattle.std.proofs.Common.{◌≡◌, ℕ, ◌-◌, ◌||◌, length, take, drop, ap, sym, ◌∙◌, arith, take_all, length-drop}
 use Rattle.std.specs.Prelude.{flat_map}
+use Rattle.std.specs.List.{list_any}
+use Rattle.dom_model.specs.PlainLists.Lists.{among}
+use Rattle.dom_model.specs.Forests.Forest.{inclusive_descendants}
+use Rattle.dom_model.specs.MutationObservers.Record.{Record}
 use Rattle.dom_model.specs.MutationAlgorithms.Discarding.{nodes_of_record}
-use Rattle.dom_observe.proofs.Outcomes.{by_either}
+use Rattle.dom_observe.proofs.NamedRecords.{any-settled}
 use Rattle.dom_observe.proofs.queue.Queue.names_inside.Goals as goal
 
-pub returns : goal.returns
-returns g c =
-    by_either c.any_inside.result _ c.unwrap_or_else.result _ c.unwrap_or_else.ensures
-    (c.any_inside.ensures.found (flat_map nodes_of_record c.args.self.now) (λ n passes called. search (rules, of_calls)))
-    (λ called. search (rules, of_calls))
+pub returns-then-is_named_inside : goal.returns-then-is_named_inside
+returns-then-is_named_inside g c =
+    let p = λ (m : ℕ). among m (inclusive_descendants c.args.tree.now.forest c.args.top) in
+    let q = c.self.inside in
+    let rs = q.records.items in
+    let told = list_any (λ (r : Record). list_any p (nodes_of_record r)) (drop q.settled rs) in
+    c.if-is_named_inside.true
+    ∙ sym (ap (λ l. list_any p (flat_map nodes_of_record l)) (sym c.self.view_is)
+    ∙ any-settled p rs q.named q.settled q.owed c.self.invariant
+    ∙ ap (λ b. b || told) (sym c.is_named_inside.ensures ∙ c.if-is_named_inside.true))
+
+pub returns-else-is_named_inside : goal.returns-else-is_named_inside
+returns-else-is_named_inside g c =
+    let p = λ (m : ℕ). among m (inclusive_descendants c.args.tree.now.forest c.args.top) in
+    let q = c.self.inside in
+    let rs = q.records.items in
+    let one = λ (r : Record). list_any p (nodes_of_record r) in
+    let rest : take (length c.as_slice.result.now - q.settled) (drop q.settled c.as_slice.result.now) ≡ drop q.settled rs =
+    take_all (length c.as_slice.result.now - q.settled) (drop q.settled c.as_slice.result.now) (omega (arith, length-drop q.settled c.as_slice.result.now)) ∙ ap (drop q.settled) c.as_slice.ensures.value in
+    c.is_told_inside.ensures
+    ∙ ap (list_any one) rest
+    ∙ sym (ap (λ l. list_any p (flat_map nodes_of_record l)) (sym c.self.view_is)
+    ∙ any-settled p rs q.named q.settled q.owed c.self.invariant
+    ∙ ap (λ b. b || list_any one (drop q.settled rs)) (sym c.is_named_inside.ensures ∙ c.if-is_named_inside.false))
