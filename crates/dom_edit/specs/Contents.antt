@@ -1,14 +1,19 @@
--- What the parts of a content are, where there may be none.
-use Rattle.std.specs.Prelude.{ℕ, List, [], Option, None, Some, Box}
+-- What is held of data and attributes.
+use Rattle.std.specs.Prelude.{ℕ, List, []}
 use Rattle.dom_model.specs.Forests.Attributes.{Attribute}
-use Rattle.dom_edit.specs.declared.content.Parts.{Parts}
+use Rattle.dom_edit.specs.declared.content.Held.{Held}
+use Rattle.dom_edit.specs.declared.content.Held.TheVariants.{Nothing, Data, Attributes, Both}
 
 -- the data
-abbrev pub text_in : {B : Type 0} → Option (Box Parts B) → List ℕ
-text_in None = []
-text_in (Some parts) = parts.value.text
+abbrev pub text_in : Held → List ℕ
+text_in Nothing = []
+text_in (Data text) = text
+text_in (Attributes attrs) = []
+text_in (Both parts) = parts.value.text
 
 -- the attributes, in order
-abbrev pub attributes_in : {B : Type 0} → Option (Box Parts B) → List Attribute
-attributes_in None = []
-attributes_in (Some parts) = parts.value.attrs
+abbrev pub attributes_in : Held → List Attribute
+attributes_in Nothing = []
+attributes_in (Data text) = []
+attributes_in (Attributes attrs) = attrs
+attributes_in (Both parts) = parts.value.attrs

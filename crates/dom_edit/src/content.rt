@@ -1,6 +1,6 @@
 //! What a node holds besides its label and its place.
 
-ghost use Rattle.std.specs.Prelude.{◌≡◌, ◌-◌, ◌≤◌, [], length, slice_get, option_map, option_copied, string_bytes, bytes_eq, None, IfOk, OnOk, OnErr};
+ghost use Rattle.std.specs.Prelude.{◌≡◌, ◌-◌, ◌≤◌, [], length, slice_get, option_map, option_copied, unwrap_or, string_bytes, bytes_eq, IfOk, OnOk, OnErr};
 ghost use Rattle.std.specs.List.{IsDistinct};
 ghost use Rattle.dom_model.specs.Forests.Attributes.{attribute_value, attribute_names, with_attribute, without_attribute, same_attributes};
 ghost use Rattle.dom_model.specs.Forests.Texts.{spliced};
@@ -13,22 +13,67 @@ use dom_tree::Body;
 use dom_units::Units;
 use std::alloc::{AllocError, Global};
 use std::marker::Model;
+use std::mem;
 
-// The data and the attributes of a node that has either.
+// Data and attributes, where there are both.
 #[derive(Drop)]
 struct Parts {
     text: Units,
     attrs: Attrs,
 }
 
-/// The data of a node, in UTF-16 units, and its attributes in the order in which their names came. It takes 16 bytes, and memory of its own
-/// only where there is either.
+// What there is of data and attributes. No node has both, so both lie in a block of their own, and most nodes are no larger for it.
+#[derive(Drop)]
+enum Held {
+    Nothing,
+    Data(Units),
+    Attributes(Attrs),
+    Both(Box<Parts>),
+}
+
+impl Held {
+    // Data alone, where there is any.
+    fn data(text: Units) -> Held
+        ensures text { text_in result ≡ text }
+        ensures attributes { attributes_in result ≡ [] }
+    {
+        if text.is_empty() {
+            return Held::Nothing;
+        }
+        Held::Data(text)
+    }
+
+    // Attributes alone, where there are any.
+    fn attributes(attrs: Attrs) -> Held
+        ensures text { text_in result ≡ [] }
+        ensures attributes { attributes_in result ≡ attrs }
+    {
+        if attrs.is_empty() {
+            return Held::Nothing;
+        }
+        Held::Attributes(attrs)
+    }
+
+    // Both, but for empty ones, which are let go of.
+    fn both(parts: Box<Parts>) -> Held
+        ensures text { text_in result ≡ parts.value.text }
+        ensures attributes { attributes_in result ≡ parts.value.attrs }
+    {
+        if parts.text.is_empty() && parts.attrs.is_empty() {
+            return Held::Nothing;
+        }
+        Held::Both(parts)
+    }
+}
+
+/// The data of a node, in UTF-16 units, and its attributes in the order in which their names came.
+///
+/// An element without attributes takes no memory beside its node, and a Text or a Comment none but that of its units.
 ///
 /// Kinds without data have an empty text, and kinds other than Element no attributes.
 #[derive(Drop)]
 pub struct Content {
-    // none where there is neither, as on most nodes
-    parts: Option<Box<Parts>>,
+    held: Held,
 }
 
 impl Model for Content {
@@ -37,36 +82,7 @@ impl Model for Content {
 
     ghost Value = { Content };
 
-    ghost view = { λ c. record { text = text_in c.parts; attributes = attributes_in c.parts } };
-}
-
-// The parts, or empty ones where there are none.
-fn or_empty(alloc: Global, parts: Option<Box<Parts>>) -> Result<Box<Parts>, AllocError>
-    ensures text { IfOk result (λ made. made.value.text ≡ text_in parts) }
-    ensures attributes { IfOk result (λ made. made.value.attrs ≡ attributes_in parts) }
-    ensures err { OnErr result (parts ≡ None) }
-{
-    match parts {
-        Some(parts) => Ok(parts),
-        None => Ok(Box::new(
-            alloc,
-            Parts {
-                text: Units::new(alloc),
-                attrs: Attrs::new(alloc),
-            },
-        )?),
-    }
-}
-
-// The parts, but for empty ones, which are let go of.
-fn unless_empty(parts: Box<Parts>) -> Option<Box<Parts>>
-    ensures text { text_in result ≡ parts.value.text }
-    ensures attributes { attributes_in result ≡ parts.value.attrs }
-{
-    if parts.text.is_empty() && parts.attrs.is_empty() {
-        return None;
-    }
-    Some(parts)
+    ghost view = { λ c. record { text = text_in c.held; attributes = attributes_in c.held } };
 }
 
 impl Content {
@@ -74,21 +90,32 @@ impl Content {
     pub fn nothing() -> Content
         ensures { result ≡ with_text [] }
     {
-        Content { parts: None }
+        Content {
+            held: Held::Nothing,
+        }
     }
 
-    /// Data and attributes. It takes memory where there is either.
+    /// Data and attributes. It takes memory where there are both.
     pub fn new(alloc: Global, text: Units, attrs: Attrs) -> Result<Content, AllocError>
         ensures { IfOk result (λ made. made ≡ record { text = text; attributes = attrs }) }
     {
-        if text.is_empty() && attrs.is_empty() {
-            return Ok(Content::nothing());
+        if attrs.is_empty() {
+            return Ok(Content {
+                held: Held::data(text),
+            });
+        }
+        if text.is_empty() {
+            return Ok(Content {
+                held: Held::Attributes(attrs),
+            });
         }
         let parts = Box::new(alloc, Parts { text, attrs })?;
-        Ok(Content { parts: Some(parts) })
+        Ok(Content {
+            held: Held::Both(parts),
+        })
     }
 
-    /// Data alone. It takes memory where there is any.
+    /// Data alone. It takes no memory but that of the data.
     pub fn of_text(alloc: Global, text: Units) -> Result<Content, AllocError>
         ensures { IfOk result (λ made. made ≡ with_text text) }
     {
@@ -99,9 +126,21 @@ impl Content {
     pub fn try_clone(&self, alloc: Global) -> Result<Content, AllocError>
         ensures { IfOk result (λ copy. copy ≡ self.now) }
     {
-        match &self.parts {
-            None => Ok(Content::nothing()),
-            Some(parts) => {
+        match &self.held {
+            Held::Nothing => Ok(Content::nothing()),
+            Held::Data(text) => {
+                let text = text.try_clone(alloc)?;
+                Ok(Content {
+                    held: Held::Data(text),
+                })
+            }
+            Held::Attributes(attrs) => {
+                let attrs = attrs.try_clone(alloc)?;
+                Ok(Content {
+                    held: Held::Attributes(attrs),
+                })
+            }
+            Held::Both(parts) => {
                 let text = parts.text.try_clone(alloc)?;
                 let attrs = parts.attrs.try_clone(alloc)?;
                 Content::new(alloc, text, attrs)
@@ -113,9 +152,20 @@ impl Content {
     pub fn copied_attributes(&self, alloc: Global) -> Result<Attrs, AllocError>
         ensures { IfOk result (λ copy. copy ≡ self.now.attributes) }
     {
-        match &self.parts {
+        match self.attrs() {
             None => Ok(Attrs::new(alloc)),
-            Some(parts) => parts.attrs.try_clone(alloc),
+            Some(attrs) => attrs.try_clone(alloc),
+        }
+    }
+
+    // The attributes, where there may be any.
+    fn attrs(&self) -> Option<&Attrs>
+        ensures { unwrap_or (option_copied result) [] ≡ self.now.attributes }
+    {
+        match &self.held {
+            Held::Nothing | Held::Data(_) => None,
+            Held::Attributes(attrs) => Some(attrs),
+            Held::Both(parts) => Some(&parts.attrs),
         }
     }
 
@@ -123,9 +173,10 @@ impl Content {
     pub fn text(&self) -> &[u16]
         ensures { result.now ≡ self.now.text }
     {
-        match &self.parts {
-            None => &[],
-            Some(parts) => parts.text.units(),
+        match &self.held {
+            Held::Nothing | Held::Attributes(_) => &[],
+            Held::Data(text) => text.units(),
+            Held::Both(parts) => parts.text.units(),
         }
     }
 
@@ -136,9 +187,9 @@ impl Content {
         // no two have the same name
         ensures distinct { IsDistinct bytes_eq (attribute_names self.now.attributes) }
     {
-        match &self.parts {
+        match self.attrs() {
             None => 0,
-            Some(parts) => parts.attrs.len(),
+            Some(attrs) => attrs.len(),
         }
     }
 
@@ -146,9 +197,9 @@ impl Content {
     pub fn attribute(&self, name: &str) -> Option<&Units>
         ensures { option_copied result ≡ attribute_value name.now self.now.attributes }
     {
-        match &self.parts {
+        match self.attrs() {
             None => None,
-            Some(parts) => parts.attrs.get(name),
+            Some(attrs) => attrs.get(name),
         }
     }
 
@@ -156,9 +207,9 @@ impl Content {
     pub fn attribute_at(&self, index: usize) -> Option<(&str, &Units)>
         ensures { option_map attribute_at result ≡ slice_get self.now.attributes index }
     {
-        match &self.parts {
+        match self.attrs() {
             None => None,
-            Some(parts) => parts.attrs.at(index),
+            Some(attrs) => attrs.at(index),
         }
     }
 
@@ -166,11 +217,11 @@ impl Content {
     pub fn same_attributes(&self, other: &Content) -> bool
         ensures { result ≡ same_attributes self.now.attributes other.now.attributes }
     {
-        match &self.parts {
+        match self.attrs() {
             None => other.attribute_count() == 0,
-            Some(parts) => match &other.parts {
+            Some(attrs) => match other.attrs() {
                 None => self.attribute_count() == 0,
-                Some(others) => parts.attrs.same(&others.attrs),
+                Some(others) => attrs.same(others),
             },
         }
     }
@@ -190,13 +241,37 @@ impl Content {
         ensures ok { OnOk result (self.new ≡ record self.old { text = spliced at count added.now self.old.text }) }
         ensures err { OnErr result (self.new ≡ self.old) }
     {
-        if added.is_empty() && self.parts.is_none() {
-            return Ok(());
-        }
-        let mut parts = or_empty(alloc, self.parts.take())?;
-        let outcome = parts.text.splice(at, count, added);
-        self.parts = unless_empty(parts);
+        let mut text = match mem::replace(&mut self.held, Held::Nothing) {
+            Held::Nothing => Units::new(alloc),
+            Held::Data(text) => text,
+            held => {
+                self.held = held;
+                return self.splice_copy(alloc, at, count, added);
+            }
+        };
+        let outcome = text.splice(at, count, added);
+        self.held = Held::data(text);
         outcome
+    }
+
+    // The same beside attributes, in a copy of both, since no node has both.
+    fn splice_copy(
+        &mut self,
+        alloc: Global,
+        at: usize,
+        count: usize,
+        added: &[u16],
+    ) -> Result<(), AllocError>
+        requires within { at ≤ length self.old.text }
+        requires enough { count ≤ length self.old.text - at }
+        ensures ok { OnOk result (self.new ≡ record self.old { text = spliced at count added.now self.old.text }) }
+        ensures err { OnErr result (self.new ≡ self.old) }
+    {
+        let mut text = Units::from_units(alloc, self.text())?;
+        let attrs = self.copied_attributes(alloc)?;
+        text.splice(at, count, added)?;
+        *self = Content::new(alloc, text, attrs)?;
+        Ok(())
     }
 
     /// Sets the value of an attribute: in place, or last where the name is new. It answers the old value.
@@ -210,10 +285,35 @@ impl Content {
         ensures ok { OnOk result (self.new ≡ record self.old { attributes = with_attribute (string_bytes name) value self.old.attributes }) }
         ensures err { OnErr result (self.new ≡ self.old) }
     {
-        let mut parts = or_empty(alloc, self.parts.take())?;
-        let outcome = parts.attrs.set(name, value);
-        self.parts = unless_empty(parts);
+        let mut attrs = match mem::replace(&mut self.held, Held::Nothing) {
+            Held::Nothing => Attrs::new(alloc),
+            Held::Attributes(attrs) => attrs,
+            held => {
+                self.held = held;
+                return self.set_in_copy(alloc, name, value);
+            }
+        };
+        let outcome = attrs.set(name, value);
+        self.held = Held::attributes(attrs);
         outcome
+    }
+
+    // The same beside data, in a copy of both, since no node has both.
+    fn set_in_copy(
+        &mut self,
+        alloc: Global,
+        name: String,
+        value: Units,
+    ) -> Result<Option<Units>, AllocError>
+        ensures old { IfOk result (λ old. old ≡ attribute_value (string_bytes name) self.old.attributes) }
+        ensures ok { OnOk result (self.new ≡ record self.old { attributes = with_attribute (string_bytes name) value self.old.attributes }) }
+        ensures err { OnErr result (self.new ≡ self.old) }
+    {
+        let text = Units::from_units(alloc, self.text())?;
+        let mut attrs = self.copied_attributes(alloc)?;
+        let old = attrs.set(name, value)?;
+        *self = Content::new(alloc, text, attrs)?;
+        Ok(old)
     }
 
     /// Takes the attribute of that name out ("remove an attribute by name"); those after it move up. It answers the value.
@@ -223,10 +323,22 @@ impl Content {
         ensures value { result ≡ attribute_value name.now self.old.attributes }
         ensures rest { self.new ≡ record self.old { attributes = without_attribute name.now self.old.attributes } }
     {
-        let mut parts = self.parts.take()?;
-        let value = parts.attrs.remove(name);
-        self.parts = unless_empty(parts);
-        value
+        match mem::replace(&mut self.held, Held::Nothing) {
+            Held::Attributes(mut attrs) => {
+                let value = attrs.remove(name);
+                self.held = Held::attributes(attrs);
+                value
+            }
+            Held::Both(mut parts) => {
+                let value = parts.attrs.remove(name);
+                self.held = Held::both(parts);
+                value
+            }
+            held => {
+                self.held = held;
+                None
+            }
+        }
     }
 }
 

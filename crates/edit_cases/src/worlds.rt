@@ -61,7 +61,7 @@ fn copied_content(rt: HostRuntime) -> Result<(), Fail> {
 
 #[test]
 fn bytes_of_a_content(rt: HostRuntime) {
-    assert_eq!(rt; size_of::<Content>(), 16);
+    assert_eq!(rt; size_of::<Content>(), 32);
 }
 
 // A node without a name: a Document, or a Text in a document.
