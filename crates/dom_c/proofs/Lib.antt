@@ -3,3 +3,4 @@ pub mod Names
 pub mod TooFew
 pub mod OpenReads
 pub mod Copies
+pub mod Faults

@@ -1,5 +1,5 @@
 -- The statuses of calls: the standard's codes for its exceptions (Web IDL, "DOMException"), and ours from 32 on.
-use Rattle.std.specs.Prelude.{ℕ, List, [], ◌∷◌, Option, Some, None, codes, nat_eq, if◌then◌else◌}
+use Rattle.std.specs.Prelude.{ℕ}
 use Rattle.dom_model.specs.declared.DomError.{DomError}
 use Rattle.dom_model.specs.declared.DomError.TheVariants.{IndexSizeError, HierarchyRequestError, WrongDocumentError, InvalidCharacterError, NotFoundError, NotSupportedError, InvalidStateError, InvalidNodeTypeError, TypeError}
 use Rattle.dom_model.specs.declared.OwnError.{OwnError}

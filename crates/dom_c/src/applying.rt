@@ -1,11 +1,13 @@
 //! How a command is applied and its reply kept.
 
-ghost use Rattle.std.specs.Prelude.{◌≡◌, ℕ, Ok, Result};
-ghost use Rattle.dom_model.specs.Commands.Command.{Command as PlainCommand};
-ghost use Rattle.dom_session.specs.Views.{making_view, editing_view, traversing_view};
+ghost use Rattle.std.specs.Prelude.{◌≡◌, ℕ, List, Ok, Result};
+ghost use Rattle.dom_model.specs.declared.Move.{Move as AMove};
+ghost use Rattle.dom_model.specs.Commands.Command.{Command as PlainCommand, CreateElement, CreateText, NextNode, PreviousNode, Walk};
+ghost use Rattle.dom_session.specs.Brief.{reply_of};
+ghost use Rattle.dom_session.specs.Views.{making_view, editing_view};
 ghost use Rattle.dom_wire.specs.Sessions.{command_view, reply_view};
 ghost use Rattle.dom_c.specs.Answers.{Steps, step_for, Answers, with_reply, at_end};
-ghost use Rattle.dom_c.specs.Reads.{Reads, IsFaultOf};
+ghost use Rattle.dom_c.specs.Reads.{Reads, IsFaultOf, then_make};
 ghost use Rattle.dom_c.specs.Statuses.{status_of, out_of_memory};
 
 use crate::fault::Fault;
@@ -13,8 +15,9 @@ use crate::handle::Handle;
 use crate::kept::Kept;
 use crate::status::{
     HP_BAD_CHOICE, HP_BAD_LENGTHS, HP_CLOSED, HP_NOT_UTF8, HP_OUT_OF_MEMORY, status_of,
+    status_of_brief,
 };
-use dom_session::{Editing, Making, Traversing};
+use dom_session::{Brief, Editing, IteratorId, Making, Move, NodeId, Units, WalkerId};
 use dom_wire::{Command, Ended, Reply};
 
 impl Kept {
@@ -26,6 +29,15 @@ impl Kept {
         let status = status_of(&reply);
         self.reply = Some(reply);
         status
+    }
+
+    // Keeps a reply whose answer is small, and tells its status.
+    fn note(&mut self, reply: Brief) -> u8
+        ensures kept { self.new ≡ with_reply self.old (reply_of reply) }
+        ensures status { result ≡ status_of (reply_view (reply_of reply)) }
+    {
+        self.reply = Some(reply.reply());
+        status_of_brief(reply)
     }
 
     // Notes that memory was wanting.
@@ -58,7 +70,33 @@ impl Kept {
             return HP_OUT_OF_MEMORY;
         }
         match self.session.make(command) {
-            Ok(reply) => self.keep(reply),
+            Ok(reply) => self.note(reply),
+            Err(Ended) => self.end(),
+        }
+    }
+
+    // Makes an Element, and keeps the reply.
+    fn make_element(&mut self, document: NodeId, name: &str) -> u8
+        ensures { Steps (step_for self.old (Ok (CreateElement document name.now))) self.old self.new result }
+    {
+        if self.ended {
+            return HP_OUT_OF_MEMORY;
+        }
+        match self.session.create_element(document, name) {
+            Ok(reply) => self.note(reply),
+            Err(Ended) => self.end(),
+        }
+    }
+
+    // Makes a Text, and keeps the reply.
+    fn make_text(&mut self, document: NodeId, text: Units) -> u8
+        ensures { Steps (step_for self.old (Ok (CreateText document text))) self.old self.new result }
+    {
+        if self.ended {
+            return HP_OUT_OF_MEMORY;
+        }
+        match self.session.create_text(document, text) {
+            Ok(reply) => self.note(reply),
             Err(Ended) => self.end(),
         }
     }
@@ -71,20 +109,46 @@ impl Kept {
             return HP_OUT_OF_MEMORY;
         }
         match self.session.edit(command) {
-            Ok(reply) => self.keep(reply),
+            Ok(reply) => self.note(reply),
             Err(Ended) => self.end(),
         }
     }
 
-    // Applies a command on an iterator or a walker, and keeps its reply.
-    fn traverse(&mut self, command: Traversing) -> u8
-        ensures { Steps (step_for self.old (Ok (traversing_view command))) self.old self.new result }
+    /// Moves an iterator on, and keeps the reply.
+    pub(crate) fn next_node(&mut self, iterator: IteratorId) -> u8
+        ensures { Steps (step_for self.old (Ok (NextNode iterator))) self.old self.new result }
     {
         if self.ended {
             return HP_OUT_OF_MEMORY;
         }
-        match self.session.traverse(command) {
-            Ok(reply) => self.keep(reply),
+        match self.session.next_node(iterator) {
+            Ok(reply) => self.note(reply),
+            Err(Ended) => self.end(),
+        }
+    }
+
+    /// Moves an iterator back, and keeps the reply.
+    pub(crate) fn previous_node(&mut self, iterator: IteratorId) -> u8
+        ensures { Steps (step_for self.old (Ok (PreviousNode iterator))) self.old self.new result }
+    {
+        if self.ended {
+            return HP_OUT_OF_MEMORY;
+        }
+        match self.session.previous_node(iterator) {
+            Ok(reply) => self.note(reply),
+            Err(Ended) => self.end(),
+        }
+    }
+
+    // Moves a walker, and keeps the reply.
+    fn move_walker(&mut self, walker: WalkerId, direction: Move) -> u8
+        ensures { Steps (step_for self.old (Ok (Walk walker direction))) self.old self.new result }
+    {
+        if self.ended {
+            return HP_OUT_OF_MEMORY;
+        }
+        match self.session.walk(walker, direction) {
+            Ok(reply) => self.note(reply),
             Err(Ended) => self.end(),
         }
     }
@@ -124,12 +188,35 @@ impl Kept {
         }
     }
 
-    /// The same of a command on an iterator or a walker.
-    pub(crate) fn take_traversing(&mut self, command: Result<Traversing, Fault>) -> u8
-        ensures { (c : Result PlainCommand ℕ) → Reads traversing_view command c → Steps (step_for self.old c) self.old self.new result }
+    /// Makes an Element of a name that was read, or says what is wrong with it.
+    pub(crate) fn create_element(&mut self, document: NodeId, name: Result<&str, Fault>) -> u8
+        ensures { (c : Result (List ℕ) ℕ) → Reads (λ name. name.now) name.entry c →
+            Steps (step_for self.old (then_make c (λ name. Ok (CreateElement document name)))) self.old self.new result }
     {
-        match command {
-            Ok(command) => self.traverse(command),
+        match name {
+            Ok(name) => self.make_element(document, name),
+            Err(fault) => self.refuse(fault),
+        }
+    }
+
+    /// Makes a Text of data that was read, or says what is wrong with it.
+    pub(crate) fn create_text(&mut self, document: NodeId, text: Result<Units, Fault>) -> u8
+        ensures { (c : Result (List ℕ) ℕ) → Reads (λ text. text) text c →
+            Steps (step_for self.old (then_make c (λ text. Ok (CreateText document text)))) self.old self.new result }
+    {
+        match text {
+            Ok(text) => self.make_text(document, text),
+            Err(fault) => self.refuse(fault),
+        }
+    }
+
+    /// Makes a move of a walker that was read, or says what is wrong with it.
+    pub(crate) fn walk(&mut self, walker: WalkerId, direction: Result<Move, Fault>) -> u8
+        ensures { (c : Result AMove ℕ) → Reads (λ direction. direction) direction c →
+            Steps (step_for self.old (then_make c (λ direction. Ok (Walk walker direction)))) self.old self.new result }
+    {
+        match direction {
+            Ok(direction) => self.move_walker(walker, direction),
             Err(fault) => self.refuse(fault),
         }
     }

@@ -1,16 +1,17 @@
 //! Commands that go to the session as those of their group, and small answers that are written at once: calls of ordinary loops.
 
-ghost use Rattle.std.specs.Prelude.{◌≡◌, ℕ, Ok, Result};
-ghost use Rattle.dom_model.specs.Commands.Command.{Command as PlainCommand};
-ghost use Rattle.dom_session.specs.Views.{making_view, editing_view, traversing_view};
+ghost use Rattle.std.specs.Prelude.{◌≡◌, ℕ, List, Ok, Result};
+ghost use Rattle.dom_model.specs.declared.Move.{Move as AMove};
+ghost use Rattle.dom_model.specs.Commands.Command.{Command as PlainCommand, CreateElement, CreateText, NextNode, PreviousNode, Walk};
+ghost use Rattle.dom_session.specs.Views.{making_view, editing_view};
 ghost use Rattle.dom_c.specs.Answers.{Answers};
-ghost use Rattle.dom_c.specs.Reads.{Reads};
+ghost use Rattle.dom_c.specs.Reads.{Reads, then_make};
 ghost use Rattle.dom_c.specs.Told.{told, number_told, maybe_number_told};
 
 use crate::fault::Fault;
 use crate::handle::Handle;
 use crate::status::HP_CLOSED;
-use dom_session::{Editing, Making, Traversing};
+use dom_session::{Editing, IteratorId, Making, Move, NodeId, Units, WalkerId};
 
 impl Handle {
     /// Takes a command that makes a node, or says what is wrong with its arguments. Writes the number of the node.
@@ -27,6 +28,46 @@ impl Handle {
         status
     }
 
+    /// Makes an Element of a name that was read, or says what is wrong with it. Writes the number of the node.
+    pub(crate) fn create_element(
+        &mut self,
+        document: NodeId,
+        name: Result<&str, Fault>,
+        number: &mut u32,
+    ) -> u8
+        ensures answers { (c : Result (List ℕ) ℕ) → Reads (λ name. name.now) name.entry c →
+            Answers self.old self.new (then_make c (λ name. Ok (CreateElement document name))) result }
+        ensures told { number.new ≡ number_told (told self.new result) number.old }
+    {
+        if !self.is_open {
+            return HP_CLOSED;
+        }
+        let kept = &mut self.slot.lend().kept;
+        let status = kept.create_element(document, name);
+        kept.write_number(status, number);
+        status
+    }
+
+    /// Makes a Text of data that was read, or says what is wrong with it. Writes the number of the node.
+    pub(crate) fn create_text(
+        &mut self,
+        document: NodeId,
+        text: Result<Units, Fault>,
+        number: &mut u32,
+    ) -> u8
+        ensures answers { (c : Result (List ℕ) ℕ) → Reads (λ text. text) text c →
+            Answers self.old self.new (then_make c (λ text. Ok (CreateText document text))) result }
+        ensures told { number.new ≡ number_told (told self.new result) number.old }
+    {
+        if !self.is_open {
+            return HP_CLOSED;
+        }
+        let kept = &mut self.slot.lend().kept;
+        let status = kept.create_text(document, text);
+        kept.write_number(status, number);
+        status
+    }
+
     /// Takes a command that changes where nodes stand.
     pub(crate) fn edit(&mut self, command: Editing) -> u8
         ensures { Answers self.old self.new (Ok (editing_view command)) result }
@@ -37,16 +78,50 @@ impl Handle {
         self.slot.lend().kept.edit(command)
     }
 
-    /// Takes a command that moves an iterator or a walker, or says what is wrong with its arguments. Writes the node, or `HP_NONE`.
-    pub(crate) fn traverse(&mut self, command: Result<Traversing, Fault>, number: &mut u32) -> u8
-        ensures answers { (c : Result PlainCommand ℕ) → Reads traversing_view command c → Answers self.old self.new c result }
+    /// Moves an iterator on. Writes the node, or `HP_NONE`.
+    pub(crate) fn next_node(&mut self, iterator: IteratorId, number: &mut u32) -> u8
+        ensures answers { Answers self.old self.new (Ok (NextNode iterator)) result }
         ensures told { number.new ≡ maybe_number_told (told self.new result) number.old }
     {
         if !self.is_open {
             return HP_CLOSED;
         }
         let kept = &mut self.slot.lend().kept;
-        let status = kept.take_traversing(command);
+        let status = kept.next_node(iterator);
+        kept.write_maybe_number(status, number);
+        status
+    }
+
+    /// Moves an iterator back. Writes the node, or `HP_NONE`.
+    pub(crate) fn previous_node(&mut self, iterator: IteratorId, number: &mut u32) -> u8
+        ensures answers { Answers self.old self.new (Ok (PreviousNode iterator)) result }
+        ensures told { number.new ≡ maybe_number_told (told self.new result) number.old }
+    {
+        if !self.is_open {
+            return HP_CLOSED;
+        }
+        let kept = &mut self.slot.lend().kept;
+        let status = kept.previous_node(iterator);
+        kept.write_maybe_number(status, number);
+        status
+    }
+
+    /// Makes a move of a walker that was read, or says what is wrong with it. Writes the node, or `HP_NONE`.
+    pub(crate) fn walk(
+        &mut self,
+        walker: WalkerId,
+        direction: Result<Move, Fault>,
+        number: &mut u32,
+    ) -> u8
+        ensures answers { (c : Result AMove ℕ) → Reads (λ direction. direction) direction c →
+            Answers self.old self.new (then_make c (λ direction. Ok (Walk walker direction))) result }
+        ensures told { number.new ≡ maybe_number_told (told self.new result) number.old }
+    {
+        if !self.is_open {
+            return HP_CLOSED;
+        }
+        let kept = &mut self.slot.lend().kept;
+        let status = kept.walk(walker, direction);
         kept.write_maybe_number(status, number);
         status
     }

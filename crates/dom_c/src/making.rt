@@ -9,7 +9,7 @@ ghost use Rattle.dom_c.specs.Told.{told, number_told};
 
 use crate::fault::Fault;
 use crate::handle::Handle;
-use crate::reading::{name_of, units_of};
+use crate::reading::{lent_name, name_of, units_of};
 use dom_session::{Making, NodeId};
 use std::alloc::Global;
 
@@ -22,20 +22,10 @@ pub extern "C" fn hp_new_document(handle: &mut Handle, document: &mut u32) -> u8
     handle.make(Ok(Making::NewDocument), document)
 }
 
-// Reads the arguments of `hp_create_element`.
-fn read_create_element(alloc: Global, document: u32, name: &[u8]) -> Result<Making, Fault>
-    ensures { Reads making_view result
-        (then_make (name_in name.now) (λ name. Ok (CreateElement document name))) }
-{
-    let name = name_of(alloc, name)?;
-    Ok(Making::CreateElement(NodeId::new(document), name))
-}
-
 /// Makes an Element of that name.
 #[unsafe(no_mangle)]
 pub extern "C" fn hp_create_element(
     handle: &mut Handle,
-    alloc: Global,
     document: u32,
     name: &[u8],
     element: &mut u32,
@@ -44,16 +34,7 @@ pub extern "C" fn hp_create_element(
         (then_make (name_in name.now) (λ name. Ok (CreateElement document name))) result }
     ensures told { element.new ≡ number_told (told handle.new result) element.old }
 {
-    handle.make(read_create_element(alloc, document, name), element)
-}
-
-// Reads the arguments of `hp_create_text`.
-fn read_create_text(alloc: Global, document: u32, data: &[u16]) -> Result<Making, Fault>
-    ensures { Reads making_view result
-        (Ok (CreateText document data.now)) }
-{
-    let data = units_of(alloc, data)?;
-    Ok(Making::CreateText(NodeId::new(document), data))
+    handle.create_element(NodeId::new(document), lent_name(name), element)
 }
 
 /// Makes a Text of that data.
@@ -68,7 +49,7 @@ pub extern "C" fn hp_create_text(
     ensures answers { Answers handle.old handle.new (Ok (CreateText document data.now)) result }
     ensures told { text.new ≡ number_told (told handle.new result) text.old }
 {
-    handle.make(read_create_text(alloc, document, data), text)
+    handle.create_text(NodeId::new(document), units_of(alloc, data), text)
 }
 
 // Reads the arguments of `hp_create_comment`.

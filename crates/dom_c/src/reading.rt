@@ -8,6 +8,16 @@ use crate::status::HP_NONE;
 use dom_session::{Move, NodeId, Units};
 use std::alloc::Global;
 
+/// A name where it lies, which is UTF-8.
+pub(crate) fn lent_name(bytes: &[u8]) -> Result<&str, Fault>
+    ensures { Reads (λ name. name.now) result (name_in bytes.now) }
+{
+    match str::from_utf8(bytes) {
+        Ok(name) => Ok(name),
+        Err(_) => Err(Fault::NotUtf8),
+    }
+}
+
 /// A name, which is UTF-8.
 pub(crate) fn name_of(alloc: Global, bytes: &[u8]) -> Result<String, Fault>
     ensures { Reads string_bytes result (name_in bytes.now) }

@@ -1,10 +1,11 @@
 //! The statuses of calls: the standard's codes for its exceptions, and ours from 32 on.
 
 ghost use Rattle.std.specs.Prelude.{◌≡◌};
+ghost use Rattle.dom_session.specs.Brief.{reply_of};
 ghost use Rattle.dom_wire.specs.Sessions.{reply_view};
 ghost use Rattle.dom_c.specs.Statuses.{status_of, status_of_dom, status_of_own};
 
-use dom_session::DomError;
+use dom_session::{Brief, DomError};
 use dom_wire::{OwnError, Reply};
 
 /// The call did what it says.
@@ -100,5 +101,16 @@ pub fn status_of(reply: &Reply) -> u8
         Reply::Done(_) => HP_OK,
         Reply::Dom(error) => status_of_dom(*error),
         Reply::Own(error) => status_of_own(*error),
+    }
+}
+
+/// The status of a reply whose answer is small.
+pub(crate) fn status_of_brief(brief: Brief) -> u8
+    ensures { result ≡ status_of (reply_view (reply_of brief)) }
+{
+    match brief {
+        Brief::Nothing | Brief::Number(_) | Brief::MaybeNumber(_) => HP_OK,
+        Brief::Dom(error) => status_of_dom(error),
+        Brief::Own(error) => status_of_own(error),
     }
 }

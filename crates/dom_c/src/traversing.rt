@@ -2,7 +2,6 @@
 
 ghost use Rattle.std.specs.Prelude.{◌≡◌, Ok};
 ghost use Rattle.dom_model.specs.Commands.Command.{CreateIterator, CreateWalker, DescribeIterator, NextNode, PreviousNode, DescribeWalker, SetCurrent, Walk, ReleaseIterator, ReleaseWalker};
-ghost use Rattle.dom_session.specs.Views.{traversing_view};
 ghost use Rattle.dom_wire.specs.Sessions.{command_view};
 ghost use Rattle.dom_c.specs.Answers.{Answers};
 ghost use Rattle.dom_c.specs.Reads.{Reads, move_in, then_make};
@@ -113,7 +112,7 @@ pub extern "C" fn hp_next_node(handle: &mut Handle, iterator: u32, node: &mut u3
     ensures answers { Answers handle.old handle.new (Ok (NextNode iterator)) result }
     ensures told { node.new ≡ maybe_number_told (told handle.new result) node.old }
 {
-    handle.traverse(Ok(Traversing::NextNode(IteratorId::new(iterator))), node)
+    handle.next_node(IteratorId::new(iterator), node)
 }
 
 /// Moves an iterator back, and tells the node, or `HP_NONE`.
@@ -122,10 +121,7 @@ pub extern "C" fn hp_previous_node(handle: &mut Handle, iterator: u32, node: &mu
     ensures answers { Answers handle.old handle.new (Ok (PreviousNode iterator)) result }
     ensures told { node.new ≡ maybe_number_told (told handle.new result) node.old }
 {
-    handle.traverse(
-        Ok(Traversing::PreviousNode(IteratorId::new(iterator))),
-        node,
-    )
+    handle.previous_node(IteratorId::new(iterator), node)
 }
 
 /// Tells where a walker stands.
@@ -151,15 +147,6 @@ pub extern "C" fn hp_set_current(handle: &mut Handle, walker: u32, node: u32) ->
     ))))
 }
 
-// Reads the arguments of `hp_walk`.
-fn read_walk(walker: u32, direction: u8) -> Result<Traversing, Fault>
-    ensures { Reads traversing_view result
-        (then_make (move_in direction) (λ direction. Ok (Walk walker direction))) }
-{
-    let direction = move_of(direction)?;
-    Ok(Traversing::Walk(WalkerId::new(walker), direction))
-}
-
 /// Moves a walker, and tells the node, or `HP_NONE`. The courses are numbered in the order of the standard: parentNode 0, firstChild 1, lastChild 2, previousSibling 3, nextSibling 4, previousNode 5, nextNode 6.
 #[unsafe(no_mangle)]
 pub extern "C" fn hp_walk(handle: &mut Handle, walker: u32, direction: u8, node: &mut u32) -> u8
@@ -167,7 +154,7 @@ pub extern "C" fn hp_walk(handle: &mut Handle, walker: u32, direction: u8, node:
         (then_make (move_in direction) (λ direction. Ok (Walk walker direction))) result }
     ensures told { node.new ≡ maybe_number_told (told handle.new result) node.old }
 {
-    handle.traverse(read_walk(walker, direction), node)
+    handle.walk(WalkerId::new(walker), move_of(direction), node)
 }
 
 /// Lets an iterator go.

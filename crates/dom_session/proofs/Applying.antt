@@ -175,7 +175,7 @@ IsShown-step old new b c r shown step = record {
 }
 
 -- from the step of the world to the answer of the session, for a command that knows nothing of the limit of a line
-IsAnswered-by : (old new : Held) (c : model.Command) (r : Reply) → ((w : World) → answer (numbered old.bounds.numbers) w c ≡ answer old.bounds w c) → IsStep old.world new.world (numbered old.bounds.numbers) c r → (w : World) → StandsFor old w → IsAnswered r w old new c
+pub IsAnswered-by : (old new : Held) (c : model.Command) (r : Reply) → ((w : World) → answer (numbered old.bounds.numbers) w c ≡ answer old.bounds w c) → IsStep old.world new.world (numbered old.bounds.numbers) c r → (w : World) → StandsFor old w → IsAnswered r w old new c
 IsAnswered-by old new c r alike step w stands =
     let same = alike w in
     let P : Step → Type 0 = λ s. Shows new.world s.world in
@@ -192,6 +192,3 @@ IsAnswered-making old new c r = IsAnswered-by old new (making_view c) r (λ w. s
 
 pub IsAnswered-editing : (old new : Held) (c : Editing) (r : Reply) → IsStep old.world new.world (numbered old.bounds.numbers) (editing_view c) r → (w : World) → StandsFor old w → IsAnswered r w old new (editing_view c)
 IsAnswered-editing old new c r = IsAnswered-by old new (editing_view c) r (λ w. same_editing old.bounds w c)
-
-pub IsAnswered-traversing : (old new : Held) (c : Traversing) (r : Reply) → IsStep old.world new.world (numbered old.bounds.numbers) (traversing_view c) r → (w : World) → StandsFor old w → IsAnswered r w old new (traversing_view c)
-IsAnswered-traversing old new c r = IsAnswered-by old new (traversing_view c) r (λ w. same_traversing old.bounds w c)

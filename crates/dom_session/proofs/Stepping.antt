@@ -20,6 +20,8 @@ use Rattle.dom_session.specs.declared.reply.Reply.{Reply}
 use Rattle.dom_session.specs.declared.reply.Reply.TheVariants.{Dom}
 use Rattle.dom_session.specs.Views.{reply_view}
 use Rattle.dom_session.specs.Refusing.{reply_to}
+use Rattle.dom_session.specs.declared.brief.Brief.{Brief}
+use Rattle.dom_session.specs.Brief.{reply_of, brief_to}
 use Rattle.dom_session.specs.Stands.{IsStep}
 
 -- where none of the first tests holds, those behind them decide
@@ -86,3 +88,12 @@ module _ (old new : World) (c : Command) (r : Refusal) (check : Option DomError)
       each : (x : Result Reply AllocError) → ((b : Bounds) → IfOk x (IsStep old new b c)) → IfOk x (λ y. (b : Bounds) → IsStep old new b c y)
       each (Ok y) h = h
       each (Err e) h = tt
+
+-- the same of a reply whose answer is small
+module _ (old new : World) (c : Command) (r : Refusal) (check : Option DomError) (reply : Result Brief AllocError) (is : reply ≡ brief_to r) (left : IsRefused r check old new) where
+  pub steps-refused-briefly : ((b : Bounds) (e : DomError) → check ≡ Some e → (w : model.World) → Shows old w → answer b w c ≡ refused (model_reply.Dom e) w) → IfOk reply (λ x. (b : Bounds) → IsStep old new b c (reply_of x))
+  steps-refused-briefly named = rw is (at r left)
+    where
+      at : (x : Refusal) → IsRefused x check old new → IfOk (brief_to x) (λ y. (b : Bounds) → IsStep old new b c (reply_of y))
+      at (refusal.Dom e) h = λ b. rw h.1 (step-stays b c (Dom e) old (named b e h.0))
+      at refusal.Memory h = tt

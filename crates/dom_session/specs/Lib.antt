@@ -1,4 +1,5 @@
 pub mod Views
+pub mod Brief
 pub mod Stands
 pub mod Refusing
 pub mod Limiting

@@ -36,8 +36,8 @@ pub(crate) fn answered(
     ensures step { IfOk result (IsStep world.old world.new (numbered numbers) (command_view command)) }
 {
     match command {
-        Command::Making(command) => make_nodes(world, numbers, alloc, command),
-        Command::Editing(command) => edit_tree(world, alloc, command),
+        Command::Making(command) => Ok(make_nodes(world, numbers, alloc, command)?.reply()),
+        Command::Editing(command) => Ok(edit_tree(world, alloc, command)?.reply()),
         Command::Asking(command) => ask_tree(world, alloc, command),
         Command::Ranging(command) => act_on_ranges(world, numbers, command),
         Command::Setting(command) => Ok(set_ranges(world, command)),

@@ -8,12 +8,13 @@ ghost use Rattle.dom_model.specs.Commands.AnswerTree.{is_child_node};
 ghost use Rattle.dom_model.specs.Commands.Command.{InsertBefore, AppendChild, AdoptNode, ReplaceChild, RemoveChild, Remove, ReplaceChildren, Discard};
 ghost use Rattle.dom_model.specs.Commands.Guards.{Bounds};
 ghost use Rattle.dom_edit.specs.Whole.{IsWhole, IsShown};
+ghost use Rattle.dom_session.specs.Brief.{reply_of};
 ghost use Rattle.dom_session.specs.Views.{editing_view};
 ghost use Rattle.dom_session.specs.Stands.{IsStep};
 ghost use Rattle.dom_session.specs.Refusing.{lacks_given};
 
+use crate::brief::{Brief, brief_to};
 use crate::command::Editing;
-use crate::reply::{Answer, Reply, reply_to};
 use dom_edit::World;
 use dom_kinds::{DomError, Kind, may_be_parent};
 use dom_model::OwnError;
@@ -44,16 +45,16 @@ pub(crate) fn insert_before(
     parent: NodeId,
     node: NodeId,
     child: Option<NodeId>,
-) -> Result<Reply, AllocError>
+) -> Result<Brief, AllocError>
     requires shown { IsShown world.old }
-    ensures step { IfOk result (λ reply. (b : Bounds) → IsStep world.old world.new b (InsertBefore parent node child) reply) }
+    ensures step { IfOk result (λ reply. (b : Bounds) → IsStep world.old world.new b (InsertBefore parent node child) (reply_of reply)) }
 {
     if !world.tree.holds(parent) || !world.tree.holds(node) || !holds_given(world, &child) {
-        return Ok(Reply::Own(OwnError::NoSuchObject));
+        return Ok(Brief::Own(OwnError::NoSuchObject));
     }
     match world.insert_before(alloc, parent, node, child) {
-        Ok(()) => Ok(Reply::Done(Answer::Number(node.number()))),
-        Err(refusal) => reply_to(refusal),
+        Ok(()) => Ok(Brief::Number(node.number())),
+        Err(refusal) => brief_to(refusal),
     }
 }
 
@@ -63,16 +64,16 @@ pub(crate) fn append_child(
     alloc: Global,
     parent: NodeId,
     node: NodeId,
-) -> Result<Reply, AllocError>
+) -> Result<Brief, AllocError>
     requires shown { IsShown world.old }
-    ensures step { IfOk result (λ reply. (b : Bounds) → IsStep world.old world.new b (AppendChild parent node) reply) }
+    ensures step { IfOk result (λ reply. (b : Bounds) → IsStep world.old world.new b (AppendChild parent node) (reply_of reply)) }
 {
     if !world.tree.holds(parent) || !world.tree.holds(node) {
-        return Ok(Reply::Own(OwnError::NoSuchObject));
+        return Ok(Brief::Own(OwnError::NoSuchObject));
     }
     match world.append(alloc, parent, node) {
-        Ok(()) => Ok(Reply::Done(Answer::Number(node.number()))),
-        Err(refusal) => reply_to(refusal),
+        Ok(()) => Ok(Brief::Number(node.number())),
+        Err(refusal) => brief_to(refusal),
     }
 }
 
@@ -83,16 +84,16 @@ pub(crate) fn replace_child(
     parent: NodeId,
     node: NodeId,
     child: NodeId,
-) -> Result<Reply, AllocError>
+) -> Result<Brief, AllocError>
     requires shown { IsShown world.old }
-    ensures step { IfOk result (λ reply. (b : Bounds) → IsStep world.old world.new b (ReplaceChild parent node child) reply) }
+    ensures step { IfOk result (λ reply. (b : Bounds) → IsStep world.old world.new b (ReplaceChild parent node child) (reply_of reply)) }
 {
     if !world.tree.holds(parent) || !world.tree.holds(node) || !world.tree.holds(child) {
-        return Ok(Reply::Own(OwnError::NoSuchObject));
+        return Ok(Brief::Own(OwnError::NoSuchObject));
     }
     match world.replace(alloc, parent, node, child) {
-        Ok(()) => Ok(Reply::Done(Answer::Number(child.number()))),
-        Err(refusal) => reply_to(refusal),
+        Ok(()) => Ok(Brief::Number(child.number())),
+        Err(refusal) => brief_to(refusal),
     }
 }
 
@@ -102,32 +103,32 @@ pub(crate) fn remove_child(
     alloc: Global,
     parent: NodeId,
     child: NodeId,
-) -> Result<Reply, AllocError>
+) -> Result<Brief, AllocError>
     requires shown { IsShown world.old }
-    ensures step { IfOk result (λ reply. (b : Bounds) → IsStep world.old world.new b (RemoveChild parent child) reply) }
+    ensures step { IfOk result (λ reply. (b : Bounds) → IsStep world.old world.new b (RemoveChild parent child) (reply_of reply)) }
 {
     if !world.tree.holds(parent) || !world.tree.holds(child) {
-        return Ok(Reply::Own(OwnError::NoSuchObject));
+        return Ok(Brief::Own(OwnError::NoSuchObject));
     }
     match world.remove_child(alloc, parent, child) {
-        Ok(()) => Ok(Reply::Done(Answer::Number(child.number()))),
-        Err(refusal) => reply_to(refusal),
+        Ok(()) => Ok(Brief::Number(child.number())),
+        Err(refusal) => brief_to(refusal),
     }
 }
 
 /// Takes a node out of its parent, where it has one.
-pub(crate) fn remove(world: &mut World, alloc: Global, node: NodeId) -> Result<Reply, AllocError>
+pub(crate) fn remove(world: &mut World, alloc: Global, node: NodeId) -> Result<Brief, AllocError>
     requires shown { IsShown world.old }
-    ensures step { IfOk result (λ reply. (b : Bounds) → IsStep world.old world.new b (Remove node) reply) }
+    ensures step { IfOk result (λ reply. (b : Bounds) → IsStep world.old world.new b (Remove node) (reply_of reply)) }
 {
     if !world.tree.holds(node) {
-        return Ok(Reply::Own(OwnError::NoSuchObject));
+        return Ok(Brief::Own(OwnError::NoSuchObject));
     }
     if !is_child_node(world.tree.label(node).kind) {
-        return Ok(Reply::Dom(DomError::TypeError));
+        return Ok(Brief::Dom(DomError::TypeError));
     }
     world.remove(alloc, node)?;
-    Ok(Reply::Done(Answer::Nothing))
+    Ok(Brief::Nothing)
 }
 
 /// Makes a node, or nothing, all that stands under a parent.
@@ -136,19 +137,19 @@ pub(crate) fn replace_children(
     alloc: Global,
     parent: NodeId,
     node: Option<NodeId>,
-) -> Result<Reply, AllocError>
+) -> Result<Brief, AllocError>
     requires shown { IsShown world.old }
-    ensures step { IfOk result (λ reply. (b : Bounds) → IsStep world.old world.new b (ReplaceChildren parent node) reply) }
+    ensures step { IfOk result (λ reply. (b : Bounds) → IsStep world.old world.new b (ReplaceChildren parent node) (reply_of reply)) }
 {
     if !world.tree.holds(parent) || !holds_given(world, &node) {
-        return Ok(Reply::Own(OwnError::NoSuchObject));
+        return Ok(Brief::Own(OwnError::NoSuchObject));
     }
     if !may_be_parent(world.tree.label(parent).kind) {
-        return Ok(Reply::Dom(DomError::TypeError));
+        return Ok(Brief::Dom(DomError::TypeError));
     }
     match world.replace_children(alloc, parent, node) {
-        Ok(()) => Ok(Reply::Done(Answer::Nothing)),
-        Err(refusal) => reply_to(refusal),
+        Ok(()) => Ok(Brief::Nothing),
+        Err(refusal) => brief_to(refusal),
     }
 }
 
@@ -158,35 +159,36 @@ pub(crate) fn adopt_node(
     alloc: Global,
     document: NodeId,
     node: NodeId,
-) -> Result<Reply, AllocError>
+) -> Result<Brief, AllocError>
     requires shown { IsShown world.old }
-    ensures step { IfOk result (λ reply. (b : Bounds) → IsStep world.old world.new b (AdoptNode document node) reply) }
+    ensures step { IfOk result (λ reply. (b : Bounds) → IsStep world.old world.new b (AdoptNode document node) (reply_of reply)) }
 {
     if !world.tree.holds(document) || !world.tree.holds(node) {
-        return Ok(Reply::Own(OwnError::NoSuchObject));
+        return Ok(Brief::Own(OwnError::NoSuchObject));
     }
     if !world.tree.is_of_kind(document, Kind::Document) {
-        return Ok(Reply::Dom(DomError::TypeError));
+        return Ok(Brief::Dom(DomError::TypeError));
     }
     match world.adopt(alloc, document, node) {
-        Ok(()) => Ok(Reply::Done(Answer::Number(node.number()))),
-        Err(refusal) => reply_to(refusal),
+        Ok(()) => Ok(Brief::Number(node.number())),
+        Err(refusal) => brief_to(refusal),
     }
 }
 
 /// Lets a node and all that stands under it go, where nothing else names one of them.
-pub(crate) fn discard(world: &mut World, top: NodeId) -> Reply
+pub(crate) fn discard(world: &mut World, top: NodeId) -> Brief
     requires whole { IsWhole world.old }
-    ensures step { (b : Bounds) → IsStep world.old world.new b (Discard top) result }
+    ensures step { (b : Bounds) → IsStep world.old world.new b (Discard top) (reply_of result) }
 {
     if !world.tree.holds(top) {
-        return Reply::Own(OwnError::NoSuchObject);
+        return Brief::Own(OwnError::NoSuchObject);
     }
+    world.settle();
     if !world.can_discard(top) {
-        return Reply::Own(OwnError::InUse);
+        return Brief::Own(OwnError::InUse);
     }
     world.discard(top);
-    Reply::Done(Answer::Nothing)
+    Brief::Nothing
 }
 
 /// Answers the commands that change where nodes stand.
@@ -194,9 +196,9 @@ pub(crate) fn edit_tree(
     world: &mut World,
     alloc: Global,
     command: Editing,
-) -> Result<Reply, AllocError>
+) -> Result<Brief, AllocError>
     requires shown { IsShown world.old }
-    ensures step { IfOk result (λ reply. (b : Bounds) → IsStep world.old world.new b (editing_view command) reply) }
+    ensures step { IfOk result (λ reply. (b : Bounds) → IsStep world.old world.new b (editing_view command) (reply_of reply)) }
 {
     match command {
         Editing::InsertBefore(parent, node, child) => insert_before(

@@ -3,6 +3,7 @@
 
 mod answering;
 mod attributes;
+mod brief;
 mod command;
 mod comparing;
 mod contents;
@@ -24,6 +25,7 @@ mod statics;
 mod texts;
 mod traversing;
 
+pub use brief::Brief;
 pub use command::{
     Asking, Attributes, Command, Comparing, Contents, Copying, Editing, Making, Observing, Ranging,
     Setting, StaticRanging, Texts, Traversing,

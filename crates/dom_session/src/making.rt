@@ -4,14 +4,15 @@ ghost use Rattle.std.specs.Prelude.{◌≡◌, ◌≤◌, IfOk, option_map, stri
 ghost use Rattle.dom_model.specs.Worlds.World.{document_label};
 ghost use Rattle.dom_model.specs.Commands.AnswerMaking.{doctype_label, closes_instruction};
 ghost use Rattle.dom_model.specs.Commands.Command.{NewDocument, CreateElement, CreateText, CreateComment, CreatePI, CreateDoctype, CreateFragment};
+ghost use Rattle.dom_session.specs.Brief.{reply_of};
 ghost use Rattle.dom_session.specs.Views.{making_view, reply_view};
 ghost use Rattle.dom_edit.specs.Whole.{IsShown};
 ghost use Rattle.dom_session.specs.Stands.{IsStep};
 ghost use Rattle.dom_session.specs.Refusing.{making_refusal};
 ghost use Rattle.dom_session.specs.Limiting.{numbered};
 
+use crate::brief::Brief;
 use crate::command::Making;
-use crate::reply::{Answer, Reply};
 use dom_edit::{Content, World};
 use dom_kinds::{DomError, Kind, Label, is_doctype_name, is_element_name};
 use dom_model::OwnError;
@@ -27,17 +28,17 @@ pub(crate) fn document_label() -> Label
 }
 
 // Why a document may not get a new node.
-fn refusal(world: &World, numbers: u64, document: NodeId) -> Option<Reply>
-    ensures { option_map reply_view result ≡ making_refusal world.now numbers document }
+fn refusal(world: &World, numbers: u64, document: NodeId) -> Option<Brief>
+    ensures { option_map (λ reply. reply_view (reply_of reply)) result ≡ making_refusal world.now numbers document }
 {
     if !world.tree.holds(document) {
-        return Some(Reply::Own(OwnError::NoSuchObject));
+        return Some(Brief::Own(OwnError::NoSuchObject));
     }
     if world.tree.label(document).kind != Kind::Document {
-        return Some(Reply::Dom(DomError::TypeError));
+        return Some(Brief::Dom(DomError::TypeError));
     }
     if numbers <= world.tree.made() {
-        return Some(Reply::Own(OwnError::Limit));
+        return Some(Brief::Own(OwnError::Limit));
     }
     None
 }
@@ -47,16 +48,16 @@ pub(crate) fn new_document(
     world: &mut World,
     numbers: u64,
     alloc: Global,
-) -> Result<Reply, AllocError>
+) -> Result<Brief, AllocError>
     requires numbers { numbers ≤ 4294967295 }
     requires shown { IsShown world.old }
-    ensures step { IfOk result (IsStep world.old world.new (numbered numbers) NewDocument) }
+    ensures step { IfOk result (λ reply. IsStep world.old world.new (numbered numbers) NewDocument (reply_of reply)) }
 {
     if numbers <= world.tree.made() {
-        return Ok(Reply::Own(OwnError::Limit));
+        return Ok(Brief::Own(OwnError::Limit));
     }
     let id = world.make(alloc, document_label(), Content::nothing(), None)?;
-    Ok(Reply::Done(Answer::Number(id.number())))
+    Ok(Brief::Number(id.number()))
 }
 
 /// Makes an Element.
@@ -65,21 +66,21 @@ pub(crate) fn create_element(
     numbers: u64,
     alloc: Global,
     document: NodeId,
-    name: String,
-) -> Result<Reply, AllocError>
+    name: &str,
+) -> Result<Brief, AllocError>
     requires numbers { numbers ≤ 4294967295 }
     requires shown { IsShown world.old }
-    ensures step { IfOk result (IsStep world.old world.new (numbered numbers) (CreateElement document (string_bytes name))) }
+    ensures step { IfOk result (λ reply. IsStep world.old world.new (numbered numbers) (CreateElement document name.now) (reply_of reply)) }
 {
     if let Some(reply) = refusal(world, numbers, document) {
         return Ok(reply);
     }
-    if !is_element_name(name.as_str()) {
-        return Ok(Reply::Dom(DomError::InvalidCharacterError));
+    if !is_element_name(name) {
+        return Ok(Brief::Dom(DomError::InvalidCharacterError));
     }
-    let label = Label::named(alloc, Kind::Element, name.as_str())?;
+    let label = Label::named(alloc, Kind::Element, name)?;
     let id = world.make(alloc, label, Content::nothing(), Some(document))?;
-    Ok(Reply::Done(Answer::Number(id.number())))
+    Ok(Brief::Number(id.number()))
 }
 
 /// Makes a Text.
@@ -89,17 +90,17 @@ pub(crate) fn create_text(
     alloc: Global,
     document: NodeId,
     text: Units,
-) -> Result<Reply, AllocError>
+) -> Result<Brief, AllocError>
     requires numbers { numbers ≤ 4294967295 }
     requires shown { IsShown world.old }
-    ensures step { IfOk result (IsStep world.old world.new (numbered numbers) (CreateText document text)) }
+    ensures step { IfOk result (λ reply. IsStep world.old world.new (numbered numbers) (CreateText document text) (reply_of reply)) }
 {
     if let Some(reply) = refusal(world, numbers, document) {
         return Ok(reply);
     }
     let body = Content::of_text(alloc, text)?;
     let id = world.make(alloc, Label::nameless(Kind::Text), body, Some(document))?;
-    Ok(Reply::Done(Answer::Number(id.number())))
+    Ok(Brief::Number(id.number()))
 }
 
 /// Makes a Comment.
@@ -109,17 +110,17 @@ pub(crate) fn create_comment(
     alloc: Global,
     document: NodeId,
     text: Units,
-) -> Result<Reply, AllocError>
+) -> Result<Brief, AllocError>
     requires numbers { numbers ≤ 4294967295 }
     requires shown { IsShown world.old }
-    ensures step { IfOk result (IsStep world.old world.new (numbered numbers) (CreateComment document text)) }
+    ensures step { IfOk result (λ reply. IsStep world.old world.new (numbered numbers) (CreateComment document text) (reply_of reply)) }
 {
     if let Some(reply) = refusal(world, numbers, document) {
         return Ok(reply);
     }
     let body = Content::of_text(alloc, text)?;
     let id = world.make(alloc, Label::nameless(Kind::Comment), body, Some(document))?;
-    Ok(Reply::Done(Answer::Number(id.number())))
+    Ok(Brief::Number(id.number()))
 }
 
 // Whether `?>` stands in the units, which would end a processing instruction.
@@ -144,24 +145,24 @@ pub(crate) fn create_instruction(
     document: NodeId,
     target: String,
     text: Units,
-) -> Result<Reply, AllocError>
+) -> Result<Brief, AllocError>
     requires numbers { numbers ≤ 4294967295 }
     requires shown { IsShown world.old }
-    ensures step { IfOk result (IsStep world.old world.new (numbered numbers) (CreatePI document (string_bytes target) text)) }
+    ensures step { IfOk result (λ reply. IsStep world.old world.new (numbered numbers) (CreatePI document (string_bytes target) text) (reply_of reply)) }
 {
     if let Some(reply) = refusal(world, numbers, document) {
         return Ok(reply);
     }
     if !is_element_name(target.as_str()) {
-        return Ok(Reply::Dom(DomError::InvalidCharacterError));
+        return Ok(Brief::Dom(DomError::InvalidCharacterError));
     }
     if closes_instruction(text.units()) {
-        return Ok(Reply::Dom(DomError::InvalidCharacterError));
+        return Ok(Brief::Dom(DomError::InvalidCharacterError));
     }
     let label = Label::named(alloc, Kind::ProcessingInstruction, target.as_str())?;
     let body = Content::of_text(alloc, text)?;
     let id = world.make(alloc, label, body, Some(document))?;
-    Ok(Reply::Done(Answer::Number(id.number())))
+    Ok(Brief::Number(id.number()))
 }
 
 /// Makes a DocumentType.
@@ -173,21 +174,21 @@ pub(crate) fn create_doctype(
     name: String,
     public_id: String,
     system_id: String,
-) -> Result<Reply, AllocError>
+) -> Result<Brief, AllocError>
     requires numbers { numbers ≤ 4294967295 }
     requires shown { IsShown world.old }
-    ensures step { IfOk result (IsStep world.old world.new (numbered numbers)
-        (CreateDoctype document (string_bytes name) (string_bytes public_id) (string_bytes system_id))) }
+    ensures step { IfOk result (λ reply. IsStep world.old world.new (numbered numbers)
+        (CreateDoctype document (string_bytes name) (string_bytes public_id) (string_bytes system_id)) (reply_of reply)) }
 {
     if let Some(reply) = refusal(world, numbers, document) {
         return Ok(reply);
     }
     if !is_doctype_name(name.as_str()) {
-        return Ok(Reply::Dom(DomError::InvalidCharacterError));
+        return Ok(Brief::Dom(DomError::InvalidCharacterError));
     }
     let label = Label::doctype(alloc, name, public_id, system_id)?;
     let id = world.make(alloc, label, Content::nothing(), Some(document))?;
-    Ok(Reply::Done(Answer::Number(id.number())))
+    Ok(Brief::Number(id.number()))
 }
 
 /// Makes a DocumentFragment.
@@ -196,17 +197,17 @@ pub(crate) fn create_fragment(
     numbers: u64,
     alloc: Global,
     document: NodeId,
-) -> Result<Reply, AllocError>
+) -> Result<Brief, AllocError>
     requires numbers { numbers ≤ 4294967295 }
     requires shown { IsShown world.old }
-    ensures step { IfOk result (IsStep world.old world.new (numbered numbers) (CreateFragment document)) }
+    ensures step { IfOk result (λ reply. IsStep world.old world.new (numbered numbers) (CreateFragment document) (reply_of reply)) }
 {
     if let Some(reply) = refusal(world, numbers, document) {
         return Ok(reply);
     }
     let label = Label::nameless(Kind::DocumentFragment);
     let id = world.make(alloc, label, Content::nothing(), Some(document))?;
-    Ok(Reply::Done(Answer::Number(id.number())))
+    Ok(Brief::Number(id.number()))
 }
 
 /// Answers the commands that make nodes.
@@ -215,15 +216,19 @@ pub(crate) fn make_nodes(
     numbers: u64,
     alloc: Global,
     command: Making,
-) -> Result<Reply, AllocError>
+) -> Result<Brief, AllocError>
     requires numbers { numbers ≤ 4294967295 }
     requires shown { IsShown world.old }
-    ensures step { IfOk result (IsStep world.old world.new (numbered numbers) (making_view command)) }
+    ensures step { IfOk result (λ reply. IsStep world.old world.new (numbered numbers) (making_view command) (reply_of reply)) }
 {
     match command {
         Making::NewDocument => new_document(world, numbers, alloc),
         Making::CreateElement(document, name) => create_element(
-            world, numbers, alloc, document, name,
+            world,
+            numbers,
+            alloc,
+            document,
+            name.as_str(),
         ),
         Making::CreateText(document, text) => create_text(world, numbers, alloc, document, text),
         Making::CreateComment(document, text) => create_comment(

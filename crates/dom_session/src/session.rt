@@ -3,24 +3,29 @@
 ghost use Rattle.std.specs.Prelude.{◌≡◌, ℕ, ◌≤◌, true, false, IsErr, IfOk, OnOk, OnErr};
 ghost use Rattle.dom_model.specs.Worlds.World.{World as PlainWorld, first_world};
 ghost use Rattle.dom_model.specs.Forests.Forest.{children_of};
+ghost use Rattle.dom_model.specs.Commands.Command.{CreateElement, CreateText, NextNode, PreviousNode, Walk};
 ghost use Rattle.dom_model.specs.Commands.Reply.{is_refusal};
-ghost use Rattle.dom_session.specs.Views.{command_view, making_view, editing_view, traversing_view, reply_view};
+ghost use Rattle.dom_session.specs.Brief.{reply_of};
+ghost use Rattle.dom_session.specs.Views.{command_view, making_view, editing_view, reply_view};
 ghost use Rattle.dom_session.specs.Stands.{StandsFor, IsAnswered};
 ghost use Rattle.dom_session.specs.Bounding.{bounds_of};
 ghost use Rattle.dom_session.specs.InUse.{in_use_of, in_use_in};
 ghost use Rattle.dom_session.specs.Links.{links_in, first_child_in, last_child_in, child_in, count_in, laid_over};
 
 use crate::answering::answered;
-use crate::command::{Command, Editing, Making, Traversing};
+use crate::brief::Brief;
+use crate::command::{Command, Editing, Making};
 use crate::editing::edit_tree;
 use crate::in_use::{self, Counts};
 use crate::links::{self, Links};
-use crate::making::make_nodes;
+use crate::making::{create_element, create_text, make_nodes};
 use crate::reply::Reply;
-use crate::traversing::traverse;
+use crate::traversing::{next_node, previous_node, walk};
 use dom_edit::World;
-use dom_model::OwnError;
+use dom_model::{Move, OwnError};
+use dom_traverse::{IteratorId, WalkerId};
 use dom_tree::NodeId;
+use dom_units::Units;
 use std::alloc::{AllocError, Global};
 use std::marker::Model;
 
@@ -106,10 +111,10 @@ impl Session {
     }
 
     /// Answers a command that makes a node as `apply` does, with less to hand on.
-    pub fn make(&mut self, command: Making) -> Result<Reply, Ended>
+    pub fn make(&mut self, command: Making) -> Result<Brief, Ended>
         ensures answers { IfOk result
-            (λ reply. (w : PlainWorld) → StandsFor self.old w → IsAnswered reply w self.old self.new (making_view command)) }
-        ensures refused { IfOk result (λ reply. is_refusal (reply_view reply) ≡ true → self.new ≡ self.old) }
+            (λ reply. (w : PlainWorld) → StandsFor self.old w → IsAnswered (reply_of reply) w self.old self.new (making_view command)) }
+        ensures refused { IfOk result (λ reply. is_refusal (reply_view (reply_of reply)) ≡ true → self.new ≡ self.old) }
         ensures open { OnOk result (self.new.ended ≡ false) }
         ensures ended { OnErr result (self.new.ended ≡ true) }
         ensures stays_ended { self.old.ended ≡ true → IsErr result }
@@ -125,11 +130,63 @@ impl Session {
         Ok(reply)
     }
 
-    /// Answers a command that changes where nodes stand as `apply` does, with less to hand on.
-    pub fn edit(&mut self, command: Editing) -> Result<Reply, Ended>
+    /// Makes an Element as `apply` does, of a name that is lent.
+    pub fn create_element(&mut self, document: NodeId, name: &str) -> Result<Brief, Ended>
         ensures answers { IfOk result
-            (λ reply. (w : PlainWorld) → StandsFor self.old w → IsAnswered reply w self.old self.new (editing_view command)) }
-        ensures refused { IfOk result (λ reply. is_refusal (reply_view reply) ≡ true → self.new ≡ self.old) }
+            (λ reply. (w : PlainWorld) → StandsFor self.old w → IsAnswered (reply_of reply) w self.old self.new (CreateElement document name.now)) }
+        ensures refused { IfOk result (λ reply. is_refusal (reply_view (reply_of reply)) ≡ true → self.new ≡ self.old) }
+        ensures open { OnOk result (self.new.ended ≡ false) }
+        ensures ended { OnErr result (self.new.ended ≡ true) }
+        ensures stays_ended { self.old.ended ≡ true → IsErr result }
+        ensures bounds { self.new.bounds ≡ self.old.bounds }
+    {
+        if self.ended {
+            return Err(Ended);
+        }
+        let Ok(reply) = create_element(
+            &mut self.world,
+            self.limits.numbers,
+            self.alloc,
+            document,
+            name,
+        ) else {
+            self.ended = true;
+            return Err(Ended);
+        };
+        Ok(reply)
+    }
+
+    /// Makes a Text as `apply` does, with less to hand on.
+    pub fn create_text(&mut self, document: NodeId, text: Units) -> Result<Brief, Ended>
+        ensures answers { IfOk result
+            (λ reply. (w : PlainWorld) → StandsFor self.old w → IsAnswered (reply_of reply) w self.old self.new (CreateText document text)) }
+        ensures refused { IfOk result (λ reply. is_refusal (reply_view (reply_of reply)) ≡ true → self.new ≡ self.old) }
+        ensures open { OnOk result (self.new.ended ≡ false) }
+        ensures ended { OnErr result (self.new.ended ≡ true) }
+        ensures stays_ended { self.old.ended ≡ true → IsErr result }
+        ensures bounds { self.new.bounds ≡ self.old.bounds }
+    {
+        if self.ended {
+            return Err(Ended);
+        }
+        let Ok(reply) = create_text(
+            &mut self.world,
+            self.limits.numbers,
+            self.alloc,
+            document,
+            text,
+        ) else {
+            self.ended = true;
+            return Err(Ended);
+        };
+        Ok(reply)
+    }
+
+    /// Answers a command that changes where nodes stand as `apply` does, with less to hand on.
+    pub fn edit(&mut self, command: Editing) -> Result<Brief, Ended>
+        ensures answers { IfOk result
+            (λ reply. (w : PlainWorld) → StandsFor self.old w → IsAnswered (reply_of reply) w self.old self.new (editing_view command)) }
+        ensures refused { IfOk result (λ reply. is_refusal (reply_view (reply_of reply)) ≡ true → self.new ≡ self.old) }
         ensures open { OnOk result (self.new.ended ≡ false) }
         ensures ended { OnErr result (self.new.ended ≡ true) }
         ensures stays_ended { self.old.ended ≡ true → IsErr result }
@@ -145,11 +202,11 @@ impl Session {
         Ok(reply)
     }
 
-    /// Answers a command on an iterator or a walker as `apply` does, with less to hand on.
-    pub fn traverse(&mut self, command: Traversing) -> Result<Reply, Ended>
+    /// Moves an iterator on as `apply` does, with less to hand on.
+    pub fn next_node(&mut self, iterator: IteratorId) -> Result<Brief, Ended>
         ensures answers { IfOk result
-            (λ reply. (w : PlainWorld) → StandsFor self.old w → IsAnswered reply w self.old self.new (traversing_view command)) }
-        ensures refused { IfOk result (λ reply. is_refusal (reply_view reply) ≡ true → self.new ≡ self.old) }
+            (λ reply. (w : PlainWorld) → StandsFor self.old w → IsAnswered (reply_of reply) w self.old self.new (NextNode iterator)) }
+        ensures refused { IfOk result (λ reply. is_refusal (reply_view (reply_of reply)) ≡ true → self.new ≡ self.old) }
         ensures open { OnOk result (self.new.ended ≡ false) }
         ensures ended { OnErr result (self.new.ended ≡ true) }
         ensures stays_ended { self.old.ended ≡ true → IsErr result }
@@ -158,11 +215,39 @@ impl Session {
         if self.ended {
             return Err(Ended);
         }
-        let Ok(reply) = traverse(&mut self.world, self.limits.numbers, command) else {
-            self.ended = true;
+        Ok(next_node(&mut self.world, iterator))
+    }
+
+    /// Moves an iterator back as `apply` does, with less to hand on.
+    pub fn previous_node(&mut self, iterator: IteratorId) -> Result<Brief, Ended>
+        ensures answers { IfOk result
+            (λ reply. (w : PlainWorld) → StandsFor self.old w → IsAnswered (reply_of reply) w self.old self.new (PreviousNode iterator)) }
+        ensures refused { IfOk result (λ reply. is_refusal (reply_view (reply_of reply)) ≡ true → self.new ≡ self.old) }
+        ensures open { OnOk result (self.new.ended ≡ false) }
+        ensures ended { OnErr result (self.new.ended ≡ true) }
+        ensures stays_ended { self.old.ended ≡ true → IsErr result }
+        ensures bounds { self.new.bounds ≡ self.old.bounds }
+    {
+        if self.ended {
             return Err(Ended);
-        };
-        Ok(reply)
+        }
+        Ok(previous_node(&mut self.world, iterator))
+    }
+
+    /// Moves a walker as `apply` does, with less to hand on.
+    pub fn walk(&mut self, walker: WalkerId, direction: Move) -> Result<Brief, Ended>
+        ensures answers { IfOk result
+            (λ reply. (w : PlainWorld) → StandsFor self.old w → IsAnswered (reply_of reply) w self.old self.new (Walk walker direction)) }
+        ensures refused { IfOk result (λ reply. is_refusal (reply_view (reply_of reply)) ≡ true → self.new ≡ self.old) }
+        ensures open { OnOk result (self.new.ended ≡ false) }
+        ensures ended { OnErr result (self.new.ended ≡ true) }
+        ensures stays_ended { self.old.ended ≡ true → IsErr result }
+        ensures bounds { self.new.bounds ≡ self.old.bounds }
+    {
+        if self.ended {
+            return Err(Ended);
+        }
+        Ok(walk(&mut self.world, walker, direction))
     }
 
     /// What a node is, and what stands around it, in constant time. No command is applied, and no memory taken.

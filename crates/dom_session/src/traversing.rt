@@ -5,10 +5,12 @@ ghost use Rattle.dom_model.specs.Commands.Command.{CreateIterator, CreateWalker,
 ghost use Rattle.dom_model.specs.Commands.Guards.{Bounds};
 ghost use Rattle.dom_model.specs.Commands.Reply.{Done, MaybeNumber};
 ghost use Rattle.dom_edit.specs.Whole.{IsShown};
+ghost use Rattle.dom_session.specs.Brief.{reply_of};
 ghost use Rattle.dom_session.specs.Views.{traversing_view, reply_view};
 ghost use Rattle.dom_session.specs.Stands.{IsStep};
 ghost use Rattle.dom_session.specs.Limiting.{numbered};
 
+use crate::brief::Brief;
 use crate::command::Traversing;
 use crate::reply::{Answer, Reply};
 use dom_edit::World;
@@ -18,12 +20,12 @@ use dom_tree::NodeId;
 use std::alloc::AllocError;
 
 // The number of a node, where one is found.
-fn reply_found(found: Option<NodeId>) -> Reply
-    ensures { reply_view result ≡ Done (MaybeNumber found) }
+fn brief_found(found: Option<NodeId>) -> Brief
+    ensures { reply_view (reply_of result) ≡ Done (MaybeNumber found) }
 {
     match found {
-        Some(node) => Reply::Done(Answer::MaybeNumber(Some(node.number()))),
-        None => Reply::Done(Answer::MaybeNumber(None)),
+        Some(node) => Brief::MaybeNumber(Some(node.number())),
+        None => Brief::MaybeNumber(None),
     }
 }
 
@@ -81,27 +83,27 @@ pub(crate) fn describe_iterator(world: &World, iterator: IteratorId) -> Reply
 }
 
 /// Moves an iterator on (`nextNode`).
-pub(crate) fn next_node(world: &mut World, iterator: IteratorId) -> Reply
+pub(crate) fn next_node(world: &mut World, iterator: IteratorId) -> Brief
     requires shown { IsShown world.old }
-    ensures step { (b : Bounds) → IsStep world.old world.new b (NextNode iterator) result }
+    ensures step { (b : Bounds) → IsStep world.old world.new b (NextNode iterator) (reply_of result) }
 {
     if !world.iterators.holds(iterator) {
-        return Reply::Own(OwnError::NoSuchObject);
+        return Brief::Own(OwnError::NoSuchObject);
     }
     let found = world.iterators.next(&world.tree, iterator);
-    reply_found(found)
+    brief_found(found)
 }
 
 /// Moves an iterator back (`previousNode`).
-pub(crate) fn previous_node(world: &mut World, iterator: IteratorId) -> Reply
+pub(crate) fn previous_node(world: &mut World, iterator: IteratorId) -> Brief
     requires shown { IsShown world.old }
-    ensures step { (b : Bounds) → IsStep world.old world.new b (PreviousNode iterator) result }
+    ensures step { (b : Bounds) → IsStep world.old world.new b (PreviousNode iterator) (reply_of result) }
 {
     if !world.iterators.holds(iterator) {
-        return Reply::Own(OwnError::NoSuchObject);
+        return Brief::Own(OwnError::NoSuchObject);
     }
     let found = world.iterators.previous(&world.tree, iterator);
-    reply_found(found)
+    brief_found(found)
 }
 
 /// Tells the root and the current node of a walker.
@@ -128,15 +130,15 @@ pub(crate) fn set_current(world: &mut World, walker: WalkerId, node: NodeId) -> 
 }
 
 /// Makes one of the seven moves of a walker, where it finds a node.
-pub(crate) fn walk(world: &mut World, walker: WalkerId, direction: Move) -> Reply
+pub(crate) fn walk(world: &mut World, walker: WalkerId, direction: Move) -> Brief
     requires shown { IsShown world.old }
-    ensures step { (b : Bounds) → IsStep world.old world.new b (Walk walker direction) result }
+    ensures step { (b : Bounds) → IsStep world.old world.new b (Walk walker direction) (reply_of result) }
 {
     if !world.walkers.holds(walker) {
-        return Reply::Own(OwnError::NoSuchObject);
+        return Brief::Own(OwnError::NoSuchObject);
     }
     let found = world.walkers.step(&world.tree, walker, direction);
-    reply_found(found)
+    brief_found(found)
 }
 
 /// Lets an iterator go: no removal moves it, it keeps no tree from being discarded, and its number is not used again.
@@ -177,11 +179,11 @@ pub(crate) fn traverse(
         Traversing::CreateIterator(root, filter) => create_iterator(world, numbers, root, filter),
         Traversing::CreateWalker(root, filter) => create_walker(world, numbers, root, filter),
         Traversing::DescribeIterator(iterator) => Ok(describe_iterator(world, iterator)),
-        Traversing::NextNode(iterator) => Ok(next_node(world, iterator)),
-        Traversing::PreviousNode(iterator) => Ok(previous_node(world, iterator)),
+        Traversing::NextNode(iterator) => Ok(next_node(world, iterator).reply()),
+        Traversing::PreviousNode(iterator) => Ok(previous_node(world, iterator).reply()),
         Traversing::DescribeWalker(walker) => Ok(describe_walker(world, walker)),
         Traversing::SetCurrent(walker, node) => Ok(set_current(world, walker, node)),
-        Traversing::Walk(walker, direction) => Ok(walk(world, walker, direction)),
+        Traversing::Walk(walker, direction) => Ok(walk(world, walker, direction).reply()),
         Traversing::ReleaseIterator(iterator) => Ok(release_iterator(world, iterator)),
         Traversing::ReleaseWalker(walker) => Ok(release_walker(world, walker)),
     }

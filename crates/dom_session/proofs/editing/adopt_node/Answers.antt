@@ -9,7 +9,7 @@ use Rattle.dom_model.specs.Commands.Command.{AdoptNode}
 use Rattle.dom_model.specs.Forests.Nodes.{kind_passes}
 use Rattle.dom_model.specs.MutationAlgorithms.Editing.{adopt}
 use Rattle.dom_edit.specs.Refusals.{check_adopt}
-use Rattle.dom_session.proofs.Stepping.{step-follows, steps-refused}
+use Rattle.dom_session.proofs.Stepping.{step-follows, steps-refused-briefly}
 use Rattle.dom_session.proofs.TreeEdits.{answer-adopt_node, refused-adopt_node}
 use Rattle.dom_session.proofs.editing.adopt_node.Goals as goal
 
@@ -36,6 +36,6 @@ returns-in-Err c =
     let hn : is_some (entry_in old.tree.forest n) ≡ true = cc in
     let kind : kind_passes (is_kind Document) old.tree.forest d ≡ true = cc in
     record {
-      step = steps-refused old c.adopt.new.self (AdoptNode d n) c.in-Err.refusal (check_adopt old.tree.forest n) c.reply_to.result c.reply_to.ensures c.in-Err.ensures.refused
+      step = steps-refused-briefly old c.adopt.new.self (AdoptNode d n) c.in-Err.refusal (check_adopt old.tree.forest n) c.brief_to.result c.brief_to.ensures c.in-Err.ensures.refused
           (λ b e named w shown. refused-adopt_node old b d n w shown hd hn kind e named);
     }

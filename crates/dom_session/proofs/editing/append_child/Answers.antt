@@ -6,7 +6,7 @@ use Rattle.dom_model.specs.MutationAlgorithms.Checks.{check_insert}
 use Rattle.dom_model.specs.MutationAlgorithms.Editing.{append}
 use Rattle.dom_session.specs.declared.reply.Answer.TheVariants.{Number}
 use Rattle.dom_session.specs.declared.reply.Reply.TheVariants.{Done}
-use Rattle.dom_session.proofs.Stepping.{step-follows, steps-refused}
+use Rattle.dom_session.proofs.Stepping.{step-follows, steps-refused-briefly}
 use Rattle.dom_session.proofs.TreeEdits.{answer-append_child}
 use Rattle.dom_session.proofs.editing.append_child.Goals as goal
 
@@ -31,6 +31,6 @@ returns-in-Err c =
     let hp : is_some (entry_in old.tree.forest p) ≡ true = cc in
     let hn : is_some (entry_in old.tree.forest n) ≡ true = cc in
     record {
-      step = steps-refused old c.append.new.self (AppendChild p n) c.in-Err.refusal (check_insert old.tree.forest p n None) c.reply_to.result c.reply_to.ensures c.in-Err.ensures.refused
+      step = steps-refused-briefly old c.append.new.self (AppendChild p n) c.in-Err.refusal (check_insert old.tree.forest p n None) c.brief_to.result c.brief_to.ensures c.in-Err.ensures.refused
           (λ b e named w shown. answer-append_child old b p n w (Some e) shown hp hn named);
     }

@@ -7,7 +7,7 @@ use Rattle.dom_session.specs.Refusing.{lacks_given}
 use Rattle.dom_model.specs.Commands.Command.{InsertBefore}
 use Rattle.dom_model.specs.MutationAlgorithms.Checks.{check_insert}
 use Rattle.dom_model.specs.MutationAlgorithms.Editing.{pre_insert}
-use Rattle.dom_session.proofs.Stepping.{step-follows, steps-refused}
+use Rattle.dom_session.proofs.Stepping.{step-follows, steps-refused-briefly}
 use Rattle.dom_session.proofs.TreeEdits.{not-true, answer-insert_before}
 use Rattle.dom_session.proofs.editing.insert_before.Goals as goal
 
@@ -38,6 +38,6 @@ returns-in-Err c =
     let given : not (lacks_given old child) ≡ true = cc in
     let hc = not-true (lacks_given old child) given in
     record {
-      step = steps-refused old c.insert_before.new.self (InsertBefore p n child) c.in-Err.refusal (check_insert old.tree.forest p n child) c.reply_to.result c.reply_to.ensures c.in-Err.ensures.refused
+      step = steps-refused-briefly old c.insert_before.new.self (InsertBefore p n child) c.in-Err.refusal (check_insert old.tree.forest p n child) c.brief_to.result c.brief_to.ensures c.in-Err.ensures.refused
           (λ b e named w shown. answer-insert_before old b p n child w (Some e) shown hp hn hc named);
     }

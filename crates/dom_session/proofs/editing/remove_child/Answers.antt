@@ -6,7 +6,7 @@ use Rattle.dom_session.specs.declared.reply.Reply.TheVariants.{Done}
 use Rattle.dom_model.specs.Commands.Command.{RemoveChild}
 use Rattle.dom_model.specs.MutationAlgorithms.Editing.{remove}
 use Rattle.dom_edit.specs.Refusals.{check_remove_child}
-use Rattle.dom_session.proofs.Stepping.{step-follows, steps-refused}
+use Rattle.dom_session.proofs.Stepping.{step-follows, steps-refused-briefly}
 use Rattle.dom_session.proofs.TreeEdits.{answer-remove_child, refused-remove_child}
 use Rattle.dom_session.proofs.editing.remove_child.Goals as goal
 
@@ -31,6 +31,6 @@ returns-in-Err c =
     let hp : is_some (entry_in old.tree.forest p) ≡ true = cc in
     let hc : is_some (entry_in old.tree.forest child) ≡ true = cc in
     record {
-      step = steps-refused old c.remove_child.new.self (RemoveChild p child) c.in-Err.refusal (check_remove_child old.tree.forest p child) c.reply_to.result c.reply_to.ensures c.in-Err.ensures.refused
+      step = steps-refused-briefly old c.remove_child.new.self (RemoveChild p child) c.in-Err.refusal (check_remove_child old.tree.forest p child) c.brief_to.result c.brief_to.ensures c.in-Err.ensures.refused
           (λ b e named w shown. refused-remove_child old b p child w shown hp hc e named);
     }

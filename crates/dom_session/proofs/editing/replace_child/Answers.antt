@@ -6,7 +6,7 @@ use Rattle.dom_session.specs.declared.reply.Reply.TheVariants.{Done}
 use Rattle.dom_model.specs.Commands.Command.{ReplaceChild}
 use Rattle.dom_model.specs.MutationAlgorithms.Checks.{check_replace}
 use Rattle.dom_model.specs.MutationAlgorithms.Editing.{replace}
-use Rattle.dom_session.proofs.Stepping.{step-follows, steps-refused}
+use Rattle.dom_session.proofs.Stepping.{step-follows, steps-refused-briefly}
 use Rattle.dom_session.proofs.TreeEdits.{answer-replace_child}
 use Rattle.dom_session.proofs.editing.replace_child.Goals as goal
 
@@ -38,6 +38,6 @@ returns-in-Err c =
     let hn : is_some (entry_in old.tree.forest n) ≡ true = cc in
     let hc : is_some (entry_in old.tree.forest child) ≡ true = cc in
     record {
-      step = steps-refused old c.replace.new.self (ReplaceChild p n child) c.in-Err.refusal (check_replace old.tree.forest p n child) c.reply_to.result c.reply_to.ensures c.in-Err.ensures.refused
+      step = steps-refused-briefly old c.replace.new.self (ReplaceChild p n child) c.in-Err.refusal (check_replace old.tree.forest p n child) c.brief_to.result c.brief_to.ensures c.in-Err.ensures.refused
           (λ b e named w shown. answer-replace_child old b p n child w (Some e) shown hp hn hc named);
     }

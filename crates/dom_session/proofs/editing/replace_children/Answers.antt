@@ -10,7 +10,7 @@ use Rattle.dom_model.specs.Commands.Command.{ReplaceChildren}
 use Rattle.dom_model.specs.MutationAlgorithms.Editing.{replace_all}
 use Rattle.dom_edit.specs.Refusals.{check_only_child}
 use Rattle.dom_session.specs.declared.reply.Reply.TheVariants.{Dom}
-use Rattle.dom_session.proofs.Stepping.{step-follows, step-stays, steps-refused}
+use Rattle.dom_session.proofs.Stepping.{step-follows, step-stays, steps-refused-briefly}
 use Rattle.dom_session.proofs.TreeEdits.{not-true, kind_passes-label, answer-replace_children, refused-replace_children, refused-parent}
 use Rattle.dom_session.proofs.editing.replace_children.Goals as goal
 
@@ -55,6 +55,6 @@ returns-in-Err c =
     let test : may_be_parent c.label.result.now.kind ≡ true = sym (ap (λ (l : Label). may_be_parent l.kind) c.behind-world.view_is) ∙ sym c.may_be_parent.ensures ∙ c.if-not-may_be_parent.false in
     let kind = kind_passes-label may_be_parent old.tree.forest p c.label.result.now hp c.label.ensures ∙ test in
     record {
-      step = steps-refused old c.replace_children.new.self (ReplaceChildren p n) c.in-Err.refusal (check_only_child old.tree.forest p n) c.reply_to.result c.reply_to.ensures c.in-Err.ensures.refused
+      step = steps-refused-briefly old c.replace_children.new.self (ReplaceChildren p n) c.in-Err.refusal (check_only_child old.tree.forest p n) c.brief_to.result c.brief_to.ensures c.in-Err.ensures.refused
           (λ b e named w shown. refused-replace_children old b p w shown hp kind n e hn named);
     }

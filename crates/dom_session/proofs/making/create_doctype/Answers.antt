@@ -4,6 +4,7 @@ use Rattle.dom_model.specs.Worlds.World.{no_content}
 use Rattle.dom_model.specs.Commands.AnswerMaking.{doctype_label}
 use Rattle.dom_model.specs.Commands.Command.{CreateDoctype}
 use Rattle.dom_session.specs.Limiting.{numbered}
+use Rattle.dom_session.specs.Brief.{reply_of}
 use Rattle.dom_session.specs.Views.{reply_view}
 use Rattle.dom_session.proofs.Stepping.{step-stays}
 use Rattle.dom_session.proofs.Steps.{step-makes, answer-create_doctype, refused-create_doctype}
@@ -24,6 +25,6 @@ returns c =
 
 pub returns-in-Some : goal.returns-in-Some
 returns-in-Some c = record {
-  step = step-stays (numbered c.args.numbers) (CreateDoctype c.args.document (string_bytes c.args.name) (string_bytes c.args.public_id) (string_bytes c.args.system_id)) c.in-Some.reply c.args.world.now
-      (λ w shown. refused-create_doctype c.args.world.now c.args.numbers c.args.document (string_bytes c.args.name) (string_bytes c.args.public_id) (string_bytes c.args.system_id) w (reply_view c.in-Some.reply) shown (sym c.in-Some.ensures));
+  step = step-stays (numbered c.args.numbers) (CreateDoctype c.args.document (string_bytes c.args.name) (string_bytes c.args.public_id) (string_bytes c.args.system_id)) (reply_of c.in-Some.reply) c.args.world.now
+      (λ w shown. refused-create_doctype c.args.world.now c.args.numbers c.args.document (string_bytes c.args.name) (string_bytes c.args.public_id) (string_bytes c.args.system_id) w (reply_view (reply_of c.in-Some.reply)) shown (sym c.in-Some.ensures));
 }

@@ -1,10 +1,11 @@
-use Rattle.std.proofs.Common.{sym, true, ◌≡◌, string_bytes, ◌∙◌}
+use Rattle.std.proofs.Common.{sym, true, ◌≡◌, ◌∙◌}
 use Rattle.dom_model.specs.declared.Kind.TheVariants.{Element}
 use Rattle.dom_model.specs.Forests.Names.{is_element_name}
 use Rattle.dom_model.specs.Worlds.World.{no_content}
 use Rattle.dom_model.specs.Commands.Answer.{named}
 use Rattle.dom_model.specs.Commands.Command.{CreateElement}
 use Rattle.dom_session.specs.Limiting.{numbered}
+use Rattle.dom_session.specs.Brief.{reply_of}
 use Rattle.dom_session.specs.Views.{reply_view}
 use Rattle.dom_session.proofs.Stepping.{step-stays}
 use Rattle.dom_session.proofs.Steps.{step-makes, answer-create_element, refused-create_element}
@@ -12,17 +13,17 @@ use Rattle.dom_session.proofs.making.create_element.Goals as goal
 
 pub returns : goal.returns
 returns c =
-    let name = string_bytes c.args.name in
+    let name = c.args.name.now in
     let valid : is_element_name name ≡ true = cc in
     record {
       step = step-makes c.args.world.now c.make.new.self (numbered c.args.numbers) (CreateElement c.args.document name) c.args.document c.number.result (named Element name) no_content
           (λ w shown. answer-create_element c.args.world.now c.args.numbers c.args.document name w shown (sym c.in_default.ensures) valid)
           (c.number.ensures ∙ c.in_ok-id.ensures.number)
-          (rw (c.in_ok-label.ensures, c.as_str-2.ensures.value, c.nothing.ensures) at c.in_ok-id.ensures.made) c.make.ensures.whole;
+          (rw (c.in_ok-label.ensures, c.nothing.ensures) at c.in_ok-id.ensures.made) c.make.ensures.whole;
     }
 
 pub returns-in-Some : goal.returns-in-Some
 returns-in-Some c = record {
-  step = step-stays (numbered c.args.numbers) (CreateElement c.args.document (string_bytes c.args.name)) c.in-Some.reply c.args.world.now
-      (λ w shown. refused-create_element c.args.world.now c.args.numbers c.args.document (string_bytes c.args.name) w (reply_view c.in-Some.reply) shown (sym c.in-Some.ensures));
+  step = step-stays (numbered c.args.numbers) (CreateElement c.args.document c.args.name.now) (reply_of c.in-Some.reply) c.args.world.now
+      (λ w shown. refused-create_element c.args.world.now c.args.numbers c.args.document c.args.name.now w (reply_view (reply_of c.in-Some.reply)) shown (sym c.in-Some.ensures));
 }

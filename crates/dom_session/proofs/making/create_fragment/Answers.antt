@@ -4,6 +4,7 @@ use Rattle.dom_model.specs.Worlds.World.{no_content}
 use Rattle.dom_model.specs.Commands.Answer.{named}
 use Rattle.dom_model.specs.Commands.Command.{CreateFragment}
 use Rattle.dom_session.specs.Limiting.{numbered}
+use Rattle.dom_session.specs.Brief.{reply_of}
 use Rattle.dom_session.specs.Views.{reply_view}
 use Rattle.dom_session.proofs.Stepping.{step-stays}
 use Rattle.dom_session.proofs.Steps.{step-makes, answer-create_fragment, refused-create_fragment}
@@ -19,6 +20,6 @@ returns c = record {
 
 pub returns-in-Some : goal.returns-in-Some
 returns-in-Some c = record {
-  step = step-stays (numbered c.args.numbers) (CreateFragment c.args.document) c.in-Some.reply c.args.world.now
-      (λ w shown. refused-create_fragment c.args.world.now c.args.numbers c.args.document w (reply_view c.in-Some.reply) shown (sym c.in-Some.ensures));
+  step = step-stays (numbered c.args.numbers) (CreateFragment c.args.document) (reply_of c.in-Some.reply) c.args.world.now
+      (λ w shown. refused-create_fragment c.args.world.now c.args.numbers c.args.document w (reply_view (reply_of c.in-Some.reply)) shown (sym c.in-Some.ensures));
 }

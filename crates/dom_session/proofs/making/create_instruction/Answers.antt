@@ -5,6 +5,7 @@ use Rattle.dom_model.specs.Commands.Answer.{named, with_text}
 use Rattle.dom_model.specs.Commands.AnswerMaking.{closes_instruction}
 use Rattle.dom_model.specs.Commands.Command.{CreatePI}
 use Rattle.dom_session.specs.Limiting.{numbered}
+use Rattle.dom_session.specs.Brief.{reply_of}
 use Rattle.dom_session.specs.Views.{reply_view}
 use Rattle.dom_session.proofs.Stepping.{step-stays}
 use Rattle.dom_session.proofs.Steps.{step-makes, answer-create_instruction, refused-create_instruction}
@@ -24,6 +25,6 @@ returns c =
 
 pub returns-in-Some : goal.returns-in-Some
 returns-in-Some c = record {
-  step = step-stays (numbered c.args.numbers) (CreatePI c.args.document (string_bytes c.args.target) c.args.text) c.in-Some.reply c.args.world.now
-      (λ w shown. refused-create_instruction c.args.world.now c.args.numbers c.args.document (string_bytes c.args.target) c.args.text w (reply_view c.in-Some.reply) shown (sym c.in-Some.ensures));
+  step = step-stays (numbered c.args.numbers) (CreatePI c.args.document (string_bytes c.args.target) c.args.text) (reply_of c.in-Some.reply) c.args.world.now
+      (λ w shown. refused-create_instruction c.args.world.now c.args.numbers c.args.document (string_bytes c.args.target) c.args.text w (reply_view (reply_of c.in-Some.reply)) shown (sym c.in-Some.ensures));
 }

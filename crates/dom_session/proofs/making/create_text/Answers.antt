@@ -3,6 +3,7 @@ use Rattle.dom_model.specs.declared.Kind.TheVariants.{Text}
 use Rattle.dom_model.specs.Commands.Answer.{named, with_text}
 use Rattle.dom_model.specs.Commands.Command.{CreateText}
 use Rattle.dom_session.specs.Limiting.{numbered}
+use Rattle.dom_session.specs.Brief.{reply_of}
 use Rattle.dom_session.specs.Views.{reply_view}
 use Rattle.dom_session.proofs.Stepping.{step-stays}
 use Rattle.dom_session.proofs.Steps.{step-makes, answer-create_text, refused-create_text}
@@ -18,6 +19,6 @@ returns c = record {
 
 pub returns-in-Some : goal.returns-in-Some
 returns-in-Some c = record {
-  step = step-stays (numbered c.args.numbers) (CreateText c.args.document c.args.text) c.in-Some.reply c.args.world.now
-      (λ w shown. refused-create_text c.args.world.now c.args.numbers c.args.document c.args.text w (reply_view c.in-Some.reply) shown (sym c.in-Some.ensures));
+  step = step-stays (numbered c.args.numbers) (CreateText c.args.document c.args.text) (reply_of c.in-Some.reply) c.args.world.now
+      (λ w shown. refused-create_text c.args.world.now c.args.numbers c.args.document c.args.text w (reply_view (reply_of c.in-Some.reply)) shown (sym c.in-Some.ensures));
 }

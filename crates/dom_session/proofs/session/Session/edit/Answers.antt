@@ -3,20 +3,21 @@ use Rattle.dom_edit.specs.declared.world.World.{World}
 use Rattle.dom_session.specs.Stands.{Held}
 use Rattle.dom_session.specs.Bounding.{bounds_of}
 use Rattle.dom_session.specs.Limiting.{numbered}
+use Rattle.dom_session.specs.Brief.{reply_of}
 use Rattle.dom_session.specs.Views.{editing_view}
 use Rattle.dom_session.proofs.Applying.{IsShown-step, IsAnswered-editing}
 use Rattle.dom_session.proofs.session.Session.edit.Goals as goal
 
 pub invariant_of-self : goal.invariant_of-self
 invariant_of-self c =
-    (c.self.invariant.0, λ on. IsShown-step c.self.inside.world c.edit_tree.new.world (numbered c.self.inside.limits.numbers) (editing_view c.args.command) c.in-Ok.reply (c.self.invariant.1 on) (c.in-Ok.ensures.step (numbered c.self.inside.limits.numbers)))
+    (c.self.invariant.0, λ on. IsShown-step c.self.inside.world c.edit_tree.new.world (numbered c.self.inside.limits.numbers) (editing_view c.args.command) (reply_of c.in-Ok.reply) (c.self.invariant.1 on) (c.in-Ok.ensures.step (numbered c.self.inside.limits.numbers)))
 
 pub returns-clause-answers : goal.returns-clause-answers
 returns-clause-answers c =
     rw (← c.self.view_is)
     (IsAnswered-editing (record { world = c.self.inside.world; bounds = bounds_of c.self.inside.limits; ended = c.self.inside.ended })
     (record { world = c.edit_tree.new.world; bounds = bounds_of c.self.inside.limits; ended = c.self.inside.ended })
-    c.args.command c.in-Ok.reply (c.in-Ok.ensures.step (numbered c.self.inside.limits.numbers)))
+    c.args.command (reply_of c.in-Ok.reply) (c.in-Ok.ensures.step (numbered c.self.inside.limits.numbers)))
 
 pub returns-clause-refused : goal.returns-clause-refused
 returns-clause-refused c r =

@@ -1,16 +1,17 @@
 use Rattle.dom_session.specs.Bounding.{bounds_of}
 use Rattle.dom_session.specs.Limiting.{numbered}
+use Rattle.dom_session.specs.Brief.{reply_of}
 use Rattle.dom_session.specs.Views.{making_view}
 use Rattle.dom_session.proofs.Applying.{IsShown-step, IsAnswered-making}
 use Rattle.dom_session.proofs.session.Session.make.Goals as goal
 
 pub invariant_of-self : goal.invariant_of-self
 invariant_of-self c =
-    (c.self.invariant.0, λ on. IsShown-step c.self.inside.world c.make_nodes.new.world (numbered c.self.inside.limits.numbers) (making_view c.args.command) c.in-Ok.reply (c.self.invariant.1 on) c.in-Ok.ensures.step)
+    (c.self.invariant.0, λ on. IsShown-step c.self.inside.world c.make_nodes.new.world (numbered c.self.inside.limits.numbers) (making_view c.args.command) (reply_of c.in-Ok.reply) (c.self.invariant.1 on) c.in-Ok.ensures.step)
 
 pub returns-clause-answers : goal.returns-clause-answers
 returns-clause-answers c =
     rw (← c.self.view_is)
     (IsAnswered-making (record { world = c.self.inside.world; bounds = bounds_of c.self.inside.limits; ended = c.self.inside.ended })
     (record { world = c.make_nodes.new.world; bounds = bounds_of c.self.inside.limits; ended = c.self.inside.ended })
-    c.args.command c.in-Ok.reply c.in-Ok.ensures.step)
+    c.args.command (reply_of c.in-Ok.reply) c.in-Ok.ensures.step)

@@ -1,0 +1,13 @@
+use Rattle.std.specs.Prelude.{Ok}
+use Rattle.dom_model.specs.Commands.Command.{Walk}
+use Rattle.dom_c.specs.Reads.{then_make}
+use Rattle.dom_c.proofs.Faults.{fault-made}
+use Rattle.dom_c.proofs.kept.Kept.walk.Goals as goal
+
+pub returns-in-Ok : goal.returns-in-Ok
+returns-in-Ok c r reads = let same = rw c.in-Ok.is at reads in rw same c.move_walker.ensures
+
+pub returns-in-Err : goal.returns-in-Err
+returns-in-Err c r reads =
+    let fault = rw c.in-Err.is at reads in
+    c.refuse.ensures (then_make r (λ direction. Ok (Walk c.args.walker direction))) (fault-made c.in-Err.fault r (λ direction. Ok (Walk c.args.walker direction)) fault)

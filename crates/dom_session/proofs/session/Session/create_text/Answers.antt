@@ -1,0 +1,18 @@
+use Rattle.std.proofs.Common.{refl}
+use Rattle.dom_model.specs.Commands.Command.{CreateText}
+use Rattle.dom_session.specs.Bounding.{bounds_of}
+use Rattle.dom_session.specs.Brief.{reply_of}
+use Rattle.dom_session.specs.Limiting.{numbered}
+use Rattle.dom_session.proofs.Applying.{IsShown-step, IsAnswered-by}
+use Rattle.dom_session.proofs.session.Session.create_text.Goals as goal
+
+pub invariant_of-self : goal.invariant_of-self
+invariant_of-self c =
+    (c.self.invariant.0, λ on. IsShown-step c.self.inside.world c.create_text.new.world (numbered c.self.inside.limits.numbers) (CreateText c.args.document c.args.text) (reply_of c.in-Ok.reply) (c.self.invariant.1 on) c.in-Ok.ensures.step)
+
+pub returns-clause-answers : goal.returns-clause-answers
+returns-clause-answers c =
+    rw (← c.self.view_is)
+    (IsAnswered-by (record { world = c.self.inside.world; bounds = bounds_of c.self.inside.limits; ended = c.self.inside.ended })
+    (record { world = c.create_text.new.world; bounds = bounds_of c.self.inside.limits; ended = c.self.inside.ended })
+    (CreateText c.args.document c.args.text) (reply_of c.in-Ok.reply) (λ w. refl) c.in-Ok.ensures.step)

@@ -1,0 +1,26 @@
+use Rattle.std.proofs.Common.{refl, ap}
+use Rattle.dom_model.specs.Commands.Command.{PreviousNode}
+use Rattle.dom_edit.specs.declared.world.World.{World}
+use Rattle.dom_session.specs.Stands.{Held}
+use Rattle.dom_session.specs.Bounding.{bounds_of}
+use Rattle.dom_session.specs.Brief.{reply_of}
+use Rattle.dom_session.specs.Limiting.{numbered}
+use Rattle.dom_session.proofs.Applying.{IsShown-step, IsAnswered-by}
+use Rattle.dom_session.proofs.session.Session.previous_node.Goals as goal
+
+pub invariant_of-self : goal.invariant_of-self
+invariant_of-self c =
+    (c.self.invariant.0, λ on. IsShown-step c.self.inside.world c.previous_node.new.world (numbered c.self.inside.limits.numbers) (PreviousNode c.args.iterator) (reply_of c.previous_node.result) (c.self.invariant.1 on) (c.previous_node.ensures.step (numbered c.self.inside.limits.numbers)))
+
+pub returns-clause-answers : goal.returns-clause-answers
+returns-clause-answers c =
+    rw (← c.self.view_is)
+    (IsAnswered-by (record { world = c.self.inside.world; bounds = bounds_of c.self.inside.limits; ended = c.self.inside.ended })
+    (record { world = c.previous_node.new.world; bounds = bounds_of c.self.inside.limits; ended = c.self.inside.ended })
+    (PreviousNode c.args.iterator) (reply_of c.previous_node.result) (λ w. refl) (c.previous_node.ensures.step (numbered c.self.inside.limits.numbers)))
+
+pub returns-clause-refused : goal.returns-clause-refused
+returns-clause-refused c r =
+    let with_world : World → Held = λ v. record { world = v; bounds = bounds_of c.self.inside.limits; ended = c.self.inside.ended } in
+    rw (← c.self.view_is)
+    (ap with_world ((c.previous_node.ensures.step (numbered c.self.inside.limits.numbers)).refused r))

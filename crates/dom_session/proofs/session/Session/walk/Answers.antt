@@ -1,0 +1,26 @@
+use Rattle.std.proofs.Common.{refl, ap}
+use Rattle.dom_model.specs.Commands.Command.{Walk}
+use Rattle.dom_edit.specs.declared.world.World.{World}
+use Rattle.dom_session.specs.Stands.{Held}
+use Rattle.dom_session.specs.Bounding.{bounds_of}
+use Rattle.dom_session.specs.Brief.{reply_of}
+use Rattle.dom_session.specs.Limiting.{numbered}
+use Rattle.dom_session.proofs.Applying.{IsShown-step, IsAnswered-by}
+use Rattle.dom_session.proofs.session.Session.walk.Goals as goal
+
+pub invariant_of-self : goal.invariant_of-self
+invariant_of-self c =
+    (c.self.invariant.0, λ on. IsShown-step c.self.inside.world c.walk.new.world (numbered c.self.inside.limits.numbers) (Walk c.args.walker c.args.direction) (reply_of c.walk.result) (c.self.invariant.1 on) (c.walk.ensures.step (numbered c.self.inside.limits.numbers)))
+
+pub returns-clause-answers : goal.returns-clause-answers
+returns-clause-answers c =
+    rw (← c.self.view_is)
+    (IsAnswered-by (record { world = c.self.inside.world; bounds = bounds_of c.self.inside.limits; ended = c.self.inside.ended })
+    (record { world = c.walk.new.world; bounds = bounds_of c.self.inside.limits; ended = c.self.inside.ended })
+    (Walk c.args.walker c.args.direction) (reply_of c.walk.result) (λ w. refl) (c.walk.ensures.step (numbered c.self.inside.limits.numbers)))
+
+pub returns-clause-refused : goal.returns-clause-refused
+returns-clause-refused c r =
+    let with_world : World → Held = λ v. record { world = v; bounds = bounds_of c.self.inside.limits; ended = c.self.inside.ended } in
+    rw (← c.self.view_is)
+    (ap with_world ((c.walk.ensures.step (numbered c.self.inside.limits.numbers)).refused r))
