@@ -209,10 +209,11 @@ def notified_after(removals):
 
 
 def discarded_beside_records(records):
-    """Texts without a parent go, while records of other nodes wait."""
-    texts = [["createText", 0, "a"] for _ in range(COMMANDS)]
+    """Texts without a parent go, while records of other nodes wait. The first to go, uncounted, has the names of their nodes sorted."""
+    texts = [["createText", 0, "a"] for _ in range(COMMANDS + 1)]
     watch = [["createElement", 0, "p"], ["createObserver"], ["observe", 0, 1, {"attributes": True}]]
-    return watch + texts + [["setAttribute", 1, "a", "v"] for _ in range(records)], [["discard", 2 + k] for k in range(COMMANDS)], COMMANDS
+    changes = [["setAttribute", 1, "a", "v"] for _ in range(records)]
+    return watch + texts + changes + [["discard", 2]], [["discard", 3 + k] for k in range(COMMANDS)], COMMANDS
 
 
 def discarded_beside_observed(nodes):
@@ -385,6 +386,7 @@ PAIRS = (
     ("disconnect", ("among 100 observers", "among 10,000"), disconnected, (100, 10000)),
     ("a child that comes, goes and is told of", ("with no other observer", "beside 10,000 of other nodes"), notified, (0, 10000)),
     ("observe of a node that is observed", ("among 100 observers", "among 10,000"), observed_again, (100, 10000)),
+    ("a child that comes, goes and is told of", ("after 1 removal told of", "after 3,000 told of at once"), notified_after, (1, 3000)),
     ("a child that comes, goes and is told of", ("after 1 removal told of", "after 10,000 told of at once"), notified_after, (1, 10000)),
     ("discard of a Text", ("with no record that waits", "beside 50,000"), discarded_beside_records, (0, 50000)),
     ("discard of a Text", ("with no other node observed", "with 10,000"), discarded_beside_observed, (0, 10000)),
