@@ -16,9 +16,11 @@ FIRST = "c"
 # Where the version stands a second time, since a tool of the language reads it there. The header and huckleport.pc are made of bindings/VERSION.
 REPEATED = {
     "python/huckleport/__init__.py": r'^__version__ = "(.*)"$',
+    "../serving/huckleport_serving/__init__.py": r'^__version__ = "(.*)"$',
     "rust/Cargo.toml": r'^version = "(.*)"$',
     "rust/Cargo.lock": r'^name = "huckleport"\nversion = "(.*)"$',
     "javascript/package.json": r'^  "version": "(.*)",$',
+    "../crates/dom_options/src/options.rt": r'^const VERSION: &str = "(.*)";$',
     "../CHANGELOG.md": r"\A# Changes\n.*?^## (.*?)$",
 }
 

@@ -5,6 +5,7 @@ Every player is played for a short time, and nothing new may come up: what diffe
 """
 import argparse
 import concurrent.futures
+import html
 import json
 import os
 import re
@@ -15,32 +16,36 @@ import subprocess
 import sys
 import tempfile
 import unittest
+import unittest.mock
 import xml.etree.ElementTree
 
 HERE = os.path.dirname(os.path.abspath(__file__))
 sys.dont_write_bytecode = True
 sys.path[:0] = [HERE, os.path.join(HERE, "tests")]
 
-from judging import cli, players
-from judging.core import Cores
+from judging import cli, pages, players
+from judging.causes import CAUSES
+from judging.core import Cores, Turn
 from judging.found import cases_of
 from judging.judge import Judge
-from judging.known import KNOWN, entry_of, read_known
+from judging.known import KNOWN, entry_of_case, read_known
 from wrong import FAULTS
 
 REFEREE = os.path.join(HERE, "referee")
 WRONG = os.path.join(HERE, "tests/wrong.py")
+STUB = os.path.join(HERE, "tests/stub.js")
 GIVEN = argparse.Namespace(program=cli.PROGRAM, library=players.LIBRARY)
 FAILING = {"dies": "died", "hangs": "hung", "prints_rubbish": "rubbish"}
 LIBRARIES = ("c-lines", "c-calls", "python", "rust", "javascript")
-OTHERS = ("minidom", "lxml", "libxml2", "chromium", "firefox")
+OTHERS = ("minidom", "lxml", "libxml2", "domino", "xmldom", "chromium", "firefox")
 # A stream that was seen to show a wrong body, which saves the time of drawing those before it. Others show it too.
 FIRST = {"transient_counts": 237}
 # Which known differences a wrong body is, where a player has the same.
 KNOWN_AS = {
     "surround_half_done": {"surround all or nothing"},
-    "child_ahead_of_ancestor": {"minidom: asks no ancestors and no Documents", "libxml2: no checks"},
-    "doctype_may_follow": {"minidom: asks no ancestors and no Documents", "libxml2: no checks"},
+    "child_ahead_of_ancestor": {"minidom: asks no ancestors and no Documents", "libxml2: no checks", "xmldom: where a node may stand",
+        "chromium: a Document into itself"},
+    "doctype_may_follow": {"minidom: asks no ancestors and no Documents", "libxml2: no checks", "xmldom: where a node may stand"},
     "ends_sent_into_parent": {"jsdom: ends at insertion"},
     "replaced_without_transients": {"jsdom: transients"},
 }
@@ -108,6 +113,78 @@ class Run(unittest.TestCase):
         return cases_of(self.folder)[0]
 
 
+class Lines(Run):
+    """At which line a player ends, and which lines it is not given."""
+
+    def lines_of(self, *commands):
+        path = os.path.join(self.folder, "lines")
+        lines(path, commands)
+        return path
+
+    @unittest.skipUnless(shutil.which("node"), "there is no node")
+    def test_hang_at_its_line(self):
+        path = self.lines_of(*[["createElement", 0, "a"]] * 43, ["createElement", 0, "stuck"], *[["createElement", 0, "a"]] * 9)
+        status, out, err = said("replay", *core(), "--player", f"node:{STUB}", "--wait", "2", path)
+        told = out.splitlines()
+        self.assertEqual((status, len(told)), (1, 53), err)
+        self.assertEqual([at for at, it in enumerate(told, 1) if '"hung"' in it], [44])
+        self.assertNotIn("BUT", "".join(told[:43]))
+        self.assertEqual(said("shrink", *core(), "--player", f"node:{STUB}", "--wait", "2", path)[1], '["createElement",0,"stuck"]\n')
+
+    @unittest.skipUnless(shutil.which("node"), "there is no node")
+    def test_difference_ahead_of_a_hang(self):
+        path = self.lines_of(["createElement", 0, "odd"], ["node", 1], ["createElement", 0, "stuck"])
+        status, out, err = said("shrink", *core(), "--player", f"node:{STUB}", "--wait", "2", path)
+        self.assertEqual((status, out.splitlines()), (1, ['["createElement",0,"odd"]', '["node",1]']), err)
+
+    def test_hang_of_a_page_at_its_line(self):
+        with unittest.mock.patch.dict(pages.BROWSERS, {"stub": ((os.path.join(HERE, "tests/browser.py"),), [])}):
+            page = pages.Page("stub", 2.0)
+            self.addCleanup(page.end)
+            turns = [Turn(["createElement", 0, "stuck" if at == 43 else "a"], {"ok": None}, [], [], 0) for at in range(60)]
+            told = page.replies(turns)
+        self.assertEqual((len(told), told[-1][0], told[-1][1]["fault"]), (44, 43, "hung"))
+
+    @unittest.skipUnless(shutil.which("node"), "there is no node")
+    def test_what_is_not_served(self):
+        player = players.of_node(STUB)(argparse.Namespace(seconds=10.0))
+        self.addCleanup(player.end)
+        self.assertEqual(player.serves, {"newDocument", "createElement", "appendChild", "node", "children", "index", "length", "tree"})
+        path = self.lines_of(["createElement", 0, "a"], ["createStaticRange", 1, 0, 1, 0], ["remove", 1], ["createRange", 0], ["createObserver"])
+        status, out, err = said("replay", *core(), "--player", f"node:{STUB}", path)
+        self.assertEqual((status, [it.count("skip") for it in out.splitlines()]), (0, [0, 1, 1, 1, 1]), err)
+
+    @unittest.skipUnless(shutil.which("node"), "there is no node")
+    def test_no_window(self):
+        for module, why in ((os.path.join(HERE, "players/answers.js"), "no window"), ("no-such-module", "Cannot find module")):
+            status, _, err = said("play", *core(), "--player", f"node:{module}", "--out", self.folder)
+            self.assertEqual((status, why in err), (3, True), err)
+
+    def test_done_in_part(self):
+        """What comes behind a command of which the standard has done a part is given to this project's own libraries alone."""
+        refused = Turn(["surroundContents", 0, 1], {"error": "HierarchyRequestError"}, [], [], 2)
+        turns = [refused._replace(reply={"error": "InvalidStateError"}), refused, refused._replace(command=["range", 0], reply={"ok": [0, 0, 0, 0]})]
+        player = players.Player()
+        player.numbers = True
+        self.assertEqual([at for at, _ in player.lines(turns)], [None, 0, 1])
+        player.ours = True
+        self.assertEqual([at for at, _ in player.lines(turns)], [None, 0, 1, 2])
+
+    def test_cause_whatever_shows_it(self):
+        """A known difference is known whichever command shows it."""
+        made = [["createElement", 0, "a"], ["createText", 0, "abcd"], ["createText", 0, "xyz"], ["createComment", 0, "c"], ["appendChild", 1, 2]]
+        ends = [["appendChild", 1, 3], ["createRange", 0], ["setEnd", 0, 2, 2], ["setStart", 0, 1, 0], ["insertBefore", 1, 4, 2]]
+        shows = ([["range", 0]], [["rangeText", 0]], [["comparePoint", 0, 3, 0]], [["cloneContents", 0], ["textContent", 5]], [["deleteContents", 0], ["tree", 1]])
+        for last in shows:
+            with self.subTest(last):
+                words = ["--command", wrong("ends_sent_into_parent"), "--player", "jsdom", self.lines_of(*made, *ends, *last)]
+                status, _, err = said("shrink", *core(), *words)
+                self.assertEqual((status, err.splitlines()[-1]), (1, "known: jsdom: ends at insertion (a fault of the player)"))
+
+    def test_causes(self):
+        self.assertEqual({it["cause"] for it in read_known(KNOWN)} | {"anything"}, set(CAUSES))
+
+
 class Itself(Run):
     def test_program(self):
         for part, words in (("play", ["--lines", "5000"]), ("exhaust", ["--lines", "5000"])):
@@ -140,7 +217,7 @@ def entries_of(case):
     known = read_known(KNOWN)
     cores = Cores(core()[-1])
     names = {it for entry in known for it in entry["players"]}
-    found = [entry_of(known, it, case.difference(), Judge(cores, None), case.states) for it in names]
+    found = [entry_of_case(known, it, Judge(cores, None), case) for it in names]
     cores.end()
     return {it["name"] for it in found if it}
 
@@ -195,7 +272,7 @@ class Kept(Run):
     def test_known(self):
         known = os.path.join(self.folder, "known")
         with open(known, "w", encoding="utf-8") as file:
-            json.dump([{"name": "split", "players": ["wrong"], "commands": ["splitText"], "why": "fault", "reason": "It is made so."}], file)
+            json.dump([{"name": "split", "players": ["wrong"], "cause": "anything", "of": ["splitText"], "why": "fault", "reason": "It is made so."}], file)
         words = ["--command", wrong("split_off_by_one"), "--player", "wrong", "--group", "data", "--streams", "200", "--known", known]
         self.assertEqual(self.run_of("play", *words)[0], 0)
         self.assertEqual({it.known for it in self.cases()}, {"split"})
@@ -208,10 +285,19 @@ class Kept(Run):
         told = {(it.known, it.key["cause"]) for it in self.cases()}
         self.assertLessEqual({("jsdom: ends at insertion", "insertBefore"), (None, "splitText")}, told)
 
-    def test_nameless_condition(self):
+    def test_what_does_not_come_again(self):
+        words = ["--command", wrong("stumbles"), "--group", "data", "--new", "1", "--for", "60"]
+        self.assertEqual(self.run_of("play", *words)[0], 1)
+        self.assertEqual([(it.again, it.known) for it in self.cases()], [(False, None)])
+        with open(said("report", self.folder)[1].strip(), encoding="utf-8") as file:
+            self.assertIn("did not come again", file.read())
+        status, _, err = said("replay", *core(), "--player", "program", self.case)
+        self.assertEqual((status, "did not come again" in err), (0, True))
+
+    def test_nameless_cause(self):
         known = os.path.join(self.folder, "known")
         with open(known, "w", encoding="utf-8") as file:
-            json.dump([{"name": "it", "when": "it rains", "why": "fault", "reason": "It is made so."}], file)
+            json.dump([{"name": "it", "players": ["wrong"], "cause": "it rains", "why": "fault", "reason": "It is made so."}], file)
         self.assertEqual(self.run_of("play", "--player", "program", "--streams", "1", "--known", known)[0], 2)
 
     def test_stop(self):
@@ -264,6 +350,79 @@ class Players(unittest.TestCase):
             self.assertEqual([it for it, _ in OF_JSDOM if f"<h2>{it}</h2>" not in page], [])
 
 
+class Reports(unittest.TestCase):
+    """The code of the reports prints what they say, where the package that a report is about is here in its version."""
+
+    IN_NODE = {"jsdom": "jsdom", "domino": "domino", "xmldom": "@xmldom/xmldom"}
+    BLOCKS = os.path.join(HERE, "tests/blocks.js")
+
+    def report(self, name, language="js"):
+        """Of a report its title, and each block of code behind the first one, with that ahead of it."""
+        with open(os.path.join(HERE, "reports", f"{name}.md"), encoding="utf-8") as file:
+            text = file.read()
+        first, *blocks = re.findall(rf"```{language}\n(.*?)```", text, re.DOTALL)
+        return text.splitlines()[0], [first + it for it in blocks]
+
+    def check(self, blocks, told, other=" in Firefox"):
+        """Each line that prints has to print what is said, or what is due where what is said is of another player."""
+        for block, printed in zip(blocks, told, strict=True):
+            said_to = re.findall(r"(?://|#) prints (.*?)(?:, due is (.*))?$", block, re.MULTILINE)
+            with self.subTest(block.splitlines()[-1]):
+                self.assertEqual(printed, [due if it.endswith(other) else it.removesuffix(" in Chromium") for it, due in said_to])
+
+    def in_node(self, blocks, seconds=300):
+        environment = {**os.environ, "NODE_PATH": players.MODULES}
+        words = ["node", "--max-old-space-size=200", self.BLOCKS]
+        return json.loads(subprocess.run(words, input=json.dumps(blocks), env=environment, stdout=subprocess.PIPE, text=True, timeout=seconds, check=True).stdout)
+
+    def in_python(self, block, seconds=300):
+        return subprocess.run(["/usr/bin/python3", "-c", block], stdout=subprocess.PIPE, text=True, timeout=seconds, check=True).stdout.splitlines()
+
+    def never_comes_back(self, call, block):
+        with self.subTest(block.splitlines()[-1]), self.assertRaises(subprocess.TimeoutExpired):
+            call(block)
+
+    def test_in_node(self):
+        for name, module in self.IN_NODE.items():
+            title, blocks = self.report(name)
+            package = os.path.join(players.MODULES, module, "package.json")
+            if not shutil.which("node") or not os.path.exists(package) or json.load(open(package, encoding="utf-8"))["version"] not in title:
+                print(f"left out: the report of {name}, whose version is not here")
+                continue
+            ending = [it for it in blocks if "never comes back" not in it]
+            self.check(ending, self.in_node(ending))
+            for it in set(blocks) - set(ending):
+                self.never_comes_back(lambda block: self.in_node([block], 4), it)
+
+    def test_in_chromium(self):
+        title, blocks = self.report("browsers")
+        path = next(filter(None, map(shutil.which, pages.BROWSERS["chromium"][0])), None)
+        if not path or pages.version_of(path) not in title + open(os.path.join(HERE, "reports/browsers.md"), encoding="utf-8").read():
+            print("left out: the report of browsers, whose version is not here")
+            return
+        with tempfile.TemporaryDirectory() as folder, open(self.BLOCKS, encoding="utf-8") as file:
+            script = f"{file.read()} Promise.all({json.dumps(blocks)}.map((it) => printed(it))).then((told) => (document.body.textContent = JSON.stringify(told)));"
+            page = os.path.join(folder, "page.html")
+            with open(page, "w", encoding="utf-8") as out:
+                out.write(f'<!doctype html><meta charset="utf-8"><body><script>{script.replace("</", "<" + chr(92) + "/")}</script></body>')
+            words = [path, "--headless", "--no-sandbox", "--disable-gpu", f"--user-data-dir={folder}/profile", "--virtual-time-budget=2000", "--dump-dom", f"file://{page}"]
+            shown = subprocess.run(words, stdout=subprocess.PIPE, stderr=subprocess.DEVNULL, text=True, timeout=300, check=True).stdout
+        self.check(blocks, json.loads(html.unescape(re.search(r"<body>(.*)</body>", shown, re.DOTALL)[1])))
+
+    @unittest.skipUnless(os.path.exists("/usr/bin/python3"), "there is no Python of the system")
+    def test_in_python(self):
+        _, blocks = self.report("python", "python")
+        lacks_lxml = subprocess.run(["/usr/bin/python3", "-c", "import lxml"], stderr=subprocess.DEVNULL, check=False).returncode
+        for it in blocks:
+            if "lxml" in it and lacks_lxml:
+                print("left out: the report of lxml, which is not here")
+                continue
+            if "never comes back" in it:
+                self.never_comes_back(lambda block: self.in_python(block, 4), it)
+            else:
+                self.check([it], [self.in_python(it)])
+
+
 def counts(line):
     """How many passed and failed, as the last line of other tests says it."""
     found = re.fullmatch(r"(\d+) passed, (\d+) failed", line.strip())
@@ -284,7 +443,7 @@ def main():
     if not os.access(GIVEN.program, os.X_OK):
         print(f"left out: the referee, since {given.program} is not built\n{passed} passed, {failed} failed")
         return 0
-    names = given.only or [it.__name__ for it in (Words, Itself, Kept, Bodies, Players)]
+    names = given.only or [it.__name__ for it in (Words, Lines, Itself, Kept, Bodies, Players, Reports)]
     found = unittest.defaultTestLoader.loadTestsFromNames(names, sys.modules[__name__])
     ran = unittest.TextTestRunner(verbosity=1).run(found)
     wrong_ones = len({getattr(test, "test_case", test).id() for test, _ in [*ran.failures, *ran.errors]})

@@ -2,7 +2,6 @@
 import os
 import re
 import shutil
-import subprocess
 import sys
 
 import files
@@ -17,6 +16,8 @@ from version import LICENSE, VERSION
 
 PROGRAM = os.path.join(ROOT, "crates/domserve/out/domserve")
 LIBRARY = os.path.join(BINDINGS, "c/out")
+# The module for JavaScript, and its calls.
+MODULE, MODULE_FILES = os.path.join(BINDINGS, "web/out"), ("huckleport.wasm", "calls.js")
 NAME = f"huckleport-{VERSION}"
 ARCHIVE, SHARED, HEADER = "libhuckleport.a", make.SONAME, "huckleport.h"
 
@@ -53,6 +54,9 @@ def take(library, work):
         if not os.path.isfile(path):
             sys.exit(f"{path} is not there: python3 {script} makes it")
         shutil.copy(path, work)
+    where = next((it for it in (library, MODULE) if has_module(it)), None)
+    for it in MODULE_FILES if where else ():
+        shutil.copy(os.path.join(where, it), work)
     found = modules(SOURCES)
     make.check(os.path.join(work, SHARED), [it.name for module in found for it in module.exports])
     make.write(os.path.join(work, HEADER), header(found))
@@ -67,7 +71,5 @@ def has_header(folder, name):
     return bool(folder) and os.path.isfile(os.path.join(folder, name))
 
 
-def node_headers():
-    """The folder of node's headers, or None, as the addon's own script finds it."""
-    words = [sys.executable, "-c", "import make; print(make.headers() or '')"]
-    return subprocess.run(words, cwd=os.path.join(BINDINGS, "javascript"), stdout=subprocess.PIPE, universal_newlines=True, check=True).stdout.strip()
+def has_module(folder):
+    return all(os.path.isfile(os.path.join(folder, it)) for it in MODULE_FILES)

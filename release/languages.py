@@ -8,7 +8,7 @@ import sysconfig
 import tomllib
 
 import files
-from given import ARCHIVE, BINDINGS, LICENSE, NAME, VERSION, has_header, node_headers, page, run, text_of
+from given import ARCHIVE, BINDINGS, LICENSE, MODULE_FILES, NAME, ROOT, VERSION, has_header, has_module, page, run, text_of
 
 TAG = "cp38-abi3-linux_x86_64"
 
@@ -20,12 +20,15 @@ def license_file():
 # ---- Python
 
 
-def metadata(project):
+def metadata(project, about):
     """What a wheel says of itself: the project's own file, and its page."""
     head = {"Metadata-Version": "2.4", "Name": project["name"], "Version": VERSION, "Summary": project["description"]}
     head.update({"License-Expression": LICENSE, "License-File": "LICENSE", "Requires-Python": project["requires-python"]})
     head["Description-Content-Type"] = "text/markdown"
-    return files.text("".join(f"{name}: {it}\n" for name, it in head.items()) + "\n" + page("docs/python.md").content.decode())
+    lines = [*head.items(), *(("Requires-Dist", it) for it in project.get("dependencies", ()))]
+    for extra, its in project.get("optional-dependencies", {}).items():
+        lines += [("Provides-Extra", extra), *(("Requires-Dist", f"{it}; extra == '{extra}'") for it in its)]
+    return files.text("".join(f"{name}: {it}\n" for name, it in lines) + "\n" + page(about).content.decode())
 
 
 def record(found, at):
@@ -41,15 +44,31 @@ def wheel(work, to):
     module = os.path.join(work, "_core.abi3.so")
     run("python/extension.py", "--build", "--library", work, "--to", module)
     project = tomllib.loads(text_of("bindings/python/pyproject.toml"))["project"]
-    found = files.under(os.path.join(BINDINGS, "python/huckleport"), (".py", "py.typed"), "huckleport")
+    found = files.under(os.path.join(BINDINGS, "python/huckleport"), (".py", ".pyi", "py.typed"), "huckleport")
     found["huckleport/_core.abi3.so"] = files.of(module, 0o755)
     about = f"{NAME}.dist-info"
-    found[f"{about}/METADATA"] = metadata(project)
-    found[f"{about}/WHEEL"] = files.text(f"Wheel-Version: 1.0\nGenerator: huckleport\nRoot-Is-Purelib: false\nTag: {TAG}\n")
+    found[f"{about}/METADATA"] = metadata(project, "docs/python.md")
+    close(found, about, TAG, os.path.join(to, f"{NAME}-{TAG}.whl"))
+    return None
+
+
+def serving(_, to):
+    """The wheel of the package that serves documents, for any Python 3 that it is for: it has no library, and asks for the other wheel."""
+    project = tomllib.loads(text_of("serving/pyproject.toml"))["project"]
+    found = files.under(os.path.join(ROOT, "serving/huckleport_serving"), (".py", ".sql", "py.typed"), "huckleport_serving")
+    name = f"huckleport_serving-{VERSION}"
+    found[f"{name}.dist-info/METADATA"] = metadata(project, "docs/serving.md")
+    scripts = "".join(f"{script} = {it}\n" for script, it in project["scripts"].items())
+    found[f"{name}.dist-info/entry_points.txt"] = files.text(f"[console_scripts]\n{scripts}")
+    close(found, f"{name}.dist-info", "py3-none-any", os.path.join(to, f"{name}-py3-none-any.whl"))
+
+
+def close(found, about, tag, path):
+    """Writes a wheel, once the terms, its form and its sums are in it."""
+    found[f"{about}/WHEEL"] = files.text(f"Wheel-Version: 1.0\nGenerator: huckleport\nRoot-Is-Purelib: {str(tag.endswith('any')).lower()}\nTag: {tag}\n")
     found[f"{about}/licenses/LICENSE"] = license_file()
     found[f"{about}/RECORD"] = record(found, f"{about}/RECORD")
-    files.packed(found, os.path.join(to, f"{NAME}-{TAG}.whl"))
-    return None
+    files.packed(found, path)
 
 
 # ---- Rust
@@ -71,21 +90,18 @@ def crate(work, to):
 
 
 def manifest():
-    """The package's own, without what is run in the repository alone, and with the processor that the addon is built for."""
+    """The package's own, without what is run in the repository alone."""
     found = json.loads(text_of("bindings/javascript/package.json"))
     found.pop("scripts", None)
-    found.update({"cpu": ["x64"], "files": ["lib", "out"]})
     return files.text(json.dumps(found, indent=2) + "\n")
 
 
 def npm(work, to):
-    """The package for npm, with the addon."""
-    headers = node_headers()
-    if not shutil.which("cc") or not headers:
-        return "there is no cc, or node's headers are not there"
-    run("javascript/make.py", "--library", work, "--headers", headers, "--to", os.path.join(work, "javascript"))
+    """The package for npm, with the module, which has no platform in it."""
+    if not has_module(work):
+        return "there is no module (bindings/web/make.py makes it)"
     found = files.under(os.path.join(BINDINGS, "javascript/lib"), (".js", ".ts"), "lib")
-    found["out/huckleport.node"] = files.of(os.path.join(work, "javascript/huckleport.node"), 0o755)
+    found.update({f"out/{it}": files.of(os.path.join(work, it)) for it in MODULE_FILES})
     found.update({"package.json": manifest(), "README.md": page("docs/javascript.md"), "LICENSE": license_file()})
     files.tar(found, "package", os.path.join(to, f"{NAME}.tgz"))
     return None

@@ -1,4 +1,4 @@
-"""Makes the files of a release of what was proved and built: an archive, a package for Debian, a wheel, a crate and a package for npm, and their sums.
+"""Makes the files of a release of what was proved and built: an archive, a package for Debian, two wheels, a crate and a package for npm, and their sums.
 
 Nothing is proved here. The program and the libraries are taken as they are; the header is made of the exports, and the shared object has to show its
 calls and no other name. What this machine has no tools for is left out, with a line that says so. The same input gives the same bytes on one machine.
@@ -10,10 +10,10 @@ import sys
 import tempfile
 
 from given import LIBRARY, take
-from languages import crate, npm, wheel
+from languages import crate, npm, serving, wheel
 from prefix import archive, debian
 
-MAKERS = {"the archive": archive, "the package for Debian": debian, "the wheel": wheel, "the crate": crate, "the package for npm": npm}
+MAKERS = {"the archive": archive, "the package for Debian": debian, "the wheel": wheel, "the wheel of serving": serving, "the crate": crate, "the package for npm": npm}
 SUMS = "SHA256SUMS"
 
 

@@ -6,6 +6,7 @@ import shutil
 import files
 from given import ARCHIVE, BINDINGS, HEADER, LICENSE, NAME, SHARED, VERSION, make, page, template, text_of
 
+SHARE = os.path.join(os.path.dirname(os.path.abspath(__file__)), "share")
 PLATFORM = "x86_64-linux"
 MULTIARCH = "lib/x86_64-linux-gnu"
 # The pages that go with them.
@@ -31,6 +32,8 @@ def below(work, libraries, prefix):
     found[f"{libraries}/cmake/huckleport/huckleportConfig.cmake"] = template("config.cmake", INCLUDE=f"{up}/include", SONAME=SHARED)
     found[f"{libraries}/cmake/huckleport/huckleportConfigVersion.cmake"] = template("version.cmake", VERSION=VERSION)
     found.update({f"share/doc/huckleport/{name}": it for name, it in documents().items()})
+    # (the man page and the completions of the program)
+    found.update(files.under(SHARE, "", "share"))
     return found
 
 

@@ -3,7 +3,7 @@
 
 - the archive: by pkg-config, as it was unpacked and after it was moved; its program; by cmake;
 - the package for Debian: unpacked, its fields, its program, and by pkg-config; and installed by apt, where a copy of the system's folders can be had;
-- the wheel, by pip in an empty environment;
+- the wheel, by pip in an empty environment, and the wheel of serving beside it;
 - the crate, in a project of cargo: with the archive beside it, by pkg-config, and by HUCKLEPORT_LIB_DIR; and what its page and its comments show;
 - the package for npm, in an empty project.
 
@@ -35,6 +35,8 @@ LINES, REPLIES = '["createElement",0,"p"]\n["appendChild",0,1]\n["tree",0]\n', '
 # What the tests may tell a program of their own surroundings.
 KNOWN = ("PATH", "HOME", "LANG", "CARGO_HOME", "RUSTUP_HOME", "TMPDIR")
 MULTIARCH = "usr/lib/x86_64-linux-gnu"
+# Debian's Python, for which Debian has psycopg.
+SYSTEM = "/usr/bin/python3"
 # Whether a folder can be mounted as a copy of another one.
 OVERLAY = "mount -t tmpfs none /mnt && mkdir /mnt/a /mnt/b && mount -t overlay overlay -o lowerdir=/usr,upperdir=/mnt/a,workdir=/mnt/b /usr"
 
@@ -113,7 +115,22 @@ class Sums(Release):
 
 class Archive(Release):
     def test_program(self):
-        self.tries_domserve(os.path.join(self.unpacked(self.file("*-x86_64-linux.tar.gz")), "bin/domserve"))
+        top = self.unpacked(self.file("*-x86_64-linux.tar.gz"))
+        self.tries_domserve(os.path.join(top, "bin/domserve"))
+        for it in ("man/man1/domserve.1", "bash-completion/completions/domserve", "zsh/site-functions/_domserve"):
+            self.assertTrue(os.path.isfile(os.path.join(top, "share", it)), it)
+
+    @needs("bash")
+    def test_completion(self):
+        words = "source share/bash-completion/completions/domserve; COMP_WORDS=(domserve --l); COMP_CWORD=1; _domserve; echo ${COMPREPLY[@]}"
+        self.folder = self.unpacked(self.file("*-x86_64-linux.tar.gz"))
+        self.assertEqual(self.run_in("bash", "-c", words), "--line\n")
+
+    @needs("man")
+    def test_man_page(self):
+        top = self.unpacked(self.file("*-x86_64-linux.tar.gz"))
+        said = self.run_in("man", "--pager=cat", os.path.join(top, "share/man/man1/domserve.1"), MANWIDTH="100")
+        self.assertIn("How many bytes a line may have, from 1 to 1073741824.", said)
 
     @needs("gcc", "pkg-config")
     def test_by_pkg_config_here_and_moved(self):
@@ -171,7 +188,7 @@ class Wheel(Release):
         return python
 
     def test_in_an_empty_environment(self):
-        python = self.installed(self.file("*.whl"))
+        python = self.installed(self.file("huckleport-*.whl"))
         self.copied("program.py")
         self.assertEqual(self.run_in(python, "program.py"), PRINTED)
         self.assertEqual(self.run_in(python, "-m", "huckleport", "--version"), f"huckleport {VERSION}\n")
@@ -179,6 +196,18 @@ class Wheel(Release):
         self.assertEqual(self.run_in(python, "-c", words), f"{VERSION} {LICENSE}\n")
         place = self.run_in(python, "-c", "import huckleport._core; print(huckleport._core.__file__)")
         self.assertTrue(place.startswith(self.at("environment")), place)
+
+    def test_serving(self):
+        """Its command tells its version. (What it needs beside, psycopg, is no package's of ours, and so looked for where the system has it.)"""
+        if subprocess.run([SYSTEM, "-c", "import psycopg"], stderr=subprocess.DEVNULL).returncode:
+            self.skipTest(f"left out, since {SYSTEM} has no psycopg")
+        self.run_in(SYSTEM, "-m", "venv", "--without-pip", "--system-site-packages", "environment")
+        python = self.at("environment/bin/python")
+        both = self.file("huckleport-*.whl"), self.file("huckleport_serving-*.whl")
+        self.run_in(sys.executable, "-m", "pip", "--python", python, "install", "--quiet", "--no-index", *both)
+        self.assertEqual(self.run_in(self.at("environment/bin/huckleport-serving"), "--version"), f"huckleport-serving {VERSION}\n")
+        schema = "from importlib import resources as it; print(it.files('huckleport_serving').joinpath('schema.sql').is_file())"
+        self.assertEqual(self.run_in(python, "-c", schema), "True\n")
 
 
 @needs("cargo")

@@ -5,7 +5,6 @@ A box is a crate, with what SAYS has to say of it. An arrow leads to each crate 
 as the ground; and not to those that another crate which it lists stands on as well.
 """
 import argparse
-import os
 import re
 import subprocess
 import sys
@@ -16,7 +15,8 @@ PICTURE = f"{ROOT}/docs/layers.svg"
 MODEL = "dom_model"
 
 SAYS = {
-    "domserve": "the program: options, streams, status",
+    "domserve": "the program: streams, status",
+    "dom_options": "the words of the command line",
     "dom_serve": "bytes in, lines, replies, bytes out",
     "dom_wire": "a line to a command, a reply to a line",
     "dom_session": "commands on one world, and answers",

@@ -106,8 +106,8 @@ def is_file_name(quoted):
 
 
 def quotes(page):
-    """Returns what stands in backticks on a page."""
-    return re.findall(r"(?<!`)`([^`\n]+)`(?!`)", prose(page))
+    """Returns what stands in backticks on a page, but for the files that a reader is to make (a line that has a name and a colon alone)."""
+    return re.findall(r"(?<!`)`([^`\n]+)`(?!`)", re.sub(r"(?m)^`[^`\n]+`:$", "", prose(page)))
 
 
 def names_in(quoted, page):

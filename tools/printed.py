@@ -1,8 +1,9 @@
 #!/usr/bin/env python3
-"""Runs the commands that README.md and docs/*.md print, in a scratch clone of what is committed, and compares what they write where a `text` block follows.
+"""Runs what README.md and docs/*.md print, in a fresh folder for each page, and compares what comes out where a `text` block follows.
 
-Commands are the fenced `sh` blocks, each run as one script with bash, and the lines of four spaces that begin with a program here. What is left out is
-told, with the reason. The clone takes what is proved from the kit's store, where a start or the gate has been made on this machine.
+The folder has what the repository has, without what runs made; only the program and the library for C are taken over where they are built, so that
+nothing is proved again. Commands are the fenced `sh` blocks, each run as one script with bash, and the lines of four spaces that begin with a program
+here. A block behind a line that has only a name in backticks and a colon is saved in that file. What is not run is told, with the reason.
 """
 import argparse
 import glob
@@ -12,59 +13,104 @@ import shutil
 import subprocess
 import sys
 import tempfile
+from collections import namedtuple
 
 from start import ROOT
 
-LEFT_OUT = (
+PASSED_OVER = (
     (r"\.ci/run|\brt (ci|all)\b", "the gate itself, which proves all from nothing"),
-    (r"--install|\bpip install|\binstall -m|\bapt(-get)? |\bsystemctl\b|\bdocker\b|\bpodman\b", "installs, or needs what is not here"),
-    (r"\b(NAME|FILE|PREFIX|FOLDER|CRATE)\b", "a form, with words to put in"),
+    (r"--install|\bpip install|\bnpm install|\binstall -m|\bapt(-get)? |\bsystemctl\b|\bdocker\b|\bpodman\b", "installs, or needs what is not here"),
+    (r"\b(NAME|FILE|PREFIX|FOLDER|CRATE)\b|-0\.\d", "a form, with words to put in"),
     (r"\btools/(refused|size|printed)|\bbench|\brt \w+|playground", "a long run by hand"),
 )
+# What a block is not run without, by the first word of one of its lines.
+TOOLS = ("cargo", "node", "gcc", "python3", "socat", "doxygen", "man")
 # The longest that a block may take, in seconds.
 LIMIT = 900
-FENCED = re.compile(r"^```sh\n(.*?)^```\n(?:\n*```text\n(.*?)^```)?", re.M | re.S)
+# What runs made, and what is taken over of it.
+MADE = (".git", "out", "build", "target", "node_modules", "__pycache__", "tmp")
+BUILT = ("crates/domserve/out/domserve", "crates/dom_c/out/dom_c")
+FENCED = re.compile(r"(?:^`(?P<file>[\w./-]+)`:\n\n)?^```(?P<language>\w*).*?\n(?P<text>.*?)^```\n(?:\n*```text\n(?P<shown>.*?)^```)?", re.M | re.S)
 INDENTED = re.compile(r"(?<=\n\n)((?:    \S.*\n)+)")
+
+# A block to save (with a file), or to run, with what it prints if anything is shown.
+Block = namedtuple("Block", "file script shown")
 
 
 def blocks(page):
-    """Yields each script of a page, with what is printed behind it, if anything is."""
+    """Yields what is saved and run of a page, in its order; single lines come last."""
     with open(page, encoding="utf-8") as it:
         text = it.read()
     for found in FENCED.finditer(text):
-        yield found[1], found[2]
+        if found["file"] or found["language"] == "sh":
+            yield Block(found["file"], found["text"], found["shown"])
     for found in INDENTED.finditer(re.sub(r"^```.*?^```\n", "\n", text, flags=re.M | re.S)):
         lines = [line.strip() for line in found[1].splitlines()]
-        yield from ((line, None) for line in lines if line.startswith("./") or shutil.which(line.split()[0]))
+        yield from (Block(None, line, None) for line in lines if line.startswith("./") or shutil.which(line.split()[0]))
 
 
-def fault_of(script, shown, folder):
+def save(block, folder):
+    path = os.path.join(folder, block.file)
+    os.makedirs(os.path.dirname(path), exist_ok=True)
+    with open(path, "w", encoding="utf-8") as it:
+        it.write(block.script)
+
+
+def fault_of(block, folder):
     """Returns what is wrong with a script once it has run, if anything is; what it left running is ended with it."""
-    words = ["timeout", "--kill-after=1", str(LIMIT), "bash", "-euo", "pipefail", "-c", script]
+    words = ["timeout", "--kill-after=1", str(LIMIT), "bash", "-euo", "pipefail", "-c", block.script]
     ran = subprocess.run(words, cwd=folder, stdin=subprocess.DEVNULL, capture_output=True, text=True, errors="replace", check=False)
     if ran.returncode:
         return f"status {ran.returncode}: {ran.stderr.strip()[-300:]}"
-    same = shown is None or ran.stdout.rstrip("\n") == shown.rstrip("\n")
-    return None if same else f"it wrote\n{ran.stdout}where the page has\n{shown}"
+    same = block.shown is None or ran.stdout.rstrip("\n") == block.shown.rstrip("\n")
+    return None if same else f"it wrote\n{ran.stdout}where the page has\n{block.shown}"
+
+
+def reason(script):
+    """Returns why a script is not run, if it is not: what it is, or the tool that it lacks."""
+    found = next((why for pattern, why in PASSED_OVER if re.search(pattern, script)), None)
+    lacking = [it for it in TOOLS if re.search(rf"(?m)^{it}\b", script) and not shutil.which(it)]
+    return found, f"there is no {lacking[0]}" if lacking else None
+
+
+def fresh(folder):
+    """Copies the repository, without what runs made but for the proved program and library."""
+    shutil.copytree(ROOT, folder, symlinks=True, ignore=shutil.ignore_patterns(*MADE))
+    for it in [*BUILT, *(f"{name}.sum" for name in BUILT)]:
+        if os.path.isfile(f"{ROOT}/{it}"):
+            os.makedirs(os.path.dirname(f"{folder}/{it}"), exist_ok=True)
+            shutil.copy(f"{ROOT}/{it}", f"{folder}/{it}")
+
+
+def run(page, folder):
+    """Runs a page in a folder, and yields for each block what is said of it, and whether it ran and failed."""
+    for block in blocks(f"{folder}/{page}"):
+        passed_over, lacking = reason(block.script) if not block.file else (None, None)
+        name = f"{page}: {block.script.strip().splitlines()[0]}"
+        if block.file:
+            save(block, folder)
+        elif passed_over:
+            yield f"{name}: not run: {passed_over}", False, False
+        elif lacking:
+            yield f"left out: {name}, since {lacking}", False, False
+        else:
+            fault = fault_of(block, folder)
+            yield f"{name}: {fault or ('as printed' if block.shown else 'ran')}", True, bool(fault)
 
 
 def main():
     words = argparse.ArgumentParser(description=__doc__, formatter_class=argparse.RawDescriptionHelpFormatter)
     words.add_argument("pages", nargs="*", metavar="PAGE", help="only these pages, by their paths from the top")
     pages = words.parse_args().pages or ["README.md", *sorted(os.path.relpath(it, ROOT) for it in glob.glob(f"{ROOT}/docs/*.md"))]
-    ran = wrong = 0
-    with tempfile.TemporaryDirectory() as top:
-        folder = f"{top}/clone"
-        subprocess.run(["git", "clone", "-q", ROOT, folder], check=True)
-        for page in pages:
-            for script, shown in blocks(f"{folder}/{page}"):
-                why = next((why for pattern, why in LEFT_OUT if re.search(pattern, script)), None)
-                fault = None if why else fault_of(script, shown, folder)
-                said = f"left out: {why}" if why else fault or ("as printed" if shown else "ran")
-                print(f"{page}: {script.strip().splitlines()[0]}: {said}", flush=True)
-                ran, wrong = ran + (not why), wrong + bool(fault)
-    print(f"{ran} ran, {wrong} wrong")
-    return 1 if wrong else 0
+    counts = [0, 0]
+    for page in pages:
+        with tempfile.TemporaryDirectory() as top:
+            fresh(f"{top}/fresh")
+            for said, ran, failed in run(page, f"{top}/fresh"):
+                print(said, flush=True)
+                counts = [counts[0] + ran, counts[1] + failed]
+    print(f"{counts[0]} ran, {counts[1]} wrong")
+    return 1 if counts[1] else 0
 
 
 if __name__ == "__main__":

@@ -2,7 +2,8 @@
 """Tests that the callers that the pages CALLING.md show stand in crates/uses, and fails where one does not.
 
 Each block of a page that is marked as rust has to stand word for word in one file of crates/uses/src, which is proved; so a page shows no
-code that was not checked. Each page has to have such a block.
+code that was not checked. Each page has to have such a block. What docs/trust.md quotes, its blocks that are marked as text, has to stand so in the
+sources or the definitions of a crate.
 """
 
 import argparse
@@ -15,6 +16,9 @@ ROOT = os.path.dirname(os.path.dirname(os.path.realpath(__file__)))
 PAGES = "crates/*/CALLING.md"
 CALLERS = "crates/uses/src/**/*.rt"
 BLOCK = re.compile(r"(?ms)^```rust\n(.*?)^```$")
+TRUST = "docs/trust.md"
+CONTRACTS = ("crates/*/src/**/*.rt", "crates/dom_model/specs/**/*.antt")
+QUOTE = re.compile(r"(?ms)^```text\n(.*?)^```$")
 
 
 def texts(pattern):
@@ -34,10 +38,17 @@ def wrongs(page, text, callers):
     return found if blocks else [f"{page}: it shows no caller"]
 
 
+def misquoted():
+    """Returns what is wrong with the quotes of docs/trust.md."""
+    blocks = QUOTE.findall(texts(TRUST)[TRUST])
+    sources = [text for it in CONTRACTS for text in texts(it).values()]
+    return [f"{TRUST}: no source has the block that begins {it.splitlines()[0]!r}" for it in blocks if not any(it in text for text in sources)]
+
+
 def main():
     argparse.ArgumentParser(description=__doc__, formatter_class=argparse.RawDescriptionHelpFormatter).parse_args()
     pages, callers = texts(PAGES), texts(CALLERS)
-    found = [it for page, text in pages.items() for it in wrongs(page, text, callers)]
+    found = [it for page, text in pages.items() for it in wrongs(page, text, callers)] + misquoted()
     for it in found:
         print(it)
     print(f"{len(pages)} pages: {len(found)} wrong" if found else f"{len(pages)} pages: all that they show stands in crates/uses/src")

@@ -13,7 +13,8 @@ Parts (all, where none is named):
   leaks      the program under valgrind over each dialogue, whole and with single growths refused; left out where there is no valgrind
 
 A test that ends by itself, and each run of the program, leaves no block in use. Of each test or dialogue some growths are refused, spread
-over all of them; with --whole each, of a test at most 3,000. A test of more than 100,000 growths runs with none refused.
+over all of them; with --whole, and of a test of several scenes, each, of a test at most 3,000. A test of more than 100,000 growths runs
+with none refused.
 The last line is `N runs, M bad`; the status is 1 where M is not 0.
 """
 import argparse
@@ -48,6 +49,12 @@ STAND = {
     ("layer_cases", "ranges::refused_room"): 1,
     ("layer_cases", "slotted::refused_room"): 10,
     ("observer_cases", "observing::a_hundred_nodes"): 100,
+}
+# Tests of several scenes, of which each growth is refused: so each scene meets its own.
+SCENES = {
+    ("layer_cases", "points::points_of_small_trees"),
+    ("layer_cases", "ranges::scenes"),
+    ("layer_cases", "statics::scenes"),
 }
 
 WANTING = b"domserve: out of memory\n"
@@ -221,6 +228,7 @@ def tests(it, most):
     if found.status:
         raise Wrong(f"status {found.status} with no refusal: {(found.out + found.said).decode(errors='replace')}")
     leaves_nothing(found)
+    most = WHOLE if (it.crate, it.name) in SCENES else most
     for growth in spread(found.growths, most) if found.growths <= HEAVY else ():
         try:
             it.refuses(growth)
@@ -275,7 +283,7 @@ def works(given, library):
     every = [it for crate in given.crate for it in tests_of(crate, library)] if {"store", "tests"} & {*given.parts} else []
     if "store" in given.parts:
         stands = [it for it in every if it.name.endswith(WITHOUT) or (it.crate, it.name) in STAND]
-        lacking = {it for it in STAND if it[0] in given.crate} - {(it.crate, it.name) for it in stands}
+        lacking = {it for it in (*STAND, *SCENES) if it[0] in given.crate} - {(it.crate, it.name) for it in every}
         if lacking:
             sys.exit(f"{' has no test '.join(min(lacking))}")
         yield from (("store", it, sys.maxsize) for it in stands)

@@ -147,7 +147,19 @@ def store(rt, crates):
         def is_whole(self, crate, tests, files):
             return files == [crate.name] if crate.is_static else super().is_whole(crate, tests, files)
 
-    return Store(crates)
+        def keep(self, crate, tests, key):
+            super().keep(crate, tests, key)
+            if crate.is_static:
+                # (the gate's own entry of a static library has no file: it says that the crate was proved)
+                self.verdicts.keep(crate, tests, self.verdicts.key(crate))
+
+        def is_built(self, crate):
+            super().is_built(crate)
+            self.verdicts.is_built(crate)
+
+    kept = Store(crates)
+    kept.verdicts = rt.Kept(crates)
+    return kept
 
 
 class Start:
@@ -174,12 +186,26 @@ class Start:
     def build(self, crate, jobs):
         """Proves a crate from nothing, and returns whether it is proved; a static library's archive is then out/NAME."""
         flags = ["--jobs", str(jobs)]
+        return not (self.build_static(crate, flags) if crate.is_static and hasattr(self.rt, "Kept") else self.build_other(crate, flags))
+
+    def build_other(self, crate, flags):
         if not crate.is_static:
-            return not crate.ci(flags, False)
+            return crate.ci(flags, False)
         status = crate.build_static(flags)
         if not status:
             os.rename(f"{crate.folder}/out/lib{crate.name}.a", f"{crate.folder}/out/{crate.name}")
-        return not status
+        return status
+
+    def build_static(self, crate, flags):
+        """Proves a static library as the gate does, and builds its archive of what that check proved, so that neither proves it a second time."""
+        words = crate.words(flags, keeps=False)
+        with tempfile.TemporaryDirectory(prefix=f"rt-proved-{os.getpid()}-") as room:
+            status = crate.prove(["check", *words, "-o", f"{room}/checked"])
+            for flag in ("--logic-built", "--jobs"):
+                at = words.index(flag)
+                words = [*words[:at], *words[at + 2 :]]
+            words += ["--crate-checked", f"{room}/checked", "--toolchain", f"{self.rt.KIT}/toolchain", "--backend", "llvm"]
+            return status or crate.call(self.rt.rtlib.RATTLE, "build", *words, "-o", f"out/{crate.name}")
 
     def take_or_build(self, crate, jobs):
         """Takes a crate from the store, or proves it and keeps it there; returns whether it is proved, and whether it was kept already."""
@@ -216,15 +242,19 @@ class Start:
         print("".join(lines[-20:]), end="", file=sys.stderr)
         self.say(f"{crate.name} was not proved: rt check in crates/{crate.name} says more")
 
-    def run(self):
-        """Proves each crate once those below it are proved, and returns whether all are."""
+    def tasks(self):
+        """Returns what there is to do: each crate is proved once those below it are."""
         tasks = {}
         for crate in self.crates.values():
             call = lambda given, jobs, crate=crate: self.prove(crate, given, jobs)
             tasks[crate.name, PROOF] = ([(it.name, PROOF) for it in crate.below()], crate.count(rb"\n"), self.rt.need(crate), call)
+        return tasks
+
+    def run(self):
+        """Does what there is to do, as the kit orders it, and returns whether all of it went well."""
         ended = threading.Event()
         threading.Thread(target=self.tell, args=(ended,), daemon=True).start()
-        given = self.rt.in_lanes(tasks)
+        given = self.rt.in_lanes(self.tasks())
         ended.set()
         self.kept.shrink()
         return all(given.values())

@@ -45,6 +45,8 @@ OTHER = {
     "walk": "TreeWalker",
     "create_observer": "MutationObserver()",
     "notify": "notify mutation observers",
+    "take_pending": "notify mutation observers",
+    "tell_observer": "notify mutation observers",
 }
 
 

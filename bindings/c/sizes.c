@@ -76,14 +76,14 @@ static const struct kind {
     void (*make)(uint32_t node);
     bool below;
 } kinds[] = {
-    {"an element `item`, in a tree", element, true},
-    {"a Text of nine units, in a tree", text, true},
-    {"an element's first attribute, `name` with seven units", attribute, false},
-    {"a live range over a node", range, false},
-    {"a static range", static_range, false},
-    {"an iterator", iterator, false},
-    {"a walker", walker, false},
-    {"an observer that watches a node", observer, false},
+    { "an element `item`, in a tree", element, true },
+    { "a Text of nine units, in a tree", text, true },
+    { "an element's first attribute, `name` with seven units", attribute, false },
+    { "a live range over a node", range, false },
+    { "a static range", static_range, false },
+    { "an iterator", iterator, false },
+    { "a walker", walker, false },
+    { "an observer that watches a node", observer, false },
 };
 
 static double each_takes(const struct kind *kind)

@@ -38,9 +38,9 @@ static const struct kind {
     void (*make)(xmlNodePtr node);
     bool below;
 } kinds[] = {
-    {"an element `item`, in a tree", make_element, true},
-    {"a Text of nine units, in a tree", make_text, false},
-    {"an element's first attribute, `name` with seven units", make_attribute, false},
+    { "an element `item`, in a tree", make_element, true },
+    { "a Text of nine units, in a tree", make_text, false },
+    { "an element's first attribute, `name` with seven units", make_attribute, false },
 };
 
 static double each_takes(const struct kind *kind)

@@ -1,8 +1,7 @@
 #!/usr/bin/env python3
-"""Builds the addon of the package for node: out/huckleport.node, from the library for C and node's headers.
+"""Puts the module beside the package: out/huckleport.wasm and out/calls.js, from bindings/web/out.
 
-The library is taken from bindings/c/out, and made there by bindings/c/make.py where it is missing; --library takes another folder that has
-libhuckleport.a and huckleport.h.
+They are made there by bindings/web/make.py where they are missing; --module takes another folder that has both.
 """
 import argparse
 import importlib.util
@@ -12,12 +11,9 @@ import subprocess
 import sys
 
 HERE = os.path.dirname(os.path.abspath(__file__))
-BINDINGS = os.path.dirname(HERE)
-LIBRARY = os.path.join(BINDINGS, "c/out")
-NATIVE = os.path.join(HERE, "native")
-# The addon's own functions stand in for these of the allocator, so that it knows how much the library holds.
-COUNTED = ("malloc", "calloc", "realloc", "free")
-STRICT = ["-std=c11", "-O2", "-Wall", "-Wextra", "-Werror", "-shared", "-fPIC", "-fvisibility=hidden"]
+WEB = os.path.join(os.path.dirname(HERE), "web")
+MODULE = os.path.join(WEB, "out")
+FILES = ("huckleport.wasm", "calls.js")
 
 
 def module(name, path):
@@ -29,51 +25,27 @@ def module(name, path):
     return found
 
 
-def headers():
-    """The folder of node's headers, or None."""
-    node = shutil.which("node")
-    beside = [os.path.join(os.path.dirname(os.path.dirname(os.path.realpath(node))), "include/node")] if node else []
-    return next((it for it in ["/usr/include/node", *beside] if os.path.isfile(os.path.join(it, "node_api.h"))), None)
-
-
-def library(folder):
-    """The archive in a folder, which is made first where it is the usual one and has none."""
-    archive = os.path.join(folder, "libhuckleport.a")
-    if os.path.abspath(folder) == LIBRARY and not os.path.isfile(archive):
-        if subprocess.run([sys.executable, os.path.join(BINDINGS, "c/make.py")], check=False).returncode:
-            sys.exit("the library for C was not made")
-    for it in (archive, os.path.join(folder, "huckleport.h")):
-        if not os.path.isfile(it):
-            sys.exit(f"{it} is not there")
-    return archive
+def has_module(folder):
+    return all(os.path.isfile(os.path.join(folder, it)) for it in FILES)
 
 
 def build(given):
-    """Writes the addon's source and compiles it; returns the addon."""
-    archive = library(given.library)
-    if not given.headers:
-        sys.exit("node's headers are not there (--headers FOLDER; Debian has them in libnode-dev)")
+    """Puts both files into the package's folder; returns the module."""
+    if os.path.abspath(given.module) == MODULE and not has_module(MODULE):
+        if subprocess.run([sys.executable, os.path.join(WEB, "make.py")], check=False).returncode:
+            sys.exit("the module was not made")
+    if not has_module(given.module):
+        sys.exit(f"{given.module} lacks {' or '.join(FILES)}")
     os.makedirs(given.to, exist_ok=True)
-    source, addon = os.path.join(given.to, "hp_node.c"), os.path.join(given.to, "huckleport.node")
-    writing = module("native_make", os.path.join(NATIVE, "make.py"))
-    with open(source, "w", encoding="utf-8") as file:
-        file.write(writing.addon(writing.modules(), writing.shown(os.path.join(given.library, "huckleport.h"))))
-    places = [f"-I{it}" for it in (given.headers, given.library, NATIVE)]
-    links = ["-Wl,--exclude-libs,ALL", *(f"-Wl,--wrap={it}" for it in COUNTED)]
-    sanitized = ["-fsanitize=address", "-g", "-fno-omit-frame-pointer"] if given.sanitized else []
-    made = subprocess.run([given.compiler, *STRICT, *sanitized, *places, source, archive, *links, "-o", addon], check=False)
-    if made.returncode:
-        sys.exit("the addon was not compiled")
-    return addon
+    for it in FILES:
+        shutil.copy(os.path.join(given.module, it), given.to)
+    return os.path.join(given.to, FILES[0])
 
 
 def words_of(text):
     parser = argparse.ArgumentParser(description=text, formatter_class=argparse.RawDescriptionHelpFormatter)
-    parser.add_argument("--library", metavar="FOLDER", default=LIBRARY, help="where libhuckleport.a and huckleport.h are (bindings/c/out)")
-    parser.add_argument("--headers", metavar="FOLDER", default=headers(), help="node's headers (where Debian or node itself has them)")
-    parser.add_argument("--compiler", default="cc", help="the C compiler (cc)")
-    parser.add_argument("--to", metavar="FOLDER", default=os.path.join(HERE, "out"), help="where the addon goes (bindings/javascript/out)")
-    parser.add_argument("--sanitized", action="store_true", help="with the address sanitizer in the addon")
+    parser.add_argument("--module", metavar="FOLDER", default=MODULE, help="where huckleport.wasm and calls.js are (bindings/web/out)")
+    parser.add_argument("--to", metavar="FOLDER", default=os.path.join(HERE, "out"), help="where they go (bindings/javascript/out)")
     return parser
 
 

@@ -1,7 +1,7 @@
 #!/usr/bin/env python3
-"""Builds the package for node and runs its tests; says what it leaves out where node, a compiler, the library or a package is missing.
+"""Puts the module beside the package and runs the package's tests; says what it leaves out where node, the module or a package is missing.
 
-With --sanitized it does another thing: it builds the addon with the address sanitizer and makes random calls through it, which takes minutes.
+With --calls it does another thing: it makes so many random calls, by which objects and core are compared; 300,000 take minutes.
 """
 import argparse
 import glob
@@ -13,10 +13,22 @@ import sys
 HERE = os.path.dirname(os.path.abspath(__file__))
 sys.dont_write_bytecode = True
 sys.path.insert(0, HERE)
-from make import build, words_of
+from make import build, has_module, module, MODULE, WEB, words_of
 
 # What tests need beside node. Debian's packages are found by NODE_PATH.
-PACKAGES = {"parse5": "parsing HTML", "saxes": "parsing XML"}
+PACKAGES = {
+    "parse5": "parsing HTML",
+    "saxes": "parsing XML",
+    "css-select": "the page's selectors",
+    "cssstyle": "the page's styles",
+    "w3c-xmlserializer": "serializing XML",
+    "jsdom": "the page beside jsdom",
+    "preact": "preact over a page",
+    "react-dom": "react over a page",
+    "d3-selection": "d3 over a page",
+    "prosemirror-view": "ProseMirror over a page",
+    "dompurify": "DOMPurify over a page",
+}
 SETTINGS = {**os.environ, "NODE_PATH": os.pathsep.join(filter(None, [os.environ.get("NODE_PATH"), "/usr/share/nodejs"]))}
 
 # The oldest node that the package is for.
@@ -25,6 +37,7 @@ OLDEST = 20
 # What is run by node: what it is, node's options, and the files.
 PARTS = (
     ("the tests of the package", ["--expose-gc"], "tests/*.test.js"),
+    ("the tests of the page", ["--expose-gc", "--experimental-websocket"], "tests/page/*.test.js"),
     ("the tests of the runner", [], "wpt/*.test.js"),
     ("the tests of the examples", ["--experimental-websocket"], "examples/*/*.test.js"),
 )
@@ -42,13 +55,11 @@ def missing(given):
         return "there is no node"
     if is_old():
         return f"node is older than {OLDEST}"
-    if not shutil.which(given.compiler):
-        return f"there is no compiler {given.compiler}"
-    if not given.headers:
-        return "node's headers are not there"
-    if not os.path.isfile(os.path.join(given.library, "libhuckleport.a")):
-        return f"there is no libhuckleport.a in {given.library} (bindings/c/make.py makes it)"
-    return None
+    if has_module(given.module):
+        return None
+    if os.path.abspath(given.module) != MODULE:
+        return f"there is no module in {given.module}"
+    return module("web_make", os.path.join(WEB, "make.py")).lacking()
 
 
 def has_package(name):
@@ -72,35 +83,29 @@ def types():
     return run("the types", words)
 
 
-def sanitized(given):
-    """Makes random calls through an addon with the address sanitizer; answers whether it failed."""
-    given.sanitized, given.to = True, os.path.join(given.to, "sanitized")
-    addon = build(given)
-    asan = subprocess.run([given.compiler, "-print-file-name=libasan.so"], stdout=subprocess.PIPE, universal_newlines=True, check=True).stdout.strip()
-    settings = {"HUCKLEPORT_ADDON": addon, "LD_PRELOAD": asan, "ASAN_OPTIONS": "detect_leaks=0:allocator_may_return_null=1"}
-    words = ["node", "--expose-gc", "tests/random_calls.js", str(given.calls)]
-    return run(f"{given.calls} random calls under the address sanitizer", words, env={**SETTINGS, **settings})
+def random_calls(count):
+    """Makes random calls of all interfaces; answers whether it failed."""
+    return run(f"{count} random calls", ["node", "--expose-gc", "tests/random_calls.js", str(count)], env=SETTINGS)
 
 
 def main():
     parser = words_of(__doc__)
-    parser.add_argument("--calls", type=int, default=300000, help="how many random calls are made (300000)")
+    parser.add_argument("--calls", type=int, metavar="COUNT", help="makes so many random calls, and runs no test")
     given = parser.parse_args()
     why = missing(given)
     if why:
         print(f"left out: the package for JavaScript, since {why}")
         return 0
-    if given.sanitized:
-        return int(sanitized(given))
     build(given)
+    if given.calls:
+        return int(random_calls(given.calls))
     for name, what in PACKAGES.items():
         if not has_package(name):
             print(f"left out: {what}, since {name} is not installed")
-    settings = {**SETTINGS, "HUCKLEPORT_ADDON": os.path.join(os.path.abspath(given.to), "huckleport.node")}
     faults = False
     for what, words, files in PARTS:
         found = sorted(os.path.relpath(it, HERE) for it in glob.glob(os.path.join(HERE, files)))
-        faults |= bool(found) and run(what, ["node", *words, "--test", "--test-reporter=spec", *found], env=settings)
+        faults |= bool(found) and run(what, ["node", *words, "--test", "--test-reporter=spec", *found], env=SETTINGS)
     return int(faults | types())
 
 

@@ -1,229 +1,254 @@
 #!/usr/bin/env python3
-"""Measures calls a second of the package, by the extension module and by ctypes, beside minidom and lxml, in one run, as a table.
+"""Measures the package beside lxml, and minidom where that has the same, in one run, as a table: milliseconds of the same work, and ours over theirs.
 
-Each figure is of processor time, and the best of several rounds. It says what it leaves out where lxml or the extension module is missing.
+Each figure is of processor time, and the best of several rounds, which the libraries take in turn. It needs lxml (Debian's python3-lxml).
 """
 import argparse
 import gc
-import os
-import subprocess
 import sys
 import time
 from xml.dom import minidom
 
-HERE = os.path.dirname(os.path.abspath(__file__))
+HERE = __file__.rpartition("/")[0] or "."
 sys.dont_write_bytecode = True
 sys.path.insert(0, HERE)
 
+import huckleport as h
+from lxml import etree
+
 CHILDREN = 1000
-PAGE = 10000
 
 
-def best(work, count, rounds):
-    """Calls a second of processor time, in the best of the rounds."""
-    found = 0.0
-    for _ in range(rounds):
-        gc.collect()
-        begin = time.process_time()
-        work()
-        found = max(found, count / (time.process_time() - begin))
-    return found
+def page(count):
+    """A page whose elements have attributes, text and children, as XML and as HTML."""
+    rows = "".join(
+        f'<div class="c{at % 7}" id="n{at}"><p>Text {at} &amp; <b>more</b> text of <a href="/page/{at}">a link</a> and some more words</p><ul><li>one</li><li>two</li></ul></div>'
+        for at in range(count)
+    )
+    return f"<html><head><title>A page</title></head><body>{rows}</body></html>"
 
 
-def page():
-    rows = "".join(f'<div class="c{at % 7}" id="n{at}"><p>Text {at} &amp; <b>more</b> text</p><i/></div>' for at in range(PAGE // 4))
-    return f"<r>{rows}</r>"
+def building(count):
+    document, their = h.Session().document, minidom.Document()
 
-
-WORKS = ("create and append, pairs", "set an attribute", "read a text", "next sibling", "tag name", "rows of a tree, nodes", "serialize, nodes", "parse XML, nodes")
-
-
-def named(count, nodes, *works):
-    """The works by their names, with how many calls each makes."""
-    return {name: (work, nodes if "nodes" in name else count) for name, work in zip(WORKS, works)}
-
-
-def ours(count):
-    """The works over the package: their names, and how many calls each makes."""
-    import huckleport as h
-
-    document = h.Session().document
-    root = document.append_child(document.create_element("r"))
-    text = root.append_child(document.create_text_node("some text here"))
-
-    def build():
+    def ours():
         parent, create = document.create_element("r"), document.create_element
         append = parent.append_child
         for _ in range(count):
             append(create("p"))
 
-    def attribute():
-        for _ in range(count):
-            root.set_attribute("class", "value")
-
-    def read():
-        for _ in range(count):
-            text.data
-
-    def name():
-        for _ in range(count):
-            root.tag_name
-
-    siblings = document.create_element("r")
-    siblings.append(*(document.create_element("p") for _ in range(CHILDREN)))
-
-    def walk():
-        for _ in range(count // CHILDREN):
-            it = siblings.first_child
-            while it is not None:
-                it = it.next_sibling
-
-    tree = h.xml.parse(page())
-    nodes = len(tree.tree())
-    writing = (lambda: tree.tree(), lambda: h.xml.serialize(tree), lambda: h.xml.parse(page()))
-    return named(count, nodes, build, attribute, read, walk, name, *writing)
-
-
-def below(node, depth, found):
-    """Rows of minidom, as the package has them."""
-    pairs = tuple(node.attributes.items()) if node.nodeType == 1 else ()
-    found.append((depth, node, node.nodeName, pairs, node.nodeValue))
-    for child in node.childNodes:
-        below(child, depth + 1, found)
-    return found
-
-
-def of_minidom(count):
-    document = minidom.Document()
-    root = document.createElement("r")
-    text = root.appendChild(document.createTextNode("some text here"))
-
-    def build():
-        parent = document.createElement("r")
-        for _ in range(count):
-            parent.appendChild(document.createElement("p"))
-
-    def attribute():
-        for _ in range(count):
-            root.setAttribute("class", "value")
-
-    def read():
-        for _ in range(count):
-            text.data
-
-    def name():
-        for _ in range(count):
-            root.tagName
-
-    siblings = document.createElement("r")
-    for _ in range(CHILDREN):
-        siblings.appendChild(document.createElement("p"))
-
-    def walk():
-        for _ in range(count // CHILDREN):
-            it = siblings.firstChild
-            while it is not None:
-                it = it.nextSibling
-
-    tree = minidom.parseString(page())
-
-    nodes = len(below(tree, 0, []))
-    writing = (lambda: below(tree, 0, []), lambda: tree.toxml(), lambda: minidom.parseString(page()))
-    return named(count, nodes, build, attribute, read, walk, name, *writing)
-
-
-def rows_of_lxml(tree):
-    return [(it, it.tag, tuple(it.attrib.items()), it.text, it.tail) for it in tree.iter()]
-
-
-def nodes_of_lxml(tree):
-    """How many nodes a tree has elsewhere: texts are members of elements here."""
-    return sum(1 + bool(it.text) + bool(it.tail) for it in tree.iter()) + 1
-
-
-def of_lxml(count):
-    from lxml import etree
-
-    root = etree.Element("r")
-    root.text = "some text here"
-
-    def build():
+    def lxml():
         parent = etree.Element("r")
         for _ in range(count):
             parent.append(etree.Element("p"))
 
-    def attribute():
+    def dom():
+        parent = their.createElement("r")
         for _ in range(count):
+            parent.appendChild(their.createElement("p"))
+
+    return "create an element and append it", ours, lxml, dom
+
+
+def setting(count):
+    document, root = h.Session().document, etree.Element("r")
+    element, node = document.create_element("r"), minidom.Document().createElement("r")
+
+    def ours():
+        for at in range(count):
+            element.set_attribute("class", "value")
+
+    def lxml():
+        for at in range(count):
             root.set("class", "value")
 
-    def read():
-        for _ in range(count):
-            root.text
+    def dom():
+        for at in range(count):
+            node.setAttribute("class", "value")
 
-    def name():
+    return "set an attribute", ours, lxml, dom
+
+
+def editing(count):
+    text, root = h.Session().document.create_text_node(""), etree.Element("r")
+    node = minidom.Document().createTextNode("")
+
+    def ours():
+        for at in range(count):
+            text.data = "some text"
+
+    def lxml():
+        for at in range(count):
+            root.text = "some text"
+
+    def dom():
+        for at in range(count):
+            node.data = "some text"
+
+    return "set a text", ours, lxml, dom
+
+
+def naming(count):
+    element, root = h.Session().document.create_element("r"), etree.Element("r")
+    node = minidom.Document().createElement("r")
+
+    def ours():
+        for _ in range(count):
+            element.tag_name
+
+    def lxml():
         for _ in range(count):
             root.tag
 
-    siblings = etree.Element("r")
-    for _ in range(CHILDREN):
-        siblings.append(etree.Element("p"))
+    def dom():
+        for _ in range(count):
+            node.tagName
 
-    def walk():
+    return "read a name", ours, lxml, dom
+
+
+def reading(count):
+    text, root = h.Session().document.create_text_node("some text here"), etree.Element("r")
+    root.text, node = "some text here", minidom.Document().createTextNode("some text here")
+
+    def ours():
+        for _ in range(count):
+            text.data
+
+    def lxml():
+        for _ in range(count):
+            root.text
+
+    def dom():
+        for _ in range(count):
+            node.data
+
+    return "read a text", ours, lxml, dom
+
+
+def family():
+    """An element of each library with many children."""
+    element, root, their = h.Session().document.create_element("r"), etree.Element("r"), minidom.Document()
+    node = their.createElement("r")
+    for _ in range(CHILDREN):
+        element.append_child(element.node_document.create_element("p"))
+        root.append(etree.Element("p"))
+        node.appendChild(their.createElement("p"))
+    return element, root, node
+
+
+def children(count):
+    element, root, node = family()
+
+    def ours():
         for _ in range(count // CHILDREN):
-            it = siblings[0]
+            for it in element:
+                pass
+
+    def lxml():
+        for _ in range(count // CHILDREN):
+            for it in root:
+                pass
+
+    def dom():
+        for _ in range(count // CHILDREN):
+            for it in node.childNodes:
+                pass
+
+    return "children, in a for", ours, lxml, dom
+
+
+def one_by_one(count):
+    element, root, node = family()
+
+    def ours():
+        for _ in range(count // CHILDREN):
+            it = element.first_child
+            while it is not None:
+                it = it.next_sibling
+
+    def lxml():
+        for _ in range(count // CHILDREN):
+            it = root[0]
             while it is not None:
                 it = it.getnext()
 
-    tree = etree.fromstring(page())
-    writing = (lambda: rows_of_lxml(tree), lambda: etree.tostring(tree), lambda: etree.fromstring(page()))
-    return named(count, nodes_of_lxml(tree), build, attribute, read, walk, name, *writing)
+    def dom():
+        for _ in range(count // CHILDREN):
+            it = node.firstChild
+            while it is not None:
+                it = it.nextSibling
+
+    return "siblings, one by one", ours, lxml, dom
 
 
-KINDS = {"ours": ours, "minidom": of_minidom, "lxml": of_lxml}
+def siblings(count):
+    element, root, _ = family()
+
+    def ours():
+        for _ in range(count // CHILDREN):
+            for it in element.first_child.next_siblings():
+                pass
+
+    def lxml():
+        for _ in range(count // CHILDREN):
+            for it in root[0].itersiblings():
+                pass
+
+    return "siblings, in a for", ours, lxml, None
 
 
-def measured(kind, count, rounds):
-    return {name: best(work, calls, rounds) for name, (work, calls) in KINDS[kind](count).items()}
+def over_pages(count):
+    """The works over a whole page: each with ours and lxml's."""
+    text = page(count // 20)
+    document, tree = h.xml.parse(text), etree.fromstring(text)
+    their = minidom.parseString(text)
+    html_document, html_tree = h.html.parse(text), etree.fromstring(text, etree.HTMLParser())
+    elements, nodes = list(document.descendants(h.Element)), list(tree.iter())
+
+    def dom_below(node):
+        for it in node.childNodes:
+            dom_below(it)
+
+    yield "all elements below", lambda: [None for it in document.descendants(h.Element)], lambda: [None for it in tree.iter()], None
+    yield "all nodes below; there elements with text and tail", lambda: [None for it in document.descendants()], lambda: [(it.text, it.tail) and None for it in tree.iter()], lambda: dom_below(their)
+    yield "elements of a name", lambda: document.get_elements_by_tag_name("b"), lambda: list(tree.iter("b")), lambda: their.getElementsByTagName("b")
+    yield "an attribute of all", lambda: document._calls.read_attribute_of(elements, "id"), lambda: [it.get("id") for it in nodes], None
+    yield "attributes of all, as dicts", lambda: document._calls.read_attributes_of(elements), lambda: [dict(it.attrib) for it in nodes], None
+    yield "rows with name, attributes and data", document.tree, lambda: [(it, it.tag, tuple(it.attrib.items()), it.text, it.tail) for it in tree.iter()], None
+    yield "serialize XML", lambda: h.xml.serialize(document), lambda: etree.tostring(tree, encoding="unicode"), lambda: their.toxml()
+    yield "serialize HTML", lambda: h.html.serialize(html_document), lambda: etree.tostring(html_tree, encoding="unicode", method="html"), None
+    yield f"parse XML of {len(text) / 1e6:.1f} MB", lambda: h.xml.parse(text), lambda: etree.fromstring(text), lambda: minidom.parseString(text)
+    yield f"parse HTML of {len(text) / 1e6:.1f} MB, by {h.html.PARSER}", lambda: h.html.parse(text), lambda: etree.fromstring(text, etree.HTMLParser()), None
 
 
-def by_ctypes(given):
-    """The package by ctypes, in a process of its own."""
-    words = [sys.executable, os.path.abspath(__file__), "--only", "ours", "--count", str(max(given.count // 10, CHILDREN)), "--rounds", str(given.rounds)]
-    ran = subprocess.run(words, stdout=subprocess.PIPE, universal_newlines=True, env={**os.environ, "HUCKLEPORT_LIBRARY": given.library})
-    found = dict(line.rsplit("\t", 1) for line in ran.stdout.splitlines())
-    return {name: float(value) for name, value in found.items()}
+WORKS = (building, setting, editing, naming, reading, children, one_by_one, siblings)
+
+
+def timed(work):
+    if work is None:
+        return 0.0
+    gc.collect()
+    begin = time.process_time()
+    work()
+    return 1000 * (time.process_time() - begin)
+
+
+def best(works, rounds):
+    """Milliseconds of each work in the best of the rounds."""
+    return [min(its) for its in zip(*([timed(it) for it in works] for _ in range(rounds)))]
 
 
 def main():
     parser = argparse.ArgumentParser(description=__doc__, formatter_class=argparse.RawDescriptionHelpFormatter)
-    parser.add_argument("--count", type=int, default=100000, help="how many calls a round has (100000)")
+    parser.add_argument("--count", type=int, default=100000, help="how many calls a round has; a page has some half as many elements (100000)")
     parser.add_argument("--rounds", type=int, default=5, help="how many rounds (5)")
-    parser.add_argument("--library", default=os.path.join(HERE, "../c/out/libhuckleport.so"), metavar="FILE", help="the library for ctypes (bindings/c/out)")
-    parser.add_argument("--only", choices=sorted(KINDS), help="measure this alone, and print plain figures")
     given = parser.parse_args()
-    if given.only:
-        for name, value in measured(given.only, given.count, given.rounds).items():
-            print(f"{name}\t{value}")
-        return 0
-    from huckleport._calls import core
-
-    columns = {}
-    if core is None:
-        print("left out: the extension module, which is not built (bindings/python/extension.py --build)", file=sys.stderr)
-    else:
-        columns["extension"] = measured("ours", given.count, given.rounds)
-    if os.path.exists(given.library):
-        columns["ctypes"] = by_ctypes(given)
-    columns["minidom"] = measured("minidom", given.count, given.rounds)
-    try:
-        columns["lxml"] = measured("lxml", given.count, given.rounds)
-    except ImportError:
-        print("left out: lxml, which is not here", file=sys.stderr)
-    print(f"| calls a second | {' | '.join(columns)} |\n|---|{'---|' * len(columns)}")
-    for name in columns["minidom"]:
-        print(f"| {name} | {' | '.join(f'{columns[it][name]:,.0f}' for it in columns)} |")
-    return 0
+    print("| milliseconds | ours | lxml | ours over lxml | minidom |\n|---|---|---|---|---|", flush=True)
+    for name, *works in (*(it(given.count) for it in WORKS), *over_pages(given.count)):
+        ours, theirs, dom = best(works, given.rounds)
+        print(f"| {name} | {ours:.1f} | {theirs:.1f} | {ours / theirs:.2f} | {f'{dom:.1f}' if works[2] else ''} |", flush=True)
 
 
 if __name__ == "__main__":
-    sys.exit(main())
+    main()

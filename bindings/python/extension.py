@@ -63,21 +63,33 @@ def quoted(text):
 
 def struct(it):
     fields = ", ".join(f'{{ "{part.name}", NULL }}' for part in it.fields)
-    text = f"\nstatic PyTypeObject *{it.name}_type;\nstatic PyStructSequence_Field {it.name}_fields[] = {{ {fields}, {{ NULL, NULL }} }};\n"
+    text = f"\nstatic PyStructSequence_Field {it.name}_fields[] = {{ {fields}, {{ NULL, NULL }} }};\n"
     # (3.8 ends with a crash where such a class has no docstring)
     text += f'static PyStructSequence_Desc {it.name}_form = {{ "huckleport._core.{it.name}", {quoted(it.doc)}, {it.name}_fields, {len(it.fields)} }};\n'
-    text += f"\nstatic PyObject *{it.name}_from(const {it.name} *it)\n{{\n    PyObject *found = PyStructSequence_New({it.name}_type);\n"
+    text += f"\nstatic PyObject *{it.name}_from(const Calls *calls, const {it.name} *it)\n{{\n"
+    text += f"    PyObject *found = PyStructSequence_New(calls->state->structs[{place_of(it)}]);\n"
     text += "    if (!found)\n        return NULL;\n"
     for at, part in enumerate(it.fields):
         text += f"    PyStructSequence_SetItem(found, {at}, PyLong_FromSize_t(it->{part.name}));\n"
     return text + "    return found;\n}\n"
 
 
+def place_of(it):
+    """The name of a struct's place among those of an interpreter."""
+    return "AT_" + it.name.upper()
+
+
+def places(structs):
+    names = ", ".join(map(place_of, structs))
+    return f"\nenum {{ {names}, STRUCTS_MADE }};\ntypedef char structs_fit[STRUCTS_MADE <= STRUCTS ? 1 : -1];\n"
+
+
 def structs_made(structs):
-    text = "\nstatic bool structs_made(void)\n{\n"
-    for it in structs:
-        text += f"    {it.name}_type = PyStructSequence_NewType(&{it.name}_form);\n"
-    return text + f"    return {' && '.join(it.name + '_type' for it in structs)};\n}}\n"
+    text = "\nstatic bool structs_made(PyObject *module, State *state)\n{\n    bool done = true;\n    PyStructSequence_Desc *const forms[] = {\n"
+    text += "".join(f"        &{it.name}_form,\n" for it in structs) + "    };\n    for (int at = 0; done && at < STRUCTS_MADE; at++) {\n"
+    text += "        state->structs[at] = PyStructSequence_NewType(forms[at]);\n        done = state->structs[at] != NULL;\n"
+    text += "        Py_XINCREF((PyObject *)state->structs[at]);\n"
+    return text + "        done = done && PyModule_AddObject(module, strrchr(forms[at]->name, '.') + 1, (PyObject *)state->structs[at]) == 0;\n    }\n    return done;\n}\n"
 
 
 def struct_in(it):
@@ -123,7 +135,7 @@ def answer_of(outs, read):
     it = outs[0]
     if it.type in LENT:
         return LENT[it.type].format(it.name)
-    return NUMBERS[it.type].format(it.name) if it.type in NUMBERS else f"{it.type}_from(&{it.name})"
+    return NUMBERS[it.type].format(it.name) if it.type in NUMBERS else f"{it.type}_from((Calls *)self, &{it.name})"
 
 
 def body(parts, reads, call, answer, refusal):
@@ -233,7 +245,7 @@ def made(found):
     written = {part.type for it in exports.values() for part in it.parameters if part.kind == "out"} - set(LENT)
     taken = {part.type for it in exports.values() for part in it.parameters if part.kind == "in"}
     outs = [it for it in structs if it.name in written]
-    text = HEAD + "".join(map(struct, outs)) + structs_made(outs) + "".join(struct_in(it) for it in structs if it.name in taken)
+    text = HEAD + places(outs) + "".join(map(struct, outs)) + structs_made(outs) + "".join(struct_in(it) for it in structs if it.name in taken)
     calls = {name: it for name, it in exports.items() if is_plain(it)}
     text += "".join(map(call, calls.values())) + "".join(call(exports["hp_" + name], read) for name, read in READS.items())
     rows = "".join(f'    {{ "{name[3:]}", call_{name[3:]}, METH_VARARGS, NULL }}, \\\n' for name in calls)

@@ -1,15 +1,18 @@
-"""Builds the package: with the extension module where libhuckleport.a and huckleport.h are there, for any CPython from 3.8 on, and else without.
+"""Builds the package with its extension module, of libhuckleport.a and huckleport.h, for any CPython from 3.8 on.
 
 They are looked for in the folder that the variable HUCKLEPORT_STATIC names, and else in bindings/c/out.
 """
 import os
+import sys
 
 from setuptools import Extension, setup
 
 HERE = os.path.dirname(os.path.abspath(__file__))
 STATIC = os.environ.get("HUCKLEPORT_STATIC") or os.path.join(os.path.dirname(HERE), "c", "out")
 ARCHIVE = os.path.join(STATIC, "libhuckleport.a")
-HAS_ALL = all(os.path.exists(os.path.join(STATIC, it)) for it in ("libhuckleport.a", "huckleport.h"))
+MISSING = [it for it in ("libhuckleport.a", "huckleport.h") if not os.path.exists(os.path.join(STATIC, it))]
+if MISSING:
+    sys.exit(f"{STATIC} has no {' and no '.join(MISSING)}: python3 bindings/c/make.py makes them, and HUCKLEPORT_STATIC names the folder where they lie elsewhere")
 
 MODULE = Extension(
     "huckleport._core",
@@ -22,4 +25,4 @@ MODULE = Extension(
     py_limited_api=True,
 )
 
-setup(ext_modules=[MODULE] if HAS_ALL else [], options={"bdist_wheel": {"py_limited_api": "cp38"}} if HAS_ALL else {})
+setup(ext_modules=[MODULE], options={"bdist_wheel": {"py_limited_api": "cp38"}})

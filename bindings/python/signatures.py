@@ -1,6 +1,7 @@
 #!/usr/bin/env python3
-"""Writes the modules of huckleport that say what the library has: _signatures.py (constants, structs, arguments) and _by_ctypes.py (each
-call in Python's types), both from the exports of crates/dom_c, and _commands.py (names and arguments) from docs/commands.md.
+"""Writes the modules of huckleport that say what the library has: _signatures.py (constants, and the names of what calls are handed) and
+_core.pyi (the types of the extension module), both from the exports of crates/dom_c, and _commands.py (names and arguments) from
+docs/commands.md.
 
 With --check nothing is written, and it fails where a module is not what the sources give.
 """
@@ -15,25 +16,15 @@ PACKAGE = os.path.join(HERE, "huckleport")
 sys.dont_write_bytecode = True
 sys.path[:0] = [HERE, os.path.join(ROOT, "bindings/c")]
 from exports import SOURCES, modules, status_word
-from members import LET_GO_FIRST, READS
+from members import READS
 
 MADE = "Made by bindings/python/signatures.py; not to be edited."
-FORMS = {
-    "uint8_t": "c_uint8",
-    "uint16_t": "c_uint16",
-    "uint32_t": "c_uint32",
-    "uint64_t": "c_uint64",
-    "int8_t": "c_int8",
-    "size_t": "c_size_t",
-    "bool": "c_bool",
-}
-CHECKED = {"uint8_t": "uint8", "uint32_t": "uint32", "uint64_t": "uint64", "size_t": "size"}
 # Slices of bytes that are no name, but a line or what belongs to a list of names.
 OCTETS = {"line", "names", "verdicts"}
-# Lent bytes that are a line, and no name.
-LINES = {"hp_reply_line"}
-# How lent structs come back: the method that reads them, and Python's type.
-LENT = {"hp_bytes": ("_name", "str"), "hp_text_view": ("_text", "str")}
+SLICES = {"uint8_t": "str", "uint16_t": "str", "uint32_t": "Sequence[int]"}
+# What a struct that is lent comes back as, and the numbers of an answer.
+LENT = {"hp_bytes": "str", "hp_text_view": "str"}
+NUMBERS = {"uint8_t": "bool", "int8_t": "int", "uint16_t": "int", "uint32_t": "int", "uint64_t": "int", "size_t": "int"}
 
 
 def said(text):
@@ -53,93 +44,48 @@ def constants(found):
     return text
 
 
-def struct(it):
-    text = f'\n\nclass {it.name}(Structure):\n    """{said(it.doc)}"""\n\n'
-    fields = []
-    for its in it.fields:
-        form = "c_void_p" if its.kind in ("slice", "pointer") else its.type if its.kind == "struct" else FORMS[its.type]
-        fields.append((its.name, form))
-        if its.kind == "slice":
-            fields.append(("length" if len(it.fields) == 1 else its.name + "_length", "c_size_t"))
-    for name, form in fields:
-        text += f"    {name}: {'bool' if form == 'c_bool' else form if form.startswith('hp_') else 'int'}\n"
-    inner = ", ".join(f'("{name}", {form})' for name, form in fields)
-    return text + f"    _fields_ = [{inner}]\n"
+def struct_in(it):
+    """A struct that calls are handed."""
+    fields = "".join(f"    {part.name}: int\n" for part in it.fields)
+    return f'\n\nclass {it.name}(NamedTuple):\n    """{said(it.doc)}"""\n\n{fields}'
 
 
-def ordered(structs):
-    """The structs, each behind those that it has."""
-    found, left = [], list(structs)
-    while left:
-        names = {it.name for it in left}
-        ready = [it for it in left if not any(part.type in names for part in it.fields)]
-        found += ready
-        left = [it for it in left if it not in ready]
-    return found
+def struct_out(it):
+    """A struct that calls answer with, as the extension module has it."""
+    text = f"\n@final\nclass {it.name}(structseq[int], Tuple[{', '.join(['int'] * len(it.fields))}]):\n"
+    names = ", ".join(f'"{part.name}"' for part in it.fields)
+    text += f"    if sys.version_info >= (3, 10):\n        __match_args__: Final = ({names})\n\n"
+    return text + "".join(f"    @property\n    def {part.name}(self) -> int: ...\n" for part in it.fields)
 
 
-def forms(it):
-    """The ctypes of a parameter."""
-    if it.kind == "scalar":
-        return [FORMS[it.type]]
-    if it.kind == "slice":
-        return ["c_char_p", "c_size_t"]
-    if it.kind == "array":
-        return [f"POINTER({FORMS.get(it.type, it.type)})", "c_size_t"]
-    return [f"POINTER({FORMS.get(it.type, it.type)})"]
+def outs(it):
+    return [part for part in it.parameters if part.kind == "out"]
 
 
 def signatures(found):
-    text = f'"""The constants, the structs, and the arguments of each call of the library. {MADE}"""\n\n'
-    used = sorted({"Structure", "POINTER", "c_void_p", "c_char_p", *FORMS.values()})
-    text += f"from ctypes import {', '.join(used)}\nfrom typing import Any, Dict, Tuple\n\n" + constants(found)
-    text += "".join(map(struct, ordered(it for module in found for it in module.structs)))
-    text += "\n\n# Each call answers a status.\nARGUMENTS: Dict[str, Tuple[Any, ...]] = {\n"
-    for module in found:
-        for it in module.exports:
-            words = ", ".join(form for its in it.parameters for form in forms(its))
-            text += f'    "{it.name}": ({words},),\n'
-    text += "}\n\n# The names of what each call is handed beside the session.\nPARAMETERS: Dict[str, Tuple[str, ...]] = {\n"
-    for module in found:
-        for it in module.exports:
-            words = "".join(f'"{part.name}", ' for part in it.parameters if part.kind not in ("session", "out", "array"))
-            text += f'    "{it.name[3:]}": ({words.rstrip()}),\n'
+    exports = [it for module in found for it in module.exports]
+    taken = {part.type for it in exports for part in it.parameters if part.kind == "in"}
+    text = f'"""The constants, the structs that are handed in, and the names of what each call is handed. {MADE}"""\n\n'
+    text += "from typing import Dict, NamedTuple, Tuple\n\n" + constants(found)
+    text += "".join(struct_in(it) for module in found for it in module.structs if it.name in taken)
+    text += "\n\n# The names of what each call is handed beside the session.\nPARAMETERS: Dict[str, Tuple[str, ...]] = {\n"
+    for it in exports:
+        words = "".join(f'"{part.name}", ' for part in it.parameters if part.kind not in ("session", "out", "array"))
+        text += f'    "{it.name[3:]}": ({words.rstrip()}),\n'
     return text + "}\n"
 
 
 def given(it):
-    """A parameter in Python: its type, and how it is handed on."""
-    if it.kind == "slice" and it.type == "uint8_t":
-        return ("bytes", f"*octets({it.name})") if it.name in OCTETS else ("str", f"*utf8({it.name})")
-    if it.kind == "slice" and it.type == "uint16_t":
-        return "str", f"*utf16({it.name})"
-    if it.kind == "slice" and it.type == "uint32_t":
-        return "Sequence[int]", f"*uint32s({it.name})"
+    """The type of a parameter in Python."""
+    if it.kind == "slice":
+        return "bytes" if it.type == "uint8_t" and it.name in OCTETS else SLICES[it.type]
     if it.kind == "in":
-        return f"_signatures.{it.type}", f"byref({it.name})"
-    if it.type == "bool":
-        return "bool", it.name
-    if it.kind == "scalar" and it.type in CHECKED:
-        return "int", f"{CHECKED[it.type]}({it.name})"
-    return sys.exit(f"there is no form in Python for: {it}")
+        return f"_signatures.{it.type}"
+    return "bool" if it.type == "bool" else "int"
 
 
-# How an answer is read whole: the method that reads it, and Python's type.
-WHOLE = {
-    "text": ("_answer_text", "str"),
-    "text?": ("_answer_text_or_none", "Optional[str]"),
-    "numbers": ("_answer_numbers", "List[int]"),
-    "names": ("_answer_names", "List[str]"),
-}
-
-
-def reading(export):
-    """The method that makes a call and reads its whole answer."""
-    handed = [(it, *given(it)) for it in export.parameters if it.kind not in ("out", "session")]
-    takes = "".join(f", {it.name}: {form}" for it, form, _ in handed)
-    words = "".join(f", {word}" for _, _, word in handed)
-    how, answer = WHOLE[READS[export.name[3:]]]
-    return f'    def read_{export.name[3:]}(self{takes}) -> {answer}:\n        return self._whole(self.{how}, "{export.name}"{words})\n'
+# How an answer is read whole: Python's type.
+WHOLE = {"text": "str", "text?": "Optional[str]", "numbers": "List[int]", "names": "List[str]"}
 
 
 def is_plain(export):
@@ -148,39 +94,121 @@ def is_plain(export):
     return "session" in kinds and "array" not in kinds
 
 
+def takes(export):
+    """What a method is handed; each by its place."""
+    parts = [it for it in export.parameters if it.kind not in ("out", "session")]
+    return ", ".join(["self", *(f"{it.name}: {given(it)}" for it in parts), "/"])
+
+
 def method(export):
-    outs = [it for it in export.parameters if it.kind == "out"]
-    handed = [(it, *given(it)) for it in export.parameters if it.kind not in ("out", "session")]
-    if len(outs) > 1:
+    """The method that makes a call."""
+    written = outs(export)
+    if len(written) > 1:
         sys.exit(f"{export.name}: there is no form in Python for it")
-    words = "".join(f", {word}" for _, _, word in handed)
-    takes = "".join(f", {it.name}: {form}" for it, form, _ in handed)
-    say = "_let_go" if export.name.startswith("hp_release_") or export.name == "hp_close" else "_say"
-    call, answer = f'self.{say}("{export.name}"{words})', "None"
-    if outs and export.name in LINES:
-        call, answer = f'return self._bytes("{export.name}"{words})', "bytes"
-    elif outs and outs[0].type in LENT:
-        call, answer = f'return self.{LENT[outs[0].type][0]}("{export.name}"{words})', LENT[outs[0].type][1]
-    elif outs and outs[0].type == "uint8_t":
-        call, answer = f'return self._flag("{export.name}"{words})', "bool"
-    elif outs and outs[0].type in FORMS:
-        call, answer = f'return self._number({FORMS[outs[0].type]}(), "{export.name}"{words})', "int"
-    elif outs:
-        form = f"_signatures.{outs[0].type}"
-        call, answer = f'return self._struct({form}(), "{export.name}"{words})', form
-    first = "        self.let_go_noted()\n" if export.name[3:] in LET_GO_FIRST else ""
-    return f"    def {export.name[3:]}(self{takes}) -> {answer}:\n{first}        {call}\n"
+    answer = "None"
+    if written:
+        answer = LENT.get(written[0].type) or NUMBERS.get(written[0].type) or written[0].type
+    return f"    def {export.name[3:]}({takes(export)}) -> {answer}: ...\n"
 
 
-def calls(found):
-    text = f'"""Each call of the library, in Python\'s types. {MADE}"""\n\nfrom __future__ import annotations\n\n'
-    exports = [it for module in found for it in module.exports if is_plain(it)]
-    methods = [method(it) for it in exports] + [reading(it) for it in exports if it.name[3:] in READS]
-    used = sorted({name for name in FORMS.values() if any(f"({name}()" in it for it in methods)})
-    text += f"from ctypes import byref, {', '.join(used)}\nfrom typing import List, Optional, Sequence\n\nfrom . import _signatures\n"
-    text += "from ._handle import Handle, octets, size, uint8, uint32, uint32s, uint64, utf8, utf16\n\n\n"
-    text += 'class Calls(Handle):\n    """A session of the library, with each of its calls by the name that it has in C."""\n\n'
-    return text + "\n".join(methods)
+def reading(export):
+    """The method that makes a call and reads its whole answer."""
+    return f"    def read_{export.name[3:]}({takes(export)}) -> {WHOLE[READS[export.name[3:]]]}: ...\n"
+
+
+STUB = """\
+import sys
+from typing import Any, Dict, Final, Iterator, List, Optional, Sequence, Set, Tuple, Type, TypeVar, final
+
+from _typeshed import structseq
+
+from . import _signatures
+from .nodes import Node, Row
+from .observers import MutationObserver, MutationRecord
+from .session import Session
+
+_K = TypeVar("_K", bound=Thing)
+"""
+
+BY_HAND = """
+class Thing:
+    _is_own: bool
+    def __new__(cls, session: Session, number: int, /, *given: Any) -> Any: ...
+    def __init__(self, session: Session, number: int, /, *given: Any) -> None: ...
+    @property
+    def session(self) -> Session: ...
+    @property
+    def number(self) -> int: ...
+    @property
+    def _calls(self) -> Calls: ...
+
+@final
+class Builder:
+    def __new__(cls, calls: Calls, document: int, root: int, is_lenient: bool, /) -> Builder: ...
+    def start(self, name: str, attributes: List[Any], /) -> None: ...
+    def end(self, /, *name: str) -> None: ...
+    def text(self, data: str, /) -> None: ...
+    def comment(self, data: str, /) -> None: ...
+    def instruction(self, target: str, data: str, /) -> None: ...
+    def doctype(self, name: str, system_id: Optional[str], public_id: Optional[str], has_internal: int, /) -> None: ...
+    def end_doctype(self, /) -> None: ...
+    def finish(self, /) -> None: ...
+    def abandon(self, /) -> None: ...
+    def add_lxml(self, element: Any, qualified: Any, /) -> None: ...
+
+@final
+class Walk(Iterator[Node]):
+    def __iter__(self) -> Walk: ...
+    def __next__(self) -> Node: ...
+
+def settle(classes: Dict[str, Any], /) -> None: ...
+def member(name: str, doc: str, /) -> Any: ...
+def attribute(name: str, doc: str, /) -> Any: ...
+
+@final
+class Calls:
+    @property
+    def is_open(self) -> bool: ...
+    def keep(self, session: Session, kind: Type[_K], number: int, /) -> _K: ...
+    def make(self, session: Session, kind: Type[_K], number: int, /) -> _K: ...
+    def let_all_go(self, /) -> None: ...
+    def note(self, nodes: Sequence[int], /) -> None: ...
+    def node_object(self, session: Session, number: int, /) -> Node: ...
+    def read_name(self, node: int, part: int, /) -> str: ...
+    def read_line(self, line: bytes, /) -> Tuple[int, Optional[bytes]]: ...
+    def read_printed(self, node: int, /) -> bytes: ...
+    def read_tree(self, session: Session, node: int, most: Optional[int], /) -> List[Row]: ...
+    def read_orders(self, node: int, to: Dict[int, List[str]], /) -> None: ...
+    def read_data_of(self, nodes: Sequence[Node], /) -> List[str]: ...
+    def read_text_content_of(self, nodes: Sequence[Node], /) -> List[Optional[str]]: ...
+    def read_attribute_of(self, nodes: Sequence[Node], name: str, /) -> List[Optional[str]]: ...
+    def read_attributes_of(self, nodes: Sequence[Node], /) -> List[Dict[str, str]]: ...
+    def read_markup(
+        self,
+        node: int,
+        text: Tuple[Optional[bytes], ...],
+        value: Tuple[Optional[bytes], ...],
+        void: Tuple[bytes, ...],
+        plain: Tuple[bytes, ...],
+        has_empty_tags: bool,
+        is_plain: bool,
+        /,
+    ) -> Tuple[List[Any], Set[str], bool]: ...
+    def read_records(self, session: Session, observer: int, /) -> List[MutationRecord]: ...
+    def tell(
+        self, session: Session, told: List[Tuple[MutationObserver, List[MutationRecord]]], left: List[Tuple[MutationObserver, List[MutationRecord]]], /
+    ) -> Optional[BaseException]: ...
+"""
+
+
+def core(found):
+    """The types of the extension module."""
+    exports = [it for module in found for it in module.exports]
+    written = {part.type for it in exports for part in outs(it)} - set(LENT)
+    text = f"# The types of the extension module. {MADE}\n" + STUB
+    text += "".join(struct_out(it) for module in found for it in module.structs if it.name in written) + BY_HAND
+    calls = [it for it in exports if is_plain(it)]
+    return text + "".join(map(method, calls)) + "".join(reading(it) for it in calls if it.name[3:] in READS)
 
 
 def commands():
@@ -204,7 +232,7 @@ def main():
     parser.add_argument("--sources", default=SOURCES, metavar="FOLDER", help="the folder of the exports (crates/dom_c/src)")
     words = parser.parse_args()
     found = modules(words.sources)
-    made = {"_signatures.py": signatures(found), "_by_ctypes.py": calls(found), "_commands.py": commands()}
+    made = {"_signatures.py": signatures(found), "_core.pyi": core(found), "_commands.py": commands()}
     other = []
     for name, text in made.items():
         path = os.path.join(PACKAGE, name)

@@ -3,6 +3,7 @@
 
 - src/ffi.rs says what the exports say;
 - all tests and doc tests, the example, the documentation without a warning, and clippy;
+- all tests but those of comments once more by Debian's Rust, the oldest that the crate is for;
 - the feature html5ever in tests/parsing, with the crates of Debian.
 The library for C is in bindings/c/out, or in the folder that HUCKLEPORT_LIB_DIR names.
 """
@@ -25,6 +26,9 @@ STEPS = (
     ("the documentation", ["doc", "--quiet", "--no-deps"]),
     ("clippy", ["clippy", "--quiet", "--all-targets", "--", "-D", "warnings"]),
 )
+# The oldest Rust that the crate is for, as Debian 12 has it beside another one.
+OLDEST = "/usr/bin/cargo"
+OLDEST_STEPS = (("the tests by Debian's Rust", ["test", "--quiet", "--lib", "--tests", "--target-dir", "target/oldest"]),)
 PARSING_STEPS = (
     ("parsing", ["test", "--quiet"]),
     ("the documentation with parsing", ["doc", "--quiet", "--no-deps", "--package", "huckleport"]),
@@ -36,17 +40,27 @@ def has(part):
     return subprocess.run(["cargo", part, "--version"], stdout=subprocess.DEVNULL, stderr=subprocess.DEVNULL).returncode == 0
 
 
-def run(steps, folder, environment, *words):
+def run(steps, folder, environment, *words, cargo="cargo"):
     """Runs steps of cargo in a folder. Answers whether each passed."""
     failed = False
     for what, (name, *rest) in steps:
         if name == "clippy" and not has("clippy"):
             print(f"left out: {what}, since there is no clippy")
             continue
-        ran = subprocess.run(["cargo", name, "--offline", *words, *rest], cwd=folder, env=environment)
+        ran = subprocess.run([cargo, name, "--offline", *words, *rest], cwd=folder, env=environment)
         print(f"{'FAILED ' if ran.returncode else ''}{what}", flush=True)
         failed = failed or ran.returncode != 0
     return not failed
+
+
+def by_oldest(environment):
+    """Tests by the oldest Rust, where that is there and not the one that ran already; answers whether that passed."""
+    if os.path.realpath(shutil.which("cargo")) == os.path.realpath(OLDEST):
+        return True
+    if not os.path.isfile(OLDEST):
+        print(f"left out: the tests by Debian's Rust, since there is no {OLDEST}")
+        return True
+    return run(OLDEST_STEPS, HERE, {**environment, "RUSTC": "/usr/bin/rustc", "RUSTDOC": "/usr/bin/rustdoc"}, cargo=OLDEST)
 
 
 def mended(folder):
@@ -87,6 +101,7 @@ def main():
     made = os.path.join(os.path.dirname(HERE), "c/out")
     environment = {"HUCKLEPORT_LIB_DIR": made, **os.environ, "RUSTDOCFLAGS": "-D warnings"}
     passed = run(STEPS, HERE, environment) and passed
+    passed = by_oldest(environment) and passed
     passed = parsing(environment) and passed
     return int(not passed)
 

@@ -11,11 +11,11 @@ from judging.drawing import GROUPS, drawn_stream
 from judging.found import cases_of
 from judging.judge import Judge, same
 from judging.junit import junit_of
-from judging.known import KNOWN, read_known
+from judging.known import KNOWN, WHY, entry_of_case, read_known
 from judging.players import BY_NAME, LIBRARY, PROGRAM, NotThere, player_of
 from judging.process import Fault
 from judging.report import line, page_of
-from judging.running import CoreFailed, Limits, Run
+from judging.running import CoreFailed, Limits, Run, looked_at
 from judging.scenes import KINDS, NEEDS, scenes
 from judging.shrink import shrunk
 from judging.streams import play_commands
@@ -35,12 +35,16 @@ def words_of_player(parser):
     parser.add_argument("--wait", dest="seconds", type=float, default=10.0, metavar="SECONDS", help="how long a reply may take (10)")
 
 
+def words_of_known(parser):
+    parser.add_argument("--known", default=KNOWN, metavar="FILE", help="the known differences (referee/known.json)")
+
+
 def words_of_run(parser):
     words_of_player(parser)
     parser.add_argument("--for", dest="time", type=float, metavar="SECONDS", help="ends after so many seconds")
     parser.add_argument("--lines", type=int, metavar="N", help="ends after so many lines")
     parser.add_argument("--new", type=int, metavar="N", help="ends after so many new differences")
-    parser.add_argument("--known", default=KNOWN, metavar="FILE", help="the known differences (referee/known.json)")
+    words_of_known(parser)
     parser.add_argument("--out", default="referee-out", metavar="FOLDER", help="where what is found is kept (referee-out)")
     parser.add_argument("--junit", metavar="FILE", help="writes the run as JUnit XML too")
     parser.add_argument("--quiet", action="store_true", help="tells no progress")
@@ -77,10 +81,11 @@ def parser_of():
     for name, what in (("replay", "plays a file of lines, or a case that was kept, and shows both replies"), ("shrink", "makes a file of lines that differs as short as it gets")):
         part = parts.add_parser(name, help=what, **raw)
         words_of_player(part)
+        words_of_known(part)
         part.add_argument("file", help="lines, one command each, or a kept case")
     report = parts.add_parser("report", help="writes the page of what a run kept", **raw)
     report.add_argument("folder", help="the folder that play or exhaust wrote")
-    report.add_argument("--known", default=KNOWN, metavar="FILE", help="the known differences (referee/known.json)")
+    words_of_known(report)
     report.add_argument("-o", dest="to", metavar="FILE", help="the page (report.html in the folder)")
     players = parts.add_parser("players", help="tells which players are here, and what their adapters do themselves", **raw)
     words_of_player(players)
@@ -136,12 +141,21 @@ def run_of(given, streams):
 
 def commands_of(path):
     """The commands of a file of lines, or of a case."""
+    kept = case_in(path)
+    if kept:
+        return kept["commands"]
     with open(path, encoding="utf-8") as file:
-        text = file.read()
-    try:
-        return json.loads(text)["commands"]
-    except (ValueError, TypeError, KeyError):
-        return [json.loads(it) for it in text.splitlines() if it.strip()]
+        return [json.loads(it) for it in file if it.strip()]
+
+
+def case_in(path):
+    """The case that a file keeps; none where it has lines."""
+    with open(path, encoding="utf-8") as file:
+        try:
+            found = json.load(file)
+        except ValueError:
+            return None
+    return found if isinstance(found, dict) and "commands" in found else None
 
 
 def replay(given):
@@ -151,11 +165,14 @@ def replay(given):
     told = dict(player.replies(turns))
     player.end()
     differs = False
+    kept = case_in(given.file)
     for at, turn in enumerate(turns):
         other = told.get(at, {"skip": "not given to this player"})
         here = "skip" not in other and not same(turn.reply, other)
         differs = differs or here
         print(line(turn.command), line(turn.reply), *(["BUT", line(other)] if here or "skip" in other else []), sep="\t")
+    if kept and not differs:
+        print(f"{line(kept['told'])} was told to the last line when the case was kept, and did not come again", file=sys.stderr)
     return DIFFERS if differs else SAME
 
 
@@ -169,11 +186,14 @@ def shrink(given):
             print("the player gives the same replies", file=sys.stderr)
             return SAME
         least = shrunk(judge, found, 60.0)
+        case = looked_at(judge, least)
     finally:
         player.end()
-    for turn in least.difference.turns:
-        print(line(turn.command))
-    print(f"due  {line(least.difference.turns[-1].reply)}\ntold {line(least.difference.told)}", file=sys.stderr)
+    for command in case.commands:
+        print(line(command))
+    entry = entry_of_case(read_known(given.known), player.name, judge, case)
+    told = f"known: {entry['name']} ({WHY[entry['why']]})" if entry else "new"
+    print(f"due  {line(case.replies[-1])}\ntold {line(case.told)}\n{told if case.again else 'it did not come again when the lines were played anew'}", file=sys.stderr)
     return DIFFERS
 
 

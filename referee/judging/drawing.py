@@ -68,7 +68,7 @@ class Scene:
     """A world while a stream is drawn: what it has of each kind, and the turns so far."""
 
     def __init__(self, core, chance, player):
-        self.core, self.chance, self.serves, self.documents = core, chance, player.serves, player.documents
+        self.core, self.chance, self.serves, self.documents, self.parts_at = core, chance, player.serves, player.documents, player.parts_at
         self.kinds = {0: DOCUMENT} if player.documents else {}
         self.objects = {"range": [], "iterator": [], "walker": [], "observer": [], "static": []}
         self.turns, self.gone = [], []
@@ -82,7 +82,7 @@ class Scene:
     def say(self, name, *values, keeps=1.0):
         """Plays a command, and keeps it where it was not refused, or by chance. Returns the answer."""
         turn = self.core.play([name, *values])
-        if "ok" not in turn.reply and self.chance.random() >= keeps:
+        if "ok" not in turn.reply and (self.parts_at(turn) or self.chance.random() >= keeps):
             return None
         self.turns.append(turn)
         if "ok" in turn.reply:

@@ -5,11 +5,14 @@ from dataclasses import asdict, dataclass, field
 
 from judging.core import Turn
 from judging.judge import Difference, key_of
+from judging.moments import place_of
 
 
 @dataclass
 class Case:
-    """A shrunk difference. `count` is how many streams came to it, `known` the name of the entry that it fits."""
+    """A shrunk difference. `count` is how many streams came to it, `known` the name of the entry that it is, `place` that of the command that it
+    comes from, `moments` what stands behind each command, and `again` whether it came again when its stream was played anew.
+    """
 
     player: str
     version: str
@@ -20,7 +23,9 @@ class Case:
     group: str
     seed: str
     places: list = field(default_factory=list)
-    states: dict = field(default_factory=dict)
+    moments: list = field(default_factory=list)
+    place: int = 0
+    again: bool = True
     count: int = 1
     known: str | None = None
 
@@ -37,11 +42,12 @@ def name_of(commands):
     return json.dumps(list(commands))
 
 
-def case_of(difference, player, group, seed, entry, states):
+def case_of(difference, player, group, seed, moments, again):
     turns = difference.turns
     parts = {"commands": [it.command for it in turns], "replies": [it.reply for it in turns], "places": [it.places for it in turns]}
-    key = key_of(difference)._asdict()
-    return Case(player.name, player.version, told=difference.told, key=key, group=group, seed=seed, known=entry and entry["name"], states=states, **parts)
+    place = place_of(moments, len(turns) - 1)
+    key = key_of(difference)._replace(cause=turns[place].command[0])._asdict()
+    return Case(player.name, player.version, told=difference.told, key=key, group=group, seed=seed, moments=moments, place=place, again=again, **parts)
 
 
 class Found:

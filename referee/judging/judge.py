@@ -7,7 +7,7 @@ from judging.commands import COMMANDS, TELLS_ITSELF
 # The turns up to the one that differs, and what the player replied to that one.
 Difference = namedtuple("Difference", "turns told")
 
-# A kind of difference: the last command that changed something, the one whose reply differs, and the forms of both replies.
+# A kind of difference as a stream is shrunk: the last command that changed something, the one whose reply differs, and the forms of both replies.
 Key = namedtuple("Key", "cause shows due told")
 
 

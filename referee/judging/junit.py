@@ -16,7 +16,7 @@ def junit_of(cases, told):
         if case.known:
             xml.SubElement(test, "skipped", message=f"known: {case.known}")
         else:
-            xml.SubElement(test, "failure", message="a new difference").text = shown
+            xml.SubElement(test, "failure", message="a new difference" + ("" if case.again else ", which did not come again")).text = shown
     whole = xml.Element("testsuites")
     whole.append(suite)
     return xml.tostring(whole, encoding="unicode", xml_declaration=True) + "\n"

@@ -14,6 +14,8 @@ import sys
 import tempfile
 import threading
 
+from judging.process import Hung
+
 HERE = os.path.dirname(os.path.dirname(os.path.abspath(__file__)))
 PLAYERS = os.path.join(HERE, "players")
 STARTS = 60
@@ -108,9 +110,8 @@ class Page:
             self.version = version_of(self.path)
         try:
             self.open()
-        except Silent:
-            self.end()
-            raise NotThere(f"{browser or 'no browser'} opened the page within {STARTS} seconds") from None
+        except Hung as fault:
+            raise NotThere(fault.said) from None
 
     def open(self):
         self.server = Server()
@@ -122,25 +123,47 @@ class Page:
             self.process = subprocess.Popen([self.path, *words, address], env={**os.environ, "HOME": self.profile}, **settings)
         else:
             print(f"open {address} in a browser of this machine", file=sys.stderr, flush=True)
-        told = self.server.ask(['{"hello":{}}'], STARTS if self.browser else 3600)
+        try:
+            told = self.server.ask(['{"hello":{}}'], STARTS if self.browser else 3600)
+        except Silent:
+            self.end()
+            raise Hung(f"{self.browser or 'no browser'} did not open the page within {STARTS} seconds") from None
         self.player.introduce({**told[0]["player"], "name": self.browser or "page", "version": self.version})
 
     name = property(lambda self: self.player.name)
     serves = property(lambda self: self.player.serves)
     itself = property(lambda self: self.player.itself)
+    parts_at = property(lambda self: self.player.parts_at)
     documents = True
 
     def replies(self, turns):
         if self.server is None:
             self.open()
         given = self.player.lines(turns)
+        lines = [json.dumps(it) for _, it in given]
         try:
-            told = self.server.ask([json.dumps(it) for _, it in given], self.seconds)
+            told = self.server.ask(lines, self.seconds)
         except Silent:
-            gone = self.process is not None and self.process.poll() is not None
             self.end()
-            return [(len(turns) - 1, {"fault": "died" if gone else "hung", "said": f"the page gave no replies within {self.seconds:g} seconds"})]
-        return [(at, reply) for (at, _), reply in zip(given, told) if at is not None]
+            told = self.one_by_one(lines)
+        found = [(at, reply) for (at, _), reply in zip(given, told)]
+        if told and "fault" in told[-1]:
+            found[-1] = self.player.fault_at(given, len(told) - 1, told[-1])
+        return [it for it in found if it[0] is not None]
+
+    def one_by_one(self, lines):
+        """The replies to a stream that did not come back, each line given by itself in a new page, so that the one at which it ends is known."""
+        self.open()
+        told = []
+        for line in lines:
+            try:
+                told += self.server.ask([line], self.seconds)
+            except Silent:
+                gone = self.process is not None and self.process.poll() is not None
+                self.end()
+                return [*told, {"fault": "died" if gone else "hung", "said": f"the page gave no reply within {self.seconds:g} seconds"}]
+        print(f"{self.name} gave no replies within {self.seconds:g} seconds, and did when the stream was played anew", file=sys.stderr, flush=True)
+        return told
 
     def end(self):
         if self.process:

@@ -16,6 +16,8 @@ MODULES = "/usr/share/nodejs"
 LIBRARY = os.path.join(ROOT, "bindings/c/out")
 PROGRAM = os.path.join(ROOT, "crates/domserve/out/domserve")
 
+# Refusals of surroundContents that stand ahead of its first step. Behind any other the standard has done what comes before it, and this profile nothing.
+AHEAD_OF_STEPS = {"InvalidStateError", "InvalidNodeTypeError"}
 # Refusals that an adapter to the standard's interfaces can't give: of a line's form, of numbers, and of this profile's own commands.
 NOT_OF_THE_STANDARD = {"line-too-long", "bad-json", "bad-command", "bad-arguments", "no-such-object", "limit", "in-use", "out-of-memory"}
 
@@ -36,9 +38,11 @@ def is_for_adapters(turn):
 
 
 class Player:
-    """What all players have. `serves` are the commands that it has, or None for all; `itself` is what its adapter does by itself."""
+    """What all players have. `serves` are the commands that it has, or None for all; `itself` is what its adapter does by itself, `ours` whether it is a
+    library of this project, and `seconds` how long a reply may take.
+    """
 
-    name, version, serves, itself = "player", "", None, []
+    name, version, serves, itself, ours, seconds = "player", "", None, [], False, 10.0
     # What the words of the command line call it.
     called = None
     # Whether it numbers by place what a command makes inside, and whether a Document of its has children.
@@ -59,36 +63,52 @@ class Player:
             found.append((at, turn.command))
             if self.numbers and turn.places:
                 found.append((None, {"numbers": turn.places, "next": turn.next}))
+            if self.parts_at(turn):
+                break
         return found
+
+    def parts_at(self, turn):
+        """Whether the standard has done a part of a command that is refused as a whole here: what comes behind it is played on two different worlds."""
+        refused = turn.command[0] == "surroundContents" and turn.reply.get("error", "InvalidStateError") not in AHEAD_OF_STEPS
+        return refused and self.numbers and not self.ours
+
+    def fault_at(self, given, count, fault):
+        """A fault in the place of a reply, of which there are `count` already: the place of its turn, and what is told."""
+        places = [at for at, _ in given if at is not None]
+        return next((at for at, _ in given[count:] if at is not None), places[-1] if places else 0), fault
 
 
 class Spoken(Player):
     """A process that says hello and begins a world where it is told to."""
 
-    def __init__(self, words, seconds, environment=None, name=None):
+    def __init__(self, words, seconds, environment=None, name=None, ours=False):
         self.words, self.seconds, self.environment = words, seconds, environment
-        self.process, self.called = None, name
+        self.process, self.called, self.ours = None, name, ours
         self.open()
 
     def open(self):
         try:
             self.process = Lines(self.words, self.seconds, self.environment)
-            self.introduce(read_reply(self.process.ask(line_of({"hello": {}}), STARTS))["player"])
-        except (OSError, Fault, KeyError) as fault:
+            told = read_reply(self.process.ask(line_of({"hello": {}}), STARTS))
+        except (OSError, Fault) as fault:
             self.end()
             raise NotThere(f"{shlex.join(self.words)} does not say hello: {fault}") from None
+        if "player" not in told:
+            self.end()
+            raise NotThere(f"{shlex.join(self.words)} does not say hello: {told.get('message', line_of(told).decode())}")
+        self.introduce(told["player"])
 
     def replies(self, turns):
         if self.process is None:
             self.open()
-        given = self.lines(turns)
-        found = []
+        given, found = self.lines(turns), []
+        self.process.seconds = self.seconds
         try:
             for (at, _), line in zip(given, self.process.ask_all(line_of(it) for _, it in given)):
                 found.append((at, read_reply(line) if at is None else told_by(line, turns[at])))
         except Fault as fault:
             self.end()
-            found.append((next((at for at, _ in given[len(found) :] if at is not None), len(turns) - 1), {"fault": fault.kind, "said": fault.said}))
+            found.append(self.fault_at(given, len(found), fault.told()))
         return [it for it in found if it[0] is not None]
 
     def end(self):
@@ -111,7 +131,7 @@ class Program(Player):
             for line in process.ask_all(line_of(it.command) for it in turns):
                 found.append((len(found), told_by(line, turns[len(found)])))
         except Fault as fault:
-            found.append((len(found), {"fault": fault.kind, "said": fault.said}))
+            found.append((len(found), fault.told()))
         finally:
             process.end()
         return found
@@ -140,7 +160,9 @@ def of_words(words, seconds, name=None):
     return Spoken(words, seconds, name=name) if says_hello(words, seconds) else Program(words, seconds, name)
 
 
-def of_node(module, name=None):
+def of_node(module, name=None, ours=False):
+    """A module of node, which is looked for as node does, by NODE_PATH, and where Debian has them."""
+
     def made(given):
         if not shutil.which("node"):
             raise NotThere("there is no node")
@@ -148,7 +170,7 @@ def of_node(module, name=None):
             raise NotThere(f"there is no {module}")
         paths = [it for it in (os.environ.get("NODE_PATH"), MODULES) if it]
         environment = {**os.environ, "NODE_PATH": os.pathsep.join(paths)}
-        return Spoken(["node", os.path.join(PLAYERS, "node.js"), module, name or module], given.seconds, environment)
+        return Spoken(["node", os.path.join(PLAYERS, "node.js"), module, name or module], given.seconds, environment, ours=ours)
 
     return made
 
@@ -198,6 +220,8 @@ BY_NAME = {
     "jsdom": of_node("jsdom"),
     "happy-dom": of_node("happy-dom"),
     "linkedom": of_node("linkedom"),
+    "domino": of_node("domino"),
+    "xmldom": of_node("@xmldom/xmldom", "xmldom"),
     "chromium": of_page("chromium"),
     "firefox": of_page("firefox"),
     "page": of_page(None),
@@ -209,7 +233,7 @@ BY_NAME = {
     "c-calls": of_python("by_c_calls.py"),
     "python": of_python("by_package.py"),
     "rust": of_rust,
-    "javascript": of_node(os.path.join(ROOT, "bindings/javascript/lib/index.js"), "javascript"),
+    "javascript": of_node(os.path.join(ROOT, "bindings/javascript/lib/index.js"), "javascript", ours=True),
 }
 
 

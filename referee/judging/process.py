@@ -16,6 +16,10 @@ class Fault(Exception):
         super().__init__(said)
         self.said = said
 
+    def told(self):
+        """What stands in the place of a reply."""
+        return {"fault": self.kind, "said": self.said}
+
 
 class Died(Fault):
     kind = "died"

@@ -4,6 +4,7 @@ from html import escape
 
 from judging.judge import Key
 from judging.known import WHY
+from judging.moments import states_of
 from judging.picture import picture_of
 from judging.sections import section_of
 from judging.snippet import snippet_of
@@ -38,15 +39,18 @@ def rows_of(case):
 
 def pictures_of(case):
     captions = {"before": "before the command", "due": "after it, as it is due", "told": "after it, as the player tells it"}
-    found = [f"<figure>{picture_of(case.states[name])}<figcaption>{words}</figcaption></figure>" for name, words in captions.items() if case.states.get(name)]
+    states = states_of(case.moments, case.place)
+    found = [f"<figure>{picture_of(states[name])}<figcaption>{words}</figcaption></figure>" for name, words in captions.items() if any(states[name].values())]
     return "<div>" + "".join(found) + "</div>"
 
 
 def reason_of(case, known):
     entry = known.get(case.known)
+    if not case.again:
+        return '<p class="new">It did not come again when the same stream was played anew.</p>'
     if entry is None:
         return '<p class="new">New: no entry of the known differences fits.</p>'
-    return f'<p class="known">Known, {WHY[entry["why"]]}: {escape(entry["reason"])}</p>'
+    return f'<p class="known">Known ({WHY[entry["why"]]}). {escape(entry["reason"])}</p>'
 
 
 def section(case):

@@ -7,10 +7,10 @@ from dataclasses import dataclass
 
 from judging.found import Found, case_of
 from judging.judge import Judge, key_of
-from judging.known import entry_of
+from judging.known import entry_of_case
+from judging.moments import moments_of
 from judging.process import Fault
 from judging.shrink import shrunk
-from judging.states import states_of
 
 TELLS_EACH = 2.0
 # Of differences whose first look is the same, so many are shrunk; of the rest each whose count is a power of two.
@@ -43,6 +43,13 @@ class Stop:
         if self.asked:
             raise KeyboardInterrupt
         self.asked = True
+
+
+def looked_at(judge, least, group="", seed=""):
+    """The case that a shrunk difference is, with what stands behind each of its commands; a line that never comes back is not played once more."""
+    turns = least.difference.turns[: len(least.difference.turns) - ("fault" in least.difference.told)]
+    moments = moments_of(judge, [it.command for it in turns])
+    return case_of(least.difference, judge.player, group, seed, moments, least.again)
 
 
 class Run:
@@ -118,15 +125,16 @@ class Run:
         if count > SHRUNK and count & (count - 1):
             return
         apart = Judge(self.judge.cores, self.player)
-        least = shrunk(apart, difference).difference
-        if self.found.again(least):
+        least = shrunk(apart, difference)
+        if self.found.again(least.difference):
             return
-        states = states_of(apart, least)
-        entry = entry_of(self.known, self.player.name, least, apart, states)
-        case = case_of(least, self.player, group, seed, entry, states)
+        case = looked_at(apart, least, group, seed)
+        entry = entry_of_case(self.known, self.player.name, apart, case) if case.again else None
+        case.known = entry and entry["name"]
         self.found.keep(case)
         if not self.quiet and not entry:
-            print(f"new: {case.key['cause']} shown by {case.key['shows']}, {len(case.commands)} commands", file=sys.stderr, flush=True)
+            once = "" if case.again else ", which did not come again"
+            print(f"new: {case.key['cause']} shown by {case.key['shows']}, {len(case.commands)} commands{once}", file=sys.stderr, flush=True)
 
     def summary(self):
         judge, player = self.judge, self.player

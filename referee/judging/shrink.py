@@ -1,13 +1,17 @@
 """Makes a stream that shows a difference as short as it gets, with the fewest nodes and the plainest words."""
 import time
 from collections import namedtuple
+from contextlib import contextmanager
 
 from judging.commands import COMMANDS
 from judging.judge import key_of
 from judging.streams import Made, play_commands, play_steps, steps_of
 
-# How long one stream may be worked on.
+# How long one stream may be worked on, and how many replies that never come it has time for besides. On a busy machine so many streams are tried all
+# the same, where none of them hangs.
 SECONDS = 8.0
+HANGS = 15
+TRIES = 200
 
 MAKERS = {"createElement", "createText", "createComment", "createPI", "createDoctype", "createFragment", "createRange", "createObserver", "newDocument"}
 # A plainer command for one that is not needed as it is.
@@ -28,7 +32,8 @@ PLAINER = {
     "selectNode": ("selectNodeContents", lambda values: values),
 }
 
-Shrunk = namedtuple("Shrunk", "difference key tries")
+# The shortest difference that was found, how many streams were tried, and whether the first one came again when it was played anew.
+Shrunk = namedtuple("Shrunk", "difference tries again")
 
 
 class Shrinker:
@@ -40,7 +45,7 @@ class Shrinker:
         self.tries = 0
 
     def out_of_time(self):
-        return time.monotonic() > self.limit
+        return time.monotonic() > self.limit and (self.tries >= TRIES or self.key.told == "hung")
 
     def shows(self, steps, any_cause=False):
         """Whether the steps still show the difference; those are kept then. With any cause, what it comes from may be another command."""
@@ -54,6 +59,11 @@ class Shrinker:
             return False
         self.steps, self.best, self.key = played[: len(found.turns)], found, key_of(found)
         return True
+
+    def comes_again(self):
+        """Whether the whole stream shows the same reply once more."""
+        self.limit += self.judge.player.seconds
+        return self.shows(self.steps)
 
     def settle(self):
         """Leaves out the command that the difference seems to come from, as long as it shows without it too."""
@@ -153,9 +163,28 @@ class Shrinker:
             self.try_each(self.simpler_values)
         self.makers_first()
         self.swap()
-        return Shrunk(self.best, self.key, self.tries)
+        return self.best
+
+
+@contextmanager
+def hurried(player, hangs):
+    """While streams are tried that may never come back, a reply has a fifth of its time. Yields that time; none where nothing hangs."""
+    seconds = player.seconds
+    player.seconds = max(min(seconds, 1.0), seconds / 5) if hangs else seconds
+    try:
+        yield player.seconds if hangs else 0.0
+    finally:
+        player.seconds = seconds
 
 
 def shrunk(judge, difference, seconds=SECONDS):
-    """The shortest stream that was found to show the same kind of difference."""
-    return Shrinker(judge, difference, seconds).work()
+    """The shortest stream that was found to show the same kind of difference; the stream as it is where that does not come again."""
+    first = Shrinker(judge, difference, seconds)
+    if not first.comes_again():
+        return Shrunk(difference, first.tries, False)
+    with hurried(judge.player, difference.told.get("fault") == "hung") as each:
+        shrinker = Shrinker(judge, first.best, seconds + HANGS * each)
+        least = shrinker.work()
+    tries = first.tries + shrinker.tries
+    sure = not each or key_of(judge.difference(least.turns) or difference) == key_of(least)
+    return Shrunk(least if sure else first.best, tries, True)

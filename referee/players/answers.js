@@ -5,28 +5,95 @@
 const itself = [
   "reads and writes JSON, and tells a text that is not well-formed by its units",
   "numbers what a command makes: the node that a call answers takes the next number, and those made with it take the core's, place by place",
-  "answers root by getRootNode, index and length by counting childNodes, and tree by a walk over firstChild and nextSibling, with attributes by getAttributeNames",
+  "answers index and length by counting childNodes, and tree by a walk over firstChild and nextSibling, with attributes by getAttributeNames, or by attributes where there is none",
   "makes a function of a filter's list, which asks nodeName alone",
   "answers notify by letting the callbacks run, and has nothing for pending, discard, releaseRange and staticRange",
   "has no answer where comparePosition is asked of two trees, since the standard leaves the order open",
+  "tells a DOMException by the standard's name for its code, where its name is another",
 ];
 
-// The interface and the member that a command needs.
-const needs = {
-  createDoctype: ["DOMImplementation", "createDocumentType"], replaceChildren: ["Element", "replaceChildren"], normalize: ["Node", "normalize"],
-  adoptNode: ["Document", "adoptNode"], importNode: ["Document", "importNode"], isEqual: ["Node", "isEqualNode"], root: ["Node", "getRootNode"],
-  comparePosition: ["Node", "compareDocumentPosition"], substringData: ["CharacterData", "substringData"], splitText: ["Text", "splitText"],
-  toggleAttribute: ["Element", "toggleAttribute"], createRange: ["Document", "createRange"], surroundContents: ["Range", "surroundContents"],
-  createStaticRange: ["StaticRange", "constructor"], createIterator: ["Document", "createNodeIterator"], createWalker: ["Document", "createTreeWalker"],
-  createObserver: ["MutationObserver", "takeRecords"], comparePoint: ["Range", "comparePoint"], isPointInRange: ["Range", "isPointInRange"],
-  intersectsNode: ["Range", "intersectsNode"], createPI: ["Document", "createProcessingInstruction"], createFragment: ["Document", "createDocumentFragment"],
+// The objects of which a command needs a member, and that member where it has another name than the command.
+const members = {
+  document: {
+    createElement: 0, createText: "createTextNode", createComment: 0, createPI: "createProcessingInstruction", createFragment: "createDocumentFragment",
+    adoptNode: 0, importNode: 0, createRange: 0, createIterator: "createNodeIterator", createWalker: "createTreeWalker",
+  },
+  implementation: { newDocument: "createDocument", createDoctype: "createDocumentType" },
+  element: {
+    insertBefore: 0, appendChild: 0, replaceChild: 0, removeChild: 0, remove: 0, replaceChildren: 0, cloneNode: 0, normalize: 0, contains: 0,
+    isEqual: "isEqualNode", comparePosition: "compareDocumentPosition", root: "getRootNode", textContent: 0, setTextContent: "textContent",
+    setAttribute: 0, getAttribute: 0, hasAttribute: 0, removeAttribute: 0, toggleAttribute: 0, attributeNames: "getAttributeNames",
+    node: "nodeType", children: "childNodes", index: "childNodes", length: "childNodes", tree: "firstChild",
+  },
+  text: {
+    data: 0, setData: "data", appendData: 0, insertData: 0, deleteData: 0, replaceData: 0, substringData: 0, splitText: 0,
+  },
+  range: {
+    cloneRange: 0, range: "startContainer", setStart: 0, setEnd: 0, setStartBefore: 0, setStartAfter: 0, setEndBefore: 0, setEndAfter: 0, collapse: 0,
+    selectNode: 0, selectNodeContents: 0, compareBoundaryPoints: 0, comparePoint: 0, isPointInRange: 0, intersectsNode: 0,
+    commonAncestor: "commonAncestorContainer", rangeText: "toString", deleteContents: 0, extractContents: 0, cloneContents: 0, insertNode: 0,
+    surroundContents: 0,
+  },
+  iterator: { iterator: "referenceNode", nextNode: 0, previousNode: 0 },
+  walker: { walker: "currentNode", setCurrent: "currentNode", walk: "nextNode" },
+  observer: { observe: 0, disconnect: 0, takeRecords: 0 },
+  constructors: { createObserver: "MutationObserver", createStaticRange: "StaticRange", notify: "MutationObserver" },
 };
 
+// The standard's names of exceptions, by their codes.
+const names = {
+  1: "IndexSizeError", 3: "HierarchyRequestError", 4: "WrongDocumentError", 5: "InvalidCharacterError", 7: "NoModificationAllowedError",
+  8: "NotFoundError", 9: "NotSupportedError", 10: "InUseAttributeError", 11: "InvalidStateError", 12: "SyntaxError", 14: "NamespaceError",
+  15: "InvalidAccessError", 24: "InvalidNodeTypeError",
+};
+
+// Past so many nodes a tree is taken for one that has itself below itself.
+const MOST = 2000;
+
 class Skipped extends Error {}
+
+class Endless extends Error {
+  name = "a tree without an end";
+}
+
+// What a call makes; nothing where it is refused or not there.
+function tried(make) {
+  try {
+    return make() ?? undefined;
+  } catch {
+    return undefined;
+  }
+}
+
+// One object of each kind that `members` names, by a window; undefined where it has none.
+function samples(window) {
+  const document = tried(() => window.document.implementation.createDocument(null, null));
+  const element = tried(() => document.createElement("a"));
+  return {
+    document, element, implementation: document?.implementation, text: tried(() => document.createTextNode("")),
+    range: tried(() => document.createRange()), iterator: tried(() => document.createNodeIterator(element, 1, null)),
+    walker: tried(() => document.createTreeWalker(element, 1, null)), observer: tried(() => new window.MutationObserver(() => {})),
+    constructors: Object.fromEntries(["MutationObserver", "StaticRange"].filter((it) => typeof window[it] === "function").map((it) => [it, 1])),
+  };
+}
+
+// The commands that a window serves: each whose member is there.
+function served(window) {
+  const here = samples(window);
+  const has = (kind) => ([command, member]) => here[kind] && (member || command) in here[kind];
+  return Object.entries(members).flatMap(([kind, wanted]) => Object.entries(wanted).filter(has(kind)).map(([command]) => command));
+}
+
+// Calls a method of an object; where there is none, the command is not served there.
+function call(object, name, ...given) {
+  if (typeof object[name] !== "function") throw new Skipped(`there is no ${name} here`);
+  return object[name](...given);
+}
 
 // Returns what answers commands by the interfaces of the windows that `open` gives. A window serves some hundreds of worlds.
 function answering(open, named) {
   let window = open();
+  const serving = new Set(served(window));
   let worlds = 0;
   let nodes, numbers, ranges, iterators, walkers, observers, told, statics;
 
@@ -58,9 +125,11 @@ function answering(open, named) {
     return [it.type, numberOf(it.target), numbersOf(it.addedNodes), numbersOf(it.removedNodes), ...around, it.attributeName, textOut(it.oldValue)];
   }
 
+  const attributeNames = (it) => (it.getAttributeNames ? it.getAttributeNames() : Array.from(it.attributes, (one) => one.name));
+
   function row(depth, node) {
     const found = [depth, numberOf(node), node.nodeType, node.nodeName];
-    if (node.nodeType === 1) found.push(node.getAttributeNames().map((name) => [name, textOut(node.getAttribute(name))]));
+    if (node.nodeType === 1) found.push(attributeNames(node).map((name) => [name, textOut(node.getAttribute(name))]));
     if (node.nodeType === 10) found.push(node.publicId, node.systemId);
     if ([3, 7, 8].includes(node.nodeType)) found.push(textOut(node.data));
     return found;
@@ -71,9 +140,9 @@ function answering(open, named) {
     const waiting = [[0, top]];
     while (waiting.length) {
       const [depth, node] = waiting.pop();
-      found.push(row(depth, node));
+      if (found.push(row(depth, node)) > MOST) throw new Endless();
       const below = [];
-      for (let child = node.firstChild; child; child = child.nextSibling) below.push([depth + 1, child]);
+      for (let child = node.firstChild; child && below.length < MOST; child = child.nextSibling) below.push([depth + 1, child]);
       waiting.push(...below.reverse());
     }
     return found;
@@ -86,7 +155,7 @@ function answering(open, named) {
   }
 
   function position(node, other) {
-    const found = N(node).compareDocumentPosition(N(other));
+    const found = call(N(node), "compareDocumentPosition", N(other));
     if (found & 1) throw new Skipped("the standard leaves the order of trees open");
     return found;
   }
@@ -111,48 +180,48 @@ function answering(open, named) {
 
   const answers = {
     newDocument: () => made(window.document.implementation.createDocument(null, null)),
-    createElement: (document, name) => made(N(document).createElement(name)),
-    createText: (document, text) => made(N(document).createTextNode(textIn(text))),
-    createComment: (document, text) => made(N(document).createComment(textIn(text))),
-    createPI: (document, target, text) => made(N(document).createProcessingInstruction(target, textIn(text))),
-    createDoctype: (document, name, publicId, systemId) => made(N(document).implementation.createDocumentType(name, publicId, systemId)),
-    createFragment: (document) => made(N(document).createDocumentFragment()),
-    insertBefore: (parent, node, child) => numberOf(N(parent).insertBefore(N(node), maybe(child))),
-    appendChild: (parent, node) => numberOf(N(parent).appendChild(N(node))),
-    adoptNode: (document, node) => numberOf(N(document).adoptNode(N(node))),
-    replaceChild: (parent, node, child) => numberOf(N(parent).replaceChild(N(node), N(child))),
-    removeChild: (parent, child) => numberOf(N(parent).removeChild(N(child))),
-    remove: (node) => void N(node).remove(),
-    replaceChildren: (parent, node) => void N(parent).replaceChildren(...(node === null ? [] : [N(node)])),
-    importNode: (document, node, deep) => made(N(document).importNode(N(node), deep)),
-    cloneNode: (node, deep) => made(N(node).cloneNode(deep)),
-    normalize: (node) => void N(node).normalize(),
+    createElement: (document, name) => made(call(N(document), "createElement", name)),
+    createText: (document, text) => made(call(N(document), "createTextNode", textIn(text))),
+    createComment: (document, text) => made(call(N(document), "createComment", textIn(text))),
+    createPI: (document, target, text) => made(call(N(document), "createProcessingInstruction", target, textIn(text))),
+    createDoctype: (document, name, publicId, systemId) => made(call(N(document).implementation, "createDocumentType", name, publicId, systemId)),
+    createFragment: (document) => made(call(N(document), "createDocumentFragment")),
+    insertBefore: (parent, node, child) => numberOf(call(N(parent), "insertBefore", N(node), maybe(child))),
+    appendChild: (parent, node) => numberOf(call(N(parent), "appendChild", N(node))),
+    adoptNode: (document, node) => numberOf(call(N(document), "adoptNode", N(node))),
+    replaceChild: (parent, node, child) => numberOf(call(N(parent), "replaceChild", N(node), N(child))),
+    removeChild: (parent, child) => numberOf(call(N(parent), "removeChild", N(child))),
+    remove: (node) => void call(N(node), "remove"),
+    replaceChildren: (parent, node) => void call(N(parent), "replaceChildren", ...(node === null ? [] : [N(node)])),
+    importNode: (document, node, deep) => made(call(N(document), "importNode", N(node), deep)),
+    cloneNode: (node, deep) => made(call(N(node), "cloneNode", deep)),
+    normalize: (node) => void call(N(node), "normalize"),
     node: (node) => description(N(node)),
     children: (node) => numbersOf(N(node).childNodes),
     index: (node) => indexOf(N(node)),
     length: (node) => lengthOf(N(node)),
-    root: (node) => numberOf(N(node).getRootNode()),
-    contains: (node, other) => N(node).contains(maybe(other)),
-    isEqual: (node, other) => N(node).isEqualNode(maybe(other)),
+    root: (node) => numberOf(call(N(node), "getRootNode")),
+    contains: (node, other) => call(N(node), "contains", maybe(other)),
+    isEqual: (node, other) => call(N(node), "isEqualNode", maybe(other)),
     comparePosition: position,
     textContent: (node) => textOut(N(node).textContent),
     setTextContent: (node, text) => void (N(node).textContent = textIn(text)),
     tree: (node) => rows(N(node)),
     data: (node) => textOut(N(node).data),
     setData: (node, text) => void (N(node).data = textIn(text)),
-    appendData: (node, text) => void N(node).appendData(textIn(text)),
-    insertData: (node, offset, text) => void N(node).insertData(offset, textIn(text)),
-    deleteData: (node, offset, count) => void N(node).deleteData(offset, count),
-    replaceData: (node, offset, count, text) => void N(node).replaceData(offset, count, textIn(text)),
-    substringData: (node, offset, count) => textOut(N(node).substringData(offset, count)),
-    splitText: (node, offset) => made(N(node).splitText(offset)),
-    setAttribute: (element, name, value) => void N(element).setAttribute(name, textIn(value)),
-    getAttribute: (element, name) => textOut(N(element).getAttribute(name)),
-    hasAttribute: (element, name) => N(element).hasAttribute(name),
-    removeAttribute: (element, name) => void N(element).removeAttribute(name),
-    toggleAttribute: (element, name, force) => N(element).toggleAttribute(name, ...(force === null ? [] : [force])),
-    attributeNames: (element) => N(element).getAttributeNames(),
-    createRange: (document) => ranges.push(N(document).createRange()) - 1,
+    appendData: (node, text) => void call(N(node), "appendData", textIn(text)),
+    insertData: (node, offset, text) => void call(N(node), "insertData", offset, textIn(text)),
+    deleteData: (node, offset, count) => void call(N(node), "deleteData", offset, count),
+    replaceData: (node, offset, count, text) => void call(N(node), "replaceData", offset, count, textIn(text)),
+    substringData: (node, offset, count) => textOut(call(N(node), "substringData", offset, count)),
+    splitText: (node, offset) => made(call(N(node), "splitText", offset)),
+    setAttribute: (element, name, value) => void call(N(element), "setAttribute", name, textIn(value)),
+    getAttribute: (element, name) => textOut(call(N(element), "getAttribute", name)),
+    hasAttribute: (element, name) => call(N(element), "hasAttribute", name),
+    removeAttribute: (element, name) => void call(N(element), "removeAttribute", name),
+    toggleAttribute: (element, name, force) => call(N(element), "toggleAttribute", name, ...(force === null ? [] : [force])),
+    attributeNames: (element) => call(N(element), "getAttributeNames"),
+    createRange: (document) => ranges.push(call(N(document), "createRange")) - 1,
     cloneRange: (range) => ranges.push(ranges[range].cloneRange()) - 1,
     range: (range) => endsOf(ranges[range]),
     setStart: (range, node, offset) => void ranges[range].setStart(N(node), offset),
@@ -176,14 +245,14 @@ function answering(open, named) {
     cloneContents: (range) => made(ranges[range].cloneContents()),
     insertNode: (range, node) => void ranges[range].insertNode(N(node)),
     surroundContents: (range, node) => void ranges[range].surroundContents(N(node)),
-    createIterator: (root, show, rules) => iterators.push(N(0).createNodeIterator(N(root), show, filter(rules))) - 1,
-    createWalker: (root, show, rules) => walkers.push(N(0).createTreeWalker(N(root), show, filter(rules))) - 1,
+    createIterator: (root, show, rules) => iterators.push(call(N(0), "createNodeIterator", N(root), show, filter(rules))) - 1,
+    createWalker: (root, show, rules) => walkers.push(call(N(0), "createTreeWalker", N(root), show, filter(rules))) - 1,
     iterator: (it) => [numberOf(iterators[it].root), numberOf(iterators[it].referenceNode), iterators[it].pointerBeforeReferenceNode],
     nextNode: (it) => numberOf(iterators[it].nextNode()),
     previousNode: (it) => numberOf(iterators[it].previousNode()),
     walker: (it) => [numberOf(walkers[it].root), numberOf(walkers[it].currentNode)],
     setCurrent: (it, node) => void (walkers[it].currentNode = N(node)),
-    walk: (it, move) => numberOf(walkers[it][move]()),
+    walk: (it, move) => numberOf(call(walkers[it], move)),
     createObserver: () => observers.push(observer()) - 1,
     observe: (it, node, options) => void observers[it].observe(N(node), options),
     disconnect: (it) => void observers[it].disconnect(),
@@ -195,7 +264,7 @@ function answering(open, named) {
   function numbered(trees, next) {
     for (const [top, known] of trees) {
       if (!nodes[top]) continue;
-      Array.from(walked(nodes[top])).slice(0, known.length).forEach((node, at) => {
+      firstOf(nodes[top], known.length).forEach((node, at) => {
         if (numbers.has(node)) return;
         nodes[known[at]] = node;
         numbers.set(node, known[at]);
@@ -209,6 +278,13 @@ function answering(open, named) {
     for (let child = node.firstChild; child; child = child.nextSibling) yield* walked(child);
   }
 
+  // The first nodes of a tree, in tree order.
+  function firstOf(top, count) {
+    const found = [];
+    for (const node of walked(top)) if (found.push(node) >= count) break;
+    return found;
+  }
+
   function world() {
     for (const it of observers ?? []) it.disconnect();
     if (++worlds % 200 === 0) window = open();
@@ -216,13 +292,8 @@ function answering(open, named) {
     answers.newDocument();
   }
 
-  function serves() {
-    const lacks = (name) => needs[name] && !(needs[name][1] in (window[needs[name][0]]?.prototype ?? {}));
-    return Object.keys(answers).filter((name) => !lacks(name));
-  }
-
   const others = {
-    hello: () => ({ player: { ...named, serves: serves(), itself, numbers: true } }),
+    hello: () => ({ player: { ...named, serves: [...serving], itself, numbers: true } }),
     world: () => (world(), { ok: null }),
     numbers: (line) => (numbered(line.numbers, line.next), { ok: null }),
   };
@@ -230,14 +301,15 @@ function answering(open, named) {
   // What a refusal is told as; the message is for readers alone.
   function refusal(thrown) {
     if (thrown instanceof Skipped) return { skip: thrown.message };
-    return { error: thrown?.name ?? String(thrown), message: String(thrown?.message ?? thrown) };
+    const standard = /Error$/.test(thrown?.name) && thrown.name !== "Error";
+    return { error: (!standard && names[thrown?.code]) || (thrown?.name ?? String(thrown)), message: String(thrown?.message ?? thrown) };
   }
 
   // Answers a line; only notify has to be waited for, so that no callback of an observer runs in between.
   function answer(line) {
     const given = JSON.parse(line);
     if (!Array.isArray(given)) return others[Object.keys(given)[0]](given);
-    if (!Object.hasOwn(answers, given[0])) return { skip: "has no such command" };
+    if (!serving.has(given[0])) return { skip: "has no such command" };
     try {
       const found = answers[given[0]](...given.slice(1));
       return found instanceof Promise ? found.then((ok) => ({ ok })) : { ok: found === undefined ? null : found };

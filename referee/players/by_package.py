@@ -1,10 +1,14 @@
 """The package for Python, by its objects: bindings/python/tests/by_objects.py says them."""
+import glob
 import os
+import subprocess
 import sys
 
 ROOT = os.path.dirname(os.path.dirname(os.path.dirname(os.path.abspath(__file__))))
 sys.path.insert(0, os.path.join(ROOT, "bindings/python"))
-os.environ.setdefault("HUCKLEPORT_LIBRARY", os.path.join(os.environ["HUCKLEPORT_LIB_DIR"], "libhuckleport.so"))
+if not glob.glob(os.path.join(ROOT, "bindings/python/huckleport/_core*.so")):
+    extension = os.path.join(ROOT, "bindings/python/extension.py")
+    subprocess.run([sys.executable, extension, "--build", "--library", os.environ["HUCKLEPORT_LIB_DIR"]], stdout=subprocess.DEVNULL, check=True)
 
 import huckleport
 from speaking import serve

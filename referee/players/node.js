@@ -1,5 +1,5 @@
-// Lines through a DOM of node: `node referee/players/node.js MODULE NAME`, where MODULE gives JSDOM, parseHTML, Window, createWindow, a `window`, or a
-// `document`, as jsdom, linkedom, happy-dom and this project's own package do. Lines are read one by one, so that nothing runs in between.
+// Lines through a DOM of node: `node referee/players/node.js MODULE NAME`. What a module has to give stands at `openerOf`. Lines are read one by one, so
+// that nothing runs in between, and each reply is written at once, so that a line which never comes back is known to be the one.
 "use strict";
 
 const { readSync, writeSync } = require("fs");
@@ -15,13 +15,15 @@ async function loaded(name) {
   }
 }
 
-// What makes windows, by what a module gives.
+// What makes windows, by what a module gives: a maker of windows or of documents, a window, or something with a `document`.
 function openerOf(found) {
   if (found.JSDOM) return () => new found.JSDOM("").window;
   if (found.createWindow) return () => found.createWindow();
   if (found.parseHTML) return () => found.parseHTML("<html></html>");
   if (found.Window) return () => new found.Window();
+  if (found.DOMImplementation) return () => ({ document: new found.DOMImplementation().createDocument(null, null) });
   const window = found.window ?? found.document?.defaultView ?? found;
+  if (!window.document?.implementation) throw new Error("the module gives no window, and nothing that makes one");
   return () => window;
 }
 
@@ -45,21 +47,32 @@ function read() {
   }
 }
 
-async function main(module, name) {
-  const answer = answering(openerOf(await loaded(module)), { name, version: versionOf(module) });
+function write(reply) {
+  for (let rest = Buffer.from(JSON.stringify(reply) + "\n"); rest.length; rest = rest.subarray(writeSync(1, rest)));
+}
+
+async function serve(answer) {
   let kept = Buffer.alloc(0);
   for (let bytes = read(); bytes.length; bytes = read()) {
     const whole = Buffer.concat([kept, bytes]);
     const end = whole.lastIndexOf(10) + 1;
     kept = Buffer.from(whole.subarray(end));
-    let replies = "";
     for (const line of whole.subarray(0, end).toString().split("\n")) {
       if (!line) continue;
       const found = answer(line);
-      replies += JSON.stringify(found instanceof Promise ? await found : found) + "\n";
+      write(found instanceof Promise ? await found : found);
     }
-    for (let rest = Buffer.from(replies); rest.length; rest = rest.subarray(writeSync(1, rest)));
   }
+}
+
+async function main(module, name) {
+  let answer;
+  try {
+    answer = answering(openerOf(await loaded(module)), { name, version: versionOf(module) });
+  } catch (fault) {
+    answer = () => ({ error: fault.name, message: fault.message.split("\n")[0] });
+  }
+  await serve(answer);
 }
 
 main(process.argv[2], process.argv[3]);

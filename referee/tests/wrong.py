@@ -464,6 +464,15 @@ def prints_rubbish(world, command):
     return "Segmentation fault" if command[0] == "normalize" else world.pass_on(command)
 
 
+def stumbles(world, command, stumbled=[]):
+    """Its first reply to a normalize is another one, and no later reply is."""
+    reply = world.pass_on(command)
+    if command[0] != "normalize" or stumbled:
+        return reply
+    stumbled.append(command)
+    return {"ok": 1}
+
+
 # The faults by the group of streams that has their commands.
 GROUPS = {
     "ranges": (removal_past_the_node, removal_leaves_ends, insertion_shifts_equal, split_leaves_parent_ends, shifted_ahead_of_removal, offset_ahead_of_root,),
@@ -478,6 +487,8 @@ GROUPS = {
 }
 Fault = namedtuple("Fault", "group answer")
 FAULTS = {it.__name__: Fault(group, it) for group, its in GROUPS.items() for it in its}
+# What does not come again, and so is no fault of a body.
+ONCE = {"stumbles": Fault("data", stumbles)}
 
 
 class Over:
@@ -494,7 +505,7 @@ def world_of(cores, faults):
     """A world in which all faults are."""
     world = World(cores)
     for it in faults:
-        world = Over(world, FAULTS[it].answer)
+        world = Over(world, {**FAULTS, **ONCE}[it].answer)
     return world
 
 

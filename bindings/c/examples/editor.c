@@ -111,7 +111,9 @@ static void tell_change(editor *it, size_t change)
     hp_bytes name;
     hp_text_view old_value;
     must(hp_record_at(&it->session, 0, change, &record));
-    printf("  %s of %u", record.type == HP_CHILD_LIST ? "children" : record.type == HP_ATTRIBUTES ? "attribute" : "data", record.target);
+    printf("  %s of %u", record.type == HP_CHILD_LIST ? "children" : record.type == HP_ATTRIBUTES ? "attribute"
+                                                                                                  : "data",
+        record.target);
     if (hp_record_name(&it->session, 0, change, &name) == HP_OK) {
         printf(" ");
         put_name(name);

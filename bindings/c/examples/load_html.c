@@ -12,7 +12,7 @@ typedef struct loader {
     hp_session session;
     htmlParserCtxtPtr parser;
     uint32_t parent; /* the node that is filled now */
-    uint32_t text;   /* the Text at its end, or HP_NONE */
+    uint32_t text; /* the Text at its end, or HP_NONE */
     uint16_t *units; /* the last text in UTF-16 */
     size_t count, room;
     const char *refused; /* the first call that was refused, or null, and why it was */
@@ -57,7 +57,8 @@ static bool keep_units(loader *it, const xmlChar *text, size_t length)
         at += code < 0 ? 1 : (size_t)width;
         if (code > 0xffff)
             it->units[it->count++] = (uint16_t)(0xd7c0 + (code >> 10));
-        it->units[it->count++] = (uint16_t)(code < 0 ? 0xfffd : code > 0xffff ? 0xdc00 | (code & 0x3ff) : code);
+        it->units[it->count++] = (uint16_t)(code < 0 ? 0xfffd : code > 0xffff ? 0xdc00 | (code & 0x3ff)
+                                                                              : code);
     }
     return true;
 }
@@ -74,8 +75,7 @@ static void doctype(void *data, const xmlChar *name, const xmlChar *public_id, c
 {
     loader *it = data;
     uint32_t made;
-    if (did(it, "hp_create_doctype", hp_create_doctype(&it->session, 0, name, length_of(name), public_id, length_of(public_id),
-            system_id, length_of(system_id), &made)))
+    if (did(it, "hp_create_doctype", hp_create_doctype(&it->session, 0, name, length_of(name), public_id, length_of(public_id), system_id, length_of(system_id), &made)))
         put(it, made);
 }
 
@@ -213,7 +213,9 @@ static const char *escape_of(uint32_t code, bool is_value)
 }
 
 /* How a text is written: as it is, with its signs escaped, or as the value of an attribute. */
-enum form { PLAIN, ESCAPED, VALUE };
+enum form { PLAIN,
+    ESCAPED,
+    VALUE };
 
 /* Writes units as UTF-8; a surrogate that stands alone is U+FFFD. */
 static void put_units(hp_text_view text, enum form form)

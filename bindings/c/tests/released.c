@@ -7,7 +7,10 @@
 #include <stdbool.h>
 #include <stdio.h>
 
-enum { FEW = 5000, MANY = 100000, MORE = 1000000, MOST_KEPT = 32768 };
+enum { FEW = 5000,
+    MANY = 100000,
+    MORE = 1000000,
+    MOST_KEPT = 32768 };
 
 typedef uint8_t releasing(hp_session *, uint32_t);
 
@@ -82,6 +85,41 @@ static void refused(void)
     WANT(hp_observe(&session, observer, 0, &options, NULL, 0, NULL, 0) == HP_NO_SUCH_OBJECT);
     WANT(hp_disconnect(&session, observer) == HP_NO_SUCH_OBJECT);
     WANT(hp_take_records(&session, observer) == HP_NO_SUCH_OBJECT);
+    WANT(hp_tell_observer(&session, observer) == HP_NO_SUCH_OBJECT);
+}
+
+static bool tells(uint32_t observer, size_t records)
+{
+    size_t count = 7;
+    return hp_tell_observer(&session, observer) == HP_OK && hp_count(&session, &count) == HP_OK && count == records;
+}
+
+static bool takes_pending(size_t observers)
+{
+    size_t count = 7;
+    return hp_take_pending(&session) == HP_OK && hp_count(&session, &count) == HP_OK && count == observers;
+}
+
+static bool is_at(size_t index, uint32_t observer)
+{
+    uint32_t number = HP_NONE;
+    return hp_number_at(&session, index, &number) == HP_OK && number == observer;
+}
+
+/* Of four observers that are told in turn the second is disconnected before its turn, the third's records are taken, and the last is released. */
+static void in_turn(void)
+{
+    uint32_t top = tree(), child = HP_NONE;
+    uint32_t first = observer_over(top), second = observer_over(top), third = observer_over(top), last = observer_over(top);
+    WANT(hp_create_element(&session, 0, hp_name("late"), &child) == HP_OK && hp_append_child(&session, top, child) == HP_OK);
+    WANT(takes_pending(4) && is_at(0, first) && is_at(1, second) && is_at(2, third) && is_at(3, last));
+    WANT(takes_pending(0));
+    WANT(tells(first, 1) && tells(first, 0));
+    WANT(hp_disconnect(&session, second) == HP_OK && tells(second, 0));
+    WANT(hp_take_records(&session, third) == HP_OK && tells(third, 0));
+    WANT(hp_release_observer(&session, last) == HP_OK && hp_tell_observer(&session, last) == HP_NO_SUCH_OBJECT);
+    WANT(hp_release_observer(&session, first) == HP_OK && hp_release_observer(&session, second) == HP_OK);
+    WANT(hp_release_observer(&session, third) == HP_OK && hp_discard(&session, top) == HP_OK);
 }
 
 /* An observer that is released while records wait for it is told nothing more; another one is. */
@@ -145,6 +183,7 @@ int main(int count, char **words)
     frees(range_over, (hp_release_range));
     refused();
     untold();
+    in_turn();
     no_line();
     level("iterators", iterator_over, (hp_release_iterator));
     level("walkers", walker_over, (hp_release_walker));

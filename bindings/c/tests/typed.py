@@ -290,7 +290,7 @@ def main():
         with open(given.write, "w", encoding="utf-8") as file:
             file.write(session.program.text())
     for what, count in sorted(left_out.items()):
-        print(f"left out: {count} {what}")
+        print(f"by lines alone: {count} {what}")
     missed = sorted(set(session.calls) - session.seen - {"hp_line"})
     if missed:
         print(f"not called: {', '.join(missed)}")

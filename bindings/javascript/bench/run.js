@@ -33,12 +33,30 @@ function jsdom() {
   }
 }
 
+/** A window of each, with how it reads and writes HTML. */
 const WINDOWS = {
-  huckleport: async () => (await import("../lib/index.js")).createWindow(),
-  jsdom: async () => new (jsdom().JSDOM)("").window,
+  huckleport: async () => {
+    const { createWindow, parse, serialize } = await import("../lib/index.js");
+    return Object.assign(createWindow(), { serializing: (node) => () => serialize(node), parsing: (text) => parse(text) });
+  },
+  jsdom: async () => {
+    const { JSDOM } = jsdom();
+    return Object.assign(new JSDOM("").window, { serializing: (node) => () => node.outerHTML, parsing: (text) => new JSDOM(text) });
+  },
 };
 
 const countOf = (scene, count) => Math.ceil(count * (SCENES[scene].share ?? 1));
+
+/** The scenes that need a library which is not there. */
+function missing(scene) {
+  if (scene !== "updates") return false;
+  try {
+    createRequire(import.meta.url).resolve("preact");
+    return false;
+  } catch {
+    return true;
+  }
+}
 
 /** The microseconds of processor time that this process has taken: other work on the machine tells less in it than in the time by the clock. */
 const taken = () => {
@@ -80,7 +98,7 @@ function table(given) {
   const hasJsdom = jsdom() !== null;
   if (!hasJsdom) process.stdout.write("left out: jsdom, since it is not installed\n");
   process.stdout.write(`| scene of ${given.count} | ns a step | jsdom | ratio |\n|---|---|---|---|\n`);
-  for (const scene of given.scenes) process.stdout.write(row(scene, given, hasJsdom));
+  for (const scene of given.scenes) process.stdout.write(missing(scene) ? `left out: ${scene}, since preact is not installed\n` : row(scene, given, hasJsdom));
 }
 
 function main() {

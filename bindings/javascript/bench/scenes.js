@@ -1,4 +1,5 @@
 // The scenes: each is made ready by a window and a count, and answers what is measured. The same code serves each window.
+import { createRequire } from "node:module";
 
 /** Numbers below a limit, the same at each run. */
 function numbers() {
@@ -44,6 +45,29 @@ function rangesIn(document, text, count) {
 function textWithRanges({ document }, count) {
   const text = document.implementation.createHTMLDocument("").body.appendChild(document.createTextNode("x".repeat(1000)));
   return { text, ranges: rangesIn(text.ownerDocument, text, count) };
+}
+
+/** A page with so many nodes, or some more: paragraphs in sections, with attributes and Texts. */
+function page({ document }, count) {
+  const root = document.implementation.createHTMLDocument("").body;
+  const made = root.ownerDocument;
+  for (let at = 0; at < count; at += 8) {
+    const section = root.appendChild(made.createElement("section"));
+    section.setAttribute("class", "part of a page");
+    for (const text of ["some text & more", "and <that>"]) {
+      const paragraph = section.appendChild(made.createElement("p"));
+      paragraph.setAttribute("title", "a paragraph");
+      paragraph.append(text);
+      paragraph.appendChild(made.createElement("br"));
+    }
+  }
+  return { root };
+}
+
+function withIds(document) {
+  const made = document.implementation.createHTMLDocument("");
+  for (let at = 0; at < 1000; at++) made.body.appendChild(made.createElement("p")).id = `id${at}`;
+  return made;
 }
 
 const steps = (next) => (count) => {
@@ -162,6 +186,130 @@ export const SCENES = {
           range.setEnd(root, ((at * 7) % 180) + 10);
           range.insertNode(range.extractContents());
         }
+      };
+    },
+  },
+  "building and moving": {
+    says: "an element and a Text made, appended, and an element of before moved to the front",
+    ready({ document }, count) {
+      const root = document.implementation.createHTMLDocument("").body;
+      const below = numbers();
+      const made = [];
+      return () => {
+        for (let at = 0; at < count; at++) {
+          const it = root.appendChild(root.ownerDocument.createElement("p"));
+          it.appendChild(root.ownerDocument.createTextNode("some text"));
+          made.push(it);
+          root.insertBefore(made[below(made.length)], root.firstChild);
+        }
+      };
+    },
+  },
+  "deep clone": {
+    says: "a node of a tree that is copied whole",
+    ready(window, count) {
+      const { root } = forest(window, count);
+      return () => void root.cloneNode(true);
+    },
+  },
+  "text content": {
+    says: "a node of a tree whose text is asked for, ten times",
+    ready({ document }, count) {
+      const { root } = page({ document }, count);
+      return () => {
+        for (let time = 0; time < 10; time++) if (root.textContent.length < count) throw new Error("a text is missing");
+      };
+    },
+  },
+  serializing: {
+    says: "a node of a page written as HTML",
+    ready(window, count) {
+      const { root } = page(window, count);
+      const write = window.serializing(root);
+      return () => {
+        if (write().length < count) throw new Error("a node is missing");
+      };
+    },
+  },
+  parsing: {
+    says: "a node of a page read from HTML",
+    ready(window, count) {
+      const { root } = page(window, count);
+      const text = window.serializing(root)();
+      return () => void window.parsing(text);
+    },
+  },
+  attributes: {
+    says: "getAttribute of one of 100 elements with two attributes, ten times a step",
+    ready({ document }, count) {
+      const elements = Array.from({ length: 100 }, (_, at) => {
+        const it = document.createElement("p");
+        it.setAttribute("class", "some words");
+        it.setAttribute("title", `number ${at}`);
+        return it;
+      });
+      return () => {
+        for (let at = 0; at < 10 * count; at++) if (elements[at % 100].getAttribute("title") === null) throw new Error("an attribute is missing");
+      };
+    },
+  },
+  ids: {
+    says: "getElementById of one of 1,000",
+    ready({ document }, count) {
+      const made = withIds(document);
+      return () => {
+        for (let at = 0; at < count; at++) if (!made.getElementById(`id${at % 1000}`)) throw new Error("an id is missing");
+      };
+    },
+  },
+  "ids between edits": {
+    says: "the same, with an element appended and removed at each step",
+    ready({ document }, count) {
+      const made = withIds(document);
+      const extra = made.createElement("b");
+      return () => {
+        for (let at = 0; at < count; at++) {
+          made.body.appendChild(extra);
+          if (!made.getElementById(`id${at % 1000}`)) throw new Error("an id is missing");
+          extra.remove();
+        }
+      };
+    },
+  },
+  "tags and edits": {
+    says: "a class and a text set on each of a list of elements by their tag",
+    ready({ document }, count) {
+      const root = document.implementation.createHTMLDocument("").body;
+      for (let at = 0; at < count; at++) root.appendChild(root.ownerDocument.createElement("p")).append("some text");
+      const list = root.getElementsByTagName("p");
+      return () => {
+        for (let at = 0; at < list.length; at++) {
+          list[at].className = "seen";
+          list[at].firstChild.data = "other";
+        }
+      };
+    },
+  },
+  updates: {
+    says: "a row of a table of three columns, updated five times by preact",
+    share: 0.05,
+    ready({ document }, count) {
+      globalThis.document = document;
+      const { h, render } = createRequire(import.meta.url)("preact");
+      const rows = Array.from({ length: count }, (_, key) => ({ key, name: `row ${key}`, count: 0 }));
+      const cells = ({ name, count: its }) => [h("td", { class: "name" }, name), h("td", null, `${its}`), h("td", { class: its % 2 ? "odd" : "even" }, "x")];
+      const table = (its) => h("table", null, h("tbody", null, its.map((row) => h("tr", { key: row.key, id: `row${row.key}` }, cells(row)))));
+      const parent = document.implementation.createHTMLDocument("").body;
+      let root = render(table(rows), parent);
+      const counted = (its) => its.map((row) => ({ ...row, count: row.count + 1 }));
+      const changes = [counted, (its) => [...its].reverse(), (its) => its.filter(({ key }) => key % 3), (its) => [...its, ...rows.filter(({ key }) => key % 3 === 0)], counted];
+      return () => {
+        let now = rows;
+        for (const change of changes) {
+          now = change(now);
+          root = render(table(now), parent, root);
+        }
+        if (root.firstChild.childNodes.length !== count) throw new Error("a row is missing");
       };
     },
   },

@@ -1,12 +1,12 @@
 /**
- * Sessions of the core: how they are opened and closed, which wrappers they know, what is let go, and when observers are told.
+ * Sessions of the core: how they are opened and closed, what is let go, what tells that something has changed, and when observers are told.
  *
- * Nothing here tells what a document is; each question goes to the addon, which answers a status. A refusal is thrown as a Refusal, which is no
+ * Nothing here tells what a document is; each question goes to the module, which answers a status. A refusal is thrown as a Refusal, which is no
  * Error: an interface's method turns it into an exception of its own realm.
  */
-import { has, native, out } from "./native.js";
+import { has, native, out, STUCK, textFrom, TOO_LONG, words } from "./native.js";
 
-export { has, native, out };
+export { has, native, out, STUCK, textFrom, TOO_LONG, words };
 
 export const NONE = native.HP_NONE;
 export const OK = native.HP_OK;
@@ -40,60 +40,102 @@ export function lent(answer) {
   throw new Refusal(answer);
 }
 
-/** The numbers of the last answer of a session. */
-export function listed(session) {
-  const found = [];
-  let count = 1;
-  while (found.length < count) {
-    check(native.listed(session.index, found.length));
-    count = out[0];
-    const here = Math.min(count - found.length, out.length - 1);
-    for (let at = 1; at <= here; at++) found.push(out[at]);
-  }
-  return found;
+/** The words of an answer of many parts: a view, which holds until the next call. */
+export function wordsOf(status) {
+  check(status);
+  const from = out[0] >>> 2;
+  return words.subarray(from, from + out[1]);
 }
 
 const NO_BYTES = new Uint8Array(0);
 const NO_NUMBERS = new Uint32Array(0);
 const ROOT_DOCUMENT = 0;
 const CLOSED = NONE;
-const SHOW = { all: 0xffffffff, elements: 1 };
+const ALL = 0xffffffff;
+const MOST_NUMBERS = 4294967295;
+const LONGEST_LINE = 4294967295;
 
 /** The moves of a walker, by the library's numbers. */
 export const MOVES = { parentNode: 0, firstChild: 1, lastChild: 2, previousSibling: 3, nextSibling: 4, previousNode: 5, nextNode: 6 };
 
+const encoder = new TextEncoder();
+
 // A session that nothing points at any more is closed.
 const sessions = new FinalizationRegistry((index) => native.close(index));
 
+// ---- Turns of the event loop.
+
+/** Does something once the program waits. Node does not stay up for it. */
+const soon = globalThis.setImmediate ? (does) => void globalThis.setImmediate(does).unref?.() : (does) => void setTimeout(does);
+
+function limit(value, most, what) {
+  const number = typeof value === "bigint" || typeof value === "symbol" ? NaN : Number(value);
+  if (number >= 1 && number <= most) return Math.floor(number);
+  throw new Refusal(native.HP_TYPE_ERROR, `${what} is a number from 1 to ${most}`);
+}
+
+/** Which numbers have had a wrapper, one bit for each: where the bit is down there is none to look for. */
+class Marks {
+  #bits = new Uint32Array(64);
+
+  has(number) {
+    return (this.#bits[number >>> 5] & (1 << (number & 31))) !== 0;
+  }
+
+  add(number) {
+    const at = number >>> 5;
+    if (at >= this.#bits.length) {
+      const longer = new Uint32Array(Math.max(2 * this.#bits.length, at + 1));
+      longer.set(this.#bits);
+      this.#bits = longer;
+    }
+    this.#bits[at] |= 1 << (number & 31);
+  }
+}
+
 export class Session {
-  /** The addon's index, where it is open. */
+  /** The module's index, where it is open. */
   index;
-  /** Grows with each change that the facade asks for, so that what was read of a tree is known to be old. */
-  version = 0;
-  /** The wrapper of each node that has one, held weakly, by number. */
-  nodes = new Map();
+  /** One count for each kind of change, by which it is known whether what was read is old: what stands where, and attributes. */
+  structure = 0;
+  attributes = 0;
+  /** Grows where the wrappers' own links (see wrappers.js) may have become wrong, so that they are read anew. */
+  links = 0;
+  /** Which numbers have had wrappers. */
+  marks = new Marks();
   /** What the facade knows of each Document: its type, its content type, its realm. */
   documents = new Map();
-  /** What marks and names mean, by the name that the core has. */
+  /** What marks and names mean (see names.js). */
   elementNames = new Map();
   attributeNames = new Map();
+  byNumber = [];
+  attributesByNumber = [];
   namespaces = [];
   hasMarkedAttributes = false;
+  hasPrefixedAttributes = false;
+  /** The elements of each id (see ids.js), and whether a line was answered, after which they are not known. */
+  ids = new Map();
+  hasSpoken = false;
+  /** Whether an element was ever given contents of its own, as a template of HTML is. */
+  hasContents = false;
   /** The observers by the number that the core has, held weakly, and whether any was ever asked to watch. */
   observers = new Map();
   isWatched = false;
 
+  // The wrappers that can be found by number, held weakly: roots, and what was asked for by a number alone. A new root is held until the program waits.
+  #known = new Map();
+  #young = [];
   #wrappers = new FinalizationRegistry((number) => this.#lose(number));
   #releases = new Map();
-  #walkers = new Map();
+  #walker = NONE;
+  #probe = NONE;
   #leaving = new Set();
   #isSweeping = false;
   #isTelling = false;
-  #probe = NONE;
   #notify;
 
-  constructor({ numbers = 4294967295, line = 1048576 } = {}) {
-    check(native.open(numbers, line));
+  constructor({ numbers = MOST_NUMBERS, line = 1048576 } = {}) {
+    check(native.open(limit(numbers, MOST_NUMBERS, "how many numbers there are"), limit(line, LONGEST_LINE, "the length of a line")));
     this.index = out[0];
     sessions.register(this, this.index, this);
   }
@@ -104,33 +146,59 @@ export class Session {
     sessions.unregister(this);
     native.close(this.index);
     this.index = CLOSED;
+    this.links++;
   }
 
   /** Answers a line of JSON, as bytes or as a string, with the line of its reply. */
   line(line) {
+    const bytes = typeof line === "string" ? encoder.encode(line) : line;
+    if (!(bytes instanceof Uint8Array)) throw new Refusal(native.HP_TYPE_ERROR, "a line is a string or a Uint8Array");
+    const status = native.hp_line(this.index, bytes);
+    if (status === STUCK) check(status);
+    this.hasSpoken = true;
+    this.renewed();
+    this.attributes++;
     // (what the line refuses stands in the reply)
-    native.hp_line(this.index, typeof line === "string" ? Buffer.from(line) : line);
-    this.changed();
     return lent(native.hp_reply_line(this.index));
   }
 
-  /** How many objects of each kind the core has, those with them that the facade makes for itself: walkers, and an observer. */
+  /** How many objects of each kind the core has, those with them that the facade makes for itself: a walker, and an observer. */
   inUse() {
     check(native.hp_in_use(this.index));
     const [nodes, ranges, staticRanges, iterators, walkers, observers, registrations] = out;
     return { nodes, ranges, staticRanges, iterators, walkers, observers, registrations };
   }
 
-  /** Says that something has changed: observers are told once the program is done. */
+  // ---- What has changed: each says so, and observers are told once the program is done.
+
   changed() {
-    this.version++;
-    if (this.isWatched && !this.#isTelling) {
-      this.#isTelling = true;
-      queueMicrotask(() => {
-        this.#isTelling = false;
-        this.#notify(this);
-      });
-    }
+    if (this.isWatched && !this.#isTelling) this.#tellSoon();
+  }
+
+  #tellSoon() {
+    this.#isTelling = true;
+    queueMicrotask(() => {
+      this.#isTelling = false;
+      this.#notify(this);
+    });
+  }
+
+  /** Nodes came, went or moved, and the wrappers' links have followed. */
+  moved() {
+    this.structure++;
+    this.changed();
+  }
+
+  /** Nodes came, went or moved. */
+  renewed() {
+    this.links++;
+    this.moved();
+  }
+
+  /** Attributes were set or removed. */
+  altered() {
+    this.attributes++;
+    this.changed();
   }
 
   /** Says who tells observers; they are told of what changes from now on. */
@@ -139,24 +207,19 @@ export class Session {
     this.isWatched = true;
   }
 
-  // ---- Walkers of the facade's own, which stand on the first Document when they are not asked.
+  // ---- A walker and an observer of the facade's own.
 
-  /** A walker without a filter, for nodes of a kind that is shown. */
-  walker(show) {
-    if (!this.#walkers.has(show)) {
-      check(native.hp_create_walker(this.index, ROOT_DOCUMENT, show, NO_BYTES, NO_NUMBERS, NO_BYTES));
-      this.#walkers.set(show, out[0]);
+  /** The number of the node where a walker over all nodes comes from a node, or NONE. It stands on the first Document when it is not asked. */
+  step(number, move) {
+    if (this.#walker === NONE) {
+      check(native.hp_create_walker(this.index, ROOT_DOCUMENT, ALL, NO_BYTES, NO_NUMBERS, NO_BYTES));
+      this.#walker = out[0];
     }
-    return this.#walkers.get(show);
-  }
-
-  /** The number of the node where such a walker comes from a node, or NONE. */
-  step(show, number, move) {
-    check(native.step(this.index, this.walker(SHOW[show]), number, MOVES[move]));
+    check(native.step(this.index, this.#walker, number, MOVES[move]));
     return out[0];
   }
 
-  /** An observer of the facade's own, which is never told anything. */
+  /** An observer, which is never told anything. */
   probe() {
     if (this.#probe === NONE) {
       check(native.hp_create_observer(this.index));
@@ -165,13 +228,48 @@ export class Session {
     return this.#probe;
   }
 
-  // ---- What is let go.
+  // ---- Wrappers by number.
 
-  /** Keeps a node's wrapper, weakly. */
-  keep(wrapper, number) {
-    this.nodes.set(number, new WeakRef(wrapper));
+  /** Holds the wrapper of a new root until the program waits. */
+  hold(wrapper) {
+    this.#young.push(wrapper);
+    if (this.#young.length === 1) soon(() => this.settleYoung());
+  }
+
+  /** Keeps a wrapper, weakly, so that its number finds it, and its tree is let go once it is gone. */
+  know(wrapper, number) {
+    this.#known.set(number, new WeakRef(wrapper));
     this.#wrappers.register(wrapper, number);
   }
+
+  /** Has those that are held be kept weakly: `isRoot` answers whether one still has to be found. */
+  settleYoung() {
+    const young = this.#young;
+    this.#young = [];
+    for (const it of young) Session.settle(it);
+  }
+
+  /** How a wrapper that was held is kept (wrappers.js says it). */
+  static settle;
+
+  /** The wrapper that is kept under a number, or undefined. */
+  known(number) {
+    const found = this.#known.get(number)?.deref();
+    if (found !== undefined || this.#young.length === 0) return found;
+    this.settleYoung();
+    return this.#known.get(number)?.deref();
+  }
+
+  /** All wrappers that are kept. */
+  *everyKnown() {
+    this.settleYoung();
+    for (const it of [...this.#known.values()]) {
+      const wrapper = it.deref();
+      if (wrapper) yield wrapper;
+    }
+  }
+
+  // ---- What is let go.
 
   /** Calls the library to release an object by its number once its wrapper is gone. */
   releaseWith(call, wrapper, number) {
@@ -192,9 +290,14 @@ export class Session {
   }
 
   #lose(number) {
-    const found = this.nodes.get(number);
+    const found = this.#known.get(number);
     if (found === undefined || found.deref() !== undefined) return;
-    this.nodes.delete(number);
+    this.#known.delete(number);
+    this.leave(number);
+  }
+
+  /** Has a node's tree be discarded where nothing holds it. */
+  leave(number) {
     this.#leaving.add(number);
     this.#sweepSoon();
   }
@@ -202,27 +305,37 @@ export class Session {
   #sweepSoon() {
     if (this.#isSweeping || this.#leaving.size === 0) return;
     this.#isSweeping = true;
-    setImmediate(() => {
+    soon(() => {
       this.#isSweeping = false;
       this.sweep();
-    }).unref();
+    });
   }
 
   /** Discards each tree whose root has no wrapper any more. What is still in use waits for the next time. */
   sweep() {
+    this.settleYoung();
     for (let before = -1; this.#leaving.size > 0 && this.#leaving.size !== before; ) {
       before = this.#leaving.size;
       for (const number of [...this.#leaving]) this.#discard(number);
     }
   }
 
-  /** Discards the tree of a node whose wrapper is gone, where its root has none either. */
+  /** Discards the tree of a node, where its root has no wrapper. */
   #discard(number) {
     const root = native.hp_root(this.index, number) === OK ? out[0] : NONE;
     this.#leaving.delete(number);
-    if (root === NONE || root === ROOT_DOCUMENT || this.nodes.get(root)?.deref() !== undefined) return;
+    if (root === NONE || root === ROOT_DOCUMENT || this.#known.get(root)?.deref() !== undefined) return;
+    this.forgetIds(root);
     if (native.hp_discard(this.index, root) === OK) this.documents.delete(root);
     // One number stands for all of a tree that is in use.
     else this.#leaving.add(root);
   }
+
+  /** Forgets the ids of a tree that may go; of one that stays they are told again when it is asked for them. */
+  forgetIds(root) {
+    if (this.ids.size > 0) Session.forgetIds(this, root);
+  }
+
+  /** How ids are forgotten (ids.js says it). */
+  static forgetIds;
 }

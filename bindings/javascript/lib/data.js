@@ -1,8 +1,8 @@
 /** CharacterData, Text, Comment and ProcessingInstruction. */
 import { check, COMMENT, INSTRUCTION, lent, native, out, TEXT } from "./core.js";
-import { childNode, createComment, createText, dataOf, namePart, nextOf, previousOf, setData, siblings } from "./nodes.js";
+import { childNode, createComment, createText, dataOf, hasData, namePart, nextOf, parentOf, previousOf, setData, siblings } from "./nodes.js";
 import { known } from "./webidl.js";
-import { isNode, kindOf, numberOf, sessionOf, wrap } from "./wrappers.js";
+import { arrived, documentOf, isNode, kindOf, numberOf, sessionOf, wrapChild, wrapMade } from "./wrappers.js";
 
 /** A call that changes the data of a node. */
 const changing =
@@ -29,7 +29,7 @@ const OFFSET = "unsigned long";
 export const CharacterData = known({
   name: "CharacterData",
   parent: "Node",
-  is: (it) => isNode(it) && [TEXT, INSTRUCTION, COMMENT].includes(kindOf(it)),
+  is: (it) => isNode(it) && hasData(it),
   attributes: {
     data: { type: "DOMString or empty", get: dataOf, set: setData },
     length,
@@ -50,10 +50,14 @@ const isText = (it) => isNode(it) && kindOf(it) === TEXT;
 
 function splitText(text, offset) {
   const session = sessionOf(text);
+  const parent = parentOf(text);
+  const next = parent && nextOf(text);
   check(native.hp_split_text(session.index, numberOf(text), offset));
-  const rest = out[0];
-  session.changed();
-  return wrap(session, rest);
+  const number = out[0];
+  const rest = parent ? wrapChild(parent, number) : wrapMade(documentOf(text), number, TEXT);
+  if (parent) arrived(rest, parent, next);
+  session.moved();
+  return rest;
 }
 
 /** The data of a Text and of the Texts right beside it. */

@@ -1,7 +1,7 @@
 /** Document, DocumentType, DocumentFragment and DOMImplementation. */
 import { check, DOCTYPE, DOCUMENT, ELEMENT, FRAGMENT, native, out, Refusal } from "./core.js";
-import { elementsBelow, isElement, valueInRow } from "./elements.js";
-import { extractedElement, HTML, markedElement, small, SVG } from "./names.js";
+import { byId, elementsBelow, isElement } from "./elements.js";
+import { elementName, extractedElement, HTML, markedElement, small, SVG } from "./names.js";
 import {
   adoptNode,
   appendChild,
@@ -9,6 +9,7 @@ import {
   createComment,
   createDoctype,
   createElementMarked,
+  createElementNamed,
   createFragment,
   createInstruction,
   createText,
@@ -26,7 +27,9 @@ import { documentIs, isNode, keptOf, kindOf, makeThing, numberOf, realmOf, sessi
 // ---- New Documents.
 
 const XML_TYPE = "application/xml";
-const TYPES = { [HTML]: "application/xhtml+xml", [SVG]: "image/svg+xml" };
+const XHTML_TYPE = "application/xhtml+xml";
+/** The content types of Documents that DOMImplementation makes, by the namespace. */
+const TYPES = new Map([[HTML, XHTML_TYPE], [SVG, "image/svg+xml"]]);
 
 /** What the facade knows of a Document of HTML, or of XML. */
 export const htmlIs = (realm) => ({ realm, isHtml: true, contentType: "text/html", url: "about:blank" });
@@ -41,9 +44,11 @@ export function newDocument(session, its) {
 const isOf = (document) => documentIs(sessionOf(document), numberOf(document));
 
 function createElement(document, name) {
+  const session = sessionOf(document);
   const { isHtml, contentType } = isOf(document);
-  const namespace = isHtml || contentType === TYPES[HTML] ? HTML : null;
-  return createElementMarked(document, markedElement(sessionOf(document), { namespace, local: isHtml ? small(name) : name }));
+  const local = isHtml ? small(name) : name;
+  const namespace = isHtml || contentType === XHTML_TYPE ? HTML : null;
+  return createElementNamed(document, elementName(session, markedElement(session, { namespace, local })));
 }
 
 export function createElementNS(document, namespace, qualified) {
@@ -70,38 +75,6 @@ function inRoot(document, ...wanted) {
   return null;
 }
 
-// ---- Elements by their ids.
-
-/** The first element of each id below a node, read anew after each change. */
-function ids(node) {
-  const session = sessionOf(node);
-  const kept = keptOf(node);
-  if (kept.idsVersion !== session.version) {
-    kept.ids = readIds(session, numberOf(node));
-    kept.idsVersion = session.version;
-  }
-  return kept.ids;
-}
-
-function readIds(session, number) {
-  check(native.hp_tree(session.index, number));
-  check(native.hp_count(session.index));
-  const count = out[0];
-  const found = new Map();
-  for (let at = 0; at < count; at++) {
-    check(native.hp_row_at(session.index, at));
-    const its = out[1];
-    const id = valueInRow(session, at, out[3], "id");
-    if (id && !found.has(id)) found.set(id, its);
-  }
-  return found;
-}
-
-function getElementById(node, id) {
-  const number = ids(node).get(id);
-  return number === undefined ? null : wrap(sessionOf(node), number);
-}
-
 // ---- The implementation of a Document.
 
 class ImplementationIs {
@@ -117,7 +90,7 @@ const implementation = (document) =>
 
 function createDocument(it, namespace, qualified, doctype) {
   const { document } = implementationOf(it);
-  const made = newDocument(sessionOf(document), { ...xmlIs(realmOf(document), TYPES[namespace]), isXMLDocument: true });
+  const made = newDocument(sessionOf(document), { ...xmlIs(realmOf(document), TYPES.get(namespace)), isXMLDocument: true });
   const element = qualified === "" ? null : createElementNS(made, namespace, qualified);
   if (doctype) appendChild(made, doctype);
   if (element) appendChild(made, element);
@@ -171,7 +144,7 @@ export const DocumentFragment = known({
   is: (it) => isNode(it) && kindOf(it) === FRAGMENT,
   construct: [[], (realm) => createFragment(realm.document)],
   attributes: parentNode.attributes,
-  operations: { getElementById: [["DOMString"], getElementById], ...parentNode.operations },
+  operations: { ...byId, ...parentNode.operations },
   hidden: parentNode.hidden,
 });
 
@@ -200,7 +173,7 @@ export const Document = known({
   },
   operations: {
     ...elementsBelow,
-    getElementById: [["DOMString"], getElementById],
+    ...byId,
     createElement: [["DOMString", "any = undefined"], createElement],
     createElementNS: [["DOMString?", "DOMString", "any = undefined"], createElementNS],
     createDocumentFragment: [[], createFragment],

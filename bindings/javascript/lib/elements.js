@@ -1,7 +1,8 @@
 /** Element: its names, its attributes, and the elements below it. */
-import { check, ELEMENT, lent, native, out, Refusal } from "./core.js";
+import { check, ELEMENT, lent, native, out, Refusal, wordsOf } from "./core.js";
+import { elementById, holdersOf, noteId } from "./ids.js";
 import { htmlCollection } from "./lists.js";
-import { attributeName, elementName, extractedAttribute, HTML, markedAttribute, plainAttribute, small } from "./names.js";
+import { attributeName, elementByNumber, extractedAttribute, HTML, markedAttribute, plainAttribute, small } from "./names.js";
 import {
   childNode,
   createText,
@@ -17,16 +18,21 @@ import {
   tagName,
 } from "./nodes.js";
 import { known } from "./webidl.js";
-import { isNode, kindOf, numberOf, realmOf, sessionOf } from "./wrappers.js";
+import { forgetValues, isNode, keptOf, kindOf, numberOf, sessionOf, valuesOf } from "./wrappers.js";
+
+const { value, setValue } = native;
 
 export const isElement = (it) => isNode(it) && kindOf(it) === ELEMENT;
 
 const isOfHtml = (element) => nameOf(element).namespace === HTML && isOfDocument(element).isHtml;
 
-/** The name of an attribute as the standard looks for it: in small letters for an element of HTML in a Document of HTML. */
-const sought = (element, name) => (/[A-Z]/.test(name) && isOfHtml(element) ? small(name) : name);
+const CAPITALS = /[A-Z]/;
 
-function names(element) {
+/** The name of an attribute as the standard looks for it: in small letters for an element of HTML in a Document of HTML. */
+const sought = (element, name) => (CAPITALS.test(name) && isOfHtml(element) ? small(name) : name);
+
+/** The names of all attributes, in their order. */
+export function names(element) {
   const session = sessionOf(element);
   check(native.hp_attribute_names(session.index, numberOf(element)));
   check(native.hp_count(session.index));
@@ -50,9 +56,18 @@ function byNamespace(element, namespace, local) {
 }
 
 function valueOf(element, core) {
-  const { index } = sessionOf(element);
-  check(native.hp_get_attribute(index, numberOf(element), core));
-  return lent(native.hp_text(index));
+  const session = sessionOf(element);
+  return lent(value(session.index, numberOf(element), attributeName(session, core).number));
+}
+
+/** The value of an attribute by its qualified name. It is kept until an attribute of the element changes, but for a name with capitals, whose meaning may. */
+function getAttribute(element, name) {
+  const values = valuesOf(element);
+  const kept = values.get(name);
+  if (kept !== undefined) return kept;
+  const found = valueOf(element, byQualified(element, sought(element, name)));
+  if (!CAPITALS.test(name)) values.set(name, found);
+  return found;
 }
 
 function hasOf(element, core) {
@@ -60,39 +75,51 @@ function hasOf(element, core) {
   return out[0] === 1;
 }
 
-/** A call that changes attributes of an element. */
-function change(element, call, ...words) {
+const ID = "id";
+
+/** Makes a change of an attribute of an element, by its core's name. */
+function change(element, core, does) {
   const session = sessionOf(element);
-  check(native[call](session.index, numberOf(element), ...words));
-  const answer = out[0];
-  session.changed();
+  const before = core === ID ? valueOf(element, ID) : null;
+  const answer = does(session, numberOf(element));
+  forgetValues(element);
+  if (core === ID) noteId(session, numberOf(element), before, valueOf(element, ID));
+  session.altered();
   return answer;
 }
 
-export const setAttributeMarked = (element, core, value) => change(element, "hp_set_attribute", core, value);
+export function setAttributeMarked(element, core, text) {
+  change(element, core, (session, number) => check(setValue(session.index, number, attributeName(session, core).number, text)));
+}
 
-function setAttributeNS(element, namespace, qualified, value) {
+function setAttributeNS(element, namespace, qualified, text) {
   const session = sessionOf(element);
   const name = extractedAttribute(session, namespace, qualified);
   const there = byNamespace(element, name.namespace, name.local);
-  setAttributeMarked(element, there?.core ?? markedAttribute(session, name), value);
+  setAttributeMarked(element, there?.core ?? markedAttribute(session, name), text);
 }
 
 function removeAttribute(element, core) {
-  change(element, "hp_remove_attribute", core);
+  change(element, core, (session, number) => check(native.hp_remove_attribute(session.index, number, core)));
 }
 
-const FORCE = { false: 0, true: 1, undefined: 2 };
+const FORCE = { false: 0, true: 1 };
+const NO_FORCE = 2;
 
 function toggleAttribute(element, name, force) {
-  return change(element, "hp_toggle_attribute", byQualified(element, sought(element, name)), FORCE[force === undefined ? force : Boolean(force)]) === 1;
+  const core = byQualified(element, sought(element, name));
+  const wanted = force === undefined ? NO_FORCE : FORCE[Boolean(force)];
+  return change(element, core, (session, number) => {
+    check(native.hp_toggle_attribute(session.index, number, core, wanted));
+    return out[0] === 1;
+  });
 }
 
 /** An attribute that stands for a property of text. */
 const reflected = (name) => ({
   type: "DOMString",
-  get: (element) => valueOf(element, byQualified(element, name)) ?? "",
-  set: (element, value) => setAttributeMarked(element, byQualified(element, name), value),
+  get: (element) => getAttribute(element, name) ?? "",
+  set: (element, text) => setAttributeMarked(element, byQualified(element, name), text),
 });
 
 /** All attributes, with their names and values, in their order. */
@@ -100,60 +127,54 @@ export const attributesOf = (element) => names(element).map((name) => ({ ...name
 
 // ---- Elements below a node.
 
-/** The numbers of the elements below a node that fit, in tree order; what fits is asked by the row of the core's answer. */
-function below(node, fits) {
+/** The numbers of the elements below a node whose names fit, in tree order. */
+function byName(node, fits) {
   const session = sessionOf(node);
-  check(native.hp_tree(session.index, numberOf(node)));
-  check(native.hp_count(session.index));
-  const count = out[0];
+  const told = Array.from(wordsOf(native.elements(session.index, numberOf(node))));
   const found = [];
-  for (let at = 1; at < count; at++) {
-    check(native.hp_row_at(session.index, at));
-    const number = out[1];
-    if (out[2] === ELEMENT && fits(session, at, out[3])) found.push(number);
+  // (the node itself is none of them)
+  for (let at = kindOf(node) === ELEMENT ? 2 : 0; at < told.length; at += 2) {
+    if (fits(elementByNumber(session, told[at + 1]))) found.push(told[at]);
   }
   return found;
 }
 
-/** The elements whose names fit. */
-const byName = (fits) => (session, row) => fits(elementName(session, lent(native.hp_row_name(session.index, row, 0))));
-
-/** The value of an attribute by its name, of a row that has so many attributes, or null. */
-export function valueInRow(session, row, count, name) {
-  for (let at = 0; at < count; at++) {
-    if (native.hp_row_attribute_name(session.index, row, at) === name) return lent(native.hp_row_attribute_value(session.index, row, at));
-  }
-  return null;
+/** A list of a node, which is the same each time it is asked for with the same words. */
+function listOf(node, key, make) {
+  const lists = (keptOf(node).lists ??= new Map());
+  if (!lists.has(key)) lists.set(key, make());
+  return lists.get(key);
 }
 
 function getElementsByTagName(node, qualified) {
   const read = () => {
     const ofHtml = isOfDocument(node).isHtml ? small(qualified) : qualified;
-    return below(node, byName((name) => qualified === "*" || name.qualified === (name.namespace === HTML ? ofHtml : qualified)));
+    return byName(node, (name) => qualified === "*" || name.qualified === (name.namespace === HTML ? ofHtml : qualified));
   };
-  return htmlCollection(realmOf(node), sessionOf(node), read);
+  return listOf(node, `tag ${qualified}`, () => htmlCollection(node, read));
 }
 
 function getElementsByTagNameNS(node, namespace, local) {
   const its = namespace === "" ? null : namespace;
   const fits = (name) => (its === "*" || name.namespace === its) && (local === "*" || name.local === local);
-  return htmlCollection(realmOf(node), sessionOf(node), () => below(node, byName(fits)));
+  return listOf(node, `name ${JSON.stringify([its, local])}`, () => htmlCollection(node, () => byName(node, fits)));
 }
 
-const words = (text) => text.split(/[\t\n\f\r ]+/).filter(Boolean);
+const wordsIn = (text) => text.split(/[\t\n\f\r ]+/).filter(Boolean);
 
-function getElementsByClassName(node, text) {
-  const read = () => {
-    const as = isOfDocument(node).isQuirky ? small : (name) => name;
-    const wanted = words(as(text));
-    if (wanted.length === 0) return [];
-    return below(node, (session, row, count) => {
-      const its = words(as(valueInRow(session, row, count, "class") ?? ""));
-      return wanted.every((name) => its.includes(name));
-    });
+function byClass(node, text) {
+  const as = isOfDocument(node).isQuirky ? small : (name) => name;
+  const wanted = wordsIn(as(text));
+  if (wanted.length === 0) return [];
+  const number = numberOf(node);
+  const fits = ([its, value]) => {
+    const has = new Set(wordsIn(as(value)));
+    return its !== number && wanted.every((name) => has.has(name));
   };
-  return htmlCollection(realmOf(node), sessionOf(node), read);
+  return holdersOf(sessionOf(node), number, "class").filter(fits).map(([its]) => its);
 }
+
+const getElementsByClassName = (node, text) => listOf(node, `class ${text}`, () => htmlCollection(node, () => byClass(node, text), { isByAttributes: true }));
 
 /** What Documents and elements have. */
 export const elementsBelow = {
@@ -162,20 +183,23 @@ export const elementsBelow = {
   getElementsByClassName: [["DOMString"], getElementsByClassName],
 };
 
+/** What Documents and fragments have. */
+export const byId = { getElementById: [["DOMString"], elementById] };
+
 // ---- Insertion beside an element.
 
 const SYNTAX_ERROR = 12;
 
 /** Parent and child between which a node comes in, by the word for the place. */
-const PLACES = {
+const PLACES = new Map(Object.entries({
   beforebegin: (element) => [parentOf(element), element],
   afterbegin: (element) => [element, firstChildOf(element)],
   beforeend: (element) => [element, null],
   afterend: (element) => [parentOf(element), nextOf(element)],
-};
+}));
 
 function insertAdjacent(element, where, node) {
-  const placed = PLACES[small(where)];
+  const placed = PLACES.get(small(where));
   if (!placed) throw new Refusal(SYNTAX_ERROR, "there is no such place");
   const [parent, child] = placed(element);
   return parent && insertBefore(parent, node, child);
@@ -198,7 +222,7 @@ export const Element = known({
   operations: {
     hasAttributes: [[], (element) => names(element).length > 0],
     getAttributeNames: [[], (element) => names(element).map((it) => it.qualified)],
-    getAttribute: [["DOMString"], (element, name) => valueOf(element, byQualified(element, sought(element, name)))],
+    getAttribute: [["DOMString"], getAttribute],
     getAttributeNS: [
       ["DOMString?", "DOMString"],
       (element, namespace, local) => {

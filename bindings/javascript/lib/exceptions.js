@@ -1,5 +1,5 @@
 /** DOMException, and what a status of the library is called by it. */
-import { native } from "./core.js";
+import { native, STUCK, TOO_LONG } from "./core.js";
 import { known } from "./webidl.js";
 import { makeThing, thingOf } from "./wrappers.js";
 
@@ -47,6 +47,7 @@ const MESSAGES = new Map([
   [native.HP_TYPE_ERROR, "a node of the wrong kind, or options that do not go together"],
   [native.HP_LIMIT, "the session has no number left"],
   [native.HP_CLOSED, "the session is closed"],
+  [STUCK, "a call of the module did not end: no session answers any more"],
 ]);
 
 /** The name of the exception that stands for a status: the standard's where it has one. */
@@ -75,7 +76,7 @@ export const DOMException = known({
     ['DOMString = ""', "DOMString = undefined"],
     (realm, message, name = "Error") => {
       const made = makeThing(realm, "DOMException", new ExceptionIs(message, name));
-      Error.captureStackTrace(made, made.constructor);
+      Error.captureStackTrace?.(made, made.constructor);
       return made;
     },
   ],
@@ -98,6 +99,7 @@ export function exceptionFor(realm, refusal) {
   const { status } = refusal;
   const message = refusal.message || (MESSAGES.get(status) ?? "");
   if (status === native.HP_TYPE_ERROR) return new realm.global.TypeError(message);
+  if (status === TOO_LONG) return new realm.global.RangeError("the text is longer than a string can be");
   if (status === native.HP_OUT_OF_MEMORY) return new realm.global.RangeError("memory was wanting; the session answers nothing more");
   return new realm.interfaces.DOMException(message, nameOf(status));
 }

@@ -1,9 +1,11 @@
 /** The package: the standard's interfaces over the core, Documents, windows, and Documents in and out. */
-import { has, Session as Core } from "./core.js";
+import { has, native, Refusal, Session as Core } from "./core.js";
 import { furnish, htmlIs, newDocument, xmlIs } from "./documents.js";
-import { readFragment, readHTML, readXML, serialize, treeAdapter as adapterOf } from "./parsing.js";
+import { provide } from "./libraries.js";
+import { readFragment, readHTML, readXML, treeAdapter as adapterOf } from "./parsing.js";
 import { firstDocument, Realm } from "./realm.js";
-import { numberIn, sessionOf, settleAll, wrap } from "./wrappers.js";
+import { serialize as written, serializeXML as writtenXML } from "./serializing.js";
+import { isNode, numberIn, sessionOf, settleAll, wrap } from "./wrappers.js";
 
 const realm = new Realm();
 
@@ -32,7 +34,24 @@ export const {
   XMLDocument,
 } = realm.interfaces;
 
-export { has };
+export { has, provide };
+
+/** The memory of the module, which all sessions share. */
+export const memory = Object.freeze({
+  /** The bytes that there are; they are never given back, and used again. */
+  get size() {
+    return native.size();
+  },
+  /** The bytes that sessions hold of it. */
+  get held() {
+    return native.held();
+  },
+  /** Has it not grow past so many bytes; 0 takes the bound away. A call for which there is no memory left ends its session (RangeError). */
+  limit(bytes) {
+    if (!(bytes >= 0 && bytes <= 4294967295)) throw new RangeError("a bound is a number of bytes, up to 4294967295");
+    native.bound(bytes);
+  },
+});
 
 /** A session with its first Document, for a program that speaks in lines too. */
 export class Session {
@@ -64,7 +83,7 @@ export class Session {
 
   /** The number of a node. */
   number(node) {
-    return realm.guarded(() => numberIn(this.#core, node));
+    return realm.guarded(() => numberIn(this.#core, nodeOf(node)));
   }
 
   /** How many objects of each kind the core has. */
@@ -77,7 +96,13 @@ export class Session {
   }
 }
 
-const isFor = (its, isXml) => (isXml ? xmlIs(its) : htmlIs(its));
+/** A node that was given, or a refusal of what is none. */
+function nodeOf(given) {
+  if (!isNode(given)) throw new Refusal(native.HP_TYPE_ERROR, "this is no node");
+  return given;
+}
+
+const isFor = (its, isXml) => (isXml ? { ...xmlIs(its), isXMLDocument: true } : htmlIs(its));
 
 /**
  * A new Document: in a session of its own, or in that of a Document that is given, whose nodes it may then adopt. It is one of HTML, or of XML where
@@ -85,7 +110,7 @@ const isFor = (its, isXml) => (isXml ? xmlIs(its) : htmlIs(its));
  */
 export function createDocument({ beside, xml = false } = {}) {
   return realm.guarded(() =>
-    beside ? newDocument(sessionOf(beside), isFor(realm, xml)) : firstDocument(realm, new Core(), isFor(realm, xml)),
+    beside ? newDocument(sessionOf(nodeOf(beside)), isFor(realm, xml)) : firstDocument(realm, new Core(), isFor(realm, xml)),
   );
 }
 
@@ -98,14 +123,15 @@ function documentOptions(its, { xml = false, url = "about:blank", contentType = 
  * A window: an object that has all interfaces, of a realm of its own, and a `document`, of HTML with a head and a body. All is put on `global`, a
  * context's global object, where one is given; what is thrown and the arrays that are made are then by its constructors. `beside` is a window
  * or a Document whose session it shares, so that nodes can move between the two; `report` takes what observers' callbacks throw; `empty`
- * leaves the Document without an element, and so does `xml`, which makes it one of XML, whose `contentType` may be given.
+ * leaves the Document without an element, and so does `xml`, which makes it one of XML, whose `contentType` may be given. Where `refuses` is false, names
+ * of the standard that the package lacks do not refuse, for a program that gives them itself.
  */
-export function createWindow({ global, beside, report, empty = false, ...options } = {}) {
-  const its = new Realm({ global, report });
+export function createWindow({ global, beside, report, refuses, empty = false, ...options } = {}) {
+  const its = new Realm({ global, report, refuses });
   const neighbour = beside?.document ?? beside;
   its.document = its.guarded(() => {
     const made = documentOptions(its, options);
-    const document = neighbour ? newDocument(sessionOf(neighbour), made) : firstDocument(its, new Core(), made);
+    const document = neighbour ? newDocument(sessionOf(nodeOf(neighbour)), made) : firstDocument(its, new Core(), made);
     return empty || options.xml ? document : furnish(document);
   });
   const window = global ?? {};
@@ -117,17 +143,17 @@ export function createWindow({ global, beside, report, empty = false, ...options
 
 /** A Document of a page of HTML: a new one of a session of its own, or `document`, which has no child yet. Needs parse5. */
 export function parse(html, { document = createDocument() } = {}) {
-  return realm.guarded(() => readHTML(document, `${html}`));
+  return realm.guarded(() => readHTML(nodeOf(document), `${html}`));
 }
 
 /** A fragment of a piece of HTML, as the content of an element or of a Document. Needs parse5. */
 export function parseFragment(html, context = createDocument()) {
-  return realm.guarded(() => readFragment(context, `${html}`));
+  return realm.guarded(() => readFragment(nodeOf(context), `${html}`));
 }
 
 /** A Document of a text of XML, as `parse` makes it of HTML. Needs saxes. */
 export function parseXML(xml, { document = createDocument({ xml: true }) } = {}) {
-  return realm.guarded(() => readXML(document, `${xml}`));
+  return realm.guarded(() => readXML(nodeOf(document), `${xml}`));
 }
 
 /** A tree adapter for parse5, for a program that drives the parser itself: how a Document's tree is built and read. */
@@ -136,4 +162,8 @@ export function treeAdapter(document) {
   return Object.fromEntries(Object.entries(adapterOf(document)).map(guarded));
 }
 
-export { serialize };
+/** A node and what is in it as HTML; of a Document and of a fragment what is in it. */
+export const serialize = (node) => realm.guarded(() => written(node));
+
+/** A node and what is in it as XML. Needs w3c-xmlserializer. */
+export const serializeXML = (node, options) => realm.guarded(() => writtenXML(node, options));

@@ -1,26 +1,47 @@
 /** NodeList and HTMLCollection: lists of nodes by index, live ones and those of a moment. */
-import { check, DOCUMENT, ELEMENT, FRAGMENT, native, out } from "./core.js";
+import { check, native, out } from "./core.js";
+import { HTML } from "./names.js";
 import { known } from "./webidl.js";
-import { kindOf, numberOf, sessionOf, wrap } from "./wrappers.js";
+import { firstChildOf, isOfParents, nextOf, numberOf, realmOf, sessionOf, wrap, wrapChild } from "./wrappers.js";
 
-/** The kinds whose length counts children; that of others counts units. */
-const MAY_HAVE_CHILDREN = new Set([ELEMENT, DOCUMENT, FRAGMENT]);
+/** Where the last question to a list by an index ended, of all lists: the next one goes on from there, where nothing has moved meanwhile. */
+const cursor = { list: null, structure: -1, index: -1, node: null };
 
-/** A list whose numbers are read anew after each change of its session. */
+function keepCursor(list, index, node) {
+  cursor.list = list;
+  cursor.structure = list.session.structure;
+  cursor.index = index;
+  cursor.node = node;
+  return node;
+}
+
+const isAtCursor = (list, index) => cursor.list === list && cursor.index === index && cursor.structure === list.session.structure;
+
+/** A list below a node whose numbers are read anew where what they depend on has changed. */
 class LiveIs {
   #read;
-  #version = -1;
+  #structure = -1;
+  #attributes = -1;
   #numbers = [];
 
-  constructor(session, read) {
-    this.session = session;
+  constructor(node, read, { areChildren = false, isByAttributes = false } = {}) {
+    this.node = node;
+    this.session = sessionOf(node);
     this.#read = read;
+    this.areChildren = areChildren;
+    this.isByAttributes = isByAttributes;
+  }
+
+  get isOld() {
+    const { structure, attributes } = this.session;
+    return this.#structure !== structure || (this.isByAttributes && this.#attributes !== attributes);
   }
 
   get numbers() {
-    if (this.#version !== this.session.version) {
+    if (this.isOld) {
       this.#numbers = this.#read();
-      this.#version = this.session.version;
+      this.#structure = this.session.structure;
+      this.#attributes = this.session.attributes;
     }
     return this.#numbers;
   }
@@ -31,27 +52,36 @@ class LiveIs {
 
   at(index) {
     const { numbers } = this;
-    return index < numbers.length ? wrap(this.session, numbers[index]) : null;
+    if (index >= numbers.length) return null;
+    return this.areChildren ? wrapChild(this.node, numbers[index]) : wrap(this.session, numbers[index]);
   }
 }
 
-/** The children of a node. How many there are, and which is the first, is asked without reading all. */
+/** The children of a node. How many there are is asked without reading all, and one index after another goes from child to child. */
 class ChildrenIs extends LiveIs {
   constructor(node, read) {
-    super(sessionOf(node), read);
-    this.node = node;
+    super(node, read, { areChildren: true });
   }
 
   get length() {
-    if (!MAY_HAVE_CHILDREN.has(kindOf(this.node))) return 0;
+    if (!this.isOld) return this.numbers.length;
+    if (!isOfParents(this.node)) return 0;
     check(native.hp_length(this.session.index, numberOf(this.node)));
     return out[0];
   }
 
   at(index) {
-    if (index > 0) return super.at(index);
-    check(native.hp_first_child(this.session.index, numberOf(this.node)));
-    return out[0] === native.HP_NONE ? null : wrap(this.session, out[0]);
+    if (index === 0) return keepCursor(this, 0, firstChildOf(this.node));
+    if (isAtCursor(this, index)) return cursor.node;
+    if (isAtCursor(this, index - 1)) return keepCursor(this, index, cursor.node && nextOf(cursor.node));
+    return keepCursor(this, index, this.isOld ? this.#asked(index) : super.at(index));
+  }
+
+  /** The child at an index, which the core finds from where it was last asked. */
+  #asked(index) {
+    if (!isOfParents(this.node)) return null;
+    const status = native.hp_child_at(this.session.index, numberOf(this.node), index);
+    return status === native.HP_OK && out[0] !== native.HP_NONE ? wrapChild(this.node, out[0]) : null;
   }
 }
 
@@ -129,23 +159,84 @@ class Indexed {
   }
 }
 
+/** The names that an element has in a collection: its id, and its name where it is one of HTML. */
+function namesOf(element) {
+  const name = element.namespaceURI === HTML ? element.getAttribute("name") : null;
+  return [element.getAttribute("id"), name].filter(Boolean);
+}
+
+function namedIn(its, name) {
+  if (name === "") return null;
+  for (let at = 0, { length } = its; at < length; at++) {
+    const element = its.at(at);
+    if (namesOf(element).includes(name)) return element;
+  }
+  return null;
+}
+
+/** A list whose properties are names too, as far as its prototypes have none of them. */
+class Named extends Indexed {
+  #its;
+
+  constructor(its) {
+    super(its);
+    this.#its = its;
+  }
+
+  /** The element that a property's name stands for, or null. */
+  #named(target, key) {
+    return typeof key !== "string" || indexOf(key) >= 0 || Reflect.has(target, key) ? null : namedIn(this.#its, key);
+  }
+
+  get(target, key, receiver) {
+    return this.#named(target, key) ?? super.get(target, key, receiver);
+  }
+
+  has(target, key) {
+    return super.has(target, key) || this.#named(target, key) !== null;
+  }
+
+  set(target, key, value, receiver) {
+    return this.#named(target, key) === null && super.set(target, key, value, receiver);
+  }
+
+  defineProperty(target, key, descriptor) {
+    return this.#named(target, key) === null && super.defineProperty(target, key, descriptor);
+  }
+
+  deleteProperty(target, key) {
+    return this.#named(target, key) === null && super.deleteProperty(target, key);
+  }
+
+  ownKeys(target) {
+    const elements = Array.from({ length: this.#its.length }, (_, at) => this.#its.at(at));
+    const names = [...new Set(elements.flatMap(namesOf))].filter((name) => indexOf(name) < 0 && !Reflect.has(target, name));
+    return [...elements.map((_, at) => `${at}`), ...names, ...Reflect.ownKeys(target)];
+  }
+
+  getOwnPropertyDescriptor(target, key) {
+    const value = this.#named(target, key);
+    return value === null ? super.getOwnPropertyDescriptor(target, key) : { value, writable: false, enumerable: false, configurable: true };
+  }
+}
+
 const nodeLists = new WeakMap();
 const collections = new WeakMap();
 
-function listed(realm, name, known, its) {
-  const made = new Proxy(Object.create(realm.interfaces[name].prototype), new Indexed(its));
+function listed(realm, name, known, its, Handler = Indexed) {
+  const made = new Proxy(Object.create(realm.interfaces[name].prototype), new Handler(its));
   known.set(made, its);
   return made;
 }
 
 /** The live list of a node's children. */
-export const liveNodeList = (realm, node, read) => listed(realm, "NodeList", nodeLists, new ChildrenIs(node, read));
+export const liveNodeList = (node, read) => listed(realmOf(node), "NodeList", nodeLists, new ChildrenIs(node, read));
 
 /** A list of nodes that does not change. */
 export const stillNodeList = (realm, nodes) => listed(realm, "NodeList", nodeLists, new StillIs(nodes));
 
-/** A live list of elements. */
-export const htmlCollection = (realm, session, read) => listed(realm, "HTMLCollection", collections, new LiveIs(session, read));
+/** A live list of elements below a node, by a function that reads their numbers. */
+export const htmlCollection = (node, read, options) => listed(realmOf(node), "HTMLCollection", collections, new LiveIs(node, read, options), Named);
 
 function borrow(realm, prototype, names) {
   for (const name of names) {
@@ -162,14 +253,7 @@ export const NodeList = known({
   finish: (realm, made) => borrow(realm, made.prototype, ["entries", "forEach", "keys", "values", Symbol.iterator]),
 });
 
-function namedItem(list, name) {
-  const its = collections.get(list);
-  for (let at = 0; name !== "" && at < its.length; at++) {
-    const element = its.at(at);
-    if (element.getAttribute("id") === name || element.getAttribute("name") === name) return element;
-  }
-  return null;
-}
+const namedItem = (list, name) => namedIn(collections.get(list), name);
 
 export const HTMLCollection = known({
   name: "HTMLCollection",

@@ -29,12 +29,16 @@ function numberOfNamespace(session, namespace) {
   return found < 0 ? session.namespaces.push(namespace) - 1 : found;
 }
 
-/** What a name of the core says; without a mark its namespace is the plain one. */
-function read(session, core, plain) {
+/** What a name of the core says; without a mark its namespace is the plain one. Its number is that of the module. */
+function read(session, given, plain) {
+  const number = native.nameNumber(given);
+  if (number === native.HP_NONE) throw new Refusal(native.HP_OUT_OF_MEMORY);
+  // (as the core has it: a surrogate that stands alone is another character there)
+  const core = native.nameOf(number);
   const found = core.includes(MARK) ? MARKED.exec(core) : null;
-  const [, local = core, number, prefix = null] = found ?? [];
+  const [, local = core, namespace, prefix = null] = found ?? [];
   const qualified = prefix === null ? local : `${prefix}:${local}`;
-  return { core, namespace: found ? session.namespaces[number] : plain, prefix, local, qualified, capital: capital(qualified) };
+  return { core, number, namespace: found ? session.namespaces[namespace] : plain, prefix, local, qualified, capital: capital(qualified) };
 }
 
 function known(session, names, core, plain) {
@@ -49,6 +53,12 @@ function known(session, names, core, plain) {
 export const elementName = (session, core) => known(session, session.elementNames, core, HTML);
 export const attributeName = (session, core) => known(session, session.attributeNames, core, null);
 
+/** The name of an attribute by the module's number. */
+export const attributeByNumber = (session, number) => (session.attributesByNumber[number] ??= attributeName(session, native.nameOf(number)));
+
+/** The name of an element by the module's number. */
+export const elementByNumber = (session, number) => (session.byNumber[number] ??= elementName(session, native.nameOf(number)));
+
 function marked(session, { namespace, prefix = null, local }, plain) {
   // A mark would make a name of an empty one, which the core refuses.
   if (local === "" || (namespace === plain && prefix === null && !local.includes(MARK))) return local;
@@ -62,6 +72,7 @@ export const markedElement = (session, name) => marked(session, name, HTML);
 export function markedAttribute(session, name) {
   const core = marked(session, name, null);
   session.hasMarkedAttributes ||= core !== name.local;
+  session.hasPrefixedAttributes ||= (name.prefix ?? null) !== null;
   return core;
 }
 

@@ -1,21 +1,213 @@
-/** The addon, which make.py builds. HUCKLEPORT_ADDON names another file. */
-import { createRequire } from "node:module";
-import { fileURLToPath } from "node:url";
+/**
+ * The module: the core as WebAssembly, loaded once, and called with strings.
+ *
+ * It lies beside the package as out/huckleport.wasm, which bindings/javascript/make.py puts there. In node the variable HUCKLEPORT_MODULE names another
+ * file; elsewhere the global `huckleportModule`, where it is set before this is imported, has the bytes or the compiled module, and nothing is fetched.
+ */
+import { callsOver, NUMBERS } from "../out/calls.js";
 
-const place = process.env.HUCKLEPORT_ADDON ?? fileURLToPath(new URL("../out/huckleport.node", import.meta.url));
+const PLACE = new URL("../out/huckleport.wasm", import.meta.url);
+const isNode = typeof globalThis.process?.versions?.node === "string";
+// (by a variable, so that a bundler for pages leaves it alone)
+const FILES = "node:fs";
 
-function load() {
+async function compiledInNode() {
+  const { readFileSync } = await import(FILES);
+  const place = globalThis.process.env.HUCKLEPORT_MODULE ?? PLACE;
   try {
-    return createRequire(import.meta.url)(place);
+    return new WebAssembly.Module(readFileSync(place));
   } catch (cause) {
-    throw new Error(`the addon of huckleport could not be loaded from ${place}; python3 make.py in the package's folder builds it`, { cause });
+    throw new Error(`the module of huckleport could not be loaded from ${place}; python3 make.py in the package's folder builds it`, { cause });
   }
 }
 
-export const native = load();
+async function fetched() {
+  const answer = await fetch(PLACE);
+  if (!answer.ok) throw new Error(`the module of huckleport could not be fetched from ${PLACE}: status ${answer.status}`);
+  return WebAssembly.compile(await answer.arrayBuffer());
+}
+
+async function compiled() {
+  const given = globalThis.huckleportModule;
+  if (given instanceof WebAssembly.Module) return given;
+  if (given) return WebAssembly.compile(given);
+  return isNode ? compiledInNode() : fetched();
+}
 
 /** The numbers that a call writes: its one answer first, or the members of its struct in their order. */
-export const out = native.numbers;
+export let out;
+/** The memory of the module as words of 32 bits. */
+export let words;
+let octets, units, buffer;
+
+const { exports: module } = await WebAssembly.instantiate(await compiled(), { env: { grown: see } });
+const numbersAt = module.numbers() >>> 2;
+const NUMBERS_SHOWN = 16;
+see();
+
+/** Makes the views of the memory anew, which are empty once it has grown. */
+function see() {
+  const memory = module.memory.buffer;
+  octets = new Uint8Array(memory);
+  units = new Uint16Array(memory);
+  words = new Uint32Array(memory);
+  out = words.subarray(numbersAt, numbersAt + NUMBERS_SHOWN);
+  buffer = globalThis.Buffer?.from(memory);
+}
+
+// ---- Texts out: short ones unit by unit; longer ones by node's buffers, or by pieces.
+
+/** A call comes while another is under way, or after one that did not end. */
+export const STUCK = 255;
+/** A text is longer than a string can be. */
+export const TOO_LONG = 254;
+const LONGEST = 2 ** 29 - 24;
+const SHORT = 64;
+const PIECE = 8192;
+const one = String.fromCharCode;
+
+function shortText(from, length) {
+  let text = "";
+  let at = from;
+  for (const end = from + length - 7; at < end; at += 8) {
+    text += one(units[at], units[at + 1], units[at + 2], units[at + 3], units[at + 4], units[at + 5], units[at + 6], units[at + 7]);
+  }
+  for (const end = from + length; at < end; at++) text += one(units[at]);
+  return text;
+}
+
+function longText(from, length) {
+  if (buffer) return buffer.toString("utf16le", 2 * from, 2 * (from + length));
+  const pieces = [];
+  for (let at = from; at < from + length; at += PIECE) pieces.push(one.apply(null, units.subarray(at, Math.min(at + PIECE, from + length))));
+  return pieces.join("");
+}
+
+/** The text that begins at a place of the memory and has so many units. */
+export function textFrom(place, length) {
+  if (length <= SHORT) return shortText(place >>> 1, length);
+  return length > LONGEST ? TOO_LONG : longText(place >>> 1, length);
+}
+
+const textAt = () => textFrom(out[0], out[1]);
+
+// ---- Names and lines, which are UTF-8.
+
+const decoder = new TextDecoder("utf-8", { ignoreBOM: true });
+const encoder = new TextEncoder();
+const SHORT_NAME = 32;
+
+function ascii(from, length) {
+  let text = "";
+  for (let at = from; at < from + length; at++) {
+    if (octets[at] > 127) return undefined;
+    text += one(octets[at]);
+  }
+  return text;
+}
+
+function bytesAt() {
+  const place = out[0];
+  const length = out[1];
+  return (length <= SHORT_NAME ? ascii(place, length) : undefined) ?? decoder.decode(octets.subarray(place, place + length));
+}
+
+// ---- What comes in: the caller reserves room for all of it, and then writes piece by piece.
+
+const LARGE = 1048576;
+let room = 0;
+let roomSize = 0;
+
+/** Room for so many bytes, or 0 where there is no memory for it. */
+function reserve(size) {
+  if (size <= roomSize && (roomSize <= LARGE || size > LARGE)) return room;
+  room = size > 4294967295 ? 0 : module.room(size) >>> 0;
+  roomSize = room === 0 ? 0 : out[0];
+  return room;
+}
+
+function putText(place, text) {
+  const { length } = text;
+  if (length > SHORT && buffer) return buffer.write(text, place, "utf16le") / 2;
+  for (let at = place >>> 1, from = 0; from < length; at++, from++) units[at] = text.charCodeAt(from);
+  return length;
+}
+
+/** Writes a name; a surrogate that stands alone becomes U+FFFD. */
+function putName(place, name) {
+  const { length } = name;
+  for (let from = 0; from < length; from++) {
+    const unit = name.charCodeAt(from);
+    if (unit > 127) return encoder.encodeInto(name, octets.subarray(place)).written;
+    octets[place + from] = unit;
+  }
+  return length;
+}
+
+function putOctets(place, bytes) {
+  octets.set(bytes, place);
+  return bytes.length;
+}
+
+function putNumbers(place, numbers) {
+  words.set(numbers, place >>> 2);
+  return numbers.length;
+}
+
+const calls = callsOver(module, { reserve, putName, putText, putOctets, putNumbers, bytesAt, textAt });
+
+// ---- Calls of the module's own: what takes several calls of the library in one.
+
+const lentBy = (call) => (session, ...given) => {
+  const status = call(session, ...given);
+  return status === 0 ? textAt() : status;
+};
+
+/** The number by which the module has a name, from then on. */
+function nameNumber(name) {
+  const place = reserve(3 * name.length + 8);
+  return place === 0 ? NUMBERS.HP_NONE : module.name_number(place, putName(place, name)) >>> 0;
+}
+
+/** The name of a number. */
+function nameOf(number) {
+  module.name_bytes(number);
+  return bytesAt();
+}
+
+const own = {
+  open: module.open,
+  close: module.close,
+  step: module.step,
+  listed: module.listed,
+  children: module.children,
+  elementChildren: module.element_children,
+  rows: module.rows,
+  elements: module.elements,
+  holders: module.holders,
+  records: module.records,
+  element: module.element,
+  nodeName: module.node_name,
+  nameNumber,
+  nameOf,
+  value(session, element, number) {
+    const status = module.value(session, element, number);
+    return status === 0 ? textAt() : status;
+  },
+  setValue(session, element, number, text) {
+    const place = reserve(2 * text.length + 8);
+    return place === 0 ? NUMBERS.HP_OUT_OF_MEMORY : module.set_value(session, element, number, place, putText(place, text));
+  },
+  data: lentBy(module.data),
+  content: lentBy(module.content),
+  /** The bytes that the core and the glue hold. */
+  held: () => module.held() >>> 0,
+  /** The bytes of memory that there are, and that there may be at most: 0 for as many as the module can have. */
+  size: () => octets.length,
+  bound: module.bound,
+};
+
+export const native = { ...calls, ...NUMBERS, ...own };
 
 /** Whether the library has a call of that name. */
 export const has = (call) => typeof native[call] === "function";

@@ -1,84 +1,82 @@
 /** Node, and what Documents, fragments and elements have in common: children that are elements, and several nodes at once. */
-import { check, DOCTYPE, DOCUMENT, ELEMENT, FRAGMENT, INSTRUCTION, lent, listed, native, NONE, out, TEXT, COMMENT } from "./core.js";
-import { elementName, HTML } from "./names.js";
+import { check, COMMENT, DOCTYPE, DOCUMENT, ELEMENT, FRAGMENT, INSTRUCTION, lent, native, out, TEXT, wordsOf } from "./core.js";
+import { noteIdsBelow } from "./ids.js";
+import { elementByNumber, elementName, HTML } from "./names.js";
+import { areEqual } from "./rows.js";
 import { htmlCollection, liveNodeList } from "./lists.js";
 import { known } from "./webidl.js";
 import {
-  arrive,
+  arrived,
   childrenOf,
+  departed,
+  detach,
   documentIs,
+  documentOf,
+  firstChildOf,
   isNode,
+  isOfParents,
+  keepName,
   keptOf,
   kindOf,
-  moving,
+  lastChildOf,
+  nameKeptOf,
+  nextOf,
   numberIn,
   numberInOrNone,
   numberOf,
+  parentOf,
+  plant,
+  previousOf,
   realmOf,
+  replaced,
+  rootOf,
   sessionOf,
   settle,
-  wrap,
+  uproot,
+  wrapBare,
   wrapDocument,
   wrapMade,
-  wrapOrNull,
+  wrappedBelow,
+  wrappedChildOf,
 } from "./wrappers.js";
 
-// ---- Questions: each is a call of the library.
+export { documentOf, firstChildOf, lastChildOf, nextOf, parentOf, previousOf };
 
-/** Asks what stands around a node, which is in `out`: its kind, its document, its parent, the siblings before and after it, its first and its last child. */
-const ask = (node) => check(native.hp_links(sessionOf(node).index, numberOf(node)));
-const DOCUMENT_AT = 1;
-const PARENT_AT = 2;
-const PREVIOUS_AT = 3;
-const NEXT_AT = 4;
-const FIRST_AT = 5;
-const LAST_AT = 6;
+// (calls that are made often, by names of their own: the engine then knows them)
+const { data, content, element, nodeName: nameNumberOf, hp_append_child, hp_insert_before, hp_remove_child, hp_remove, hp_create_text } = native;
 
-function beside(node, at) {
-  ask(node);
-  return wrapOrNull(sessionOf(node), out[at]);
-}
-
-export const parentOf = (node) => beside(node, PARENT_AT);
-export const nextOf = (node) => beside(node, NEXT_AT);
-export const previousOf = (node) => beside(node, PREVIOUS_AT);
-export const firstChildOf = (node) => beside(node, FIRST_AT);
-export const lastChildOf = (node) => beside(node, LAST_AT);
-export const documentOf = (node) => (kindOf(node) === DOCUMENT ? node : beside(node, DOCUMENT_AT));
-
-function stepped(node, show, move) {
-  const session = sessionOf(node);
-  return wrapOrNull(session, session.step(show, numberOf(node), move));
-}
+// ---- Questions.
 
 /** The children of a node by their numbers. */
 export function childNumbers(node) {
-  const session = sessionOf(node);
-  check(native.hp_children(session.index, numberOf(node)));
-  return listed(session);
+  return isOfParents(node) ? Array.from(wordsOf(native.children(sessionOf(node).index, numberOf(node)))) : [];
 }
 
 /** A part of a node's name, which never changes. */
 export function namePart(node, part) {
-  const kept = keptOf(node);
-  kept.names ??= [];
-  if (kept.names[part] === undefined) {
-    check(native.hp_node(sessionOf(node).index, numberOf(node)));
-    kept.names[part] = lent(native.hp_node_name(sessionOf(node).index, part));
+  const names = (keptOf(node).names ??= []);
+  if (names[part] === undefined) {
+    check(nameNumberOf(sessionOf(node).index, numberOf(node), part));
+    names[part] = native.nameOf(out[0]);
   }
-  return kept.names[part];
+  return names[part];
 }
 
 /** What an element's name says. */
-export function nameOf(element) {
-  const kept = keptOf(element);
-  return (kept.name ??= elementName(sessionOf(element), namePart(element, 0)));
+export const nameOf = (node) => nameKeptOf(node) ?? readName(node);
+
+function readName(node) {
+  const session = sessionOf(node);
+  check(nameNumberOf(session.index, numberOf(node), 0));
+  const name = elementByNumber(session, out[0]);
+  keepName(node, name);
+  return name;
 }
 
 /** What the session knows of a node's Document. */
 export function isOfDocument(node) {
-  ask(node);
-  return documentIs(sessionOf(node), out[DOCUMENT_AT]);
+  const document = documentOf(node);
+  return documentIs(sessionOf(document), numberOf(document));
 }
 
 function nodeName(node) {
@@ -96,18 +94,14 @@ function nodeName(node) {
 const NAMES = { [TEXT]: "#text", [COMMENT]: "#comment", [DOCUMENT]: "#document", [FRAGMENT]: "#document-fragment" };
 
 /** An element's qualified name, in capitals for one of HTML in a Document of HTML. */
-export function tagName(element) {
-  const name = nameOf(element);
-  return name.namespace === HTML && isOfDocument(element).isHtml ? name.capital : name.qualified;
+export function tagName(node) {
+  const name = nameOf(node);
+  return name.namespace === HTML && isOfDocument(node).isHtml ? name.capital : name.qualified;
 }
 
-const hasData = (node) => [TEXT, INSTRUCTION, COMMENT].includes(kindOf(node));
+export const hasData = (node) => kindOf(node) === TEXT || kindOf(node) === COMMENT || kindOf(node) === INSTRUCTION;
 
-export function dataOf(node) {
-  const { index } = sessionOf(node);
-  check(native.hp_data(index, numberOf(node)));
-  return lent(native.hp_text(index));
-}
+export const dataOf = (node) => lent(data(sessionOf(node).index, numberOf(node)));
 
 export function setData(node, text) {
   const session = sessionOf(node);
@@ -115,23 +109,32 @@ export function setData(node, text) {
   session.changed();
 }
 
-function textContent(node) {
-  const { index } = sessionOf(node);
-  check(native.hp_text_content(index, numberOf(node)));
-  return lent(native.hp_text(index));
-}
+const textContent = (node) => lent(content(sessionOf(node).index, numberOf(node)));
 
 function setTextContent(node, text) {
   const session = sessionOf(node);
-  const gone = hasData(node) ? [] : childrenOf(node);
+  // (a Document keeps its children)
+  const losesChildren = kindOf(node) === ELEMENT || kindOf(node) === FRAGMENT;
+  const gone = losesChildren ? childNumbers(node) : [];
   check(native.hp_set_text_content(session.index, numberOf(node), text ?? ""));
-  gone.forEach(settle);
-  session.changed();
+  if (!losesChildren) return void session.changed();
+  left(node, gone, documentOf(node));
+  session.renewed();
+}
+
+/** Children that have left a parent, by their numbers: those that have wrappers are roots now, the others go where nothing holds them. */
+function left(parent, numbers, document) {
+  const session = sessionOf(parent);
+  for (const number of numbers) {
+    const wrapper = session.marks.has(number) ? wrappedChildOf(parent, number) : undefined;
+    if (wrapper) uproot([wrapper], document);
+    else session.leave(number);
+  }
 }
 
 /** A call that answers a number about two nodes of one session. */
 function compared(call, node, other) {
-  check(native[call](sessionOf(node).index, numberOf(node), other === null ? NONE : numberOf(other)));
+  check(native[call](sessionOf(node).index, numberOf(node), other === null ? native.HP_NONE : numberOf(other)));
   return out[0];
 }
 
@@ -143,73 +146,72 @@ function comparePosition(node, other) {
   return DISCONNECTED | (sessionOf(node).index < sessionOf(other).index ? 4 : 2);
 }
 
-function rootOf(node) {
-  const session = sessionOf(node);
-  check(native.hp_root(session.index, numberOf(node)));
-  return wrap(session, out[0]);
+/**
+ * Whether two nodes are equal. The core has namespaces and prefixes in its names (see names.js), and the standard does not compare an attribute's prefix:
+ * where there are any, and where the nodes are of two sessions, whose marks differ, what the rows say is compared without them.
+ */
+function isEqual(node, other) {
+  if (other === null) return false;
+  if (!isBeside(node, other)) return areEqual(node, other);
+  return compared("hp_is_equal", node, other) === 1 || (sessionOf(node).hasPrefixedAttributes && areEqual(node, other));
 }
 
-// ---- Changes: each is a call of the library, and then the wrappers follow.
+// ---- Changes: each is a call of the module, and then the wrappers follow.
 
 export function insertBefore(parent, node, child) {
   const session = sessionOf(parent);
-  check(native.hp_insert_before(session.index, numberOf(parent), numberIn(session, node), numberInOrNone(session, child)));
-  arrive(moving(node), parent);
-  session.changed();
+  check(hp_insert_before(session.index, numberOf(parent), numberIn(session, node), numberInOrNone(session, child)));
+  arrived(node, parent, child);
+  session.moved();
   return node;
 }
 
 export function appendChild(parent, node) {
   const session = sessionOf(parent);
-  check(native.hp_append_child(session.index, numberOf(parent), numberIn(session, node)));
-  arrive(moving(node), parent);
-  session.changed();
+  check(hp_append_child(session.index, numberOf(parent), numberIn(session, node)));
+  arrived(node, parent, null);
+  session.moved();
   return node;
 }
 
 export function replaceChild(parent, node, child) {
   const session = sessionOf(parent);
   check(native.hp_replace_child(session.index, numberOf(parent), numberIn(session, node), numberIn(session, child)));
-  const come = moving(node);
-  settle(child);
-  arrive(come, parent);
-  session.changed();
+  replaced(node, parent, child);
+  session.moved();
   return child;
-}
-
-function removed(node) {
-  const session = sessionOf(node);
-  settle(node);
-  session.changed();
-  return node;
 }
 
 export function removeChild(parent, child) {
   const session = sessionOf(parent);
-  check(native.hp_remove_child(session.index, numberOf(parent), numberIn(session, child)));
-  return removed(child);
+  check(hp_remove_child(session.index, numberOf(parent), numberIn(session, child)));
+  departed(child);
+  session.moved();
+  return child;
 }
 
 export function remove(node) {
-  check(native.hp_remove(sessionOf(node).index, numberOf(node)));
-  removed(node);
+  const session = sessionOf(node);
+  check(hp_remove(session.index, numberOf(node)));
+  if (parentOf(node)) departed(node);
+  session.moved();
 }
 
 function replaceAll(parent, node) {
   const session = sessionOf(parent);
-  const gone = childrenOf(parent);
-  const come = node === null ? [] : moving(node);
+  const gone = childNumbers(parent);
+  const come = node === null ? [] : kindOf(node) === FRAGMENT ? childrenOf(node) : [node];
   check(native.hp_replace_children(session.index, numberOf(parent), numberInOrNone(session, node)));
-  gone.forEach(settle);
-  arrive(come, parent);
-  session.changed();
+  left(parent, gone, documentOf(parent));
+  plant(come, parent);
+  session.renewed();
 }
 
 const NO_FILTER = new Uint32Array(0);
 const NO_NAMES = new Uint8Array(0);
 const CHILDREN_BELOW = Uint8Array.of(1, 2, 2, 1, 2, 2, 0);
 
-/** The numbers of those that leave their parents while a change is made under a node, as an observer of the facade's own tells them. */
+/** The numbers of those that leave parents while a change is made under a node, by the parents' numbers, as an observer of the facade's own tells them. */
 function leaving(session, number, change) {
   const probe = session.probe();
   check(native.hp_observe(session.index, probe, number, CHILDREN_BELOW, NO_NAMES, NO_FILTER));
@@ -217,7 +219,7 @@ function leaving(session, number, change) {
     change();
     check(native.hp_take_records(session.index, probe));
     check(native.hp_count(session.index));
-    return removedIn(native.records(session.index, 0, out[0]));
+    return removedIn(wordsOf(native.records(session.index, 0, out[0])));
   } finally {
     native.hp_disconnect(session.index, probe);
   }
@@ -226,62 +228,105 @@ function leaving(session, number, change) {
 function removedIn(told) {
   const found = [];
   for (let at = 0; at < told.length; ) {
-    const [, , added, removed] = told.subarray(at, at + 4);
-    found.push(...told.subarray(at + 6 + added, at + 6 + added + removed));
+    const target = told[at + 1];
+    const added = told[at + 2];
+    const removed = told[at + 3];
+    found.push({ target, numbers: Array.from(told.subarray(at + 6 + added, at + 6 + added + removed)) });
     at += 6 + added + removed;
   }
   return found;
 }
 
-/** Makes a change under a node, after which the wrappers of what left its parent follow. */
-export function following(session, number, change) {
-  const gone = leaving(session, number, change);
-  for (const it of gone) {
-    const wrapper = session.nodes.get(it)?.deref();
-    if (wrapper) settle(wrapper);
+/** Makes a change under a node, by which children leave some parents that are given; the wrappers of what left then follow. */
+export function following(ancestor, parents, change) {
+  const session = sessionOf(ancestor);
+  const document = documentOf(ancestor);
+  const byNumber = new Map([...parents].map((it) => [numberOf(it), it]));
+  const gone = new Set();
+  for (const { target, numbers } of leaving(session, numberOf(ancestor), change)) {
+    const parent = byNumber.get(target);
+    for (const number of numbers) {
+      const wrapper = parent && session.marks.has(number) ? wrappedChildOf(parent, number) : undefined;
+      if (wrapper) gone.add(wrapper);
+      else session.leave(number);
+    }
   }
-  session.changed();
+  detach(gone, document);
+  for (const it of gone) settle(it);
+  session.renewed();
 }
 
 function normalize(node) {
   const session = sessionOf(node);
-  following(session, numberOf(node), () => check(native.hp_normalize(session.index, numberOf(node))));
+  following(node, wrappedBelow(node), () => check(native.hp_normalize(session.index, numberOf(node))));
 }
 
-/** A copy, made by a call that answers its number. */
-function copied(node, call, ...words) {
+/** A copy for a Document, made by a call that answers its number. */
+function copied(node, document, call, ...given) {
   const session = sessionOf(node);
-  check(native[call](session.index, ...words));
+  check(native[call](session.index, ...given));
   const copy = out[0];
-  return kindOf(node) === DOCUMENT ? wrapDocument(session, copy, { ...isOfDocument(node) }) : wrap(session, copy);
+  const made = kindOf(node) === DOCUMENT ? wrapDocument(session, copy, { ...isOfDocument(node) }) : wrapMade(document, copy, kindOf(node));
+  noteIdsBelow(session, copy);
+  return made;
 }
 
-export const cloneNode = (node, deep) => copied(node, "hp_clone_node", numberOf(node), Number(deep));
+/** Elements may have contents of their own, as templates of HTML have: copies of them go with a deep copy. */
+function withContents(node, copy, deep) {
+  if (deep && sessionOf(node).hasContents) copyContents(node, copy);
+  return copy;
+}
+
+function copyContents(node, copy) {
+  const { contents } = keptOf(node);
+  if (contents) setContents(copy, importNode(documentOf(contents), contents, true));
+  for (let from = firstChildOf(node), to = firstChildOf(copy); from && to; from = nextOf(from), to = nextOf(to)) copyContents(from, to);
+}
+
+/** Gives an element contents, a fragment. */
+export function setContents(node, fragment) {
+  keptOf(node).contents = fragment;
+  sessionOf(node).hasContents = true;
+}
+
+/** The contents of an element, or null. */
+export const contentsOf = (node) => keptOf(node).contents ?? null;
+
+export const cloneNode = (node, deep) => withContents(node, copied(node, documentOf(node), "hp_clone_node", numberOf(node), Number(deep)), deep);
 export const importNode = (document, node, deep) =>
-  copied(node, "hp_import_node", numberOf(document), numberIn(sessionOf(document), node), Number(deep));
+  withContents(node, copied(node, document, "hp_import_node", numberOf(document), numberIn(sessionOf(document), node), Number(deep)), deep);
 
 export function adoptNode(document, node) {
   const session = sessionOf(document);
   check(native.hp_adopt_node(session.index, numberOf(document), numberIn(session, node)));
-  return removed(node);
+  departed(node);
+  detach([node], document);
+  session.moved();
+  return node;
 }
 
 // ---- Making nodes in a Document.
 
 /** The object of a node of a kind, which a call has just made. */
-function created(document, kind, status) {
-  check(status);
-  return wrapMade(document, out[0], kind);
+function created(document, kind, status, name) {
+  if (status !== 0) check(status);
+  return wrapBare(document, out[0], kind, name);
 }
 
 const indexOf = (document) => sessionOf(document).index;
 
-export const createElementMarked = (document, name) =>
-  created(document, ELEMENT, native.hp_create_element(indexOf(document), numberOf(document), name));
-export const createText = (document, data) => created(document, TEXT, native.hp_create_text(indexOf(document), numberOf(document), data));
-export const createComment = (document, data) => created(document, COMMENT, native.hp_create_comment(indexOf(document), numberOf(document), data));
-export const createInstruction = (document, target, data) =>
-  created(document, INSTRUCTION, native.hp_create_pi(indexOf(document), numberOf(document), target, data));
+/** An element of a name that the session knows. */
+export function createElementNamed(document, name) {
+  const made = created(document, ELEMENT, element(indexOf(document), numberOf(document), name.number), name);
+  keepName(made, name);
+  return made;
+}
+
+export const createElementMarked = (document, core) => createElementNamed(document, elementName(sessionOf(document), core));
+export const createText = (document, text) => created(document, TEXT, hp_create_text(indexOf(document), numberOf(document), text));
+export const createComment = (document, text) => created(document, COMMENT, native.hp_create_comment(indexOf(document), numberOf(document), text));
+export const createInstruction = (document, target, text) =>
+  created(document, INSTRUCTION, native.hp_create_pi(indexOf(document), numberOf(document), target, text));
 export const createDoctype = (document, name, publicId, systemId) =>
   created(document, DOCTYPE, native.hp_create_doctype(indexOf(document), numberOf(document), name, publicId, systemId));
 export const createFragment = (document) => created(document, FRAGMENT, native.hp_create_fragment(indexOf(document), numberOf(document)));
@@ -341,27 +386,29 @@ export const childNode = {
   hidden: ["before", "after", "replaceWith", "remove"],
 };
 
+/** The nearest element from a node on, in a direction. */
+function elementFrom(node, direction) {
+  let found = node;
+  while (found && kindOf(found) !== ELEMENT) found = direction(found);
+  return found;
+}
+
 /** What elements and character data have. */
 export const siblings = {
-  previousElementSibling: (node) => stepped(node, "elements", "previousSibling"),
-  nextElementSibling: (node) => stepped(node, "elements", "nextSibling"),
+  previousElementSibling: (node) => elementFrom(previousOf(node), previousOf),
+  nextElementSibling: (node) => elementFrom(nextOf(node), nextOf),
 };
 
 /** The children of a node that are elements, by their numbers. */
-function elementNumbers(node) {
-  const session = sessionOf(node);
-  const found = [];
-  for (let at = session.step("elements", numberOf(node), "firstChild"); at !== NONE; at = session.step("elements", at, "nextSibling")) found.push(at);
-  return found;
-}
+const elementNumbers = (node) => Array.from(wordsOf(native.elementChildren(sessionOf(node).index, numberOf(node))));
 
 /** What Documents, fragments and elements have. */
 export const parentNode = {
   attributes: {
-    children: (node) => (keptOf(node).children ??= htmlCollection(realmOf(node), sessionOf(node), () => elementNumbers(node))),
-    firstElementChild: (node) => stepped(node, "elements", "firstChild"),
-    lastElementChild: (node) => stepped(node, "elements", "lastChild"),
-    childElementCount: (node) => elementNumbers(node).length,
+    children: (node) => (keptOf(node).children ??= htmlCollection(node, () => elementNumbers(node), { areChildren: true })),
+    firstElementChild: (node) => elementFrom(firstChildOf(node), nextOf),
+    lastElementChild: (node) => elementFrom(lastChildOf(node), previousOf),
+    childElementCount: (node) => wordsOf(native.elementChildren(sessionOf(node).index, numberOf(node))).length,
   },
   operations: {
     append: [SEVERAL, (node, ...given) => void appendChild(node, oneOf(documentOf(node), given))],
@@ -371,8 +418,37 @@ export const parentNode = {
   hidden: ["append", "prepend", "replaceChildren"],
 };
 
-const childNodes = (node) =>
-  (keptOf(node).childNodes ??= liveNodeList(realmOf(node), node, () => childNumbers(node)));
+const childNodes = (node) => (keptOf(node).childNodes ??= liveNodeList(node, () => childNumbers(node)));
+
+// ---- What node's console shows of a node.
+
+const MOST_SHOWN = 60;
+const clipped = (text) => JSON.stringify(text.length > MOST_SHOWN ? `${text.slice(0, MOST_SHOWN)}..` : text);
+
+const SHOWN = {
+  [ELEMENT]: (node) => `<${[tagName(node).toLowerCase(), ...shownAttributes(node)].join(" ")}>`,
+  [TEXT]: (node) => `#text ${clipped(dataOf(node))}`,
+  [COMMENT]: (node) => `<!--${clipped(dataOf(node)).slice(1, -1)}-->`,
+  [INSTRUCTION]: (node) => `<?${namePart(node, 0)} ${clipped(dataOf(node)).slice(1, -1)}>`,
+  [DOCTYPE]: (node) => `<!DOCTYPE ${namePart(node, 0)}>`,
+};
+
+function shownAttributes(node) {
+  return node.getAttributeNames().map((name) => `${name}=${clipped(node.getAttribute(name))}`);
+}
+
+/** A node as a line, with how many children it has. */
+function inspected() {
+  if (!isNode(this)) return Object.prototype.toString.call(this);
+  try {
+    const its = (SHOWN[kindOf(this)] ?? nodeName)(this);
+    const count = childNumbers(this).length;
+    return count ? `${its} (${count} ${count === 1 ? "child" : "children"})` : its;
+  } catch {
+    // (of a session that is closed)
+    return Object.prototype.toString.call(this);
+  }
+}
 
 export const Node = known({
   name: "Node",
@@ -425,7 +501,7 @@ export const Node = known({
     hasChildNodes: [[], (node) => firstChildOf(node) !== null],
     normalize: [[], normalize],
     cloneNode: [["boolean = false"], cloneNode],
-    isEqualNode: [["Node?"], (node, other) => isBeside(node, other) && compared("hp_is_equal", node, other) === 1],
+    isEqualNode: [["Node?"], isEqual],
     isSameNode: [["Node?"], (node, other) => node === other],
     compareDocumentPosition: [["Node"], comparePosition],
     contains: [["Node?"], (node, other) => isBeside(node, other) && compared("hp_contains", node, other) === 1],
@@ -433,5 +509,9 @@ export const Node = known({
     appendChild: [["Node"], appendChild],
     replaceChild: [["Node", "Node"], replaceChild],
     removeChild: [["Node"], removeChild],
+  },
+  finish(realm, made) {
+    const shown = { value: inspected, writable: true, configurable: true };
+    Object.defineProperty(made.prototype, Symbol.for("nodejs.util.inspect.custom"), shown);
   },
 });

@@ -1,5 +1,5 @@
 /** MutationObserver and MutationRecord. The core queues records; here they become objects, and callbacks are called. */
-import { check, lent, native, OK, out } from "./core.js";
+import { check, lent, native, OK, out, wordsOf } from "./core.js";
 import { stillNodeList } from "./lists.js";
 import { attributeName } from "./names.js";
 import { converted, convertible, known } from "./webidl.js";
@@ -9,21 +9,28 @@ const TYPES = ["attributes", "characterData", "childList"];
 const ATTRIBUTES = TYPES.indexOf("attributes");
 const CHILD_LIST = TYPES.indexOf("childList");
 const HEAD = 6;
+/** The notice that has the records of one observer. */
+const NOTICE = 0;
 
 // ---- Reading: first all that is told, by numbers, since the answer is lent only until the next call; then the objects.
 
-/** The records of a notice as plain objects of numbers and texts. */
-function read(session, notice, count) {
-  const told = native.records(session.index, notice, count);
-  if (typeof told === "number") check(told);
+/** The records of the last answer as plain objects of numbers and texts. */
+function read(session) {
+  check(native.hp_count(session.index));
+  const told = wordsOf(native.records(session.index, NOTICE, out[0])).slice();
   const found = [];
   for (let at = 0; at < told.length; ) {
-    const [type, target, added, removed, previous, next] = told.subarray(at, at + HEAD);
+    const type = told[at];
+    const target = told[at + 1];
+    const added = told[at + 2];
+    const removed = told[at + 3];
+    const previous = told[at + 4];
+    const next = told[at + 5];
     at += HEAD;
     const record = { type, target, previous, next, added: told.subarray(at, at + added), removed: told.subarray(at + added, at + added + removed) };
     at += added + removed;
-    if (type !== CHILD_LIST) record.oldValue = lent(native.hp_record_old_value(session.index, notice, found.length));
-    if (type === ATTRIBUTES) record.name = lent(native.hp_record_name(session.index, notice, found.length));
+    if (type !== CHILD_LIST) record.oldValue = lent(native.hp_record_old_value(session.index, NOTICE, found.length));
+    if (type === ATTRIBUTES) record.name = lent(native.hp_record_name(session.index, NOTICE, found.length));
     found.push(record);
   }
   return found;
@@ -124,7 +131,7 @@ function observe(observer, target, options) {
   const { switches, names } = options;
   const bytes = names.map((name) => encoder.encode(name));
   const lengths = Uint32Array.from(bytes, (it) => it.length);
-  check(native.hp_observe(session.index, number, numberOf(target), switches, Buffer.concat(bytes).subarray(), lengths));
+  check(native.hp_observe(session.index, number, numberOf(target), switches, Uint8Array.from(bytes.flatMap((it) => [...it])), lengths));
   (keptOf(target).observers ??= new Set()).add(observer);
   observerOf(observer).nodes.push(new WeakRef(target));
 }
@@ -158,33 +165,22 @@ function takeRecords(observer) {
   const found = [];
   for (const [session, number] of numbers) {
     check(native.hp_take_records(session.index, number));
-    check(native.hp_count(session.index));
-    found.push(...recordsOf(realm, session, read(session, 0, out[0])));
+    found.push(...recordsOf(realm, session, read(session)));
   }
   return realm.array(found);
 }
 
-/** What each observer of a session is told now. */
-function notices(session) {
-  if (native.hp_notify(session.index) !== OK) return [];
-  check(native.hp_count(session.index));
-  const count = out[0];
-  const found = [];
-  for (let at = 0; at < count; at++) {
-    check(native.hp_notice_at(session.index, at));
-    const [number, records] = out;
-    found.push({ number, told: read(session, at, records) });
-  }
-  return found;
-}
+/** What an observer is told in its turn: nothing where it was let go. */
+const toldInTurn = (session, number) => (native.hp_tell_observer(session.index, number) === OK ? read(session) : []);
 
-/** Tells the observers of a session what they wait for. */
+/** Tells the observers of a session what they wait for. What an earlier callback has done to a later observer counts. */
 function notify(session) {
-  const all = notices(session).map(({ number, told }) => {
+  if (native.hp_take_pending(session.index) !== OK) return;
+  for (const number of wordsOf(native.listed(session.index)).slice()) {
+    const told = toldInTurn(session, number);
     const observer = session.observers.get(number)?.deref();
-    return observer && { observer, records: recordsOf(observerOf(observer).realm, session, told) };
-  });
-  for (const it of all) if (it) call(it.observer, it.records);
+    if (observer && told.length > 0) call(observer, recordsOf(observerOf(observer).realm, session, told));
+  }
 }
 
 function call(observer, records) {

@@ -1,11 +1,12 @@
-/** Documents in and out: HTML by parse5, and XML by saxes, where these are installed. Both are asked for only when they are needed. */
-import { createRequire } from "node:module";
-import { COMMENT, DOCTYPE, ELEMENT, native, TEXT } from "./core.js";
-import { attributesOf, isElement } from "./elements.js";
+/** Documents in: HTML by parse5, and XML by saxes. */
+import { COMMENT, DOCTYPE, ELEMENT, native, Refusal, TEXT } from "./core.js";
+import { attributesOf, isElement, setAttributeMarked } from "./elements.js";
+import { wanted } from "./libraries.js";
 import { markedAttribute, markedElement } from "./names.js";
 import {
   appendChild,
   childNumbers,
+  contentsOf,
   createComment,
   createDoctype,
   createElementMarked,
@@ -22,23 +23,9 @@ import {
   parentOf,
   previousOf,
   remove,
+  setContents,
 } from "./nodes.js";
-import { documentIs, isNode, keptOf, kindOf, numberOf, sessionOf, wrap } from "./wrappers.js";
-
-/** A package that is looked for beside this one and where the program runs. */
-function wanted(name, what) {
-  const places = [import.meta.url, `${process.cwd()}/`];
-  const faults = [];
-  for (const place of places) {
-    try {
-      return createRequire(place)(name);
-    } catch (fault) {
-      faults.push(fault);
-    }
-  }
-  const where = `npm install ${name}, or Debian's node-${name} with NODE_PATH=/usr/share/nodejs`;
-  throw new Error(`${what} needs the package ${name}, which was not found (${where})`, { cause: faults[0] });
-}
+import { documentIs, kindOf, numberOf, sessionOf, wrapChild } from "./wrappers.js";
 
 const isText = (node) => node !== null && kindOf(node) === TEXT;
 
@@ -50,8 +37,12 @@ function appendData(text, data) {
 
 /** An attribute of the parser's on an element. A name that the core does not take is left out. */
 function addAttribute(element, { name, value, namespace = null, prefix }) {
-  const session = sessionOf(element);
-  native.hp_set_attribute(session.index, numberOf(element), markedAttribute(session, { namespace, prefix: prefix || null, local: name }), value);
+  const core = markedAttribute(sessionOf(element), { namespace, prefix: prefix || null, local: name });
+  try {
+    setAttributeMarked(element, core, value);
+  } catch (fault) {
+    if (!(fault instanceof Refusal) || fault.status !== native.HP_INVALID_CHARACTER_ERROR) throw fault;
+  }
 }
 
 function createElement(document, name, namespace, attributes) {
@@ -93,14 +84,15 @@ export function treeAdapter(document) {
     setDocumentType: (its, ...words) => void appendChild(its, createDoctype(its, ...words)),
     setDocumentMode,
     getDocumentMode: (its) => (its.compatMode === "BackCompat" ? "quirks" : "no-quirks"),
-    setTemplateContent: (element, content) => void (keptOf(element).content = content),
-    getTemplateContent: (element) => keptOf(element).content ?? createFragment(documentOf(element)),
+    setTemplateContent: setContents,
+    getTemplateContent: (element) => contentsOf(element) ?? createFragment(documentOf(element)),
     getFirstChild: firstChildOf,
-    getChildNodes: (node) => childNumbers(node).map((number) => wrap(sessionOf(node), number)),
+    getChildNodes: (node) => childNumbers(node).map((number) => wrapChild(node, number)),
     getParentNode: parentOf,
     getAttrList: (element) => attributesOf(element).map(parserAttribute),
-    getTagName: (element) => nameOf(element).qualified,
-    getNamespaceURI: (element) => nameOf(element).namespace,
+    // (it is asked of a Document too, above a form)
+    getTagName: (node) => (isElement(node) ? nameOf(node).qualified : ""),
+    getNamespaceURI: (node) => (isElement(node) ? nameOf(node).namespace : null),
     getTextNodeContent: dataOf,
     getCommentNodeContent: dataOf,
     getDocumentTypeNodeName: (doctype) => namePart(doctype, 0),
@@ -118,7 +110,7 @@ export function treeAdapter(document) {
 
 /** Reads a page of HTML into a Document that has no child yet. */
 export function readHTML(document, html) {
-  wanted("parse5", "parsing HTML").parse(html, { treeAdapter: treeAdapter(document) });
+  wanted("parse5", "parsing HTML").parse(html, { treeAdapter: treeAdapter(document), scriptingEnabled: false });
   return document;
 }
 
@@ -126,15 +118,7 @@ export function readHTML(document, html) {
 export function readFragment(context, html) {
   const document = documentOf(context);
   const within = isElement(context) ? context : null;
-  return wanted("parse5", "parsing HTML").parseFragment(within, html, { treeAdapter: treeAdapter(document) });
-}
-
-/** A node and what is in it as HTML: of a Document and a fragment what is in it. */
-export function serialize(node) {
-  if (!isNode(node)) throw new TypeError("this is no node");
-  const { serialize: inner, serializeOuter } = wanted("parse5", "serializing HTML");
-  const words = { treeAdapter: treeAdapter(documentOf(node)) };
-  return isElement(node) ? serializeOuter(node, words) : inner(node, words);
+  return wanted("parse5", "parsing HTML").parseFragment(within, html, { treeAdapter: treeAdapter(document), scriptingEnabled: false });
 }
 
 // ---- XML.

@@ -1,8 +1,25 @@
 /** AbstractRange, Range and StaticRange. */
-import { check, lent, native, out } from "./core.js";
-import { following } from "./nodes.js";
+import { check, FRAGMENT, lent, native, out } from "./core.js";
+import { noteIdsBelow } from "./ids.js";
+import { childNumbers, following } from "./nodes.js";
 import { convertible, dictionary, known } from "./webidl.js";
-import { childrenOf, makeThing, numberIn, numberOf, realmOf, sessionOf, settle, thingOf, wrap } from "./wrappers.js";
+import {
+  childrenOf,
+  detach,
+  documentOf,
+  kindOf,
+  makeThing,
+  numberIn,
+  numberOf,
+  parentOf,
+  realmOf,
+  sessionOf,
+  settle,
+  thingOf,
+  wrap,
+  wrapMade,
+  wrapNear,
+} from "./wrappers.js";
 
 /** What a range knows: its number in its session, and the containers that it was last seen with, which it holds. */
 class EndsAre {
@@ -35,8 +52,11 @@ const rangeOf = (it) => thingOf(it, RangeIs);
 function container(it, side) {
   const its = endsOf(it);
   its.ask();
-  return (its[side] = wrap(its.session, out[side === "start" ? 0 : 2]));
+  return (its[side] = near(its, its[side], out[side === "start" ? 0 : 2]));
 }
+
+/** The object of a number, which is often that of a container that is known. */
+const near = (its, node, number) => (node ? wrapNear(node, number) : wrap(its.session, number));
 
 function offset(it, at) {
   endsOf(it).ask();
@@ -49,33 +69,34 @@ function collapsed(it) {
 }
 
 /** Has a range hold the containers of its ends. */
-function hold(its) {
+function hold(its, given = its.start) {
   its.ask();
-  const [start, , end] = out;
-  its.start = wrap(its.session, start);
-  its.end = end === start ? its.start : wrap(its.session, end);
+  const start = out[0];
+  const end = out[2];
+  its.start = near(its, given, start);
+  its.end = end === start ? its.start : near(its, its.end === undefined ? given : its.end, end);
 }
 
-function ranged(name, its, call) {
+function ranged(name, its, call, node) {
   const { realm, session } = its;
   const made = makeThing(realm, name, its);
-  hold(its);
+  hold(its, node);
   session.releaseWith(call, made, its.number);
   return made;
 }
 
-const made = (realm, session) => ranged("Range", new RangeIs(realm, session, out[0]), "hp_release_range");
+const made = (realm, session, node) => ranged("Range", new RangeIs(realm, session, out[0]), "hp_release_range", node);
 
 export function createRange(document) {
   const session = sessionOf(document);
   check(native.hp_create_range(session.index, numberOf(document)));
-  return made(realmOf(document), session);
+  return made(realmOf(document), session, document);
 }
 
 function cloneRange(range) {
-  const { realm, session, number } = rangeOf(range);
+  const { realm, session, number, start } = rangeOf(range);
   check(native.hp_clone_range(session.index, number));
-  return made(realm, session);
+  return made(realm, session, start);
 }
 
 /** A call that sets ends. */
@@ -84,7 +105,7 @@ const setting =
   (range, node, ...words) => {
     const its = rangeOf(range);
     check(native[call](its.session.index, its.number, numberIn(its.session, node), ...words));
-    hold(its);
+    hold(its, node);
   };
 
 function collapse(range, toStart) {
@@ -119,44 +140,73 @@ function text(range) {
 
 // ---- Contents.
 
-/** Makes a change of what is in a range; wrappers follow those that left their parents. */
-function within(range, call, ...words) {
-  const { session, number } = rangeOf(range);
-  const ancestor = asked(range, "hp_common_ancestor");
+/** A node and those above it, up to one that is given. */
+function upTo(node, top) {
+  const found = [];
+  for (let it = node; it && it !== top; it = parentOf(it)) found.push(it);
+  return [...found, top];
+}
+
+/** Makes a change of what is in a range; the wrappers of what left its parent follow, and so do those of nodes that come in, which have left theirs. */
+function within(range, come, call, ...words) {
+  const its = rangeOf(range);
+  const { session, number } = its;
+  const ancestor = commonAncestor(range);
+  // (only these can lose children: those above the two ends, and what comes in)
+  const parents = new Set([...upTo(container(range, "start"), ancestor), ...upTo(container(range, "end"), ancestor), ...come]);
   let answer;
-  following(session, ancestor, () => {
+  following(ancestor, parents, () => {
     check(native[call](session.index, number, ...words));
     answer = out[0];
+    detachAll(come);
   });
-  hold(rangeOf(range));
+  come.forEach(settle);
+  hold(its);
   return answer;
 }
 
-function deleteContents(range) {
-  within(range, "hp_delete_contents");
+/** Makes roots of nodes that have left their places, and of their wrapped children where they have any. */
+function detachAll(nodes) {
+  for (const it of nodes) detach([...childrenOf(it), it], documentOf(it));
 }
 
-const extractContents = (range) => wrap(rangeOf(range).session, within(range, "hp_extract_contents"));
+function deleteContents(range) {
+  within(range, [], "hp_delete_contents");
+}
+
+function extractContents(range) {
+  const { session } = rangeOf(range);
+  const number = within(range, [], "hp_extract_contents");
+  noteIdsBelow(session, number);
+  return wrap(session, number);
+}
 
 function cloneContents(range) {
+  const { session } = rangeOf(range);
+  const document = documentOf(container(range, "start"));
   const number = asked(range, "hp_clone_contents");
-  return wrap(rangeOf(range).session, number);
+  noteIdsBelow(session, number);
+  return wrapMade(document, number, FRAGMENT);
 }
 
 function insertNode(range, node) {
   const its = rangeOf(range);
-  const come = [node, ...childrenOf(node)];
+  const come = kindOf(node) === FRAGMENT ? childrenOf(node) : [node];
   check(native.hp_insert_node(its.session.index, its.number, numberIn(its.session, node)));
+  for (const it of come) detach([it], documentOf(it));
   come.forEach(settle);
+  its.session.renewed();
   hold(its);
-  its.session.changed();
 }
 
 function surroundContents(range, parent) {
   const { session } = rangeOf(range);
-  const children = childrenOf(parent);
-  within(range, "hp_surround_contents", numberIn(session, parent));
-  [...children, parent].forEach(settle);
+  const number = numberIn(session, parent);
+  const children = childNumbers(parent);
+  const wrapped = childrenOf(parent);
+  within(range, [parent], "hp_surround_contents", number);
+  wrapped.forEach(settle);
+  for (const it of children) session.leave(it);
 }
 
 const SET = ["Node", "unsigned long"];

@@ -1,4 +1,5 @@
 /** A realm: interfaces of its own, the exceptions that they throw, and the Document that constructors belong to. */
+import { refuseAbsent } from "./absent.js";
 import { Refusal, Session } from "./core.js";
 import { CharacterData, Comment, ProcessingInstruction, Text } from "./data.js";
 import { Document, DocumentFragment, DocumentType, DOMImplementation, XMLDocument, xmlIs } from "./documents.js";
@@ -53,15 +54,21 @@ export class Realm {
   /** The classes that make objects: of each interface by its name, and of nodes by their kinds. */
   makers = {};
   kinds = [];
+  /** Which of these classes makes an element of a name (null: the one of its kind). */
+  elementMaker = null;
   #document = null;
 
-  /** `global` has the constructors of the language (an own context's, or this one's); `report` takes what a callback throws. */
-  constructor({ global = globalThis, report = later } = {}) {
+  /**
+   * `global` has the constructors of the language (an own context's, or this one's); `report` takes what a callback throws; `refuses` says whether names of
+   * the standard that are not there refuse.
+   */
+  constructor({ global = globalThis, report = later, refuses = true } = {}) {
     this.global = global;
     this.report = report;
     for (const table of TABLES) this.interfaces[table.name] = makeInterface(this, table, isOfNodes(table) ? Wrapper : Thing);
     for (const [kind, name] of Object.entries(KINDS)) this.kinds[kind] = this.makers[name];
     this.interfaces.NodeFilter = nodeFilter(this);
+    if (refuses) refuseAbsent(this);
   }
 
   /** The Document that new nodes of constructors belong to: the window's, or one that is made when it is first asked for. */

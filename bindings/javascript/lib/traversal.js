@@ -1,14 +1,14 @@
 /**
  * NodeIterator, TreeWalker and NodeFilter.
  *
- * Without a filter of the program's, the core's own iterators and walkers move. With one, the program's function has to be asked at each node, which
- * the core can't do: a walker then goes over the core's tree by the standard's steps, and an iterator is moved on in the core to the node that
- * the filter took, so that it still gives way before removals.
+ * A walker goes over the tree by the standard's steps, from wrapper to wrapper. An iterator gives way before removals, which is the core's: without a
+ * filter of the program's the core's own iterator moves; with one, which the core can't ask, it is moved on in the core to the node that the filter
+ * took.
  */
-import { check, MOVES, native, NONE, out, Refusal } from "./core.js";
+import { check, native, NONE, out, Refusal } from "./core.js";
 import { firstChildOf, lastChildOf, nextOf, parentOf, previousOf } from "./nodes.js";
 import { known, refuseType } from "./webidl.js";
-import { kindOf, makeThing, numberIn, numberOf, realmOf, sessionOf, thingOf, wrap, wrapOrNull } from "./wrappers.js";
+import { kindOf, makeThing, numberIn, numberOf, realmOf, rootOf, sessionOf, thingOf, wrap } from "./wrappers.js";
 
 const NO_BYTES = new Uint8Array(0);
 const NO_NUMBERS = new Uint32Array(0);
@@ -60,11 +60,27 @@ class Traversal {
 
 // ---- Iterators.
 
+/** Where the iterator that moved last came to, from which the next node is not far. */
+const cursor = { iterator: null, node: null };
+
+/** How many nodes are gone through before the node of a number is looked for by its number. */
+const NEAR = 32;
+
+/** The object of a number that an iterator came to, sought from where it was before. */
+function sought(its, number, course) {
+  if (number === NONE) return null;
+  let node = cursor.iterator === its && rootOf(cursor.node) === rootOf(its.root) ? cursor.node : null;
+  for (let count = 0; node && count < NEAR && numberOf(node) !== number; count++) node = course.beside(node, its.root);
+  const found = node && numberOf(node) === number ? node : wrap(its.session, number);
+  cursor.iterator = its;
+  cursor.node = found;
+  return found;
+}
+
 class IteratorIs extends Traversal {
   constructor(root, show, filter) {
     super(root, show, filter);
     this.number = createdBy("hp_create_iterator", root, filter === null ? show : ALL);
-    this.probe = filter === null ? NONE : createdBy("hp_create_walker", root, show);
   }
 
   ask() {
@@ -87,21 +103,20 @@ class IteratorIs extends Traversal {
     return out[0];
   }
 
-  /** Moves on to a node that the filter took, wherever the filter may have put it meanwhile. */
+  /** Moves on to a node, from wherever the filter may have put the reference meanwhile. */
   follow(course, node) {
     const wanted = numberOf(node);
-    if (this.move(course.call) === wanted || !this.has(wanted)) return node;
+    if (this.move(course.call) === wanted) return;
     const call = this.isAhead(wanted) ? FORTH.call : BACK.call;
     let at = this.move(call);
     while (at !== wanted && at !== NONE) at = this.move(call);
     // (one step more where it came from the other side)
     if (call !== course.call) this.move(course.call);
-    return node;
   }
 
   /** Whether a node is within the root. */
-  has(number) {
-    check(native.hp_contains(this.session.index, numberOf(this.root), number));
+  has(node) {
+    check(native.hp_contains(this.session.index, numberOf(this.root), numberOf(node)));
     return out[0] === 1;
   }
 
@@ -115,32 +130,35 @@ class IteratorIs extends Traversal {
 
 const iteratorOf = (it) => thingOf(it, IteratorIs);
 
-/** The next node that is shown in a direction, from a node on. */
-function shown(its, node, move) {
-  check(native.hp_set_current(its.session.index, its.probe, numberOf(node)));
-  check(native.hp_walk(its.session.index, its.probe, MOVES[move]));
-  return wrapOrNull(its.session, out[0]);
-}
+/** The courses of an iterator: its call, the node beside another one in tree order, and whether the reference itself comes first. */
+const FORTH = { call: "hp_next_node", beside: nodeAfter, isFirst: (its) => its.isBefore };
+const BACK = { call: "hp_previous_node", beside: nodeBefore, isFirst: (its) => !its.isBefore };
 
-/** The course of an iterator: its call, the walker's move, and whether the reference itself comes first. */
-const FORTH = { call: "hp_next_node", move: "nextNode", isFirst: (its) => its.isBefore };
-const BACK = { call: "hp_previous_node", move: "previousNode", isFirst: (its) => !its.isBefore };
+/** By the standard's steps: the pointer moves once the filter has taken a node. One that the filter removed is answered, and the pointer stays ahead of it. */
+function filtered(its, course) {
+  const reference = its.reference;
+  const passed = [];
+  let node = course.isFirst(its) ? reference : course.beside(reference, its.root);
+  while (node && its.verdict(node) !== ACCEPT) {
+    passed.push(node);
+    node = course.beside(node, its.root);
+  }
+  if (!node) return null;
+  const to = its.has(node) ? node : passed.findLast((it) => its.has(it));
+  if (to) its.follow(course, to);
+  return node;
+}
 
 function traverse(iterator, course) {
   const its = iteratorOf(iterator);
   if (its.isAsking) throw new Refusal(native.HP_INVALID_STATE_ERROR, "the filter is being asked");
-  if (its.filter === null) return wrapOrNull(its.session, its.move(course.call));
-  const reference = its.reference;
-  let node = course.isFirst(its) ? reference : shown(its, reference, course.move);
-  while (node && its.verdict(node) !== ACCEPT) node = shown(its, node, course.move);
-  return node && its.follow(course, node);
+  return its.filter === null ? sought(its, its.move(course.call), course) : filtered(its, course);
 }
 
 export function createNodeIterator(document, root, show, filter) {
   const its = new IteratorIs(root, show, filter);
   const made = makeThing(realmOf(document), "NodeIterator", its);
   its.session.releaseWith("hp_release_iterator", made, its.number);
-  if (its.probe !== NONE) its.session.releaseWith("hp_release_walker", made, its.probe);
   return made;
 }
 
@@ -167,22 +185,12 @@ class WalkerIs extends Traversal {
   constructor(root, show, filter) {
     super(root, show, filter);
     this.current = root;
-    this.number = filter === null ? createdBy("hp_create_walker", root, show) : NONE;
   }
 
   set(node) {
-    const number = numberIn(this.session, node);
-    if (this.number !== NONE) check(native.hp_set_current(this.session.index, this.number, number));
+    numberIn(this.session, node);
     this.current = node;
     return node;
-  }
-
-  /** Moves in the core. */
-  walk(move) {
-    check(native.hp_walk(this.session.index, this.number, MOVES[move]));
-    const found = wrapOrNull(this.session, out[0]);
-    if (found) this.current = found;
-    return found;
   }
 }
 
@@ -287,12 +295,26 @@ function toPrevious(its) {
 }
 
 /** The node that follows all below a node, within the root. */
-function following(its, node) {
-  for (let it = node; it && it !== its.root; it = parentOf(it)) {
+function following(root, node) {
+  for (let it = node; it && it !== root; it = parentOf(it)) {
     const sibling = nextOf(it);
     if (sibling) return sibling;
   }
   return null;
+}
+
+/** The node after another one in tree order, within a root, or null. */
+function nodeAfter(node, root) {
+  return firstChildOf(node) ?? following(root, node);
+}
+
+/** The node before another one in tree order, within a root, or null. */
+function nodeBefore(node, root) {
+  if (node === root) return null;
+  let found = previousOf(node);
+  if (!found) return parentOf(node);
+  for (let last = lastChildOf(found); last; last = lastChildOf(found)) found = last;
+  return found;
 }
 
 function toNext(its) {
@@ -300,7 +322,7 @@ function toNext(its) {
   let verdict = ACCEPT;
   while (node) {
     const child = verdict === REJECT ? null : firstChildOf(node);
-    node = child ?? following(its, node);
+    node = child ?? following(its.root, node);
     if (!node) return null;
     verdict = its.verdict(node);
     if (verdict === ACCEPT) return its.set(node);
@@ -308,8 +330,8 @@ function toNext(its) {
   return null;
 }
 
-/** The moves with a filter of the program's. */
-const BY_FILTER = {
+/** The moves. */
+const STEPS = {
   parentNode: toParent,
   firstChild: (its) => traverseChildren(its, firstChildOf, nextOf),
   lastChild: (its) => traverseChildren(its, lastChildOf, previousOf),
@@ -319,22 +341,9 @@ const BY_FILTER = {
   nextNode: toNext,
 };
 
-function walked(move) {
-  return [
-    [],
-    (walker) => {
-      const its = walkerOf(walker);
-      return its.number === NONE ? BY_FILTER[move](its) : its.walk(move);
-    },
-  ];
-}
+const walked = (steps) => [[], (walker) => steps(walkerOf(walker))];
 
-export function createTreeWalker(document, root, show, filter) {
-  const its = new WalkerIs(root, show, filter);
-  const made = makeThing(realmOf(document), "TreeWalker", its);
-  if (its.number !== NONE) its.session.releaseWith("hp_release_walker", made, its.number);
-  return made;
-}
+export const createTreeWalker = (document, root, show, filter) => makeThing(realmOf(document), "TreeWalker", new WalkerIs(root, show, filter));
 
 export const TreeWalker = known({
   name: "TreeWalker",
@@ -345,7 +354,7 @@ export const TreeWalker = known({
     filter: (it) => walkerOf(it).filter,
     currentNode: { type: "Node", get: (it) => walkerOf(it).current, set: (it, node) => walkerOf(it).set(node) },
   },
-  operations: Object.fromEntries(Object.keys(MOVES).map((move) => [move, walked(move)])),
+  operations: Object.fromEntries(Object.entries(STEPS).map(([move, steps]) => [move, walked(steps)])),
 });
 
 /** NodeFilter, which is no interface of objects but of callbacks. */

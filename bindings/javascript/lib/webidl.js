@@ -254,3 +254,10 @@ export function makeInterface(realm, table, Base) {
   table.finish?.(realm, made);
   return made;
 }
+
+/** Adds the members of a table to the interface of its name, which a realm has already. */
+export function addMembers(realm, table) {
+  const { prototype } = realm.interfaces[table.name];
+  addAttributes(realm, table, prototype);
+  addOperations(realm, table, prototype);
+}

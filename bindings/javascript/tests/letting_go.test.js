@@ -1,10 +1,10 @@
 // What a program can reach stays as it is over collections; what it can't is given back. Runs with node --expose-gc.
 import assert from "node:assert/strict";
+import { spawnSync } from "node:child_process";
 import test from "node:test";
 import { setImmediate as turn } from "node:timers/promises";
 
-import { native } from "../lib/core.js";
-import { createDocument, MutationObserver, NodeFilter, Session, StaticRange } from "../lib/index.js";
+import { createDocument, memory, MutationObserver, NodeFilter, Session, StaticRange } from "../lib/index.js";
 
 /** Collects what can't be reached, and lets the finalizers run. */
 async function collect(times = 4) {
@@ -162,7 +162,7 @@ test("100,000 of each kind made and dropped leave memory level", async () => {
       document.createRange().selectNode(root);
     }
     await collect(2);
-    levels.push(native.held());
+    levels.push(memory.held);
   }
   assert.ok(Math.max(...levels.slice(5)) < 1.5 * levels[4] + 1e6, `${levels}`);
 });
@@ -189,18 +189,36 @@ test("600,000 nodes made and dropped leave memory level", async () => {
       await turn();
     }
     await collect(2);
-    levels.push(native.held());
+    levels.push(memory.held);
   }
   assert.ok(Math.max(...levels.slice(2)) < 2 * levels[1] + 1e6, `${levels}`);
   assert.ok(levels.at(-1) < 4e6, `${levels}`);
 });
 
 test("sessions that nothing holds are closed", async () => {
-  const before = native.held();
+  const before = memory.held;
   for (let at = 0; at < 50; at++) {
     const document = createDocument();
     for (let each = 0; each < 100; each++) document.createElement("p");
   }
   await collect(6);
-  assert.ok(native.held() < before + 1e5, `${before} ${native.held()}`);
+  assert.ok(memory.held < before + 1e5, `${before} ${memory.held}`);
+});
+
+test("100,000 nodes with their objects take at most 120 MB of the process", () => {
+  const program = `
+    const { createDocument } = await import(${JSON.stringify(`${new URL("../lib/index.js", import.meta.url)}`)});
+    const document = createDocument();
+    const root = document.appendChild(document.createElement("ul"));
+    const kept = [];
+    for (let at = 0; at < 50000; at++) {
+      const item = root.appendChild(document.createElement("li"));
+      kept.push(item, item.appendChild(document.createTextNode("some text")));
+    }
+    await new Promise((ready) => setTimeout(ready, 100));
+    console.log(process.memoryUsage().rss, kept.length);`;
+  const ran = spawnSync(process.execPath, ["--input-type=module", "-e", program], { encoding: "utf8" });
+  const [rss, count] = ran.stdout.split(" ").map(Number);
+  assert.equal(count, 100000, ran.stderr);
+  assert.ok(rss < 120e6, `${rss}`);
 });

@@ -3,8 +3,26 @@ import assert from "node:assert/strict";
 import test from "node:test";
 
 import { createDocument, createWindow, MutationObserver, NodeList } from "../lib/index.js";
+import { sessionOf } from "../lib/wrappers.js";
 
 const microtask = () => Promise.resolve();
+
+/**
+ * Two observers for which a record waits. The callback of the first does something, once, before the turn of the second. The answer has which of them
+ * was called, and with how many records.
+ */
+function twoInTurn(does, options = {}) {
+  const { document, MutationObserver: Observer } = createWindow({ empty: true, ...options });
+  const told = [];
+  const first = new Observer((records) => {
+    told.push(["first", records.length]);
+    if (told.length === 1) does(second, document);
+  });
+  const second = new Observer((records) => told.push(["second", records.length]));
+  for (const it of [first, second]) it.observe(document, { childList: true });
+  document.appendChild(document.createComment("c"));
+  return told;
+}
 
 test("records are told in a microtask, in order", async () => {
   const document = createDocument();
@@ -56,6 +74,64 @@ test("what a callback changes is told in a further microtask", async () => {
   document.appendChild(document.createComment("once"));
   for (let turn = 0; turn < 5; turn++) await microtask();
   assert.deepEqual(counts, [1, 1, 1]);
+});
+
+test("an observer that an earlier callback disconnected is not called", async () => {
+  const told = twoInTurn((second) => second.disconnect());
+  await microtask();
+  assert.deepEqual(told, [["first", 1]]);
+});
+
+test("an observer whose records an earlier callback took is not called", async () => {
+  const taken = [];
+  const told = twoInTurn((second) => taken.push(...second.takeRecords()));
+  await microtask();
+  assert.deepEqual(told, [["first", 1]]);
+  assert.deepEqual(taken.map((it) => it.type), ["childList"]);
+});
+
+test("an observer that was let go before its turn is passed over", async () => {
+  const told = twoInTurn((second, document) => {
+    const session = sessionOf(document);
+    for (const [number, it] of session.observers) if (it.deref() === second) session.loseObserver(number);
+  });
+  await microtask();
+  assert.deepEqual(told, [["first", 1]]);
+});
+
+test("what a callback changes is told to a later observer in its turn, and to an earlier one in a further microtask", async () => {
+  const told = twoInTurn((second, document) => document.appendChild(document.createComment("d")));
+  await microtask();
+  assert.deepEqual(told, [["first", 1], ["second", 2]]);
+  await microtask();
+  assert.deepEqual(told, [["first", 1], ["second", 2], ["first", 1]]);
+});
+
+test("what a callback did before it threw counts for those that are told after it", async () => {
+  const faults = [];
+  const does = (second) => {
+    second.disconnect();
+    throw "fault";
+  };
+  const told = twoInTurn(does, { report: (fault) => faults.push(fault) });
+  await microtask();
+  assert.deepEqual(told, [["first", 1]]);
+  assert.deepEqual(faults, ["fault"]);
+});
+
+test("what is taken out is watched by each observer until its own turn", async () => {
+  const { document, MutationObserver: Observer } = createWindow();
+  const child = document.body.appendChild(document.createElement("p"));
+  const told = [];
+  const note = (name) => (records) => told.push([name, records.map((it) => it.type)]);
+  const first = new Observer((records) => {
+    note("first")(records);
+    if (told.length === 1) child.setAttribute("a", "1");
+  });
+  for (const it of [first, new Observer(note("second"))]) it.observe(document.body, { childList: true, attributes: true, subtree: true });
+  child.remove();
+  for (let turn = 0; turn < 3; turn++) await microtask();
+  assert.deepEqual(told, [["first", ["childList"]], ["second", ["childList", "attributes"]]]);
 });
 
 test("what a callback throws is reported, and the others are called", async () => {

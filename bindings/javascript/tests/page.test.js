@@ -5,6 +5,7 @@ import { readFileSync } from "node:fs";
 import test from "node:test";
 import { fileURLToPath } from "node:url";
 
+import { isRefused } from "../lib/absent.js";
 import * as huckleport from "../lib/index.js";
 
 const PACKAGE = fileURLToPath(new URL("..", import.meta.url));
@@ -35,7 +36,7 @@ test("each member of an interface is listed in its row", () => {
   for (const [name, its] of Object.entries(huckleport)) {
     if (typeof its !== "function" || !its.prototype) continue;
     const words = new Set(rows.filter((row) => row.split("|")[1].includes(`\`${name}\``)).flatMap((row) => namesIn(row.slice(row.indexOf("|", 2)))));
-    const members = Object.getOwnPropertyNames(its.prototype).filter((it) => !IN_WORDS.has(it) && !isConstant(it));
+    const members = Object.getOwnPropertyNames(its.prototype).filter((it) => !IN_WORDS.has(it) && !isConstant(it) && !isRefused(its.prototype, it));
     assert.deepEqual(members.filter((it) => !words.has(it)), [], name);
   }
 });

@@ -3,7 +3,7 @@ import assert from "node:assert/strict";
 import { createRequire } from "node:module";
 import test from "node:test";
 
-import { createDocument, parse, parseFragment, parseXML, serialize } from "../lib/index.js";
+import { createDocument, parse, parseFragment, parseXML, provide, serialize, serializeXML, XMLDocument } from "../lib/index.js";
 
 const XLINK = "http://www.w3.org/1999/xlink";
 
@@ -18,6 +18,7 @@ function installed(name) {
 const parse5 = installed("parse5");
 const saxes = installed("saxes");
 const withParse5 = { skip: parse5 ? false : "parse5 is not installed" };
+const withWriter = { skip: installed("w3c-xmlserializer") ? false : "w3c-xmlserializer is not installed" };
 const withSaxes = { skip: saxes ? false : "saxes is not installed" };
 
 const PAGES = [
@@ -50,6 +51,44 @@ test("a parsed page is a Document like any other", withParse5, () => {
   assert.equal(svg.getAttribute("viewBox"), "0 0 1 1");
   assert.equal(serialize(svg), '<svg viewBox="0 0 1 1" xlink:href="#a"><path></path></svg>');
   assert.equal(document.body.lastChild.localName, "math");
+});
+
+test("pieces are parsed as the content of an element that stands in a Document", withParse5, () => {
+  const document = parse("<!DOCTYPE html><form><p>");
+  const [paragraph] = document.getElementsByTagName("p");
+  assert.equal(serialize(parseFragment("<form><b>x</form>", paragraph)), "<b>x</b>");
+  assert.equal(serialize(parseFragment("<form><b>x</form>", document.body)), "<form><b>x</b></form>");
+});
+
+test("a template's contents go with a deep copy", withParse5, () => {
+  const document = parse("<div><template><p id=a>in<template><b></template></template></div>");
+  const [its] = document.getElementsByTagName("div");
+  const written = serialize(its);
+  assert.equal(written, '<div><template><p id="a">in<template><b></b></template></p></template></div>');
+  for (const copy of [its.cloneNode(true), document.importNode(its, true), createDocument({ beside: document }).importNode(its, true)]) {
+    assert.equal(serialize(copy), written);
+  }
+  assert.equal(serialize(its.firstChild.cloneNode(false)), "<template></template>");
+  assert.equal(document.getElementById("a"), null);
+});
+
+test("XML is written as it was read", { skip: withSaxes.skip || withWriter.skip }, () => {
+  const text = '<a xmlns="n" xmlns:p="m" p:x="1 &lt;" y="2"><!--c--><p:b/>t &amp; u<?d e?></a>';
+  const document = parseXML(text);
+  assert.ok(document instanceof XMLDocument);
+  assert.equal(serializeXML(document), text);
+  assert.equal(serializeXML(document.documentElement.childNodes[1]), '<p:b xmlns:p="m"/>');
+  const odd = document.createComment("a--b");
+  assert.equal(serializeXML(odd), "<!--a--b-->");
+  assert.throws(() => serializeXML(odd, { isStrict: true }));
+});
+
+test("libraries can be handed in", withParse5, () => {
+  let asked = 0;
+  provide({ parse5: { ...parse5, parse: (...given) => (asked++, parse5.parse(...given)) } });
+  parse("<p>");
+  assert.equal(asked, 1);
+  provide({ parse5 });
 });
 
 test("XML is parsed with its namespaces", withSaxes, () => {

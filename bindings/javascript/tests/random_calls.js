@@ -1,9 +1,11 @@
 // Random calls of all interfaces: `node --expose-gc tests/random_calls.js COUNT [SEED]`. A refusal has to be one of the standard's; nothing else may
-// be thrown, and what the tree says of a node has to fit from both sides. Meant for an addon with the address sanitizer.
+// be thrown, what the tree says of a node has to fit from both sides, and the links that objects keep have to be those that the core has.
 import assert from "node:assert/strict";
 import { setImmediate as turn } from "node:timers/promises";
 
+import { native, out } from "../lib/core.js";
 import { createDocument, DOMException, MutationObserver, NodeFilter, StaticRange } from "../lib/index.js";
+import { numberOf, sessionOf } from "../lib/wrappers.js";
 
 const [count = "300000", seed = "1"] = process.argv.slice(2);
 const MOST = 400;
@@ -122,6 +124,9 @@ const ASKING = [
   () => node().getAttributeNames?.(),
   () => node().getAttribute?.(any(NAMES)),
   fits,
+  agrees,
+  agrees,
+  agrees,
 ];
 
 /** What a node's parent and siblings say of each other. */
@@ -133,6 +138,27 @@ function fits() {
   else if (parentNode) assert.equal(parentNode.firstChild, it);
   if (!nextSibling && parentNode) assert.equal(parentNode.lastChild, it);
   if (parentNode) assert.equal(parentNode.ownerDocument ?? parentNode, it.ownerDocument);
+}
+
+const numberOrNone = (it) => (it === null ? native.HP_NONE : numberOf(it));
+
+/** What a node's object says of those beside it is what the core says. */
+function agrees() {
+  const it = node();
+  const { parentNode, previousSibling, nextSibling, firstChild, lastChild, childNodes } = it;
+  const said = [parentNode, previousSibling, nextSibling, firstChild, lastChild].map(numberOrNone);
+  const { length } = childNodes;
+  const some = length ? below(length) : 0;
+  const child = numberOrNone(childNodes[some] ?? null);
+  const { index } = sessionOf(it);
+  assert.equal(native.hp_links(index, numberOf(it)), native.HP_OK);
+  assert.deepEqual([...out.subarray(2, 7)], said);
+  if (it.nodeType === 1 || it.nodeType === 9 || it.nodeType === 11) assert.equal(out[7], length);
+  if (length) {
+    assert.equal(native.hp_child_at(index, numberOf(it), some), native.HP_OK);
+    assert.equal(out[0], child);
+  }
+  assert.equal((native.hp_root(index, numberOf(it)), out[0]), numberOf(it.getRootNode()));
 }
 
 const GROUPS = [MAKING, CHANGING, CHANGING, RANGING, WATCHING, ASKING];

@@ -8,16 +8,13 @@ const SECTIONS = ["dom/nodes", "dom/ranges", "dom/traversal"];
 // Folders that hold no tests: what tests load, and other kinds of tests.
 const NO_TESTS = new Set(["resources", "support", "reference", "crashtests", "tentative", "tools", "node_modules"]);
 
-// A test that needs one of these is left out: the reason, and what tells it in the text of the file.
+// A test that does one of these is left out, since nothing of it can run: the reason, and what tells it in the code of the file, without
+// its comments. What a test asks for by a name that is not there is told when it runs (page/reasons.js).
 const LEFT_OUT = [
-  ["shadow trees", /attachShadow|shadowRoot|shadowrootmode|<slot\b/],
-  ["custom elements", /customElements\b/],
   ["events", /\bdispatchEvent\b|\bcreateEvent\b|new \w*Event\(|addEventListener\(\s*['"](?!load|DOMContentLoaded|error|message)/],
   ["layout or styles", /getComputedStyle|getBoundingClientRect|getClientRects|elementFromPoint|\.(?:offset|client|scroll)(?:Width|Height|Top|Left)\b|styleSheets|document\.fonts/],
   ["editing", /execCommand|designMode/],
-  ["browsing: windows, navigation, workers, requests", /window\.open\(|new (?:Shared)?Worker\(|XMLHttpRequest|\bfetch\(|createObjectURL|srcdoc|document\.(?:open|write|domain)\b|ServiceWorker|location\.(?:href|assign|replace)/],
-  ["DOMTokenList", /\bclassList\b|DOMTokenList/],
-  ["selectors", /\.matches\(|\.closest\(/],
+  ["browsing: windows, navigation, workers, requests", /window\.open\(|new (?:Shared)?Worker\(|XMLHttpRequest|\bfetch\(|createObjectURL|srcdoc|document\.(?:open|write|domain)\b|ServiceWorker|location\.(?:assign|replace)\(|location\.href\s*=(?!=)/],
   ["workers", /^\/\/ META: global=(?!.*\bwindow\b)/m],
   ["a driver of a browser", /testdriver\.js/],
   ["the interfaces' own description", /idlharness\.js/],
@@ -36,6 +33,9 @@ const LEFT_OUT_BY_NAME = [
   ["CDATA sections", /CDATASection/],
   ["documents of other types, as a browser loads them", /contentType|namespace-tests/],
 ];
+
+// A script or a page without its comments.
+const code = (text) => text.replace(/<!--[^]*?-->|\/\*[^]*?\*\//g, "").replace(/(^|\s)\/\/(?! META:).*$/gm, "$1");
 
 // The end of a name that tells a file which is not a test that runs by itself.
 const OTHER_KINDS = /(?:-manual|-ref|-crash|\.tentative|\.sub|\.https|\.worker)\.\w+$/;
@@ -72,7 +72,7 @@ export class Checkout {
 
   // Why a test is left out, or nothing.
   leftOut(path) {
-    const text = this.read(path);
+    const text = code(this.read(path));
     const found = LEFT_OUT_BY_NAME.find(([, sign]) => sign.test(path)) ?? LEFT_OUT.find(([, sign]) => sign.test(text));
     return found?.[0];
   }

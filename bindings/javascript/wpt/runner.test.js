@@ -5,7 +5,7 @@ import { cpSync, existsSync, mkdtempSync, readFileSync, rmSync, writeFileSync } 
 import { tmpdir } from "node:os";
 import { join } from "node:path";
 import { after, test } from "node:test";
-import { fileURLToPath } from "node:url";
+import { fileURLToPath, pathToFileURL } from "node:url";
 
 import { Checkout } from "./checkout.js";
 import { judgeFile } from "./expectations.js";
@@ -15,12 +15,12 @@ const place = (path) => fileURLToPath(new URL(path, import.meta.url));
 const RUN = place("run.js");
 const TESTS = place("tests");
 const EXPECTED = place("tests/expectations.json");
-const ADDON = process.env.HUCKLEPORT_ADDON ?? place("../out/huckleport.node");
+const MODULE = place("../out/huckleport.wasm");
 const folder = mkdtempSync(join(tmpdir(), "huckleport-wpt-"));
 after(() => rmSync(folder, { recursive: true }));
 
 function whyLeftOut() {
-  if (!existsSync(ADDON)) return "there is no addon (bindings/javascript/make.py builds it)";
+  if (!existsSync(MODULE)) return "there is no module (bindings/javascript/make.py puts it there)";
   return find("parse5") || existsSync("/usr/share/nodejs/parse5") ? false : "there is no parse5 (Debian's node-parse5)";
 }
 
@@ -44,38 +44,44 @@ test("the pages of our own pass, and what is not there is counted", { skip }, ()
   assert.deepEqual([failed, notApplicable, differs, passed], [0, 2, 0, subtests - 2]);
 });
 
-// An addon that hands each call on but one, which is altered.
+// A module that hands each call on but some, which are altered: node loads a script first that stands between the package and what it instantiates.
 function altered(name, text) {
-  const file = join(folder, `${name}.cjs`);
-  writeFileSync(file, `const addon = require(${JSON.stringify(ADDON)});\nconst numbers = addon.numbers;\n${text}\nmodule.exports = addon;\n`);
-  return { HUCKLEPORT_ADDON: file };
+  const file = join(folder, `${name}.mjs`);
+  const around = `
+    const { instantiate } = WebAssembly;
+    WebAssembly.instantiate = async (...given) => {
+      const { exports } = await instantiate(...given);
+      const calls = { ...exports };
+      const numbers = () => new Uint32Array(exports.memory.buffer, exports.numbers(), 16);
+      ${text}
+      return { exports: calls };
+    };`;
+  writeFileSync(file, around);
+  return { NODE_OPTIONS: `--import=${pathToFileURL(file)}` };
 }
 
 const OFF_BY_ONE = `
-const replace = addon.hp_replace_data;
-addon.hp_replace_data = (session, node, offset, count, text) => replace(session, node, offset, count + 1, text);
+calls.hp_replace_data = (session, node, offset, count, place, length) => exports.hp_replace_data(session, node, offset, count + 1, place, length);
 `;
 
 // A split that leaves the ends of live ranges in the node that is split, at its end.
 const RANGES_STAY = `
-const split = addon.hp_split_text;
 const ranges = [];
-const create = addon.hp_create_range;
-addon.hp_create_range = (session, document) => {
-  const status = create(session, document);
-  if (status === addon.HP_OK) ranges.push(numbers[0]);
+calls.hp_create_range = (session, document) => {
+  const status = exports.hp_create_range(session, document);
+  if (status === 0) ranges.push(numbers()[0]);
   return status;
 };
-addon.hp_split_text = (session, node, offset) => {
-  const status = split(session, node, offset);
-  const tail = numbers[0];
-  for (const range of status === addon.HP_OK ? ranges : []) {
-    if (addon.hp_range(session, range) !== addon.HP_OK) continue;
-    const [startNode, , endNode] = numbers;
-    if (endNode === tail) addon.hp_set_end(session, range, node, offset);
-    if (startNode === tail) addon.hp_set_start(session, range, node, offset);
+calls.hp_split_text = (session, node, offset) => {
+  const status = exports.hp_split_text(session, node, offset);
+  const [tail] = numbers();
+  for (const range of status === 0 ? ranges : []) {
+    if (exports.hp_range(session, range) !== 0) continue;
+    const [startNode, , endNode] = numbers();
+    if (endNode === tail) exports.hp_set_end(session, range, node, offset);
+    if (startNode === tail) exports.hp_set_start(session, range, node, offset);
   }
-  numbers[0] = tail;
+  numbers()[0] = tail;
   return status;
 };
 `;

@@ -56,7 +56,7 @@ static PyObject *numbers_node(const Numbers *it, size_t at, PyObject *session, C
     if (number == HP_NONE)
         return none();
     if (it->kinds[at])
-        return made(session, calls, kind_of(it->kinds[at]), FAMILY_NODE, number);
+        return made(session, calls, kind_of(calls, it->kinds[at]), FAMILY_NODE, number);
     return node_from(session, calls, number);
 }
 
@@ -254,7 +254,7 @@ static PyObject *pairs_of(const Rows *rows, const Copied *it)
     return found;
 }
 
-/* What makes a tuple of a class. */
+/* What makes a tuple of a class: the same in each interpreter. */
 static newfunc tuple_new;
 
 /* A tuple of these parts, whose references go with it. */
@@ -275,10 +275,10 @@ static PyObject *plain_tuple(PyObject **parts, int count)
 }
 
 /* A plain tuple as one of a class; its reference goes with it. */
-static PyObject *named(int kind, PyObject *plain)
+static PyObject *named(const Calls *calls, int kind, PyObject *plain)
 {
     PyObject *words = plain ? PyTuple_Pack(1, plain) : NULL;
-    PyObject *found = words ? tuple_new((PyTypeObject *)kinds[kind], words, NULL) : NULL;
+    PyObject *found = words ? tuple_new((PyTypeObject *)calls->state->kinds[kind], words, NULL) : NULL;
     Py_XDECREF(plain);
     Py_XDECREF(words);
     return found;
@@ -295,39 +295,36 @@ static PyObject *row_made(const Rows *rows, const Copied *it, PyObject *session,
 {
     PyObject *parts[7] = {
         PyLong_FromSize_t(it->row.depth),
-        made(session, calls, kind_of(it->row.type), FAMILY_NODE, it->row.node),
+        made(session, calls, kind_of(calls, it->row.type), FAMILY_NODE, it->row.node),
         or_none(it->names[0]),
         pairs_of(rows, it),
         or_none(it->text),
         or_none(it->names[1]),
         or_none(it->names[2]),
     };
-    return named(KIND_ROW, plain_tuple(parts, 7));
+    return named(calls, KIND_ROW, plain_tuple(parts, 7));
 }
 
-/* Python's own functions that stop the collector and let it go on. */
-static PyObject *gc_is_enabled, *gc_disable, *gc_enable;
-
 /* Stops the collector while many objects are made, of which none is garbage. Returns whether it was running. */
-static bool pause_collector(void)
+static bool pause_collector(const State *state)
 {
-    PyObject *is_on = PyObject_CallFunctionObjArgs(gc_is_enabled, NULL);
+    PyObject *is_on = PyObject_CallFunctionObjArgs(state->gc_is_enabled, NULL);
     bool was_on = is_on == Py_True;
     Py_XDECREF(is_on);
     if (was_on)
-        Py_XDECREF(PyObject_CallFunctionObjArgs(gc_disable, NULL));
+        Py_XDECREF(PyObject_CallFunctionObjArgs(state->gc_disable, NULL));
     return was_on;
 }
 
-static void resume_collector(bool was_on)
+static void resume_collector(const State *state, bool was_on)
 {
     if (was_on)
-        Py_XDECREF(PyObject_CallFunctionObjArgs(gc_enable, NULL));
+        Py_XDECREF(PyObject_CallFunctionObjArgs(state->gc_enable, NULL));
 }
 
 static PyObject *rows_made(const Rows *rows, PyObject *session, Calls *calls)
 {
-    bool was_on = pause_collector();
+    bool was_on = pause_collector(calls->state);
     calls->making++;
     PyObject *found = PyList_New((Py_ssize_t)rows->count);
     for (size_t at = 0; found && at < rows->count; at++) {
@@ -338,7 +335,7 @@ static PyObject *rows_made(const Rows *rows, PyObject *session, Calls *calls)
             PyList_SetItem(found, (Py_ssize_t)at, row);
     }
     calls->making--;
-    resume_collector(was_on);
+    resume_collector(calls->state, was_on);
     return found;
 }
 
@@ -443,7 +440,7 @@ static PyObject *record_made(const Records *of, const Noted *it, PyObject *sessi
         or_none(it->name),
         or_none(it->old_value),
     };
-    return named(KIND_MUTATION_RECORD, plain_tuple(parts, 8));
+    return named(calls, KIND_MUTATION_RECORD, plain_tuple(parts, 8));
 }
 
 static PyObject *records_made(const Records *of, PyObject *session, Calls *calls)
@@ -472,45 +469,12 @@ static PyObject *records_answer(PyObject *session, Calls *calls)
     return found;
 }
 
-/* ---- notices: what observers are told */
-
-typedef struct {
-    hp_notice *notices;
-    Records *records;
-    size_t count;
-} Notices;
-
-static void notices_drop(Notices *it)
-{
-    for (size_t at = 0; it->records && at < it->count; at++)
-        records_drop(&it->records[at]);
-    PyMem_Free(it->records);
-    PyMem_Free(it->notices);
-}
-
-static bool notices_copy(Notices *to, Calls *calls)
-{
-    hp_session *session = &calls->session;
-    hp_count(session, &to->count);
-    to->notices = zeroed(to->count + 1, sizeof(hp_notice));
-    to->records = zeroed(to->count + 1, sizeof(Records));
-    if (!to->notices || !to->records)
-        return PyErr_NoMemory() != NULL;
-    for (size_t at = 0; at < to->count; at++) {
-        if (hp_notice_at(session, at, &to->notices[at]) || !records_copy(&to->records[at], session, at, to->notices[at].records))
-            return false;
-    }
-    for (size_t at = 0; at < to->count; at++) {
-        if (!numbers_ask(&to->records[at].nodes, calls))
-            return false;
-    }
-    return true;
-}
+/* ---- turns: observers are told one after another */
 
 /* The observer of a number. One that a line made stays with the session. No code of Python runs here, which could be interrupted. */
 static PyObject *observer_of(uint32_t number, PyObject *session, Calls *calls)
 {
-    PyObject *found = made(session, calls, kinds[KIND_MUTATION_OBSERVER], FAMILY_OBSERVER, number);
+    PyObject *found = made(session, calls, calls->state->kinds[KIND_MUTATION_OBSERVER], FAMILY_OBSERVER, number);
     if (!found || ((Thing *)found)->is_own)
         return found;
     PyObject *observers = PyObject_GetAttrString(session, "_observers"), *key = PyLong_FromUnsignedLong(number);
@@ -521,31 +485,15 @@ static PyObject *observer_of(uint32_t number, PyObject *session, Calls *calls)
     return found;
 }
 
-/* An observer and its records. */
-static PyObject *notice_made(const Notices *of, size_t at, PyObject *session, Calls *calls)
+/* An observer and the records of the last answer. */
+static PyObject *notice_answer(uint32_t number, PyObject *session, Calls *calls)
 {
-    PyObject *observer = observer_of(of->notices[at].observer, session, calls);
-    PyObject *records = observer ? records_made(&of->records[at], session, calls) : NULL;
-    PyObject *found = records ? PyTuple_Pack(2, observer, records) : NULL;
+    PyObject *records = records_answer(session, calls);
+    PyObject *observer = records ? observer_of(number, session, calls) : NULL;
+    PyObject *found = observer ? PyTuple_Pack(2, observer, records) : NULL;
     Py_XDECREF(observer);
     Py_XDECREF(records);
     return found;
-}
-
-/* All notices of the last answer, behind those that the list has. */
-static bool notices_answer(PyObject *list, PyObject *session, Calls *calls)
-{
-    Notices notices = { NULL, NULL, 0 };
-    bool done = notices_copy(&notices, calls);
-    calls->making++;
-    for (size_t at = 0; done && at < notices.count; at++) {
-        PyObject *notice = notice_made(&notices, at, session, calls);
-        done = notice && PyList_Append(list, notice) == 0;
-        Py_XDECREF(notice);
-    }
-    calls->making--;
-    notices_drop(&notices);
-    return done;
 }
 
 /* The exception that is raised now, as an object with its traceback; it is raised no more. */
@@ -564,7 +512,7 @@ static PyObject *caught(void)
 /* What became of a notice: its observer has no callback, was told, or its callback raised. */
 typedef enum { WITHOUT_CALLBACK, WAS_TOLD, HAS_RAISED } Told;
 
-static Told tell(PyObject *notice)
+static Told call_back(PyObject *notice)
 {
     PyObject *observer = PyTuple_GetItem(notice, 0);
     PyObject *callback = PyObject_GetAttrString(observer, "callback"), *said = NULL;
@@ -579,26 +527,62 @@ static Told tell(PyObject *notice)
     return said ? WAS_TOLD : HAS_RAISED;
 }
 
-/* Calls the callbacks of all notices, also where some raise, and returns the first that was raised, or null. What was told to observers without
- * a callback, or to one that was interrupted, is kept. */
-static PyObject *tell_all(PyObject *list, PyObject *kept)
+/* The turns of one call: the lists that take what is told, and what of it is kept, and the first exception that was raised, or null. */
+typedef struct {
+    PyObject *session, *told, *kept, *fault;
+    Calls *calls;
+} Turns;
+
+/* Takes the exception that is raised now, and goes on. */
+static void take_fault(Turns *it)
 {
-    PyObject *first = NULL;
-    for (Py_ssize_t at = 0; at < PyList_Size(list); at++) {
-        PyObject *notice = PyList_GetItem(list, at);
-        Py_INCREF(notice);
-        Told told = tell(notice);
-        bool is_kept = told == WITHOUT_CALLBACK || (told == HAS_RAISED && !PyErr_ExceptionMatches(PyExc_Exception));
-        PyObject *fault = told == HAS_RAISED ? caught() : NULL;
-        if (is_kept)
-            PyList_Append(kept, notice);
-        if (first)
-            Py_XDECREF(fault);
-        else
-            first = fault;
-        Py_DECREF(notice);
-    }
-    return first;
+    PyObject *fault = caught();
+    if (it->fault)
+        Py_XDECREF(fault);
+    else
+        it->fault = fault;
+}
+
+/* Calls the callback. What was told to an observer without one, or to one that was interrupted, is kept. */
+static void tell(Turns *it, PyObject *notice)
+{
+    Told told = call_back(notice);
+    bool is_kept = told == WITHOUT_CALLBACK || (told == HAS_RAISED && !PyErr_ExceptionMatches(PyExc_Exception));
+    if (told == HAS_RAISED)
+        take_fault(it);
+    if (is_kept && PyList_Append(it->kept, notice) < 0)
+        take_fault(it);
+}
+
+/* Whether an observer has records now that it is its turn; they are the last answer then. One that was released has none, and is no fault. */
+static bool has_records(uint32_t observer, Calls *calls)
+{
+    size_t count = 0;
+    uint8_t status = hp_tell_observer(&calls->session, observer);
+    if (status == HP_OK)
+        return hp_count(&calls->session, &count) == HP_OK && count > 0;
+    PyObject *words = status == HP_NO_SUCH_OBJECT ? NULL : Py_BuildValue("(k)", (unsigned long)observer);
+    if (words)
+        refused(status, "tell_observer", (PyObject *)calls, words);
+    Py_XDECREF(words);
+    return false;
+}
+
+static void take_turn(Turns *it, uint32_t observer)
+{
+    PyObject *notice = has_records(observer, it->calls) ? notice_answer(observer, it->session, it->calls) : NULL;
+    if (notice && PyList_Append(it->told, notice) == 0)
+        tell(it, notice);
+    else if (PyErr_Occurred())
+        take_fault(it);
+    Py_XDECREF(notice);
+}
+
+/* Tells observers one after another, also where callbacks raise, until one of them closes the session. */
+static void tell_all(Turns *it, const Numbers *observers)
+{
+    for (size_t at = 0; at < observers->length && it->calls->session.is_open; at++)
+        take_turn(it, observers->at[at]);
 }
 
 /* Where a callback raised, what is kept is left for later; else what was left before is told with the rest. */

@@ -1,12 +1,14 @@
 /* The calls of the library, and the members that are one call each. Made by bindings/python/extension.py; not to be edited. */
 
-static PyTypeObject *hp_row_type;
+enum { AT_HP_ROW, AT_HP_NOTICE, AT_HP_RECORD, AT_HP_ENDS, AT_HP_STATIC_ENDS, AT_HP_ITERATOR_AT, AT_HP_WALKER_AT, AT_HP_PLACE, AT_HP_NODE_LINKS, AT_HP_COUNTS, STRUCTS_MADE };
+typedef char structs_fit[STRUCTS_MADE <= STRUCTS ? 1 : -1];
+
 static PyStructSequence_Field hp_row_fields[] = { { "depth", NULL }, { "node", NULL }, { "type", NULL }, { "attributes", NULL }, { NULL, NULL } };
 static PyStructSequence_Desc hp_row_form = { "huckleport._core.hp_row", "A row of a tree: how deep the node stands below the one that was asked for, its number, the standard's number of its kind (`nodeType`), and how many attributes it has.", hp_row_fields, 4 };
 
-static PyObject *hp_row_from(const hp_row *it)
+static PyObject *hp_row_from(const Calls *calls, const hp_row *it)
 {
-    PyObject *found = PyStructSequence_New(hp_row_type);
+    PyObject *found = PyStructSequence_New(calls->state->structs[AT_HP_ROW]);
     if (!found)
         return NULL;
     PyStructSequence_SetItem(found, 0, PyLong_FromSize_t(it->depth));
@@ -16,13 +18,12 @@ static PyObject *hp_row_from(const hp_row *it)
     return found;
 }
 
-static PyTypeObject *hp_notice_type;
 static PyStructSequence_Field hp_notice_fields[] = { { "observer", NULL }, { "records", NULL }, { NULL, NULL } };
 static PyStructSequence_Desc hp_notice_form = { "huckleport._core.hp_notice", "What an observer is told: its number, and how many records.", hp_notice_fields, 2 };
 
-static PyObject *hp_notice_from(const hp_notice *it)
+static PyObject *hp_notice_from(const Calls *calls, const hp_notice *it)
 {
-    PyObject *found = PyStructSequence_New(hp_notice_type);
+    PyObject *found = PyStructSequence_New(calls->state->structs[AT_HP_NOTICE]);
     if (!found)
         return NULL;
     PyStructSequence_SetItem(found, 0, PyLong_FromSize_t(it->observer));
@@ -30,13 +31,12 @@ static PyObject *hp_notice_from(const hp_notice *it)
     return found;
 }
 
-static PyTypeObject *hp_record_type;
 static PyStructSequence_Field hp_record_fields[] = { { "type", NULL }, { "target", NULL }, { "added", NULL }, { "removed", NULL }, { "previous", NULL }, { "next", NULL }, { NULL, NULL } };
 static PyStructSequence_Desc hp_record_form = { "huckleport._core.hp_record", "A record: its type (`HP_ATTRIBUTES`, `HP_CHARACTER_DATA` or `HP_CHILD_LIST`), its target, how many nodes were added and removed, and the siblings beside them, or `HP_NONE`.", hp_record_fields, 6 };
 
-static PyObject *hp_record_from(const hp_record *it)
+static PyObject *hp_record_from(const Calls *calls, const hp_record *it)
 {
-    PyObject *found = PyStructSequence_New(hp_record_type);
+    PyObject *found = PyStructSequence_New(calls->state->structs[AT_HP_RECORD]);
     if (!found)
         return NULL;
     PyStructSequence_SetItem(found, 0, PyLong_FromSize_t(it->type));
@@ -48,13 +48,12 @@ static PyObject *hp_record_from(const hp_record *it)
     return found;
 }
 
-static PyTypeObject *hp_ends_type;
 static PyStructSequence_Field hp_ends_fields[] = { { "start", NULL }, { "start_offset", NULL }, { "end", NULL }, { "end_offset", NULL }, { NULL, NULL } };
 static PyStructSequence_Desc hp_ends_form = { "huckleport._core.hp_ends", "The start and the end of a live range.", hp_ends_fields, 4 };
 
-static PyObject *hp_ends_from(const hp_ends *it)
+static PyObject *hp_ends_from(const Calls *calls, const hp_ends *it)
 {
-    PyObject *found = PyStructSequence_New(hp_ends_type);
+    PyObject *found = PyStructSequence_New(calls->state->structs[AT_HP_ENDS]);
     if (!found)
         return NULL;
     PyStructSequence_SetItem(found, 0, PyLong_FromSize_t(it->start));
@@ -64,13 +63,12 @@ static PyObject *hp_ends_from(const hp_ends *it)
     return found;
 }
 
-static PyTypeObject *hp_static_ends_type;
 static PyStructSequence_Field hp_static_ends_fields[] = { { "start", NULL }, { "start_offset", NULL }, { "end", NULL }, { "end_offset", NULL }, { "is_valid", NULL }, { NULL, NULL } };
 static PyStructSequence_Desc hp_static_ends_form = { "huckleport._core.hp_static_ends", "The start and the end of a static range, and whether it is valid: 0 or 1.", hp_static_ends_fields, 5 };
 
-static PyObject *hp_static_ends_from(const hp_static_ends *it)
+static PyObject *hp_static_ends_from(const Calls *calls, const hp_static_ends *it)
 {
-    PyObject *found = PyStructSequence_New(hp_static_ends_type);
+    PyObject *found = PyStructSequence_New(calls->state->structs[AT_HP_STATIC_ENDS]);
     if (!found)
         return NULL;
     PyStructSequence_SetItem(found, 0, PyLong_FromSize_t(it->start));
@@ -81,13 +79,12 @@ static PyObject *hp_static_ends_from(const hp_static_ends *it)
     return found;
 }
 
-static PyTypeObject *hp_iterator_at_type;
 static PyStructSequence_Field hp_iterator_at_fields[] = { { "root", NULL }, { "reference", NULL }, { "is_before", NULL }, { NULL, NULL } };
 static PyStructSequence_Desc hp_iterator_at_form = { "huckleport._core.hp_iterator_at", "The root and the reference of an iterator, and whether it stands before the reference: 0 or 1.", hp_iterator_at_fields, 3 };
 
-static PyObject *hp_iterator_at_from(const hp_iterator_at *it)
+static PyObject *hp_iterator_at_from(const Calls *calls, const hp_iterator_at *it)
 {
-    PyObject *found = PyStructSequence_New(hp_iterator_at_type);
+    PyObject *found = PyStructSequence_New(calls->state->structs[AT_HP_ITERATOR_AT]);
     if (!found)
         return NULL;
     PyStructSequence_SetItem(found, 0, PyLong_FromSize_t(it->root));
@@ -96,13 +93,12 @@ static PyObject *hp_iterator_at_from(const hp_iterator_at *it)
     return found;
 }
 
-static PyTypeObject *hp_walker_at_type;
 static PyStructSequence_Field hp_walker_at_fields[] = { { "root", NULL }, { "current", NULL }, { NULL, NULL } };
 static PyStructSequence_Desc hp_walker_at_form = { "huckleport._core.hp_walker_at", "The root and the current node of a walker.", hp_walker_at_fields, 2 };
 
-static PyObject *hp_walker_at_from(const hp_walker_at *it)
+static PyObject *hp_walker_at_from(const Calls *calls, const hp_walker_at *it)
 {
-    PyObject *found = PyStructSequence_New(hp_walker_at_type);
+    PyObject *found = PyStructSequence_New(calls->state->structs[AT_HP_WALKER_AT]);
     if (!found)
         return NULL;
     PyStructSequence_SetItem(found, 0, PyLong_FromSize_t(it->root));
@@ -110,13 +106,12 @@ static PyObject *hp_walker_at_from(const hp_walker_at *it)
     return found;
 }
 
-static PyTypeObject *hp_place_type;
 static PyStructSequence_Field hp_place_fields[] = { { "document", NULL }, { "kind", NULL }, { "next", NULL }, { "parent", NULL }, { "previous", NULL }, { NULL, NULL } };
 static PyStructSequence_Desc hp_place_form = { "huckleport._core.hp_place", "The node document, the kind by the standard's number (`nodeType`), and the nodes beside and above, or `HP_NONE`.", hp_place_fields, 5 };
 
-static PyObject *hp_place_from(const hp_place *it)
+static PyObject *hp_place_from(const Calls *calls, const hp_place *it)
 {
-    PyObject *found = PyStructSequence_New(hp_place_type);
+    PyObject *found = PyStructSequence_New(calls->state->structs[AT_HP_PLACE]);
     if (!found)
         return NULL;
     PyStructSequence_SetItem(found, 0, PyLong_FromSize_t(it->document));
@@ -127,13 +122,12 @@ static PyObject *hp_place_from(const hp_place *it)
     return found;
 }
 
-static PyTypeObject *hp_node_links_type;
 static PyStructSequence_Field hp_node_links_fields[] = { { "kind", NULL }, { "document", NULL }, { "parent", NULL }, { "previous", NULL }, { "next", NULL }, { "first_child", NULL }, { "last_child", NULL }, { "children", NULL }, { "length", NULL }, { NULL, NULL } };
 static PyStructSequence_Desc hp_node_links_form = { "huckleport._core.hp_node_links", "A node: the standard's number of its kind (`nodeType`), its node document, the nodes above, beside and below it, or `HP_NONE`, how many children it has, and its length.", hp_node_links_fields, 9 };
 
-static PyObject *hp_node_links_from(const hp_node_links *it)
+static PyObject *hp_node_links_from(const Calls *calls, const hp_node_links *it)
 {
-    PyObject *found = PyStructSequence_New(hp_node_links_type);
+    PyObject *found = PyStructSequence_New(calls->state->structs[AT_HP_NODE_LINKS]);
     if (!found)
         return NULL;
     PyStructSequence_SetItem(found, 0, PyLong_FromSize_t(it->kind));
@@ -148,13 +142,12 @@ static PyObject *hp_node_links_from(const hp_node_links *it)
     return found;
 }
 
-static PyTypeObject *hp_counts_type;
 static PyStructSequence_Field hp_counts_fields[] = { { "nodes", NULL }, { "ranges", NULL }, { "static_ranges", NULL }, { "iterators", NULL }, { "walkers", NULL }, { "observers", NULL }, { "registrations", NULL }, { NULL, NULL } };
 static PyStructSequence_Desc hp_counts_form = { "huckleport._core.hp_counts", "How many objects of each kind there are: those that were made, and neither discarded nor released. The registrations are those of all observers, with the transient ones.", hp_counts_fields, 7 };
 
-static PyObject *hp_counts_from(const hp_counts *it)
+static PyObject *hp_counts_from(const Calls *calls, const hp_counts *it)
 {
-    PyObject *found = PyStructSequence_New(hp_counts_type);
+    PyObject *found = PyStructSequence_New(calls->state->structs[AT_HP_COUNTS]);
     if (!found)
         return NULL;
     PyStructSequence_SetItem(found, 0, PyLong_FromSize_t(it->nodes));
@@ -167,19 +160,28 @@ static PyObject *hp_counts_from(const hp_counts *it)
     return found;
 }
 
-static bool structs_made(void)
+static bool structs_made(PyObject *module, State *state)
 {
-    hp_row_type = PyStructSequence_NewType(&hp_row_form);
-    hp_notice_type = PyStructSequence_NewType(&hp_notice_form);
-    hp_record_type = PyStructSequence_NewType(&hp_record_form);
-    hp_ends_type = PyStructSequence_NewType(&hp_ends_form);
-    hp_static_ends_type = PyStructSequence_NewType(&hp_static_ends_form);
-    hp_iterator_at_type = PyStructSequence_NewType(&hp_iterator_at_form);
-    hp_walker_at_type = PyStructSequence_NewType(&hp_walker_at_form);
-    hp_place_type = PyStructSequence_NewType(&hp_place_form);
-    hp_node_links_type = PyStructSequence_NewType(&hp_node_links_form);
-    hp_counts_type = PyStructSequence_NewType(&hp_counts_form);
-    return hp_row_type && hp_notice_type && hp_record_type && hp_ends_type && hp_static_ends_type && hp_iterator_at_type && hp_walker_at_type && hp_place_type && hp_node_links_type && hp_counts_type;
+    bool done = true;
+    PyStructSequence_Desc *const forms[] = {
+        &hp_row_form,
+        &hp_notice_form,
+        &hp_record_form,
+        &hp_ends_form,
+        &hp_static_ends_form,
+        &hp_iterator_at_form,
+        &hp_walker_at_form,
+        &hp_place_form,
+        &hp_node_links_form,
+        &hp_counts_form,
+    };
+    for (int at = 0; done && at < STRUCTS_MADE; at++) {
+        state->structs[at] = PyStructSequence_NewType(forms[at]);
+        done = state->structs[at] != NULL;
+        Py_XINCREF((PyObject *)state->structs[at]);
+        done = done && PyModule_AddObject(module, strrchr(forms[at]->name, '.') + 1, (PyObject *)state->structs[at]) == 0;
+    }
+    return done;
 }
 
 static bool hp_options_of(PyObject *value, hp_options *to)
@@ -316,7 +318,7 @@ static PyObject *call_row_at(PyObject *self, PyObject *words)
     PyObject *found = NULL;
     if (is_counted(words, 1, "row_at") && size_of(word(words, 0), &index)) {
         uint8_t status = hp_row_at(session_at(self), index, &row);
-        found = status ? refused(status, "row_at", self, words) : hp_row_from(&row);
+        found = status ? refused(status, "row_at", self, words) : hp_row_from((Calls *)self, &row);
     }
     return found;
 }
@@ -379,7 +381,7 @@ static PyObject *call_notice_at(PyObject *self, PyObject *words)
     PyObject *found = NULL;
     if (is_counted(words, 1, "notice_at") && size_of(word(words, 0), &index)) {
         uint8_t status = hp_notice_at(session_at(self), index, &notice);
-        found = status ? refused(status, "notice_at", self, words) : hp_notice_from(&notice);
+        found = status ? refused(status, "notice_at", self, words) : hp_notice_from((Calls *)self, &notice);
     }
     return found;
 }
@@ -392,7 +394,7 @@ static PyObject *call_record_at(PyObject *self, PyObject *words)
     PyObject *found = NULL;
     if (is_counted(words, 2, "record_at") && size_of(word(words, 0), &notice) && size_of(word(words, 1), &index)) {
         uint8_t status = hp_record_at(session_at(self), notice, index, &record);
-        found = status ? refused(status, "record_at", self, words) : hp_record_from(&record);
+        found = status ? refused(status, "record_at", self, words) : hp_record_from((Calls *)self, &record);
     }
     return found;
 }
@@ -729,7 +731,7 @@ static PyObject *call_node(PyObject *self, PyObject *words)
     PyObject *found = NULL;
     if (is_counted(words, 1, "node") && uint32_of(word(words, 0), &node)) {
         uint8_t status = hp_node(session_at(self), node, &place);
-        found = status ? refused(status, "node", self, words) : hp_place_from(&place);
+        found = status ? refused(status, "node", self, words) : hp_place_from((Calls *)self, &place);
     }
     return found;
 }
@@ -849,7 +851,7 @@ static PyObject *call_links(PyObject *self, PyObject *words)
     PyObject *found = NULL;
     if (is_counted(words, 1, "links") && uint32_of(word(words, 0), &node)) {
         uint8_t status = hp_links(session_at(self), node, &links);
-        found = status ? refused(status, "links", self, words) : hp_node_links_from(&links);
+        found = status ? refused(status, "links", self, words) : hp_node_links_from((Calls *)self, &links);
     }
     return found;
 }
@@ -897,7 +899,7 @@ static PyObject *call_in_use(PyObject *self, PyObject *words)
     PyObject *found = NULL;
     if (is_counted(words, 0, "in_use")) {
         uint8_t status = hp_in_use(session_at(self), &counts);
-        found = status ? refused(status, "in_use", self, words) : hp_counts_from(&counts);
+        found = status ? refused(status, "in_use", self, words) : hp_counts_from((Calls *)self, &counts);
     }
     return found;
 }
@@ -1132,7 +1134,7 @@ static PyObject *call_range(PyObject *self, PyObject *words)
     PyObject *found = NULL;
     if (is_counted(words, 1, "range") && uint32_of(word(words, 0), &range)) {
         uint8_t status = hp_range(session_at(self), range, &ends);
-        found = status ? refused(status, "range", self, words) : hp_ends_from(&ends);
+        found = status ? refused(status, "range", self, words) : hp_ends_from((Calls *)self, &ends);
     }
     return found;
 }
@@ -1348,7 +1350,7 @@ static PyObject *call_static_range(PyObject *self, PyObject *words)
     PyObject *found = NULL;
     if (is_counted(words, 1, "static_range") && uint32_of(word(words, 0), &range)) {
         uint8_t status = hp_static_range(session_at(self), range, &ends);
-        found = status ? refused(status, "static_range", self, words) : hp_static_ends_from(&ends);
+        found = status ? refused(status, "static_range", self, words) : hp_static_ends_from((Calls *)self, &ends);
     }
     return found;
 }
@@ -1491,7 +1493,7 @@ static PyObject *call_iterator(PyObject *self, PyObject *words)
     PyObject *found = NULL;
     if (is_counted(words, 1, "iterator") && uint32_of(word(words, 0), &iterator)) {
         uint8_t status = hp_iterator(session_at(self), iterator, &place);
-        found = status ? refused(status, "iterator", self, words) : hp_iterator_at_from(&place);
+        found = status ? refused(status, "iterator", self, words) : hp_iterator_at_from((Calls *)self, &place);
     }
     return found;
 }
@@ -1527,7 +1529,7 @@ static PyObject *call_walker(PyObject *self, PyObject *words)
     PyObject *found = NULL;
     if (is_counted(words, 1, "walker") && uint32_of(word(words, 0), &walker)) {
         uint8_t status = hp_walker(session_at(self), walker, &place);
-        found = status ? refused(status, "walker", self, words) : hp_walker_at_from(&place);
+        found = status ? refused(status, "walker", self, words) : hp_walker_at_from((Calls *)self, &place);
     }
     return found;
 }
@@ -1648,6 +1650,27 @@ static PyObject *call_pending(PyObject *self, PyObject *words)
     if (is_counted(words, 0, "pending")) {
         uint8_t status = hp_pending(session_at(self));
         found = status ? refused(status, "pending", self, words) : none();
+    }
+    return found;
+}
+
+static PyObject *call_take_pending(PyObject *self, PyObject *words)
+{
+    PyObject *found = NULL;
+    if (is_counted(words, 0, "take_pending")) {
+        uint8_t status = hp_take_pending(session_at(self));
+        found = status ? refused(status, "take_pending", self, words) : none();
+    }
+    return found;
+}
+
+static PyObject *call_tell_observer(PyObject *self, PyObject *words)
+{
+    uint32_t observer = 0;
+    PyObject *found = NULL;
+    if (is_counted(words, 1, "tell_observer") && uint32_of(word(words, 0), &observer)) {
+        uint8_t status = hp_tell_observer(session_at(self), observer);
+        found = status ? refused(status, "tell_observer", self, words) : none();
     }
     return found;
 }
@@ -1868,6 +1891,8 @@ static PyObject *call_read_get_attribute(PyObject *self, PyObject *words)
     { "take_records", call_take_records, METH_VARARGS, NULL }, \
     { "notify", call_notify, METH_VARARGS, NULL }, \
     { "pending", call_pending, METH_VARARGS, NULL }, \
+    { "take_pending", call_take_pending, METH_VARARGS, NULL }, \
+    { "tell_observer", call_tell_observer, METH_VARARGS, NULL }, \
     { "release_observer", call_release_observer, METH_VARARGS, NULL }, \
     { "read_children", call_read_children, METH_VARARGS, NULL }, \
     { "read_pending", call_read_pending, METH_VARARGS, NULL }, \

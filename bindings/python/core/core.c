@@ -5,6 +5,8 @@
 #include "core.h"
 #include "members.h"
 #include "writing.h"
+#include "reading.h"
+#include "building.h"
 #include "calls.h"
 
 static PyMethodDef members_by_hand[] = {
@@ -18,6 +20,13 @@ static PyMethodDef members_by_hand[] = {
     { "Node.child_nodes", node_child_nodes, METH_NOARGS, NULL },
     { "Node.has_child_nodes", node_has_child_nodes, METH_NOARGS, NULL },
     { "Node.tree", node_tree, METH_NOARGS, NULL },
+    { "Node.descendants", (PyCFunction)(void (*)(void))node_descendants, METH_VARARGS | METH_KEYWORDS, NULL },
+    { "Node.next_siblings", node_next_siblings, METH_NOARGS, NULL },
+    { "Node.previous_siblings", node_previous_siblings, METH_NOARGS, NULL },
+    { "ParentNode.__iter__", node_iter, METH_NOARGS, NULL },
+    { "ParentNode.children", node_children, METH_NOARGS, NULL },
+    { "ParentNode.get_elements_by_tag_name", (PyCFunction)(void (*)(void))node_elements_by_tag_name, METH_VARARGS | METH_KEYWORDS, NULL },
+    { "ParentNode.get_element_by_id", (PyCFunction)(void (*)(void))node_element_by_id, METH_VARARGS | METH_KEYWORDS, NULL },
     { NULL, NULL, 0, NULL },
 };
 
@@ -32,6 +41,11 @@ static PyMethodDef calls_by_hand[] = {
     { "read_printed", calls_read_printed, METH_VARARGS, "A node as its line prints it." },
     { "read_tree", calls_read_tree, METH_VARARGS, "The rows of a session and a node, at most so many." },
     { "read_markup", calls_read_markup, METH_VARARGS, "A node and all below it as markup: texts with other rows between, and all names." },
+    { "read_orders", calls_read_orders, METH_VARARGS, "Puts the names of the attributes of all elements of a tree that have several into a dict." },
+    { "read_data_of", calls_read_data_of, METH_O, "The data of many nodes." },
+    { "read_text_content_of", calls_read_text_content_of, METH_O, "The text content of many nodes." },
+    { "read_attribute_of", calls_read_attribute_of, METH_VARARGS, "The value of an attribute of many elements." },
+    { "read_attributes_of", calls_read_attributes_of, METH_O, "The attributes of many elements, a dict each." },
     { "read_records", calls_read_records, METH_VARARGS, "The records of a session and an observer, which are taken." },
     { "tell", calls_tell, METH_VARARGS, "Tells the observers of a session; the list takes what was told. Returns what was raised." },
     CALLS_MADE
@@ -110,18 +124,26 @@ static bool take_hook(PyObject *classes, const char *name, PyObject **to)
         return false;
     }
     Py_INCREF(found);
+    Py_XDECREF(*to);
     *to = found;
     return true;
 }
 
+/* The state of a module, or null where it was not made. */
+static State *state_of(PyObject *module)
+{
+    Cell **found = PyModule_GetState(module);
+    return found && *found ? (*found)->state : NULL;
+}
+
 static PyObject *module_settle(PyObject *self, PyObject *classes)
 {
-    (void)self;
+    State *state = state_of(self);
     for (int kind = 0; kind < KINDS; kind++) {
-        if (KIND_WORDS[kind] && !take_hook(classes, KIND_WORDS[kind], &kinds[kind]))
+        if (KIND_WORDS[kind] && !take_hook(classes, KIND_WORDS[kind], &state->kinds[kind]))
             return NULL;
     }
-    if (!take_hook(classes, "refusal", &refuse_hook) || !take_hook(classes, "printed_name", &name_hook))
+    if (!take_hook(classes, "refusal", &state->refuse_hook) || !take_hook(classes, "printed_name", &state->name_hook))
         return NULL;
     return none();
 }
@@ -136,7 +158,7 @@ static PyMethodDef *member_named(PyMethodDef *members, const char *name)
 }
 
 /* A copy that stays, by the last part of its name, with the text of a docstring. */
-static PyObject *member_made(const PyMethodDef *from, const char *doc)
+static PyObject *member_made(const State *state, const PyMethodDef *from, const char *doc)
 {
     size_t length = strlen(doc) + 1;
     PyMethodDef *it = PyMem_Malloc(sizeof(PyMethodDef) + length);
@@ -147,18 +169,77 @@ static PyObject *member_made(const PyMethodDef *from, const char *doc)
     *it = *from;
     it->ml_name = strchr(from->ml_name, '.') + 1;
     it->ml_doc = text;
-    return PyDescr_NewMethod(thing_type, it);
+    return PyDescr_NewMethod(state->thing_type, it);
+}
+
+static const PyMethodDef *member_of(const char *name)
+{
+    const PyMethodDef *found = member_named(members_by_hand, name);
+    return found ? found : member_named(members_made, name);
 }
 
 static PyObject *module_member(PyObject *self, PyObject *words)
 {
-    (void)self;
     const char *name = NULL, *doc = NULL;
     if (!PyArg_ParseTuple(words, "ss", &name, &doc))
         return NULL;
-    PyMethodDef *found = member_named(members_by_hand, name);
-    found = found ? found : member_named(members_made, name);
-    return found ? member_made(found, doc) : none();
+    const PyMethodDef *found = member_of(name);
+    return found ? member_made(state_of(self), found, doc) : none();
+}
+
+/* ---- members that are asked for without a call */
+
+/* What an attribute is asked by, and what sets it, or null. */
+typedef struct {
+    const PyMethodDef *get, *set;
+    PyGetSetDef told;
+} Attribute;
+
+static PyObject *attribute_get(PyObject *self, void *closure)
+{
+    return ((const Attribute *)closure)->get->ml_meth(self, NULL);
+}
+
+static int attribute_set(PyObject *self, PyObject *value, void *closure)
+{
+    const PyMethodDef *set = ((const Attribute *)closure)->set;
+    if (!value) {
+        PyErr_SetString(PyExc_AttributeError, "it can't be deleted");
+        return -1;
+    }
+    PyObject *words = PyTuple_Pack(1, value);
+    PyObject *said = words ? ((PyCFunctionWithKeywords)(void (*)(void))set->ml_meth)(self, words, NULL) : NULL;
+    Py_XDECREF(words);
+    Py_XDECREF(said);
+    return said ? 0 : -1;
+}
+
+/* An attribute that stays, with the text of a docstring. */
+static PyObject *attribute_made(const State *state, const PyMethodDef *get, const PyMethodDef *set, const char *doc)
+{
+    size_t length = strlen(doc) + 1;
+    Attribute *it = PyMem_Malloc(sizeof(Attribute) + length);
+    if (!it)
+        return PyErr_NoMemory();
+    char *text = (char *)(it + 1);
+    memcpy(text, doc, length);
+    *it = (Attribute){ get, set, { (char *)strchr(get->ml_name, '.') + 1, attribute_get, set ? attribute_set : NULL, text, it } };
+    return PyDescr_NewGetSet(state->thing_type, &it->told);
+}
+
+static PyObject *module_attribute(PyObject *self, PyObject *words)
+{
+    const char *name = NULL, *doc = NULL;
+    char setting[64];
+    if (!PyArg_ParseTuple(words, "ss", &name, &doc))
+        return NULL;
+    size_t length = strlen(name);
+    if (length + 2 > sizeof(setting))
+        return none();
+    memcpy(setting, name, length);
+    memcpy(setting + length, "=", 2);
+    const PyMethodDef *get = member_of(name), *set = member_of(setting);
+    return get ? attribute_made(state_of(self), get, set, doc) : none();
 }
 
 /* What makes a tuple of any class: that of a class which leaves it as it is. (The slots of tuple itself are hidden before 3.10.) */
@@ -172,29 +253,107 @@ static newfunc tuple_maker(void)
 
 static PyMethodDef module_methods[] = {
     { "settle", module_settle, METH_O, "Takes the classes and functions of the package, by their names." },
-    { "member", module_member, METH_VARARGS, "A member by its class and name, with a docstring, or None." },
+    { "member", module_member, METH_VARARGS, "A method by its class and name, with a docstring, or None." },
+    { "attribute", module_attribute, METH_VARARGS, "An attribute by its class and name, with a docstring, or None." },
     { NULL, NULL, 0, NULL },
 };
 
-static struct PyModuleDef module = { PyModuleDef_HEAD_INIT, "_core", "The library's calls.", -1, module_methods, NULL, NULL, NULL, NULL };
+/* ---- the module, once for each interpreter */
 
+static void capsule_end(PyObject *capsule)
+{
+    cell_let_go(PyCapsule_GetPointer(capsule, STATE_NAME));
+}
+
+/* Makes a type, which has a member by which it finds the state. */
 static bool add_type(PyObject *to, const char *name, PyType_Spec *spec, PyTypeObject **type)
 {
+    Cell *cell = *(Cell **)PyModule_GetState(to);
     *type = (PyTypeObject *)PyType_FromSpec(spec);
-    if (!*type)
+    PyObject *capsule = *type ? PyCapsule_New(cell, STATE_NAME, capsule_end) : NULL;
+    if (!capsule)
+        return false;
+    cell->holders++;
+    bool done = PyObject_SetAttrString((PyObject *)*type, "_state", capsule) == 0;
+    Py_DECREF(capsule);
+    if (!done)
         return false;
     Py_INCREF((PyObject *)*type);
     return PyModule_AddObject(to, name, (PyObject *)*type) == 0;
 }
 
-static bool take_collector(void)
+static bool take_collector(State *state)
 {
     PyObject *found = PyImport_ImportModule("gc");
-    gc_is_enabled = found ? PyObject_GetAttrString(found, "isenabled") : NULL;
-    gc_disable = found ? PyObject_GetAttrString(found, "disable") : NULL;
-    gc_enable = found ? PyObject_GetAttrString(found, "enable") : NULL;
+    state->gc_is_enabled = found ? PyObject_GetAttrString(found, "isenabled") : NULL;
+    state->gc_disable = found ? PyObject_GetAttrString(found, "disable") : NULL;
+    state->gc_enable = found ? PyObject_GetAttrString(found, "enable") : NULL;
     Py_XDECREF(found);
-    return gc_is_enabled && gc_disable && gc_enable;
+    return state->gc_is_enabled && state->gc_disable && state->gc_enable;
+}
+
+static int module_fill(PyObject *module)
+{
+    State *state = zeroed(1, sizeof(State));
+    Cell *cell = zeroed(1, sizeof(Cell));
+    if (!state || !cell) {
+        PyMem_Free(state);
+        PyMem_Free(cell);
+        PyErr_NoMemory();
+        return -1;
+    }
+    *cell = (Cell){ 1, state_held(state) };
+    *(Cell **)PyModule_GetState(module) = cell;
+    tuple_new = tuple_maker();
+    bool done = tuple_new && take_collector(state) && structs_made(module, state) && add_type(module, "Calls", &calls_spec, &state->calls_type) &&
+                add_type(module, "Thing", &thing_spec, &state->thing_type) && add_type(module, "Builder", &builder_spec, &state->builder_type) &&
+                add_type(module, "Walk", &walk_spec, &state->walk_type);
+    return done ? 0 : -1;
+}
+
+/* The classes of the package, which the state holds, lead back to the module. */
+static int module_traverse(PyObject *module, visitproc visit, void *arg)
+{
+    State *state = state_of(module);
+    for (int at = 0; state && at < KINDS; at++)
+        Py_VISIT(state->kinds[at]);
+    if (state) {
+        Py_VISIT((PyObject *)state->calls_type);
+        Py_VISIT((PyObject *)state->thing_type);
+        Py_VISIT((PyObject *)state->builder_type);
+        Py_VISIT((PyObject *)state->walk_type);
+        Py_VISIT(state->refuse_hook);
+        Py_VISIT(state->name_hook);
+    }
+    return 0;
+}
+
+static void module_end(void *module)
+{
+    Cell **found = PyModule_GetState(module);
+    if (!found || !*found)
+        return;
+    state_let_go((*found)->state);
+    (*found)->state = NULL;
+    cell_let_go(*found);
+    *found = NULL;
+}
+
+/* The numbers of slots, of which the last is known from 3.12 on: the module may run under a lock of each interpreter's own. */
+enum { SLOT_EXEC = 2, SLOT_INTERPRETERS = 3 };
+
+static PyModuleDef_Slot slots_of_old[] = { { SLOT_EXEC, (void *)module_fill }, { 0, NULL } };
+static PyModuleDef_Slot slots[] = { { SLOT_EXEC, (void *)module_fill }, { SLOT_INTERPRETERS, (void *)2 }, { 0, NULL } };
+
+#define MODULE(slots)                                                                                                                        \
+    { PyModuleDef_HEAD_INIT, "huckleport._core", "The library's calls.", sizeof(Cell *), module_methods, slots, module_traverse, NULL, module_end }
+
+static struct PyModuleDef module_of_old = MODULE(slots_of_old), module = MODULE(slots);
+
+static bool is_before_3_12(void)
+{
+    const char *version = Py_GetVersion();
+    return version[0] == '3' && version[1] == '.' && strtol(version + 2, NULL, 10) < 12;
 }
 
 /* (What the sources show no name of stays hidden, and headers before 3.9 show none.) */
@@ -203,12 +362,5 @@ __attribute__((visibility("default")))
 #endif
 PyMODINIT_FUNC PyInit__core(void)
 {
-    PyObject *found = PyModule_Create(&module);
-    tuple_new = tuple_maker();
-    if (!found || !tuple_new || !take_collector() || !structs_made() || !add_type(found, "Calls", &calls_spec, &calls_type) ||
-        !add_type(found, "Thing", &thing_spec, &thing_type)) {
-        Py_XDECREF(found);
-        return NULL;
-    }
-    return found;
+    return PyModuleDef_Init(is_before_3_12() ? &module_of_old : &module);
 }

@@ -9,6 +9,7 @@
 
 #include <stdbool.h>
 #include <stdint.h>
+#include <stdlib.h>
 #include <string.h>
 #include <wchar.h>
 
@@ -37,7 +38,23 @@ enum {
     KINDS
 };
 
-static PyObject *kinds[KINDS];
+/* How many classes of structs there may be: calls.h tells those that there are. */
+#define STRUCTS 16
+
+/* What the module has in an interpreter: its own types, the classes and functions of the package, and those of Python that it calls. It is held
+ * by the module, by its types and by each session, and goes with the last of them. */
+typedef struct {
+    size_t holders;
+    PyTypeObject *calls_type, *thing_type, *builder_type, *walk_type;
+    PyTypeObject *structs[STRUCTS];
+    PyObject *kinds[KINDS];
+    /* The names of those kinds that have none of their own, as the library prints them. */
+    PyObject *kind_names[KINDS];
+    /* What raises a refusal, and what tells a name that has no part in the library's answer. */
+    PyObject *refuse_hook, *name_hook;
+    /* Python's own functions that stop the collector and let it go on. */
+    PyObject *gc_is_enabled, *gc_disable, *gc_enable;
+} State;
 
 /* Zeroed memory for so many of a size. (PyMem_Calloc is not of the stable ABI of 3.8.) */
 static void *zeroed(size_t count, size_t size)
@@ -45,8 +62,5 @@ static void *zeroed(size_t count, size_t size)
     void *found = count <= PY_SSIZE_T_MAX / size ? PyMem_Malloc(count * size) : NULL;
     return found ? memset(found, 0, count * size) : NULL;
 }
-
-/* Python's functions that the module calls: what raises a refusal, and what tells a name that has no part in the library's answer. */
-static PyObject *refuse_hook, *name_hook;
 
 #endif

@@ -13,9 +13,26 @@ typedef struct {
     size_t length, room;
 } Leaving;
 
+/* A node that is told with its kind. */
+typedef struct {
+    uint32_t number;
+    uint8_t kind;
+} Spot;
+
+/* Nodes that an iterator has found and not handed out: they stay, also where they have no object and stand in no tree any more. */
+typedef struct Waiting {
+    Spot *at;
+    size_t from, length;
+    /* The numbers in order, once it was asked of one. */
+    uint32_t *sorted;
+    size_t sorted_length;
+    struct Waiting *next, *previous;
+} Waiting;
+
 /* A session, and the objects of it that live. */
 typedef struct {
     PyObject_HEAD
+    State *state;
     hp_session session;
     Table kept;
     /* Counts what may have let nodes go: what is known of them is asked for anew then. */
@@ -27,6 +44,8 @@ typedef struct {
     size_t steps, since;
     /* How many answers are being made objects of; what they name may have none yet. */
     size_t making;
+    /* What iterators have found. */
+    Waiting *waiting;
     /* Whether a line was answered. Lines name nodes by their numbers, so none goes by itself then. */
     bool has_lines;
 } Calls;
@@ -106,6 +125,57 @@ static bool is_found_again(const Calls *it, uint32_t number, uint32_t family)
     return found != NULL;
 }
 
+static int order_of_numbers(const void *one, const void *other)
+{
+    uint32_t a = *(const uint32_t *)one, b = *(const uint32_t *)other;
+    return a < b ? -1 : a > b;
+}
+
+/* Puts the numbers in order, once. */
+static bool waiting_sort(Waiting *it)
+{
+    if (it->sorted)
+        return true;
+    it->sorted = zeroed(it->length - it->from + 1, sizeof(uint32_t));
+    if (!it->sorted)
+        return false;
+    for (size_t at = it->from; at < it->length; at++)
+        it->sorted[it->sorted_length++] = it->at[at].number;
+    qsort(it->sorted, it->sorted_length, sizeof(uint32_t), order_of_numbers);
+    return true;
+}
+
+/* Whether an iterator still has to hand a node out; also where memory is wanting to tell. */
+static bool is_waited_for(Calls *it, uint32_t number)
+{
+    for (Waiting *its = it->waiting; its; its = its->next) {
+        if (!waiting_sort(its) || bsearch(&number, its->sorted, its->sorted_length, sizeof(uint32_t), order_of_numbers))
+            return true;
+    }
+    return false;
+}
+
+static void waiting_begin(Calls *of, Waiting *it)
+{
+    it->next = of->waiting;
+    if (it->next)
+        it->next->previous = it;
+    of->waiting = it;
+}
+
+static void waiting_end(Calls *of, Waiting *it)
+{
+    if (it->next)
+        it->next->previous = it->previous;
+    if (it->previous)
+        it->previous->next = it->next;
+    else if (of->waiting == it)
+        of->waiting = it->next;
+    PyMem_Free(it->at);
+    PyMem_Free(it->sorted);
+    *it = (Waiting){ NULL, 0, 0, NULL, 0, NULL, NULL };
+}
+
 /* The node behind another in tree order, within a tree, or none. */
 static uint32_t following(Calls *it, uint32_t at, uint32_t root)
 {
@@ -120,12 +190,12 @@ static uint32_t following(Calls *it, uint32_t at, uint32_t root)
     return is_there && at != root ? links.next : HP_NONE;
 }
 
-/* Whether a node of a tree has an object. Counts the nodes that are asked. */
+/* Whether a node of a tree has an object, or is to be handed out. Counts the nodes that are asked. */
 static bool is_held(Calls *it, uint32_t root, size_t *steps)
 {
     for (uint32_t at = root; at != HP_NONE; at = following(it, at, root)) {
         ++*steps;
-        if (living(it, at, FAMILY_NODE))
+        if (living(it, at, FAMILY_NODE) || (it->waiting && is_waited_for(it, at)))
             return true;
     }
     return false;

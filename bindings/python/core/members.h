@@ -74,7 +74,7 @@ static PyObject *taken_out(PyObject *node, PyObject *answer)
 /* A node that came under another, and is no root any more. A fragment stays one. */
 static PyObject *placed(PyObject *node, PyObject *answer)
 {
-    ((Thing *)node)->is_own = (PyObject *)Py_TYPE(node) == kinds[KIND_DOCUMENT_FRAGMENT];
+    ((Thing *)node)->is_own = (PyObject *)Py_TYPE(node) == ((Thing *)node)->calls->state->kinds[KIND_DOCUMENT_FRAGMENT];
     return answer;
 }
 
@@ -212,33 +212,35 @@ static PyObject *calls_read_records(PyObject *self, PyObject *words)
     return found;
 }
 
-/* Makes the call that empties all queues, and raises where it is refused. */
-static bool is_notified(PyObject *self)
+/* Takes the observers that wait to be told, and raises where that is refused. */
+static bool is_pending_taken(Numbers *to, PyObject *self)
 {
-    uint8_t status = hp_notify(session_at(self));
+    uint8_t status = hp_take_pending(session_at(self));
     PyObject *words = status ? PyTuple_New(0) : NULL;
     if (words)
-        refused(status, "notify", self, words);
+        refused(status, "take_pending", self, words);
     Py_XDECREF(words);
-    return status == HP_OK;
+    return status == HP_OK && numbers_read(to, session_at(self));
 }
 
-/* Tells all observers of a session. A list takes what is told, another has what was left by an earlier call. Returns what was raised, or None. */
+/* Tells the observers of a session in turn. A list takes what is told, another has what was left by an earlier call. Returns what was raised, or
+ * None. */
 static PyObject *calls_tell(PyObject *self, PyObject *words)
 {
     if (!is_counted(words, 3, "tell"))
         return NULL;
-    PyObject *told = word(words, 1), *left = word(words, 2), *kept = PyList_New(0);
-    if (!kept || !is_notified(self) || !notices_answer(told, word(words, 0), (Calls *)self)) {
-        Py_XDECREF(kept);
-        return NULL;
+    Numbers pending = { NULL, NULL, 0, 0 };
+    Turns turns = { word(words, 0), word(words, 1), PyList_New(0), NULL, (Calls *)self };
+    bool is_done = turns.kept && is_pending_taken(&pending, self);
+    if (is_done) {
+        tell_all(&turns, &pending);
+        is_done = leave(turns.told, word(words, 2), turns.kept, turns.fault != NULL);
     }
-    PyObject *fault = tell_all(told, kept);
-    bool is_left = leave(told, left, kept, fault != NULL);
-    Py_DECREF(kept);
-    if (!is_left)
-        Py_CLEAR(fault);
-    return fault || !is_left ? fault : none();
+    numbers_drop(&pending);
+    Py_XDECREF(turns.kept);
+    if (!is_done)
+        Py_CLEAR(turns.fault);
+    return turns.fault || !is_done ? turns.fault : none();
 }
 
 static PyObject *calls_is_open(PyObject *self, void *closure)
@@ -249,14 +251,13 @@ static PyObject *calls_is_open(PyObject *self, void *closure)
 
 /* ---- members that a table does not say */
 
-/* The names of those kinds that have none of their own, as the library prints them. */
-static PyObject *kind_names[KINDS];
-
 static PyObject *kind_name(PyObject *self, uint8_t kind)
 {
+    State *state = ((Thing *)self)->calls->state;
+    PyObject **kind_names = state->kind_names;
     if (kind >= KINDS || kind_names[kind])
         return kind < KINDS ? same(kind_names[kind]) : none();
-    PyObject *found = PyObject_CallFunctionObjArgs(name_hook, self, NULL);
+    PyObject *found = PyObject_CallFunctionObjArgs(state->name_hook, self, NULL);
     if (found && !kind_names[kind])
         kind_names[kind] = same(found);
     return found;
@@ -326,23 +327,6 @@ static PyObject *node_owner_document(PyObject *self, PyObject *nothing)
     if (status)
         return refused_of(status, "links", self, NULL, 0);
     return links.document == number_of(self) ? none() : made_at(self, KIND_DOCUMENT, FAMILY_NODE, links.document);
-}
-
-static PyObject *node_child_nodes(PyObject *self, PyObject *nothing)
-{
-    (void)nothing;
-    Thing *it = (Thing *)self;
-    Numbers numbers = { NULL, NULL, 0, 0 };
-    PyObject *found = NULL;
-    uint8_t status = hp_children(session_of(self), it->number);
-    if (status)
-        return refused_of(status, "children", self, NULL, 0);
-    it->calls->making++;
-    if (numbers_read(&numbers, session_of(self)) && numbers_ask(&numbers, it->calls))
-        found = numbers_nodes(&numbers, 0, numbers.length, it->session, it->calls);
-    it->calls->making--;
-    numbers_drop(&numbers);
-    return found;
 }
 
 static PyObject *node_has_child_nodes(PyObject *self, PyObject *nothing)

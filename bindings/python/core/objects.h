@@ -5,7 +5,59 @@
 #include "leaving.h"
 #include "texts.h"
 
-static PyTypeObject *calls_type, *thing_type;
+/* ---- the state of an interpreter */
+
+#define STATE_NAME "huckleport._core.state"
+
+static State *state_held(State *it)
+{
+    it->holders++;
+    return it;
+}
+
+static void state_let_go(State *it)
+{
+    if (--it->holders)
+        return;
+    Py_XDECREF((PyObject *)it->calls_type);
+    Py_XDECREF((PyObject *)it->thing_type);
+    Py_XDECREF((PyObject *)it->builder_type);
+    Py_XDECREF((PyObject *)it->walk_type);
+    for (int at = 0; at < STRUCTS; at++)
+        Py_XDECREF((PyObject *)it->structs[at]);
+    for (int at = 0; at < KINDS; at++) {
+        Py_XDECREF(it->kinds[at]);
+        Py_XDECREF(it->kind_names[at]);
+    }
+    PyObject *const others[] = { it->refuse_hook, it->name_hook, it->gc_is_enabled, it->gc_disable, it->gc_enable };
+    for (size_t at = 0; at < sizeof(others) / sizeof(*others); at++)
+        Py_XDECREF(others[at]);
+    PyMem_Free(it);
+}
+
+/* Where types find the state: they do not hold it, and there is none once the module has gone. */
+typedef struct {
+    size_t holders;
+    State *state;
+} Cell;
+
+static void cell_let_go(Cell *it)
+{
+    if (--it->holders == 0)
+        PyMem_Free(it);
+}
+
+/* The state that a type was made with. */
+static State *state_of_type(PyTypeObject *type)
+{
+    PyObject *found = PyObject_GetAttrString((PyObject *)type, "_state");
+    Cell *cell = found ? PyCapsule_GetPointer(found, STATE_NAME) : NULL;
+    State *state = cell ? cell->state : NULL;
+    if (cell && !state)
+        PyErr_SetString(PyExc_RuntimeError, "the module huckleport._core has ended");
+    Py_XDECREF(found);
+    return state;
+}
 
 /* ---- refusals */
 
@@ -13,7 +65,8 @@ static PyTypeObject *calls_type, *thing_type;
 static PyObject *refused(uint8_t status, const char *call, PyObject *calls, PyObject *words)
 {
     ((Calls *)calls)->epoch += status == HP_OUT_OF_MEMORY;
-    PyObject *fault = refuse_hook ? PyObject_CallFunction(refuse_hook, "isOO", (int)status, call, calls, words) : NULL;
+    PyObject *hook = ((Calls *)calls)->state->refuse_hook;
+    PyObject *fault = hook ? PyObject_CallFunction(hook, "isOO", (int)status, call, calls, words) : NULL;
     if (fault)
         PyErr_SetObject((PyObject *)Py_TYPE(fault), fault);
     else if (!PyErr_Occurred())
@@ -51,7 +104,11 @@ static PyObject *calls_new(PyTypeObject *type, PyObject *words, PyObject *named)
 {
     (void)words;
     (void)named;
-    return PyType_GenericAlloc(type, 0);
+    State *state = state_of_type(type);
+    PyObject *found = state ? PyType_GenericAlloc(type, 0) : NULL;
+    if (found)
+        ((Calls *)found)->state = state_held(state);
+    return found;
 }
 
 static void calls_dealloc(PyObject *self)
@@ -61,6 +118,8 @@ static void calls_dealloc(PyObject *self)
     hp_close(&it->session);
     PyMem_Free(it->kept.entries);
     leaving_end(it);
+    if (it->state)
+        state_let_go(it->state);
     PyObject_Free(self);
     Py_DECREF(type);
 }
@@ -131,9 +190,10 @@ static PyObject *thing_new(PyTypeObject *type, PyObject *words, PyObject *named)
     if (!uint32_of(PyTuple_GetItem(words, 1), &number) || !family_of((PyObject *)type, &family))
         return NULL;
     PyObject *calls = PyObject_GetAttrString(session, "_calls"), *found = NULL;
-    if (calls && !PyObject_TypeCheck(calls, calls_type))
+    State *state = calls ? state_of_type(type) : NULL;
+    if (state && !PyObject_TypeCheck(calls, state->calls_type))
         is_not_due("Session", session);
-    else if (calls)
+    else if (state)
         found = PyType_GenericAlloc(type, 0);
     if (found)
         settle((Thing *)found, session, (Calls *)calls, number, family);
@@ -183,8 +243,9 @@ static PyObject *own(PyObject *it)
 }
 
 /* The class of a kind that the library tells. */
-static PyObject *kind_of(unsigned kind)
+static PyObject *kind_of(const Calls *calls, unsigned kind)
 {
+    PyObject *const *kinds = calls->state->kinds;
     return kind < KINDS && kinds[kind] ? kinds[kind] : kinds[KIND_NODE];
 }
 
@@ -196,7 +257,7 @@ static PyObject *node_from(PyObject *session, Calls *calls, uint32_t number)
     if (found)
         return found;
     bool is_there = hp_links(&calls->session, number, &links) == HP_OK;
-    return made(session, calls, kind_of(is_there ? links.kind : KIND_NODE), FAMILY_NODE, number);
+    return made(session, calls, kind_of(calls, is_there ? links.kind : KIND_NODE), FAMILY_NODE, number);
 }
 
 static PyObject *none(void)
@@ -217,14 +278,15 @@ static PyObject *node_or_none_at(PyObject *self, uint32_t number)
 
 static PyObject *made_at(PyObject *self, int kind, uint8_t family, uint32_t number)
 {
-    return made(((Thing *)self)->session, ((Thing *)self)->calls, kinds[kind], family, number);
+    Calls *calls = ((Thing *)self)->calls;
+    return made(((Thing *)self)->session, calls, calls->state->kinds[kind], family, number);
 }
 
 /* The number of an object that is handed in, which has to be of this session. */
 static bool object_of(PyObject *self, PyObject *other, uint8_t family, const char *due, uint32_t *to)
 {
     Thing *it = (Thing *)other;
-    if (!PyObject_TypeCheck(other, thing_type) || it->family != family)
+    if (!PyObject_TypeCheck(other, ((Thing *)self)->calls->state->thing_type) || it->family != family)
         return is_not_due(due, other);
     if (it->session != ((Thing *)self)->session) {
         PyErr_Format(PyExc_ValueError, "the %s is of another session", due);

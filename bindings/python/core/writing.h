@@ -17,62 +17,111 @@ typedef struct {
     size_t length, room;
 } Buffer;
 
+/* Names of elements. */
+enum { MOST_NAMES = 64 };
+typedef struct {
+    hp_bytes at[MOST_NAMES];
+    size_t count;
+} Names;
+
+/* A row that is open: what ends it, and how Texts under it are written. */
+typedef struct {
+    hp_bytes name;
+    bool has_end, is_plain;
+} Open;
+
+typedef struct {
+    Open *at;
+    size_t length, room;
+} Opens;
+
 /* How a tree is written, and where it has got to. */
 typedef struct {
     hp_session *session;
     Escapes text, value;
-    /* Names, as bytes: of elements that have no end tag, and of those whose Texts are written as they are. */
-    PyObject *void_names, *plain_names;
+    /* The names of elements that have no end tag, and of those whose Texts are written as they are. */
+    Names void_names, plain_names;
     /* Whether an element without children ends in its start tag. */
     bool has_empty_tags;
     Buffer written;
-    /* The indices of the rows that are open. */
-    Numbers open;
+    Opens open;
     /* All names of elements and attributes. */
     PyObject *names;
     hp_bytes seen[64];
+    /* Whether a unit was written that XML may not have: a control character, a surrogate that stands alone, U+FFFE, U+FFFF. */
+    bool is_doubtful;
     /* Rows of other kinds, and where in the markup each stands. */
     Rows others;
     size_t others_room;
     size_t *places;
 } Writing;
 
+/* Room for so many bytes more. */
+static bool reserve(Buffer *to, size_t length)
+{
+    if (to->room - to->length >= length)
+        return true;
+    size_t room = 2 * to->room + length + 4096;
+    char *wider = PyMem_Realloc(to->at, room);
+    if (!wider)
+        return PyErr_NoMemory() != NULL;
+    to->at = wider;
+    to->room = room;
+    return true;
+}
+
 static bool push(Buffer *to, const char *from, size_t length)
 {
-    if (to->room - to->length < length) {
-        size_t room = 2 * to->room + length + 256;
-        char *wider = PyMem_Realloc(to->at, room);
-        if (!wider)
-            return PyErr_NoMemory() != NULL;
-        to->at = wider;
-        to->room = room;
-    }
+    if (!reserve(to, length))
+        return false;
     memcpy(to->at + to->length, from, length);
     to->length += length;
     return true;
 }
 
-/* Units as UTF-8, with what is written in their place. A surrogate that stands alone has three bytes. */
-static bool push_text(Buffer *to, const hp_text_view *text, const Escapes *escapes)
+/* Units up to the first that is not written as one byte of its own. */
+static size_t push_plain(Buffer *to, const uint16_t *units, size_t length, const Escapes *escapes)
 {
-    for (size_t at = 0; at < text->length; at++) {
-        Py_UCS4 it = text->units[at];
-        uint8_t octets[4];
-        if (it < 0x80 && to->length < to->room && !(escapes && escapes->at[it])) {
-            to->at[to->length++] = (char)it;
-            continue;
-        }
-        if (escapes && it < 256 && escapes->at[it]) {
-            if (!push(to, escapes->at[it], escapes->length[it]))
-                return false;
-            continue;
-        }
-        if (is_pair(text->units, at, text->length))
-            it = 0x10000 + ((it & 0x3FF) << 10) + (text->units[++at] & 0x3FF);
-        if (!push(to, (const char *)octets, (size_t)(push_octets(octets, &it, 1) - octets)))
-            return false;
+    char *out = to->at + to->length;
+    size_t at = 0;
+    while (at < length && units[at] < 0x80 && units[at] >= 0x20 && !(escapes && escapes->at[units[at]])) {
+        out[at] = (char)units[at];
+        at++;
     }
-    return true;
+    to->length += at;
+    return at;
+}
+
+/* A unit, or two that are a pair, as UTF-8; a surrogate that stands alone has three bytes. Returns how many units it was. */
+static size_t push_unit(Writing *it, const hp_text_view *text, size_t at, const Escapes *escapes, bool *done)
+{
+    Buffer *to = &it->written;
+    Py_UCS4 unit = text->units[at];
+    uint8_t octets[4];
+    bool has_two = is_pair(text->units, at, text->length);
+    if (escapes && unit < 256 && escapes->at[unit]) {
+        *done = push(to, escapes->at[unit], escapes->length[unit]);
+        return 1;
+    }
+    it->is_doubtful |= (unit < 0x20 && unit != 9 && unit != 10 && unit != 13) || unit >= 0xFFFE || ((unit & 0xF800) == 0xD800 && !has_two);
+    if (has_two)
+        unit = 0x10000 + ((unit & 0x3FF) << 10) + (text->units[at + 1] & 0x3FF);
+    *done = push(to, (const char *)octets, (size_t)(push_octets(octets, &unit, 1) - octets));
+    return has_two ? 2 : 1;
+}
+
+/* Units as UTF-8, with what is written in their place. */
+static bool push_text(Writing *it, const hp_text_view *text, const Escapes *escapes)
+{
+    bool done = true;
+    for (size_t at = 0; done && at < text->length;) {
+        done = reserve(&it->written, text->length - at);
+        if (done)
+            at += push_plain(&it->written, text->units + at, text->length - at, escapes);
+        if (done && at < text->length)
+            at += push_unit(it, text, at, escapes, &done);
+    }
+    return done;
 }
 
 static bool escapes_of(PyObject *table, Escapes *to)
@@ -89,14 +138,25 @@ static bool escapes_of(PyObject *table, Escapes *to)
     return true;
 }
 
-/* Whether a name is one of a tuple of bytes. */
-static bool is_among(PyObject *names, const hp_bytes *name)
+/* The names of a tuple of bytes, which the caller holds. */
+static bool names_of(PyObject *tuple, Names *to)
 {
-    for (Py_ssize_t at = 0; at < PyTuple_Size(names); at++) {
+    to->count = 0;
+    for (Py_ssize_t at = 0; at < PyTuple_Size(tuple) && at < MOST_NAMES; at++) {
         char *octets = NULL;
         Py_ssize_t length = 0;
-        PyBytes_AsStringAndSize(PyTuple_GetItem(names, at), &octets, &length);
-        if ((size_t)length == name->length && memcmp(octets, name->bytes, name->length) == 0)
+        if (PyBytes_AsStringAndSize(PyTuple_GetItem(tuple, at), &octets, &length) < 0)
+            return false;
+        to->at[to->count++] = (hp_bytes){ (const uint8_t *)octets, (size_t)length };
+    }
+    return true;
+}
+
+static bool is_among(const Names *names, const hp_bytes *name)
+{
+    for (size_t at = 0; at < names->count; at++) {
+        const hp_bytes *it = &names->at[at];
+        if (it->length == name->length && it->bytes[0] == name->bytes[0] && memcmp(it->bytes, name->bytes, name->length) == 0)
             return true;
     }
     return false;
@@ -125,43 +185,29 @@ static bool push_attributes(Writing *it, size_t at, size_t count)
         hp_text_view value;
         bool done = hp_row_attribute_name(it->session, at, pair, &name) == HP_OK && push(&it->written, " ", 1) && push_name(it, &name) &&
                     push(&it->written, "=\"", 2) && hp_row_attribute_value(it->session, at, pair, &value) == HP_OK &&
-                    push_text(&it->written, &value, &it->value) && push(&it->written, "\"", 1);
+                    push_text(it, &value, &it->value) && push(&it->written, "\"", 1);
         if (!done)
             return false;
     }
     return true;
 }
 
-/* Writes the end tag of a row. Nothing is written for a Document, and for an element that has none. */
-static bool push_end(Writing *it, size_t at)
+/* Writes an end tag, where there is one. */
+static bool push_end(Writing *it, const Open *of)
 {
-    hp_row row;
-    hp_bytes name;
-    if (hp_row_at(it->session, at, &row) || row.type != KIND_ELEMENT || hp_row_name(it->session, at, 0, &name))
-        return !PyErr_Occurred();
-    if (is_among(it->void_names, &name))
+    if (!of->has_end)
         return true;
-    return push(&it->written, "</", 2) && push(&it->written, (const char *)name.bytes, name.length) && push(&it->written, ">", 1);
+    return push(&it->written, "</", 2) && push(&it->written, (const char *)of->name.bytes, of->name.length) && push(&it->written, ">", 1);
 }
 
-static bool push_element(Writing *it, size_t at, const hp_row *row, bool is_empty)
+/* Writes an element up to its children; one without children whole. */
+static bool push_element(Writing *it, size_t at, const hp_row *row, bool is_empty, const Open *of)
 {
-    hp_bytes name;
-    if (hp_row_name(it->session, at, 0, &name) || !push(&it->written, "<", 1) || !push_name(it, &name) || !push_attributes(it, at, row->attributes))
+    if (!push(&it->written, "<", 1) || !push_name(it, &of->name) || !push_attributes(it, at, row->attributes))
         return false;
     if (!is_empty || !it->has_empty_tags)
-        return push(&it->written, ">", 1) && (!is_empty || push_end(it, at));
+        return push(&it->written, ">", 1) && (!is_empty || push_end(it, of));
     return push(&it->written, "/>", 2);
-}
-
-/* Whether the nearest open row is an element of one of these names. */
-static bool is_under(Writing *it, PyObject *names)
-{
-    hp_bytes name;
-    hp_row row;
-    if (!it->open.length || hp_row_at(it->session, it->open.at[it->open.length - 1], &row) || row.type != KIND_ELEMENT)
-        return false;
-    return hp_row_name(it->session, it->open.at[it->open.length - 1], 0, &name) == HP_OK && is_among(names, &name);
 }
 
 /* Keeps a row of another kind for the package to write. */
@@ -183,21 +229,48 @@ static bool push_other(Writing *it, size_t at)
     return row_copy(&it->others, row, it->session, at);
 }
 
-static bool push_row(Writing *it, size_t at, const hp_row *row, bool is_empty, bool is_plain)
+/* What ends a row, and how Texts under it are written. A Document and a fragment end with nothing. */
+static bool open_of(Writing *it, size_t at, const hp_row *row, Open *to)
+{
+    *to = (Open){ { NULL, 0 }, false, false };
+    if (row->type != KIND_ELEMENT)
+        return true;
+    if (hp_row_name(it->session, at, 0, &to->name))
+        return false;
+    to->has_end = !is_among(&it->void_names, &to->name);
+    to->is_plain = is_among(&it->plain_names, &to->name);
+    return true;
+}
+
+static bool push_row(Writing *it, size_t at, const hp_row *row, bool is_empty, const Open *of, bool is_plain)
 {
     hp_text_view text;
     if (row->type == KIND_ELEMENT)
-        return push_element(it, at, row, is_empty);
+        return push_element(it, at, row, is_empty, of);
     if (row->type != KIND_TEXT)
         return row->type == KIND_DOCUMENT || row->type == KIND_DOCUMENT_FRAGMENT || push_other(it, at);
-    return hp_row_text(it->session, at, &text) == HP_OK && push_text(&it->written, &text, is_plain ? NULL : &it->text);
+    return hp_row_text(it->session, at, &text) == HP_OK && push_text(it, &text, is_plain ? NULL : &it->text);
+}
+
+static bool opens_push(Opens *it, const Open *open)
+{
+    if (it->length == it->room) {
+        size_t room = 2 * it->room + 32;
+        Open *wider = PyMem_Realloc(it->at, room * sizeof(Open));
+        if (!wider)
+            return PyErr_NoMemory() != NULL;
+        it->at = wider;
+        it->room = room;
+    }
+    it->at[it->length++] = *open;
+    return true;
 }
 
 /* Ends all open rows down to a depth. */
 static bool close_to(Writing *it, size_t depth)
 {
     while (it->open.length > depth) {
-        if (!push_end(it, it->open.at[--it->open.length]))
+        if (!push_end(it, &it->open.at[--it->open.length]))
             return false;
     }
     return true;
@@ -208,6 +281,7 @@ static bool push_rows(Writing *it, bool is_plain_above)
 {
     size_t count = 0, hidden = SIZE_MAX;
     hp_row row, next = { 0 };
+    Open open;
     hp_count(it->session, &count);
     for (size_t at = 0; at < count; at++) {
         row = next;
@@ -218,16 +292,13 @@ static bool push_rows(Writing *it, bool is_plain_above)
         if (row.depth > hidden)
             continue;
         hidden = SIZE_MAX;
-        if (!close_to(it, row.depth))
+        if (!close_to(it, row.depth) || !open_of(it, at, &row, &open))
             return false;
-        bool is_plain = it->open.length ? is_under(it, it->plain_names) : is_plain_above;
-        if (!push_row(it, at, &row, is_empty, is_plain))
+        bool is_plain = it->open.length ? it->open.at[it->open.length - 1].is_plain : is_plain_above;
+        if (!push_row(it, at, &row, is_empty, &open, is_plain) || (!is_empty && !opens_push(&it->open, &open)))
             return false;
-        if (is_empty)
-            continue;
-        if (!numbers_push(&it->open, (uint32_t)at))
-            return false;
-        hidden = is_under(it, it->void_names) ? row.depth : SIZE_MAX;
+        if (!is_empty && row.type == KIND_ELEMENT && !open.has_end)
+            hidden = row.depth;
     }
     return close_to(it, 0);
 }
@@ -258,18 +329,18 @@ static PyObject *parts_made(Writing *it)
 static PyObject *written(Writing *it, bool is_plain_above)
 {
     PyObject *parts = push_rows(it, is_plain_above) ? parts_made(it) : NULL;
-    PyObject *found = parts ? PyTuple_Pack(2, parts, it->names) : NULL;
+    PyObject *found = parts ? PyTuple_Pack(3, parts, it->names, it->is_doubtful ? Py_True : Py_False) : NULL;
     Py_XDECREF(parts);
     PyMem_Free(it->written.at);
     PyMem_Free(it->places);
-    numbers_drop(&it->open);
+    PyMem_Free(it->open.at);
     rows_drop(&it->others);
     if (!found && !PyErr_Occurred())
         PyErr_SetString(PyExc_RuntimeError, "a row is not there");
     return found;
 }
 
-/* A node and all below it as markup: a list of texts, with rows of other kinds between, and the set of all names. */
+/* A node and all below it as markup: a list of texts, with rows of other kinds between, the set of all names, and whether it is doubtful in XML. */
 static PyObject *calls_read_markup(PyObject *self, PyObject *words)
 {
     uint32_t node = 0;
@@ -277,11 +348,10 @@ static PyObject *calls_read_markup(PyObject *self, PyObject *words)
     bool is_plain_above = false;
     memset(&it, 0, sizeof(it));
     if (!is_counted(words, 7, "read_markup") || !uint32_of(word(words, 0), &node) || !escapes_of(word(words, 1), &it.text) ||
-        !escapes_of(word(words, 2), &it.value) || !bool_of(word(words, 5), &it.has_empty_tags) || !bool_of(word(words, 6), &is_plain_above))
+        !escapes_of(word(words, 2), &it.value) || !names_of(word(words, 3), &it.void_names) || !names_of(word(words, 4), &it.plain_names) ||
+        !bool_of(word(words, 5), &it.has_empty_tags) || !bool_of(word(words, 6), &is_plain_above))
         return NULL;
     it.session = session_at(self);
-    it.void_names = word(words, 3);
-    it.plain_names = word(words, 4);
     it.names = PySet_New(NULL);
     PyObject *asked = it.names ? PyTuple_GetSlice(words, 0, 1) : NULL, *found = NULL;
     if (asked) {

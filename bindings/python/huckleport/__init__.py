@@ -9,12 +9,12 @@ Names are the standard's in Python's spelling. Texts are ``str``, and offsets co
 """
 
 from . import html, xml
-from ._library import LibraryMissing
 from ._lxml import from_lxml, to_lxml
 from .attributes import Attributes
 from .documents import Document
 from .errors import BadValue, DOMException, DOMTypeError, Error, InUse, LimitReached, NoSuchObject, OutOfMemory, SessionClosed
 from .history import History
+from .moves import move
 from .nodes import (
     CharacterData,
     ChildNode,
@@ -53,7 +53,6 @@ __all__ = [
     "Error",
     "History",
     "InUse",
-    "LibraryMissing",
     "LimitReached",
     "MutationObserver",
     "MutationRecord",
@@ -75,6 +74,7 @@ __all__ = [
     "from_units",
     "html",
     "is_well_formed",
+    "move",
     "to_lxml",
     "to_units",
     "utf16_index",

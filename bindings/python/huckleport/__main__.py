@@ -11,7 +11,7 @@ import os
 import sys
 from typing import IO, Callable, Iterator, List, Optional, Set, TypeVar
 
-from . import LibraryMissing, Session, __version__
+from . import Session, __version__
 from ._commands import COMMANDS
 from .errors import Error, NoSuchObject
 from .objects import SessionObject
@@ -165,7 +165,7 @@ def main(arguments: Optional[List[str]] = None) -> int:
         with Session(given.numbers, given.line) as session:
             run(session, given)
             sys.stdout.flush()
-    except (LibraryMissing, Error, OverflowError) as fault:
+    except (Error, OverflowError) as fault:
         print(f"huckleport: {fault}", file=sys.stderr)
         return 1
     except BrokenPipeError:

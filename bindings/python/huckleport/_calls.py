@@ -1,60 +1,59 @@
-"""Picks how calls are made: by the extension module where it is built, and else by ctypes over the library that the loader finds.
-
-Where the variable HUCKLEPORT_LIBRARY names a library, that one is used, by ctypes.
-"""
+"""The extension module, by which all calls of the library are made, and its members in the classes of the package."""
 
 from __future__ import annotations
 
-import os
-from importlib import import_module
-from typing import TYPE_CHECKING, Any, Dict, Type, TypeVar
-
-from ._library import VARIABLE
-
-__all__ = ["Calls", "Thing", "core", "quick", "settle"]
+from importlib.util import find_spec
+from types import FunctionType
+from typing import Any, Dict, TypeVar
 
 K = TypeVar("K", bound=type)
 
+MISSING = """the extension module huckleport._core is not here, and nothing runs without it.
+In the repository these make it, by gcc and Python's headers:
+  python3 bindings/c/make.py
+  python3 bindings/python/extension.py --build
+Elsewhere, install the wheel of a release by pip."""
 
-def _extension() -> Any:
-    """The extension module, or None."""
-    if os.environ.get(VARIABLE):
-        return None
-    try:
-        return import_module("huckleport._core")
-    except ImportError:
-        return None
+try:
+    from . import _core as core
+    from ._core import Builder, Calls, Thing
+except ImportError as fault:
+    if find_spec("huckleport._core"):
+        raise
+    raise ImportError(MISSING, name="huckleport._core") from fault
+
+__all__ = ["Builder", "Calls", "InCore", "Thing", "core", "quick", "settle"]
 
 
-core = _extension()
-
-if TYPE_CHECKING or core is None:
-    from ._by_ctypes import Calls
-    from ._handle import Thing
-else:
-    Calls, Thing = core.Calls, core.Thing
+class InCore(NotImplementedError):
+    """What the body of a member raises that the extension module has; it is never run."""
 
 
 def settle(classes: Dict[str, Any]) -> None:
     """Hands the classes and functions of the package to what makes objects of answers."""
-    if core is not None:
-        core.settle(classes)
-    from ._handle import classes as by_ctypes
-
-    by_ctypes.update(classes)
+    core.settle(classes)
 
 
-def _member(kind: Type[Any], name: str, doc: str) -> Any:
-    return core.member(f"{kind.__name__}.{name}", doc)
+def _spelled(name: str, it: FunctionType) -> str:
+    """The signature of a method, as the docstring of one in C begins with it; ``inspect`` reads it there."""
+    words = list(it.__code__.co_varnames[1 : it.__code__.co_argcount])
+    for at, value in enumerate(reversed(it.__defaults__ or ())):
+        words[-1 - at] += f"={value!r}"
+    return f"{name}({', '.join(['$self', '/', *words])})\n--\n\n{it.__doc__ or ''}"
+
+
+def _in_core(kind: type, name: str, it: Any) -> Any:
+    """What the extension module has in place of a member, or None."""
+    if isinstance(it, property):
+        found = core.attribute(f"{kind.__name__}.{name}", it.__doc__ or "")
+        return found if it.fset is None or core.member(f"{kind.__name__}.{name}=", "") else found and property(found.__get__, it.fset, None, it.__doc__)
+    return core.member(f"{kind.__name__}.{name}", _spelled(name, it)) if isinstance(it, FunctionType) else None
 
 
 def quick(kind: K) -> K:
-    """Puts the extension's members in place of those that do the same by several steps. Names, types and docstrings stay."""
-    for name, it in list(vars(kind).items()) if core is not None else ():
-        doc = getattr(it, "__doc__", None) or ""
-        found = _member(kind, name, doc) if not name.startswith("_") else None
-        if isinstance(it, property) and (found or it.fset):
-            setattr(kind, name, property(found or it.fget, _member(kind, name + "=", doc) or it.fset, None, doc))
-        elif found:
+    """Puts the extension's members in their places. Names, types and docstrings are those of the class."""
+    for name, it in list(vars(kind).items()):
+        found = _in_core(kind, name, it)
+        if found is not None:
             setattr(kind, name, found)
     return kind

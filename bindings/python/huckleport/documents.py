@@ -4,7 +4,7 @@ from __future__ import annotations
 
 from typing import Optional, TypeVar
 
-from ._calls import quick
+from ._calls import InCore, quick
 from .nodes import Comment, DocumentFragment, DocumentType, Element, Node, ParentNode, ProcessingInstruction, Text
 from .ranges import Range
 from .traversal import Filter, NodeFilter, NodeIterator, TreeWalker, rules
@@ -30,19 +30,19 @@ class Document(ParentNode):
 
     def create_element(self, name: str) -> Element:
         """A new element of that name."""
-        return self.session._make(Element, self._calls.create_element(self.number, name))
+        raise InCore
 
     def create_text_node(self, data: str) -> Text:
         """A new Text."""
-        return self.session._make(Text, self._calls.create_text(self.number, data))
+        raise InCore
 
     def create_comment(self, data: str) -> Comment:
         """A new comment."""
-        return self.session._make(Comment, self._calls.create_comment(self.number, data))
+        raise InCore
 
     def create_processing_instruction(self, target: str, data: str) -> ProcessingInstruction:
         """A new processing instruction."""
-        return self.session._make(ProcessingInstruction, self._calls.create_pi(self.number, target, data))
+        raise InCore
 
     def create_document_type(self, name: str, public_id: str = "", system_id: str = "") -> DocumentType:
         """The standard's ``implementation.createDocumentType``."""
@@ -50,13 +50,11 @@ class Document(ParentNode):
 
     def create_document_fragment(self) -> DocumentFragment:
         """A new fragment without children."""
-        return self.session._make(DocumentFragment, self._calls.create_fragment(self.number))
+        raise InCore
 
     def adopt_node(self, node: N) -> N:
         """Takes a node from its parent, makes this its node document and that of all below it, and returns it."""
-        self._calls.adopt_node(self.number, self._of(node, Node))
-        node._is_own = True
-        return node
+        raise InCore
 
     def import_node(self, node: N, deep: bool = False) -> N:
         """A copy of a node, whose node document is this one; with all below it where ``deep`` is true."""
@@ -64,7 +62,7 @@ class Document(ParentNode):
 
     def create_range(self) -> Range:
         """A new live range, with both ends at the start of the Document."""
-        return self.session._make(Range, self._calls.create_range(self.number))
+        raise InCore
 
     def create_node_iterator(self, root: Node, what_to_show: int = NodeFilter.SHOW_ALL, filter: Filter = ()) -> NodeIterator:
         """A new iterator over a node and all below it."""

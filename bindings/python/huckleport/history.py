@@ -10,200 +10,24 @@
 from __future__ import annotations
 
 from contextlib import contextmanager
-from typing import Dict, Iterable, Iterator, List, NamedTuple, Optional, Set, Tuple, cast
+from typing import Dict, Iterable, Iterator, List, NamedTuple, Optional, Tuple
 
-from .errors import NoSuchObject
-from .nodes import CharacterData, Element, Node
+from ._steps import Move, Orders, Restore, Setting, Step, arrived, steps_back, with_values
+from .errors import Error, NoSuchObject
+from .nodes import Node
 from .observers import MutationRecord
 from .ranges import Range
-from .texts import utf16_length
 
-Pairs = List[Tuple[str, str]]
 Place = Tuple[Node, int, Node, int]
-
-
-class State:
-    """What a node had at a time, of that which changed: its children, its data, its attributes."""
-
-    def __init__(self) -> None:
-        # Of the children those that differ between the two sides of a group, and the index of the first.
-        self.children: Optional[List[Node]] = None
-        self.at = 0
-        self.data: Optional[str] = None
-        self.pairs: Optional[Pairs] = None
-
-    def read(self, node: Node, kind: str) -> None:
-        """Reads what a record's type names, as it is now. A node that was discarded has nothing."""
-        try:
-            self._read(node, kind)
-        except NoSuchObject:
-            pass
-
-    def _read(self, node: Node, kind: str) -> None:
-        if kind == "childList" and self.children is None:
-            self.children = node.child_nodes
-        elif kind == "characterData" and self.data is None:
-            self.data = cast(CharacterData, node).data
-        elif kind == "attributes" and self.pairs is None:
-            self.pairs = list(cast(Element, node).attributes.items())
-
-    def copy(self) -> State:
-        """The same once more, that changes by itself."""
-        found = State()
-        found.children = None if self.children is None else list(self.children)
-        found.data, found.pairs = self.data, None if self.pairs is None else list(self.pairs)
-        return found
-
-    def lose(self, child: Node) -> None:
-        """Takes a node from its children."""
-        if self.children is not None:
-            self.children = [it for it in self.children if it is not child]
-
-    def is_like(self, other: State) -> bool:
-        """Whether both are the same."""
-        return (self.children, self.data, self.pairs) == (other.children, other.data, other.pairs)
-
-    def take_back(self, record: MutationRecord) -> None:
-        """What it had before a record's change."""
-        if record.type == "characterData":
-            self.data = None if self.data is None else record.old_value
-        elif record.type == "attributes" and self.pairs is not None:
-            self.pairs = without(self.pairs, cast(str, record.attribute_name), record.old_value)
-        elif self.children is not None:
-            at = place_of(self.children, record)
-            self.children[at : at + len(record.added_nodes)] = record.removed_nodes
-
-
-def place_of(children: List[Node], record: MutationRecord) -> int:
-    """Where a record's nodes came in or went."""
-    end = len(children) - len(record.added_nodes)
-    if record.next_sibling is None and end > 0 and children[end - 1] is record.previous_sibling:
-        # (most come in at the end, which is found without a search)
-        return end
-    if record.previous_sibling in children:
-        return children.index(record.previous_sibling) + 1
-    if record.next_sibling in children:
-        return children.index(record.next_sibling) - len(record.added_nodes)
-    return 0
-
-
-def without(pairs: Pairs, name: str, old: Optional[str]) -> Pairs:
-    """Attributes before one was changed. One that was taken out comes last, and is put in its place later."""
-    if old is None:
-        return [it for it in pairs if it[0] != name]
-    if name in dict(pairs):
-        return [(it, old if it == name else value) for it, value in pairs]
-    return [*pairs, (name, old)]
+Places = Dict[Range, Place]
 
 
 class Group(NamedTuple):
-    """Changes that are undone together: what nodes and ranges had before and after."""
+    """Changes that are undone together: the steps that lead to its other side, and the places of ranges on this side and on that."""
 
-    before: Dict[Node, State]
-    after: Dict[Node, State]
-    places_before: Dict[Range, Place]
-    places_after: Dict[Range, Place]
-
-
-def back_from(after: Dict[Node, State], records: List[MutationRecord]) -> Dict[Node, State]:
-    """What nodes had before records, by what they have now."""
-    before = {node: state.copy() for node, state in after.items()}
-    holders = {child: node for node, state in after.items() for child in state.children or ()}
-    for it in reversed(records):
-        for node in it.removed_nodes:
-            # (it may have come to another node while that one stood outside, as no record tells)
-            holder = holders.get(node)
-            if holder is not None:
-                before[holder].lose(node)
-            holders[node] = it.target
-        before[it.target].take_back(it)
-    return before
-
-
-def parent_of(node: Node) -> Optional[Node]:
-    """The node above, where the node was not discarded."""
-    try:
-        return node.parent_node
-    except NoSuchObject:
-        return None
-
-
-def lend(before: Dict[Node, State], after: Dict[Node, State]) -> None:
-    """Adds what no record tells: the nodes that hold now what has to go back, since they were given it while they stood outside."""
-    back: Set[Node] = set()
-    for node, state in before.items():
-        back.update(set(state.children or ()).difference(after[node].children or ()))
-    for parent in {parent_of(child) for child in back}:
-        if parent is None or parent in after and after[parent].children is not None:
-            continue
-        now, was = after.setdefault(parent, State()), before.setdefault(parent, State())
-        now.children = parent.child_nodes
-        was.children = [it for it in now.children if it not in back]
-
-
-def narrow(one: State, other: State) -> None:
-    """Leaves of two lists of children what differs, and where it begins."""
-    a, b = one.children or [], other.children or []
-    most = min(len(a), len(b))
-    first = next((at for at in range(most) if a[at] is not b[at]), most)
-    last = next((at for at in range(most - first) if a[-1 - at] is not b[-1 - at]), most - first)
-    one.children, other.children = a[first : len(a) - last], b[first : len(b) - last]
-    one.at = other.at = first
-
-
-def put_children(now: Dict[Node, State], due: Dict[Node, State]) -> None:
-    """Gives nodes the children that they should have. All that goes is taken out first, so no node comes under itself."""
-    behind: Dict[Node, Optional[Node]] = {}
-    for parent, state in now.items():
-        if state.children is None:
-            continue
-        there, end = parent.child_nodes, state.at + len(state.children)
-        behind[parent] = there[end] if end < len(there) else None
-        for child in there[state.at : end]:
-            parent.remove_child(child)
-    for parent, reference in behind.items():
-        for child in due[parent].children or ():
-            parent.insert_before(child, reference)
-
-
-def put_attributes(element: Element, due: Pairs) -> None:
-    """Gives an element these attributes in this order."""
-    now = element.get_attribute_names()
-    kept = next((at for at, (name, _) in enumerate(due) if at >= len(now) or now[at] != name), len(due))
-    for name in now[kept:]:
-        element.remove_attribute(name)
-    for name, value in due:
-        if element.get_attribute(name) != value:
-            element.set_attribute(name, value)
-
-
-def shared(one: str, other: str) -> int:
-    """How many characters two texts share at their start."""
-    low, high = 0, min(len(one), len(other))
-    while low < high:
-        half = (low + high + 1) // 2
-        low, high = (half, high) if one[low:half] == other[low:half] else (low, half - 1)
-    return low
-
-
-def put_data(node: CharacterData, due: str) -> None:
-    """Gives a node this text, by replacing what differs alone, so that ranges in the rest stay where they are."""
-    now = node.data
-    first = shared(now, due)
-    last = shared(now[first:][::-1], due[first:][::-1])
-    gone, come = now[first : len(now) - last], due[first : len(due) - last]
-    if gone or come:
-        node.replace_data(utf16_length(now[:first]), utf16_length(gone), come)
-
-
-def put(now: Dict[Node, State], due: Dict[Node, State]) -> None:
-    """Puts what nodes have on one side of a group in place of what they have on the other."""
-    put_children(now, due)
-    for node, state in due.items():
-        if state.data is not None:
-            put_data(cast(CharacterData, node), state.data)
-        if state.pairs is not None:
-            put_attributes(cast(Element, node), state.pairs)
+    steps: List[Step]
+    here: Places
+    there: Places
 
 
 def place(of: Range) -> Optional[Place]:
@@ -214,6 +38,16 @@ def place(of: Range) -> Optional[Place]:
         return None
     node = of.session._node
     return node(ends.start), ends.start_offset, node(ends.end), ends.end_offset
+
+
+def put_back(places: Places) -> None:
+    """Sets ranges. One whose place is no more stays where the edits have left it."""
+    for it, where in places.items():
+        try:
+            it.set_start(*where[:2])
+            it.set_end(*where[2:])
+        except Error:
+            pass
 
 
 class History:
@@ -232,11 +66,8 @@ class History:
         self._undone: List[Group] = []
         self._ranges: List[Range] = list(ranges)
         self._depth = 0
-        # In which order elements have their attributes, since no record tells where one stood that was taken out.
-        self._orders: Dict[Node, List[str]] = {}
-        self._learn(root)
-        # How many groups were forgotten since the orders were learned.
-        self._forgotten = 0
+        self._orders = Orders()
+        self._orders.learn_anew(iter([root]))
         self._is_closed = False
         self._observer = root.session.create_mutation_observer(lambda records, observer: self._records.extend(records))
         self._watch()
@@ -247,7 +78,7 @@ class History:
         self._ranges.append(bookmark)
         found = place(bookmark)
         if found is not None:
-            self._places[bookmark] = found
+            self._places = {**self._places, bookmark: found}
         return bookmark
 
     def let_go(self, bookmark: Range) -> None:
@@ -275,24 +106,23 @@ class History:
     def _close_group(self, has_moves: bool) -> bool:
         """Makes a group of what changed. That a range was moved and nothing else changed is a group where the program asked for one."""
         records = self._take()
-        places_before, self._places = self._places, self._places_now()
-        if not records and not (has_moves and places_before != self._places):
+        before, self._places = self._places, self._places_now()
+        is_moved = before is not self._places
+        steps = self._steps(records) if records else []
+        if not steps and not (is_moved and (has_moves or records)):
             return False
-        before, after = self._states(records)
-        if places_before == self._places and all(state.is_like(after[node]) for node, state in before.items()):
-            return False
-        self._done.append(Group(before, after, places_before, self._places))
+        self._done.append(Group(steps, self._places, before))
         self._undone.clear()
         self._keep_to_limit()
         return True
 
     def undo(self) -> bool:
-        """Undoes the last group. Returns whether there was one."""
-        return self._step(self._done, self._undone, False)
+        """Undoes the last group. Returns whether there was one. Where it can't be undone, tree and history stay as they are."""
+        return self._step(self._done, self._undone)
 
     def redo(self) -> bool:
         """Does again what was undone last. Returns whether there was anything; nothing is once something else has changed."""
-        return self._step(self._undone, self._done, True)
+        return self._step(self._undone, self._done)
 
     @property
     def can_undo(self) -> bool:
@@ -344,85 +174,83 @@ class History:
 
     def _keep_to_limit(self) -> None:
         """Forgets the oldest groups beyond the limit, and now and then the orders of attributes that no group can ask for."""
-        if self.limit is None or len(self._done) <= self.limit:
-            return
-        self._forgotten += len(self._done) - self.limit
-        del self._done[: len(self._done) - self.limit]
-        if self._forgotten > max(self.limit, 100):
-            self._forgotten = 0
-            self._orders.clear()
-            for node in {self.root, *self._nodes()}:
-                self._learn(node)
+        if self.limit is not None and len(self._done) > self.limit:
+            del self._done[: len(self._done) - self.limit]
+        if self._orders.is_stale:
+            self._orders.learn_anew(self._nodes())
 
     def _nodes(self) -> Iterator[Node]:
-        """The nodes of all groups."""
-        for states in (side for it in self._done for side in (it.before, it.after)):
-            for node, state in states.items():
-                yield node
-                yield from state.children or ()
+        """The node that is watched, and those that groups move."""
+        yield self.root
+        moves = {it.node for group in (*self._done, *self._undone) for it in group.steps if isinstance(it, Move)}
+        yield from moves
 
-    def _places_now(self) -> Dict[Range, Place]:
-        found = ((it, place(it)) for it in self._ranges)
-        return {it: where for it, where in found if where is not None}
+    def _places_now(self) -> Places:
+        """The places of all ranges that are kept; where none was moved this is what was found before."""
+        found = {it: where for it, where in ((it, place(it)) for it in self._ranges) if where is not None}
+        before: Places = getattr(self, "_places", {})
+        return before if found == before else found
 
-    def _learn(self, node: Node) -> None:
-        """Learns the orders of attributes of a node and what stands below it."""
-        try:
-            rows = node.tree()
-        except NoSuchObject:
-            return
-        self._orders.update((row.node, [name for name, _ in row.attributes]) for row in rows if row.attributes)
+    def _steps(self, records: List[MutationRecord]) -> List[Step]:
+        """What undoes records."""
+        steps = steps_back(self._orders.place(with_values(records)))
+        for node in arrived(records):
+            self._orders.learn(node)
+        return self._left_outside(node for it in records for node in it.removed_nodes) + steps
 
-    def _states(self, records: List[MutationRecord]) -> Tuple[Dict[Node, State], Dict[Node, State]]:
-        """What the nodes of records had before these, and what they have now."""
-        after: Dict[Node, State] = {}
-        for it in records:
-            after.setdefault(it.target, State()).read(it.target, it.type)
-        before = back_from(after, records)
-        lend(before, after)
-        for node, state in before.items():
-            if state.pairs is not None:
-                order = self._orders.get(node, [])
-                state.pairs.sort(key=lambda pair: order.index(pair[0]) if pair[0] in order else len(order))
-                self._orders[node] = [name for name, _ in after[node].pairs or ()]
-            if state.children is not None:
-                narrow(state, after[node])
-        added = {node for it in records for node in it.added_nodes}
-        for node in (it for it in added if parent_of(it) not in added):
-            self._learn(node)
-        return before, after
+    def _left_outside(self, nodes: Iterable[Node]) -> List[Step]:
+        """What gives nodes that stand outside now what they have now, before they are put back."""
+        found: List[Step] = []
+        for it in dict.fromkeys(nodes):
+            try:
+                found += [] if self.root.contains(it) else [Restore(it, it.tree())]
+            except NoSuchObject:
+                # (it was discarded, and can't be put back)
+                pass
+        return found
 
-    def _step(self, take: List[Group], give: List[Group], is_again: bool) -> bool:
-        """Takes a group, puts one of its sides in place of the other, and gives it to the other list."""
+    def _step(self, take: List[Group], give: List[Group]) -> bool:
+        """Does the steps of a group, and gives those that lead back to the other list."""
         self.commit()
         if self._depth:
             raise RuntimeError("a group is open")
         if not take:
             return False
         group = take[-1]
-        now, due = (group.before, group.after) if is_again else (group.after, group.before)
-        left, back = (group.places_before, group.places_after) if is_again else (group.places_after, group.places_before)
-        self._check(now, due)
-        moved = [it for it, where in back.items() if place(it) == left.get(it)]
-        put(now, due)
-        for it in moved:
-            it.set_start(*back[it][:2])
-            it.set_end(*back[it][2:])
-        self._forget(due)
-        give.append(take.pop())
+        self._check(group)
+        before = self._places_now()
+        moved = {it: where for it, where in group.there.items() if before.get(it) == group.here.get(it)}
+        back = self._do(group.steps, before)
+        put_back(moved)
+        self._forget(back)
+        outside = self._left_outside(it.node for it in back if isinstance(it, Move))
+        give.append(Group(outside + back, group.there, group.here))
+        take.pop()
         return True
 
-    def _check(self, *sides: Dict[Node, State]) -> None:
-        """Asks for each node before anything is changed, so that one that was discarded leaves all as it is."""
-        for states in sides:
-            for node, state in states.items():
-                for it in (node, *(state.children or ())):
-                    self.root.session.node(it.number)
+    def _do(self, steps: List[Step], before: Places) -> List[Step]:
+        """Does steps, and returns those that lead back. Where one can't be done, those that were are undone."""
+        back: List[Step] = []
+        try:
+            for it in steps:
+                back.append(it.do())
+        except BaseException:
+            for it in reversed(back):
+                it.do()
+            put_back(before)
+            self._forget([])
+            raise
+        back.reverse()
+        return back
 
-    def _forget(self, states: Dict[Node, State]) -> None:
+    def _check(self, group: Group) -> None:
+        """Asks for each node before anything is changed, so that one that was discarded leaves all as it is."""
+        for number in {node.number for it in group.steps for node in it.nodes() if node is not None}:
+            self.root.session.node(number)
+
+    def _forget(self, steps: List[Step]) -> None:
         """Takes its own changes from what it watches."""
         self._take()
         self._places = self._places_now()
-        for node, state in states.items():
-            if state.pairs is not None:
-                self._orders[node] = [name for name, _ in state.pairs]
+        for element in {it.node for it in steps if isinstance(it, Setting)}:
+            self._orders.read(element)

@@ -1,4 +1,4 @@
-"""HTML in and out: parsed by html5lib where that is there, and else by the parser of the standard library; written by the HTML Standard's rules.
+"""HTML in and out: parsed by html5-parser or by html5lib, as the HTML Standard says, and written by its rules.
 
     document = huckleport.html.parse("<p>some <b>text")
     huckleport.html.serialize(document)
@@ -6,50 +6,88 @@
 
 from __future__ import annotations
 
+from importlib import import_module
 from importlib.util import find_spec
-from typing import Optional, Union
+from typing import Any, Optional, Union
 
 from ._writing import COMMENT, INSTRUCTION, Style, markup, table
 from .documents import Document
 from .nodes import DocumentFragment, Element, Node
 from .session import Session
 
-__all__ = ["PARSER", "parse", "parse_fragment", "serialize"]
+__all__ = ["PARSER", "parse", "parse_fragment", "serialize"]  # noqa: F822
 
-# Which parser is there: html5lib, which parses as the HTML Standard says, or html.parser, which takes tags as they stand.
-PARSER = "html5lib" if find_spec("html5lib") else "html.parser"
+MISSING = "HTML is parsed by html5-parser or html5lib, and neither is here: pip install html5lib (or huckleport[html])"
+
+
+def _found() -> str:
+    """Which parser is there: the quicker one, else the other, else none."""
+    if find_spec("html5_parser") and find_spec("lxml"):
+        try:
+            import_module("html5_parser")
+            return "html5-parser"
+        except (ImportError, RuntimeError):
+            # (it asks for the libxml2 that lxml has)
+            pass
+    return "html5lib" if find_spec("html5lib") else ""
+
+
+def __getattr__(name: str) -> Any:
+    """``PARSER``: which parser is used, ``html5-parser`` or ``html5lib``; empty where there is none. It is looked for when it is asked."""
+    if name != "PARSER":
+        raise AttributeError(f"module {__name__!r} has no attribute {name!r}")
+    globals()[name] = _found()
+    return globals()[name]
+
+
+def _parser() -> str:
+    """Which parser is used."""
+    found: str = globals()["PARSER"] if "PARSER" in globals() else __getattr__("PARSER")
+    if not found:
+        raise ImportError(MISSING)
+    return found
+
 
 # Elements that have no end tag, and those whose text is written as it is.
 VOID = frozenset("area base basefont bgsound br col embed frame hr img input keygen link meta param source track wbr".split())
 PLAIN = frozenset("style script xmp iframe noembed noframes plaintext".split())
 
 
+def _fill(document: Document, source: Union[str, bytes]) -> None:
+    """Parses a page into a document. What stands ahead of a doctype only html5lib tells."""
+    if _parser() == "html5-parser":
+        from ._html5_parser import parse as parse_page
+
+        if parse_page(document, source, bool(find_spec("html5lib"))):
+            return
+    from ._html5lib import parse as parse_exactly
+
+    parse_exactly(document, source)
+
+
 def parse(source: Union[str, bytes], session: Optional[Session] = None) -> Document:
     """The Document of a page, in a session or in a new one. Attributes whose names the library refuses are left out."""
+    _parser()
     document = Session().document if session is None else session.create_document()
-    if PARSER == "html5lib":
-        from ._html5lib import parse as parse_page
-
-        parse_page(document, source)
-    else:
-        from ._html_parser import fill
-
-        fill(document, source)
+    try:
+        _fill(document, source)
+    except BaseException:
+        # (of what is refused nothing stays in the session)
+        if session is not None:
+            document.discard()
+        raise
     return document
 
 
 def parse_fragment(source: Union[str, bytes], container: str = "div", document: Optional[Document] = None) -> DocumentFragment:
     """The nodes of a part of a page that stands in an element of that name, as a fragment of a document or of a new one."""
+    parser = _parser()
     document = Session().document if document is None else document
-    if PARSER == "html5lib":
+    if parser == "html5-parser":
+        from ._html5_parser import parse_fragment as parse_part
+    else:
         from ._html5lib import parse_fragment as parse_part
-
-        return parse_part(document, source, container)
-    from ._html_parser import fill
-
-    fragment = document.create_document_fragment()
-    fill(fragment, source)
-    return fragment
+    return parse_part(document, source, container)
 
 
 IN_TEXT = {"&": "&amp;", "\xa0": "&nbsp;", "<": "&lt;", ">": "&gt;"}
@@ -72,4 +110,4 @@ def serialize(node: Node, inner: bool = False) -> str:
         return "".join([serialize(it) for it in node.child_nodes]) if has_end else ""
     parent = node.parent_node
     is_plain = parent is not None and parent.node_name in PLAIN
-    return markup(node, STYLE, is_plain, _other)[0]
+    return markup(node, STYLE, is_plain, _other).text

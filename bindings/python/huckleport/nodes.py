@@ -2,15 +2,16 @@
 
 from __future__ import annotations
 
-from typing import TYPE_CHECKING, Iterator, List, NamedTuple, Optional, Tuple, TypeVar, Union
+from typing import TYPE_CHECKING, Iterator, List, NamedTuple, Optional, Tuple, Type, TypeVar, Union, overload
 
 from . import _signatures as made
-from ._calls import quick
+from ._calls import InCore, quick
 from .attributes import Attributes
 from .errors import Error
 from .objects import SessionObject, maybe
 
 if TYPE_CHECKING:
+    from ._core import hp_node_links
     from .documents import Document
 
 N = TypeVar("N", bound="Node")
@@ -50,7 +51,7 @@ class Node(SessionObject):
     DOCUMENT_POSITION_CONTAINED_BY = 16
     DOCUMENT_POSITION_IMPLEMENTATION_SPECIFIC = 32
 
-    def _links(self) -> made.hp_node_links:
+    def _links(self) -> hp_node_links:
         return self._calls.links(self.number)
 
     def _children(self) -> List[int]:
@@ -69,28 +70,27 @@ class Node(SessionObject):
     @property
     def node_type(self) -> int:
         """The standard's number of its kind, as ``Node.ELEMENT_NODE``."""
-        return self._links().kind
+        raise InCore
 
     @property
     def node_name(self) -> str:
         """The name: that of an element, a target, a doctype, or as ``#text``."""
-        return self.session._printed_name(self.number)
+        raise InCore
 
     @property
     def node_document(self) -> Document:
         """The node document; a Document's is itself."""
-        return self.session._document(self._links().document)
+        raise InCore
 
     @property
     def owner_document(self) -> Optional[Document]:
         """The node document, or None for a Document."""
-        found = self.node_document
-        return None if found is self else found
+        raise InCore
 
     @property
     def parent_node(self) -> Optional[Node]:
         """The node above it, or None."""
-        return self._node_or_none(self._links().parent)
+        raise InCore
 
     @property
     def parent_element(self) -> Optional[Element]:
@@ -101,53 +101,53 @@ class Node(SessionObject):
     @property
     def previous_sibling(self) -> Optional[Node]:
         """The node before it under the same parent, or None."""
-        return self._node_or_none(self._links().previous)
+        raise InCore
 
     @property
     def next_sibling(self) -> Optional[Node]:
         """The node behind it under the same parent, or None."""
-        return self._node_or_none(self._links().next)
+        raise InCore
 
     @property
     def child_nodes(self) -> List[Node]:
         """The children, as a list of now: it does not change with the tree."""
-        return self._calls.read_nodes(self.session, self.number)
+        raise InCore
 
     @property
     def first_child(self) -> Optional[Node]:
         """The first child, or None."""
-        return self._node_or_none(self._calls.first_child(self.number))
+        raise InCore
 
     @property
     def last_child(self) -> Optional[Node]:
         """The last child, or None."""
-        return self._node_or_none(self._calls.last_child(self.number))
+        raise InCore
 
     def has_child_nodes(self) -> bool:
         """Whether it has a child."""
-        return maybe(self._calls.first_child(self.number)) is not None
+        raise InCore
 
     @property
     def index(self) -> int:
         """How many siblings stand before it."""
-        return self._calls.index(self.number)
+        raise InCore
 
     @property
     def length(self) -> int:
         """How many UTF-16 units of data, or how many children."""
-        return self._calls.length(self.number)
+        raise InCore
 
     def get_root_node(self) -> Node:
         """The topmost of what it stands under; itself where it has no parent."""
-        return self.session._node(self._calls.root(self.number))
+        raise InCore
 
     def contains(self, other: Optional[Node]) -> bool:
         """Whether the other is this node or stands below it."""
-        return self._calls.contains(self.number, self._of_maybe(other, Node))
+        raise InCore
 
     def is_equal_node(self, other: Optional[Node]) -> bool:
         """Whether both are alike: kind, names, data, attributes, and all children."""
-        return self._calls.is_equal(self.number, self._of_maybe(other, Node))
+        raise InCore
 
     def is_same_node(self, other: Optional[Node]) -> bool:
         """Whether both are one node."""
@@ -155,47 +155,51 @@ class Node(SessionObject):
 
     def compare_document_position(self, other: Node) -> int:
         """Where the other stands, as bits: ``Node.DOCUMENT_POSITION_PRECEDING`` and so on."""
-        return self._calls.compare_position(self.number, self._of(other, Node))
+        raise InCore
 
     def tree(self) -> List[Row]:
         """The node and all below it, in tree order."""
-        return self.session._rows(self)
+        raise InCore
 
-    def descendants(self) -> Iterator[Node]:
-        """All nodes below it, in tree order, as they stand now."""
-        rows = iter(self.tree())
-        next(rows)
-        return (it.node for it in rows)
+    @overload
+    def descendants(self, kind: None = None) -> Iterator[Node]: ...
+
+    @overload
+    def descendants(self, kind: Type[N]) -> Iterator[N]: ...
+
+    def descendants(self, kind: Optional[Type[Node]] = None) -> Iterator[Node]:
+        """All nodes below it, in tree order, as they stand now; or those of a class, as ``Element``."""
+        raise InCore
+
+    def next_siblings(self) -> Iterator[Node]:
+        """The nodes behind it under the same parent, as they stand now."""
+        raise InCore
+
+    def previous_siblings(self) -> Iterator[Node]:
+        """The nodes before it under the same parent, the nearest first, as they stand now."""
+        raise InCore
 
     # changes
 
     def append_child(self, node: N) -> N:
         """Puts a node behind its last child, and returns it. A fragment's children come in its place."""
-        self._calls.append_child(self.number, self._of(node, Node))
-        return node
+        raise InCore
 
     def insert_before(self, node: N, child: Optional[Node]) -> N:
         """Puts a node before a child, or behind the last where that is None, and returns the node."""
-        self._calls.insert_before(self.number, self._of(node, Node), self._of_maybe(child, Node))
-        return node
+        raise InCore
 
     def replace_child(self, node: Node, child: N) -> N:
         """Puts a node in place of a child, and returns the child."""
-        self._calls.replace_child(self.number, self._of(node, Node), self._of(child, Node))
-        child._is_own = True
-        return child
+        raise InCore
 
     def remove_child(self, child: N) -> N:
         """Takes out a child, and returns it."""
-        self._calls.remove_child(self.number, self._of(child, Node))
-        child._is_own = True
-        return child
+        raise InCore
 
     def normalize(self) -> None:
         """Joins Texts that stand side by side below it, and takes out empty ones."""
-        texts = self._calls.read_loose_texts(self.number)
-        self._calls.normalize(self.number)
-        self._calls.note(texts)
+        raise InCore
 
     def clone_node(self: N, deep: bool = False) -> N:
         """A copy, with all that stands below it where ``deep`` is true."""
@@ -204,17 +208,15 @@ class Node(SessionObject):
     @property
     def text_content(self) -> Optional[str]:
         """All text below it, or its data; None for a Document and a doctype. Setting it puts one Text in place of all children."""
-        return self._calls.read_text_content(self.number)
+        raise InCore
 
     @text_content.setter
     def text_content(self, text: Optional[str]) -> None:
-        children = self._children()
-        self._calls.set_text_content(self.number, "" if text is None else text)
-        self._calls.note(children)
+        raise InCore
 
     def discard(self) -> None:
         """Lets this node and all below it go. Refused (``InUse``) while something refers to one of them."""
-        self._calls.discard(self.number)
+        raise InCore
 
     def _together(self, nodes: Tuple[Union[Node, str], ...]) -> Node:
         """One node for several, as the standard's members take them: a str is a new Text, and of several a fragment is made."""
@@ -243,10 +245,10 @@ class ParentNode(Node):
     @property
     def children(self) -> List[Element]:
         """The children that are elements, as a list of now."""
-        return [it for it in self.child_nodes if isinstance(it, Element)]
+        raise InCore
 
     def __iter__(self) -> Iterator[Node]:
-        return iter(self.child_nodes)
+        raise InCore
 
     def append(self, *nodes: Union[Node, str]) -> None:
         """Puts nodes, or strings as new Texts, behind its last child."""
@@ -261,18 +263,18 @@ class ParentNode(Node):
         """Puts nodes, or strings as new Texts, or nothing, in place of all children."""
         given = tuple(it for it in nodes if it is not None)
         children = self._children()
-        self._calls.replace_children(self.number, self._of(self._together(given), Node) if given else made.HP_NONE)
+        # (its object is held until the call is made, which begins with letting go)
+        together = self._together(given) if given else None
+        self._calls.replace_children(self.number, self._of_maybe(together, Node))
         self._calls.note(children)
 
     def get_elements_by_tag_name(self, name: str) -> List[Element]:
         """The elements of that name below it, in tree order, as a list of now; ``*`` is every name."""
-        rows = self.tree()[1:]
-        return [it.node for it in rows if isinstance(it.node, Element) and name in ("*", it.name)]
+        raise InCore
 
     def get_element_by_id(self, id: str) -> Optional[Element]:
         """The first element below it, in tree order, whose attribute ``id`` has that value, or None."""
-        found = (it.node for it in self.tree()[1:] if ("id", id) in it.attributes)
-        return next((it for it in found if isinstance(it, Element)), None)
+        raise InCore
 
 
 @quick
@@ -283,8 +285,7 @@ class ChildNode(Node):
 
     def remove(self) -> None:
         """Takes it from its parent, where it has one."""
-        self._calls.remove(self.number)
-        self._is_own = True
+        raise InCore
 
     def _beside(self, nodes: Tuple[Union[Node, str], ...], is_behind: bool) -> Optional[Node]:
         """The next sibling before or behind it that is none of the nodes, which move."""
@@ -337,17 +338,17 @@ class DocumentType(ChildNode):
     @property
     def name(self) -> str:
         """Its name, as ``html``."""
-        return self._calls.read_name(self.number, 0)
+        raise InCore
 
     @property
     def public_id(self) -> str:
         """Its public id, which may be empty."""
-        return self._calls.read_name(self.number, 1)
+        raise InCore
 
     @property
     def system_id(self) -> str:
         """Its system id, which may be empty."""
-        return self._calls.read_name(self.number, 2)
+        raise InCore
 
 
 @quick
@@ -359,7 +360,7 @@ class Element(ParentNode, ChildNode):
     @property
     def tag_name(self) -> str:
         """Its name, as it was given."""
-        return self._calls.read_name(self.number, 0)
+        raise InCore
 
     @property
     def attributes(self) -> Attributes:
@@ -368,19 +369,19 @@ class Element(ParentNode, ChildNode):
 
     def get_attribute(self, name: str) -> Optional[str]:
         """The value of an attribute, or None."""
-        return self._calls.read_get_attribute(self.number, name)
+        raise InCore
 
     def set_attribute(self, name: str, value: str) -> None:
         """Sets an attribute; a new one stands behind the others."""
-        self._calls.set_attribute(self.number, name, value)
+        raise InCore
 
     def has_attribute(self, name: str) -> bool:
         """Whether it has an attribute of that name."""
-        return self._calls.has_attribute(self.number, name)
+        raise InCore
 
     def remove_attribute(self, name: str) -> None:
         """Takes out an attribute, where it is there."""
-        self._calls.remove_attribute(self.number, name)
+        raise InCore
 
     def toggle_attribute(self, name: str, force: Optional[bool] = None) -> bool:
         """Sets an empty attribute or takes it out: as ``force`` says, or turned. Returns whether it is there then."""
@@ -388,7 +389,7 @@ class Element(ParentNode, ChildNode):
 
     def get_attribute_names(self) -> List[str]:
         """The names of its attributes, in order."""
-        return self._calls.read_attribute_names(self.number)
+        raise InCore
 
 
 @quick
@@ -400,31 +401,31 @@ class CharacterData(ChildNode):
     @property
     def data(self) -> str:
         """Its text."""
-        return self._calls.read_data(self.number)
+        raise InCore
 
     @data.setter
     def data(self, data: str) -> None:
-        self._calls.set_data(self.number, data)
+        raise InCore
 
     def substring_data(self, offset: int, count: int) -> str:
         """So many units from an offset on; fewer where the data ends."""
-        return self._calls.read_substring_data(self.number, offset, count)
+        raise InCore
 
     def append_data(self, data: str) -> None:
         """Puts a text behind its data."""
-        self._calls.append_data(self.number, data)
+        raise InCore
 
     def insert_data(self, offset: int, data: str) -> None:
         """Puts a text in at an offset."""
-        self._calls.insert_data(self.number, offset, data)
+        raise InCore
 
     def delete_data(self, offset: int, count: int) -> None:
         """Takes out so many units from an offset on."""
-        self._calls.delete_data(self.number, offset, count)
+        raise InCore
 
     def replace_data(self, offset: int, count: int, data: str) -> None:
         """Puts a text in place of so many units from an offset on."""
-        self._calls.replace_data(self.number, offset, count, data)
+        raise InCore
 
 
 @quick
@@ -435,7 +436,7 @@ class Text(CharacterData):
 
     def split_text(self, offset: int) -> Text:
         """Splits it, and returns the new Text with what stood behind the offset."""
-        return self.session._make(Text, self._calls.split_text(self.number, offset))
+        raise InCore
 
 
 class Comment(CharacterData):
@@ -453,4 +454,4 @@ class ProcessingInstruction(CharacterData):
     @property
     def target(self) -> str:
         """Its target."""
-        return self._calls.read_name(self.number, 0)
+        raise InCore

@@ -57,8 +57,8 @@ class MutationObserver(SessionObject):
         attribute_filter: Optional[Sequence[str]] = None,
     ) -> None:
         """Watches a node. An option that is None is absent."""
-        flags = (child_list, attributes, character_data, subtree, attribute_old_value, character_data_old_value)
-        options = made.hp_options(*(2 if it is None else int(bool(it)) for it in flags), int(attribute_filter is not None))
+        given = (child_list, attributes, character_data, subtree, attribute_old_value, character_data_old_value)
+        options = made.hp_options._make([*(2 if it is None else int(bool(it)) for it in given), int(attribute_filter is not None)])
         self._calls.observe(self.number, self._of(target, Node), options, *names(attribute_filter or ()))
         self.session._observers[self.number] = self
 

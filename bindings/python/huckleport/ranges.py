@@ -2,13 +2,16 @@
 
 from __future__ import annotations
 
-from typing import List, Union
+from typing import TYPE_CHECKING, List, Union
 
 from . import _signatures as made
-from ._calls import quick
+from ._calls import InCore, quick
 from .errors import Error
 from .nodes import DocumentFragment, Node
 from .objects import SessionObject
+
+if TYPE_CHECKING:
+    from ._core import hp_ends, hp_static_ends
 
 
 class AbstractRange(SessionObject):
@@ -16,7 +19,7 @@ class AbstractRange(SessionObject):
 
     __slots__ = ()
 
-    def _ends(self) -> Union[made.hp_ends, made.hp_static_ends]:
+    def _ends(self) -> Union[hp_ends, hp_static_ends]:
         raise NotImplementedError
 
     @property
@@ -62,7 +65,7 @@ class Range(AbstractRange):
     END_TO_END = 2
     END_TO_START = 3
 
-    def _ends(self) -> made.hp_ends:
+    def _ends(self) -> hp_ends:
         return self._calls.range(self.number)
 
     @property
@@ -72,11 +75,11 @@ class Range(AbstractRange):
 
     def set_start(self, node: Node, offset: int) -> None:
         """Sets the start; the end goes there too where it would stand before it."""
-        self._calls.set_start(self.number, self._of(node, Node), offset)
+        raise InCore
 
     def set_end(self, node: Node, offset: int) -> None:
         """Sets the end; the start goes there too where it would stand behind it."""
-        self._calls.set_end(self.number, self._of(node, Node), offset)
+        raise InCore
 
     def set_start_before(self, node: Node) -> None:
         """Sets the start before a node."""
@@ -100,11 +103,11 @@ class Range(AbstractRange):
 
     def select_node(self, node: Node) -> None:
         """Sets the ends around a node."""
-        self._calls.select_node(self.number, self._of(node, Node))
+        raise InCore
 
     def select_node_contents(self, node: Node) -> None:
         """Sets the ends around what a node has."""
-        self._calls.select_node_contents(self.number, self._of(node, Node))
+        raise InCore
 
     def compare_boundary_points(self, how: int, source_range: Range) -> int:
         """-1, 0 or 1: how an end of this one stands to an end of the other, as ``Range.START_TO_END`` says."""
@@ -116,11 +119,11 @@ class Range(AbstractRange):
 
     def is_point_in_range(self, node: Node, offset: int) -> bool:
         """Whether a point is in it."""
-        return self._calls.is_point_in_range(self.number, self._of(node, Node), offset)
+        raise InCore
 
     def intersects_node(self, node: Node) -> bool:
         """Whether a part of a node is in it."""
-        return self._calls.intersects_node(self.number, self._of(node, Node))
+        raise InCore
 
     def clone_range(self) -> Range:
         """A new live range with the same ends."""
@@ -179,7 +182,7 @@ class Range(AbstractRange):
 
     def release(self) -> None:
         """Lets the range go, so that edits have it no more to move."""
-        self._calls.release_range(self.number)
+        raise InCore
 
     def __str__(self) -> str:
         return self._calls.read_range_text(self.number)
@@ -191,7 +194,7 @@ class StaticRange(AbstractRange):
     __slots__ = ()
     _family = 2
 
-    def _ends(self) -> made.hp_static_ends:
+    def _ends(self) -> hp_static_ends:
         return self._calls.static_range(self.number)
 
     @property

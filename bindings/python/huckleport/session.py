@@ -5,13 +5,13 @@ from __future__ import annotations
 import json
 import weakref
 from types import TracebackType
-from typing import Dict, List, NamedTuple, Optional, Tuple, Type, TypeVar, cast
+from typing import Dict, List, NamedTuple, Optional, Sequence, Tuple, Type, TypeVar
 
 from ._calls import Calls, settle
 from ._signatures import HP_NO_SUCH_OBJECT, HP_NONE, hp_options
 from .documents import Document
 from .errors import Error, NoSuchObject, refusal
-from .nodes import Comment, DocumentFragment, DocumentType, Element, Node, ProcessingInstruction, Row, Text
+from .nodes import CharacterData, Comment, DocumentFragment, DocumentType, Element, Node, ProcessingInstruction, Row, Text
 from .objects import SessionObject
 from .observers import Callback, MutationObserver, MutationRecord
 from .ranges import Range, StaticRange
@@ -89,14 +89,14 @@ class Session:
 
     def _keep(self, kind: Type[K], number: int) -> K:
         """The object of a kind with that number, the same each time."""
-        return cast(K, self._calls.keep(self, kind, number))
+        return self._calls.keep(self, kind, number)
 
     def _make(self, kind: Type[K], number: int) -> K:
         """The object of what was just made, which goes with it."""
-        return cast(K, self._calls.make(self, kind, number))
+        return self._calls.make(self, kind, number)
 
     def _node(self, number: int) -> Node:
-        return cast(Node, self._calls.node_object(self, number))
+        return self._calls.node_object(self, number)
 
     def _document(self, number: int) -> Document:
         return self._keep(Document, number)
@@ -180,7 +180,10 @@ class Session:
     # observers
 
     def notify(self) -> List[Notice]:
-        """Tells each observer its records, by its callback, and returns what was told.
+        """Tells each observer its records in its turn, by its callback, and returns what was told.
+
+        One that an earlier callback disconnected or released, or whose records it took, is told nothing. What a callback changes is told by the
+        next ``notify()``, or in its turn to an observer that is still to come.
 
         Where callbacks raise, the others are still called, and then the first exception is raised. What was told to observers without a
         callback, or to one that was interrupted, is then kept for the next ``notify()`` to return, or the observer's next ``take_records()``.
@@ -200,6 +203,24 @@ class Session:
     def pending(self) -> List[MutationObserver]:
         """The observers that wait to be told."""
         return [self._observer(it) for it in self._calls.read_pending()]
+
+    # what many nodes have
+
+    def data_of(self, nodes: Sequence[CharacterData]) -> List[str]:
+        """The data of many nodes."""
+        return self._calls.read_data_of(nodes)
+
+    def text_content_of(self, nodes: Sequence[Node]) -> List[Optional[str]]:
+        """The text content of many nodes."""
+        return self._calls.read_text_content_of(nodes)
+
+    def attribute_of(self, elements: Sequence[Element], name: str) -> List[Optional[str]]:
+        """The value of an attribute of many elements; None for one that has it not."""
+        return self._calls.read_attribute_of(elements, name)
+
+    def attributes_of(self, elements: Sequence[Element]) -> List[Dict[str, str]]:
+        """The attributes of many elements, a dict each, which does not change with the element."""
+        return self._calls.read_attributes_of(elements)
 
     # how much there is
 
@@ -235,7 +256,6 @@ CLASSES: Tuple[Type[object], ...] = (Node, *KINDS.values(), Range, StaticRange, 
 settle(
     {
         **{it.__name__: it for it in CLASSES},
-        "kinds": KINDS,
         "refusal": refusal,
         "printed_name": lambda node: node.session._printed_name(node.number),
     }

@@ -4,7 +4,7 @@ from __future__ import annotations
 
 from typing import Callable, Dict, Iterable, List, Tuple
 
-from ._handle import UTF16
+from .texts import UTF16
 from .errors import Error
 from .nodes import CharacterData, Comment, DocumentType, Element, Node, ProcessingInstruction, Row, Text
 from .ranges import Range

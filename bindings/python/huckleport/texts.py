@@ -2,14 +2,16 @@
 
 from __future__ import annotations
 
+import sys
 from typing import List, Sequence
 
-from ._handle import UTF16
+# UTF-16 as the library has it: units of this machine, without a mark.
+UTF16 = f"utf-16-{'le' if sys.byteorder == 'little' else 'be'}"
 
 
 def utf16_length(text: str) -> int:
     """How many units a text has."""
-    return len(text) + sum(it > "\uffff" for it in text)
+    return len(text) if text.isascii() else len(text.encode(UTF16, "surrogatepass")) // 2
 
 
 def utf16_offset(text: str, index: int) -> int:
@@ -49,9 +51,13 @@ def from_units(units: Sequence[int]) -> str:
 
 def is_well_formed(text: str) -> bool:
     """Whether no surrogate stands alone, so that the text can be written as UTF-8."""
-    return not any("\ud800" <= it <= "\udfff" for it in text)
+    try:
+        text.encode()
+        return True
+    except UnicodeEncodeError:
+        return False
 
 
 def well_formed(text: str) -> str:
     """The text with U+FFFD in place of each surrogate that stands alone: it can be written to a file."""
-    return "".join("\ufffd" if "\ud800" <= it <= "\udfff" else it for it in text)
+    return text if is_well_formed(text) else "".join("\ufffd" if "\ud800" <= it <= "\udfff" else it for it in text)

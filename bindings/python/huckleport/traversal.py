@@ -2,12 +2,14 @@
 
 from __future__ import annotations
 
-from typing import Iterator, List, Optional, Sequence, Tuple
+from typing import TYPE_CHECKING, Iterator, List, Optional, Sequence, Tuple
 
-from . import _signatures as made
-from ._calls import quick
+from ._calls import InCore, quick
 from .nodes import Node
 from .objects import SessionObject, maybe
+
+if TYPE_CHECKING:
+    from ._core import hp_iterator_at, hp_walker_at
 
 Filter = Sequence[Tuple[str, int]]
 
@@ -47,7 +49,7 @@ class NodeIterator(SessionObject):
     __slots__ = ()
     _family = 3
 
-    def _place(self) -> made.hp_iterator_at:
+    def _place(self) -> hp_iterator_at:
         return self._calls.iterator(self.number)
 
     @property
@@ -67,13 +69,11 @@ class NodeIterator(SessionObject):
 
     def next_node(self) -> Optional[Node]:
         """Moves on, and returns the node, or None at the end."""
-        found = maybe(self._calls.next_node(self.number))
-        return None if found is None else self.session._node(found)
+        raise InCore
 
     def previous_node(self) -> Optional[Node]:
         """Moves back, and returns the node, or None at the start."""
-        found = maybe(self._calls.previous_node(self.number))
-        return None if found is None else self.session._node(found)
+        raise InCore
 
     def __iter__(self) -> Iterator[Node]:
         return self
@@ -90,7 +90,7 @@ class NodeIterator(SessionObject):
 
     def release(self) -> None:
         """Lets the iterator go, so that removals have it no more to move, and that it keeps no tree."""
-        self._calls.release_iterator(self.number)
+        raise InCore
 
 
 class TreeWalker(SessionObject):
@@ -99,7 +99,7 @@ class TreeWalker(SessionObject):
     __slots__ = ()
     _family = 4
 
-    def _place(self) -> made.hp_walker_at:
+    def _place(self) -> hp_walker_at:
         return self._calls.walker(self.number)
 
     def _walk(self, direction: int) -> Optional[Node]:

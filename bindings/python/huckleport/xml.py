@@ -6,13 +6,16 @@ Names are kept as they are written, with their prefixes, and declarations of nam
 from __future__ import annotations
 
 import re
-from typing import List, Optional, Union
-from xml.parsers import expat
+from typing import TYPE_CHECKING, Optional, Union
 
+from ._calls import Builder
 from ._writing import COMMENT, INSTRUCTION, Style, markup, table
 from .documents import Document
-from .nodes import Node, Text
+from .nodes import Node
 from .session import Session
+
+if TYPE_CHECKING:
+    from xml.parsers.expat import XMLParserType
 
 __all__ = ["parse", "serialize"]
 
@@ -22,69 +25,22 @@ NAME_START = ":A-Z_a-z\xc0-\xd6\xd8-\xf6\xf8-\u02ff\u0370-\u037d\u037f-\u1fff\u2
 NAME = re.compile(f"[{NAME_START}][{NAME_START}.0-9\xb7\u0300-\u036f\u203f-\u2040-]*")
 
 
-class Filling:
-    """Fills a Document as expat goes."""
+def _parser(builder: Builder) -> XMLParserType:
+    """An expat that hands each event on to a builder."""
+    # (in 3.12 an interpreter with a lock of its own has no expat, and all else of the package)
+    from xml.parsers import expat
 
-    def __init__(self, document: Document) -> None:
-        self.made = document
-        self.open: List[Node] = [document]
-        self.parser = expat.ParserCreate()
-        self.parser.ordered_attributes = True
-        self.parser.buffer_text = True
-        self.parser.StartElementHandler = self.start
-        self.parser.EndElementHandler = self.end
-        self.parser.CharacterDataHandler = self.text
-        self.parser.CommentHandler = self.comment
-        self.parser.ProcessingInstructionHandler = self.instruction
-        self.parser.StartDoctypeDeclHandler = self.doctype
-        self.parser.EndDoctypeDeclHandler = self.end_doctype
-        self.is_in_doctype = False
-        # The Text that the next characters go on with.
-        self.last: Optional[Text] = None
-
-    def put(self, node: Node) -> None:
-        """Puts a node behind what is there."""
-        # (what the doctype holds is no node of a tree)
-        if not self.is_in_doctype:
-            self.open[-1].append_child(node)
-            self.last = node if isinstance(node, Text) else None
-
-    def start(self, name: str, attributes: List[str]) -> None:
-        """A start tag."""
-        element = self.made.create_element(name)
-        for at in range(0, len(attributes), 2):
-            element.set_attribute(attributes[at], attributes[at + 1])
-        self.put(element)
-        self.open.append(element)
-
-    def end(self, name: str) -> None:
-        """An end tag."""
-        self.open.pop()
-        self.last = None
-
-    def text(self, data: str) -> None:
-        """Characters, which expat hands on in pieces."""
-        if self.last is None:
-            self.put(self.made.create_text_node(data))
-        else:
-            self.last.append_data(data)
-
-    def comment(self, data: str) -> None:
-        """A comment."""
-        self.put(self.made.create_comment(data))
-
-    def instruction(self, target: str, data: str) -> None:
-        """A processing instruction."""
-        self.put(self.made.create_processing_instruction(target, data))
-
-    def doctype(self, name: str, system_id: Optional[str], public_id: Optional[str], has_internal: int) -> None:
-        """The start of the doctype."""
-        self.put(self.made.create_document_type(name, public_id or "", system_id or ""))
-        self.is_in_doctype = True
-
-    def end_doctype(self) -> None:
-        """The end of the doctype."""
-        self.is_in_doctype = False
+    parser = expat.ParserCreate()
+    parser.ordered_attributes = True
+    parser.buffer_text = True
+    parser.StartElementHandler = builder.start
+    parser.EndElementHandler = builder.end
+    parser.CharacterDataHandler = builder.text
+    parser.CommentHandler = builder.comment
+    parser.ProcessingInstructionHandler = builder.instruction
+    parser.StartDoctypeDeclHandler = builder.doctype
+    parser.EndDoctypeDeclHandler = builder.end_doctype
+    return parser
 
 
 def parse(source: Union[str, bytes], session: Optional[Session] = None) -> Document:
@@ -93,10 +49,13 @@ def parse(source: Union[str, bytes], session: Optional[Session] = None) -> Docum
     Entities of the document itself are put in; others, and what stands outside, are not read.
     """
     document = Session().document if session is None else session.create_document()
+    builder = Builder(document._calls, document.number, document.number, False)
     try:
-        Filling(document).parser.Parse(source, True)
+        _parser(builder).Parse(source, True)
+        builder.finish()
     except BaseException:
         # (of what is refused nothing stays in the session)
+        builder.abandon()
         if session is not None:
             document.discard()
         raise
@@ -140,10 +99,10 @@ def _other(kind: int, name: Optional[str], data: Optional[str], public_id: Optio
 
 def serialize(node: Node) -> str:
     """A node and all below it as XML. What no XML can hold (a lone surrogate, a comment with two strokes) raises ``ValueError``."""
-    found, names = markup(node, STYLE, False, _other)
-    for name in names:
+    found = markup(node, STYLE, False, _other)
+    for name in found.names:
         _name(name)
-    bad = NO_CHARACTER.search(found)
+    bad = NO_CHARACTER.search(found.text if found.is_doubtful else found.others)
     if bad:
         raise ValueError(f"XML has no character {bad.group()!r}")
-    return found
+    return found.text

@@ -141,10 +141,10 @@ class Speaker:
     # data
 
     def data(self, node):
-        return text_out(h.CharacterData.data.fget(self.n(node)))
+        return text_out(h.CharacterData.data.__get__(self.n(node)))
 
     def setData(self, node, text):
-        h.CharacterData.data.fset(self.n(node), text_in(text))
+        h.CharacterData.data.__set__(self.n(node), text_in(text))
 
     def appendData(self, node, text):
         h.CharacterData.append_data(self.n(node), text_in(text))

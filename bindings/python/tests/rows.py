@@ -1,6 +1,5 @@
 """Trees as plain rows, so that those of several libraries can be compared: depth, kind, name, attributes, data or ids."""
 import importlib.util
-from html.parser import HTMLParser
 
 try:
     from lxml import etree
@@ -49,50 +48,6 @@ def of_minidom(node, depth=0):
         found.append(_row(it, at))
         waiting += [(child, at + 1) for child in reversed(it.childNodes)] if it.nodeType == 1 else []
     return joined(found)
-
-
-class Events(HTMLParser):
-    """What the standard library's parser tells of a page, in order: start tags, comments, and the text between them as one."""
-
-    def __init__(self, text):
-        super().__init__(convert_charrefs=True)
-        self.found = []
-        self.feed(text)
-        self.close()
-
-    def handle_starttag(self, tag, attrs):
-        # (of attributes of one name the first counts)
-        first = {name: value or "" for name, value in reversed(attrs)}
-        self.found.append((1, tag, tuple((name, first.pop(name)) for name, _ in attrs if name in first)))
-
-    def handle_data(self, data):
-        if self.found and self.found[-1][0] == 3:
-            data = self.found.pop()[1] + data
-        self.found.append((3, data))
-
-    def handle_comment(self, data):
-        self.found.append((8, data))
-
-    def handle_pi(self, data):
-        self.handle_comment("?" + data)
-
-
-def held(events):
-    """The same in the element that holds a page where it names none. Blank text ahead of it is left out."""
-    first = next((at for at, it in enumerate(events) if it[0] == 1 or it[0] == 3 and it[1].strip()), len(events))
-    made = [] if first == len(events) or events[first][1] == "html" else [(1, "html", ())]
-    return [it for it in events[:first] if it[0] != 3] + made + events[first:]
-
-
-def told(rows):
-    """Rows as that parser tells them: how deep they stand, and where Texts end, is left out."""
-    found = []
-    for _, kind, name, pairs, data in rows:
-        if kind == 3 and found and found[-1][0] == 3:
-            data = found.pop()[1] + data
-        if kind in (1, 3, 8):
-            found.append((1, name, pairs) if kind == 1 else (kind, data))
-    return found
 
 
 def _texts_of_lxml(depth, text):

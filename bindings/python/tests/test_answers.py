@@ -11,7 +11,6 @@ import time
 import unittest
 
 import huckleport as h
-from huckleport._calls import core
 
 SECONDS = float(os.environ.get("HUCKLEPORT_SECONDS", 6)) / 6
 
@@ -110,8 +109,7 @@ class Answers(unittest.TestCase):
             signal.signal(signal.SIGALRM, before)
         self.assertTrue(all(seen))
         self.assertGreater(len(seen) + len(refused), 10)
-        if core is not None:
-            self.assertEqual(refused, [])
+        self.assertEqual(refused, [])
 
     def run_together(self, *works):
         """Runs works in threads, and raises what one of them raised."""
@@ -193,7 +191,6 @@ class Answers(unittest.TestCase):
         self.assertEqual(self.session.notify(), [])
 
     @unittest.skipUnless(hasattr(signal, "setitimer"), "there are no timers")
-    @unittest.skipIf(core is None, "by ctypes an interrupt can lose records")
     def test_interrupts_by_the_clock(self):
         """Interrupts come at any time, and an observer with a callback is told of each change all the same."""
         told, made, interrupts = set(), 0, 0
@@ -245,8 +242,6 @@ class Answers(unittest.TestCase):
                 self.assertEqual([it.data for it in rows[2:]], ["x"] * 50)
             except h.SessionClosed:
                 pass
-            except RuntimeError:
-                self.assertIsNone(core)
 
 
 class Values(unittest.TestCase):

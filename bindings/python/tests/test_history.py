@@ -1,130 +1,9 @@
 """Undo and redo: after each step tree and ranges are as they were then."""
 import os
-import random
 import unittest
 
 import huckleport as h
-from huckleport._calls import core
-
-
-def seen(document, ranges):
-    """All that can be told of a tree and of ranges."""
-    rows = [(it.depth, it.node.number, it.name, it.attributes, it.data) for it in document.tree()]
-    ends = [(it.start_container.number, it.start_offset, it.end_container.number, it.end_offset) for it in ranges]
-    return rows, ends
-
-
-def resident():
-    """How many bytes of memory this process takes."""
-    with open("/proc/self/statm", encoding="ascii") as file:
-        return int(file.read().split()[1]) * os.sysconf("SC_PAGE_SIZE")
-
-
-class Editor:
-    """Makes random edits below a node, as an editor makes them."""
-
-    def __init__(self, document, root, ranges, seed):
-        self.document, self.root, self.ranges = document, root, ranges
-        self.picked = random.Random(seed)
-
-    def nodes(self, kind):
-        return [it for it in (self.root, *self.root.descendants()) if isinstance(it, kind)]
-
-    def pick(self, kind):
-        found = self.nodes(kind)
-        return self.picked.choice(found) if found else None
-
-    def edit(self):
-        getattr(self, self.picked.choice(EDITS))()
-
-    def put(self):
-        parent = self.pick(h.Element)
-        node = self.picked.choice((self.document.create_element, self.document.create_text_node, self.document.create_comment))("new")
-        children = [*parent.child_nodes, None]
-        parent.insert_before(node, self.picked.choice(children))
-
-    def put_several(self):
-        parent = self.pick(h.Element)
-        nodes = [self.document.create_element("x"), "text", self.document.create_element("y")]
-        nodes[0].set_attribute("a", "1")
-        parent.prepend(*nodes)
-
-    def remove(self):
-        found = self.pick(h.Node)
-        if found is not self.root:
-            found.remove()
-
-    def move(self):
-        node, parent = self.pick(h.Node), self.pick(h.Element)
-        if not node.contains(parent):
-            parent.insert_before(node, parent.first_child if parent.first_child is not node else None)
-
-    def swap(self):
-        """A node goes above what it stood under."""
-        child = self.pick(h.Element)
-        parent = child.parent_node
-        if child is not self.root and parent is not self.root:
-            parent.parent_node.insert_before(child, parent)
-            child.append_child(parent)
-
-    def wrap(self):
-        """A node goes into another that is put in its place then."""
-        node = self.pick(h.Node)
-        if node is not self.root:
-            parent, behind, wrapper = node.parent_node, node.next_sibling, self.document.create_element("w")
-            wrapper.append_child(node)
-            parent.insert_before(wrapper, behind)
-
-    def surround(self):
-        """A node goes into a new element, and that pair into another, or the node alone."""
-        node = self.pick(h.Node)
-        if node is self.root:
-            return
-        found = self.document.create_range()
-        for _ in range(2):
-            found.select_node(self.picked.choice((node, node.parent_node)) if node.parent_node is not self.root else node)
-            found.surround_contents(self.document.create_element("s"))
-        found.release()
-
-    def empty(self):
-        found = self.pick(h.Element)
-        if found is not self.root:
-            found.replace_children()
-
-    def text(self):
-        found = self.pick(h.CharacterData)
-        if found is not None:
-            at = self.picked.randint(0, found.length)
-            found.replace_data(at, self.picked.randint(0, 3), "\U0001f600ab"[: self.picked.randint(0, 3)])
-
-    def split(self):
-        found = self.pick(h.Text)
-        if found is not None:
-            found.split_text(self.picked.randint(0, found.length))
-
-    def join(self):
-        self.pick(h.Element).normalize()
-
-    def attribute(self):
-        found, name = self.pick(h.Element), self.picked.choice("abcd")
-        self.picked.choice((lambda: found.set_attribute(name, str(self.picked.random())), lambda: found.toggle_attribute(name)))()
-
-    def cut(self):
-        found = self.picked.choice(self.ranges)
-        found.delete_contents()
-
-    def mark(self):
-        found, node = self.picked.choice(self.ranges), self.pick(h.Node)
-        found.set_start(node, self.picked.randint(0, node.length))
-        node = self.pick(h.Node)
-        found.set_end(node, self.picked.randint(0, node.length))
-
-    def both(self):
-        self.edit()
-        self.edit()
-
-
-EDITS = "put put put_several remove move swap wrap surround empty text text split join attribute attribute cut mark mark both".split()
+from tests.editing import Editor, resident, seen
 
 
 class Histories(unittest.TestCase):
@@ -153,9 +32,8 @@ class Histories(unittest.TestCase):
         self.assertFalse(history.undo())
 
     def test_thousand_edits(self):
-        # (by ctypes it takes twenty times as long)
-        seeds, count = ((1, 2), 1000) if core is not None else ((1,), 100)
-        for seed in seeds:
+        count = 1000
+        for seed in (1, 2):
             self.setUp()
             ranges = [self.document.create_range() for _ in range(8)]
             for it in ranges:
@@ -252,11 +130,10 @@ class Histories(unittest.TestCase):
             for node in taken.pop(0) if len(taken) > 50 else ():
                 node.discard()
 
-        counts = (500, 4000) if core is not None else (100, 300)
-        for at in range(counts[0]):
+        for at in range(500):
             edit(at)
         before = resident()
-        for at in range(counts[1]):
+        for at in range(4000):
             edit(at)
         self.assertLess(resident() - before, 4 << 20)
         self.assertTrue(history.undo())

@@ -353,13 +353,9 @@ class LettingGo(unittest.TestCase):
                 self.itself = self
 
             def __del__(self):
-                try:
-                    if root.has_child_nodes():
-                        root.last_child.remove()
-                    ran.append(session.in_use())
-                except RuntimeError:
-                    # (by ctypes, while an answer is read)
-                    pass
+                if root.has_child_nodes():
+                    root.last_child.remove()
+                ran.append(session.in_use())
                 if ran[0]:
                     Amid()
 
@@ -390,7 +386,8 @@ class LettingGo(unittest.TestCase):
             observer.disconnect()
             for node in nodes:
                 self.assertGreater(node.node_type, 0)
-        self.assertGreater(count, 200)
+        # (the collector of Python 3.13 runs less often than those before it)
+        self.assertGreater(count, 100)
 
     def test_threads(self):
         """Threads that make and drop in one session find what they hold, and leave nothing."""

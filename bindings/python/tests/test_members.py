@@ -7,7 +7,6 @@ import unittest
 from importlib import import_module
 
 import huckleport as h
-from huckleport._calls import core
 
 
 class Members(unittest.TestCase):
@@ -70,8 +69,7 @@ class Members(unittest.TestCase):
             self.root.first_child.remove()
         seconds = time.process_time() - began
         self.assertFalse(self.root.has_child_nodes())
-        # (by ctypes a call alone takes a microsecond or two, and the object of a node more)
-        self.assertLess(seconds, 1 if core else 10)
+        self.assertLess(seconds, 1)
 
     def test_several_at_once(self):
         a, b, c, d, e, f = self.make(*"abcdef")

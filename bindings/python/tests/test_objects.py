@@ -1,4 +1,5 @@
 """What the objects of the package keep beside the replies: identity, texts, refusals, closed sessions, repr."""
+import ast
 import copy
 import gc
 import os
@@ -8,11 +9,20 @@ import unittest
 
 import huckleport as h
 from huckleport import _signatures
-from huckleport._by_ctypes import Calls as ByCtypes
 from huckleport._calls import Calls
 
 # What opens and closes a session or asks of none, and what fills an array, as the package's own calls do.
-NO_METHODS = {"hp_open", "hp_close", "hp_version", "hp_numbers_into", "hp_records_into", "hp_children_into"}
+NO_METHODS = {"open", "close", "version", "numbers_into", "records_into", "children_into"}
+STUB = os.path.join(os.path.dirname(h.__file__), "_core.pyi")
+
+
+def annotations():
+    """The types of what each call of the library is handed, as the stub of the extension module has them."""
+    with open(STUB, encoding="utf-8") as file:
+        source = file.read()
+    classes = [it for it in ast.parse(source).body if isinstance(it, ast.ClassDef) and it.name == "Calls"]
+    calls = [it for it in classes[0].body if isinstance(it, ast.FunctionDef)]
+    return {it.name: [ast.get_source_segment(source, word.annotation) for word in it.args.posonlyargs[1:]] for it in calls}
 
 
 class Objects(unittest.TestCase):
@@ -153,6 +163,92 @@ class Objects(unittest.TestCase):
         self.session.notify()
         self.assertEqual(told, [stays])
 
+    def two_in_turn(self, does):
+        """What two observers are told: the callback of the first does something with the second, once, before that one's turn."""
+        told = []
+
+        def callback(records, it):
+            told.append(("first", len(records)))
+            if len(told) == 1:
+                does(second)
+
+        first = self.session.create_mutation_observer(callback)
+        second = self.session.create_mutation_observer(lambda records, it: told.append(("second", len(records))))
+        for it in (first, second):
+            it.observe(self.element, attributes=True)
+        self.element.set_attribute("a", "1")
+        return told
+
+    def test_disconnected_before_its_turn(self):
+        told = self.two_in_turn(h.MutationObserver.disconnect)
+        self.assertEqual([len(records) for _, records in self.session.notify()], [1])
+        self.assertEqual(told, [("first", 1)])
+
+    def test_records_taken_before_its_turn(self):
+        taken = []
+        told = self.two_in_turn(lambda second: taken.extend(second.take_records()))
+        self.session.notify()
+        self.assertEqual(told, [("first", 1)])
+        self.assertEqual([(it.type, it.attribute_name) for it in taken], [("attributes", "a")])
+
+    def test_released_before_its_turn(self):
+        told = self.two_in_turn(h.MutationObserver.release)
+        self.session.notify()
+        self.assertEqual(told, [("first", 1)])
+        self.assertEqual(self.session.notify(), [])
+
+    def test_changed_before_its_turn(self):
+        """What a callback changes is told in its turn to who is still to come, and else by the next call."""
+        told = self.two_in_turn(lambda second: self.element.set_attribute("a", "2"))
+        self.session.notify()
+        self.assertEqual(told, [("first", 1), ("second", 2)])
+        self.session.notify()
+        self.assertEqual(told, [("first", 1), ("second", 2), ("first", 1)])
+
+    def test_disconnected_by_one_that_raises(self):
+        """What it did counts, and the others are told."""
+
+        def does(second):
+            second.disconnect()
+            raise KeyError
+
+        told = self.two_in_turn(does)
+        third = self.session.create_mutation_observer(lambda records, it: told.append(("third", len(records))))
+        third.observe(self.element, attributes=True)
+        self.element.set_attribute("a", "2")
+        with self.assertRaises(KeyError):
+            self.session.notify()
+        self.assertEqual(told, [("first", 2), ("third", 1)])
+
+    def test_without_a_callback_before_its_turn(self):
+        """Nor is it told to those without a callback."""
+        without = self.session.create_mutation_observer()
+        first = self.session.create_mutation_observer(lambda records, it: without.disconnect())
+        for it in (first, without):
+            it.observe(self.element, attributes=True)
+        self.element.set_attribute("a", "1")
+        self.assertEqual([it for it, _ in self.session.notify()], [first])
+
+    def test_taken_out_until_its_turn(self):
+        """What is taken out is watched by each observer until its own turn."""
+        told = []
+
+        def callback(records, it):
+            told.append([it.type for it in records])
+            self.text.data = "other"
+
+        for it in (callback, lambda records, it: told.append([it.type for it in records])):
+            self.session.create_mutation_observer(it).observe(self.element, child_list=True, character_data=True, subtree=True)
+        self.text.remove()
+        for _ in range(2):
+            self.session.notify()
+        self.assertEqual(told, [["childList"], ["childList", "characterData"]])
+
+    def test_closed_before_its_turn(self):
+        told = self.two_in_turn(lambda second: self.session.close())
+        self.assertEqual([len(records) for _, records in self.session.notify()], [1])
+        self.assertEqual(told, [("first", 1)])
+
     def test_released_in_turn(self):
         """What comes and goes leaves no memory: a hundred thousand of each kind one after another."""
         resident = "/proc/self/statm"
@@ -231,21 +327,20 @@ class Objects(unittest.TestCase):
 
     def test_every_call_of_a_closed_session(self):
         """Each call of the library that asks of a session is made with a closed one, before it was open and after."""
-        count = 0
+        count, types = 0, annotations()
         for calls in (Calls(), self.session._calls):
             self.session.close()
-            for name in _signatures.ARGUMENTS:
-                if name in NO_METHODS:
-                    continue
+            for name in set(_signatures.PARAMETERS) - NO_METHODS:
                 with self.assertRaises(h.SessionClosed, msg=name):
-                    self.use(getattr(calls, name[3:]), getattr(ByCtypes, name[3:]).__annotations__)
+                    self.use(getattr(calls, name), types[name])
                 count += 1
-        self.assertEqual(count, 2 * len(set(_signatures.ARGUMENTS) - NO_METHODS))
+        self.assertEqual(count, 2 * len(set(_signatures.PARAMETERS) - NO_METHODS))
 
-    def use(self, call, annotations):
-        """Makes a call with values of its annotations."""
-        values = {"int": 0, "str": "a", "bytes": b"", "bool": False, "Sequence[int]": [], "_signatures.hp_options": _signatures.hp_options()}
-        call(*(values[form] for name, form in annotations.items() if name != "return"))
+    def use(self, call, types):
+        """Makes a call with values of these types."""
+        options = _signatures.hp_options(*([0] * 7))
+        values = {"int": 0, "str": "a", "bytes": b"", "bool": False, "Sequence[int]": [], "_signatures.hp_options": options}
+        call(*(values[it] for it in types))
 
     def test_left_session_is_freed(self):
         session = h.Session()

@@ -6,7 +6,6 @@ import re
 import unittest
 
 import huckleport
-from tests.rows import is_there
 
 PAGE = os.path.join(os.path.dirname(os.path.abspath(__file__)), "..", "..", "..", "docs", "python.md")
 
@@ -18,9 +17,9 @@ class Page(unittest.TestCase):
 
     def test_examples(self):
         found = re.findall(r"```python\n(.*?)```\n\n```text\n(.*?)```", self.text, re.S)
-        self.assertEqual(len(found), 4)
+        self.assertEqual(len(found), 5)
         for program, due in found:
-            if "html.parse" in program and not is_there("html5lib"):
+            if "html.parse" in program and not huckleport.html.PARSER:
                 continue
             said = io.StringIO()
             with contextlib.redirect_stdout(said):

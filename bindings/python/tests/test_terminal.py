@@ -51,11 +51,6 @@ class Terminal(unittest.TestCase):
     def test_colours(self):
         self.assertEqual(coloured("p", "text"), "\x1b[32mp\x1b[0m")
 
-    def test_missing_library(self):
-        ran = run(b"", HUCKLEPORT_LIBRARY="/nowhere/lib.so")
-        self.assertEqual(ran.returncode, 1)
-        self.assertIn(b"HUCKLEPORT_LIBRARY", ran.stderr)
-
 
 if __name__ == "__main__":
     unittest.main()

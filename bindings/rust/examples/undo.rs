@@ -56,7 +56,10 @@ impl Editor {
 
     /// Undoes the last change, where there is one: only the units that differ are put back, so that cursors beside them stay.
     fn undo(&mut self) -> Result<()> {
-        let Some(change) = self.done.pop() else { return Ok(()) };
+        let change = match self.done.pop() {
+            Some(change) => change,
+            None => return Ok(()),
+        };
         let (at, count, words) = difference(self.session.data(change.text)?, &change.before);
         self.session.replace_data(change.text, at as u32, count as u32, words)?;
         // (what undoing told is not to be undone)

@@ -104,7 +104,10 @@ impl State {
                 self.pairs = self.pairs.take().map(|it| without(it, name, change.old.as_deref()));
             }
             RecordType::ChildList => {
-                let Some(now) = &mut self.children else { return };
+                let now = match &mut self.children {
+                    Some(now) => now,
+                    None => return,
+                };
                 let at = change.place(now).min(now.len());
                 let end = (at + change.added.len()).min(now.len());
                 now.splice(at..end, change.removed.iter().copied());
@@ -136,7 +139,10 @@ fn without(mut pairs: Pairs, name: &str, old: Option<&[u16]>) -> Pairs {
 
 /// Learns the orders of attributes of a node and what stands below it.
 pub(crate) fn learn(session: &mut Session, node: Node, orders: &mut Orders) -> Result<()> {
-    let Some(rows) = unless_gone(session.tree(node))? else { return Ok(()) };
+    let rows = match unless_gone(session.tree(node))? {
+        Some(rows) => rows,
+        None => return Ok(()),
+    };
     let with_attributes = rows.filter(|it| it.attributes().len() > 0);
     orders.extend(with_attributes.map(|it| (it.node, it.attributes().map(|(name, _)| name.to_owned()).collect())));
     Ok(())
@@ -194,7 +200,10 @@ fn lend(session: &mut Session, before: &mut States, after: &mut States) -> Resul
     }
     for child in &back {
         let parent = unless_gone(session.node(*child).map(|it| it.parent))?.flatten();
-        let Some(parent) = parent.filter(|it| after.get(it).is_none_or(|state| state.children.is_none())) else { continue };
+        let parent = match parent.filter(|it| after.get(it).map_or(true, |state| state.children.is_none())) {
+            Some(parent) => parent,
+            None => continue,
+        };
         let now = children(session, parent)?;
         before.entry(parent).or_default().children = Some(now.iter().copied().filter(|it| !back.contains(it)).collect());
         after.entry(parent).or_default().children = Some(now);
@@ -204,7 +213,10 @@ fn lend(session: &mut Session, before: &mut States, after: &mut States) -> Resul
 
 /// Leaves of two lists of children what differs, and where it begins.
 fn narrow(one: &mut State, other: &mut State) {
-    let (Some(a), Some(b)) = (&mut one.children, &mut other.children) else { return };
+    let (a, b) = match (&mut one.children, &mut other.children) {
+        (Some(a), Some(b)) => (a, b),
+        _ => return,
+    };
     let same = |(a, b): &(&Node, &Node)| a == b;
     let first = a.iter().zip(b.iter()).take_while(same).count();
     let last = a[first..].iter().rev().zip(b[first..].iter().rev()).take_while(same).count();

@@ -321,6 +321,8 @@ extern "C" {
     fn hp_take_records(session: *mut hp_session, observer: u32) -> u8;
     fn hp_notify(session: *mut hp_session) -> u8;
     fn hp_pending(session: *mut hp_session) -> u8;
+    fn hp_take_pending(session: *mut hp_session) -> u8;
+    fn hp_tell_observer(session: *mut hp_session, observer: u32) -> u8;
     fn hp_release_observer(session: *mut hp_session, observer: u32) -> u8;
 }
 
@@ -1138,6 +1140,18 @@ impl Handle {
     pub(crate) fn pending(&mut self) -> Result<(), u8> {
         // SAFETY: as at the head of the file.
         let status = unsafe { hp_pending(self.session.get()) };
+        if status == HP_OK { Ok(()) } else { Err(status) }
+    }
+
+    pub(crate) fn take_pending(&mut self) -> Result<(), u8> {
+        // SAFETY: as at the head of the file.
+        let status = unsafe { hp_take_pending(self.session.get()) };
+        if status == HP_OK { Ok(()) } else { Err(status) }
+    }
+
+    pub(crate) fn tell_observer(&mut self, observer: u32) -> Result<(), u8> {
+        // SAFETY: as at the head of the file.
+        let status = unsafe { hp_tell_observer(self.session.get(), observer) };
         if status == HP_OK { Ok(()) } else { Err(status) }
     }
 

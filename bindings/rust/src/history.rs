@@ -88,7 +88,7 @@ impl History {
         self.root
     }
 
-    /// Its observer. What [`Session::notify`] says that this one is told has to be handed to [`told`](History::told).
+    /// Its observer. What [`Session::notify`] or [`Session::tell_observer`] says that this one is told has to be handed to [`told`](History::told).
     pub fn observer(&self) -> Observer {
         *self.observer
     }
@@ -127,7 +127,10 @@ impl History {
     /// Undoes the last group. Answers whether there was one.
     pub fn undo(&mut self, session: &mut Session) -> Result<bool> {
         self.commit(session)?;
-        let Some(group) = self.done.pop() else { return Ok(false) };
+        let group = match self.done.pop() {
+            Some(group) => group,
+            None => return Ok(false),
+        };
         let was_put = self.put(session, &group.after, &group.before);
         if was_put.is_ok() { &mut self.undone } else { &mut self.done }.push(group);
         was_put.map(|()| true)
@@ -136,7 +139,10 @@ impl History {
     /// Does again what was undone last. Answers whether there was anything; nothing is once something else has changed.
     pub fn redo(&mut self, session: &mut Session) -> Result<bool> {
         self.commit(session)?;
-        let Some(group) = self.undone.pop() else { return Ok(false) };
+        let group = match self.undone.pop() {
+            Some(group) => group,
+            None => return Ok(false),
+        };
         let was_put = self.put(session, &group.before, &group.after);
         if was_put.is_ok() { &mut self.done } else { &mut self.undone }.push(group);
         was_put.map(|()| true)

@@ -106,7 +106,7 @@ pub fn serialize(session: &mut Session, node: Node) -> Result<String> {
 
 /// What is below a node as HTML: nothing, for a void element.
 pub fn serialize_children(session: &mut Session, node: Node) -> Result<String> {
-    let is_void = session.node(node)?.name().is_some_and(|it| VOID.contains(&it));
+    let is_void = session.node(node)?.name().map_or(false, |it| VOID.contains(&it));
     if is_void {
         return Ok(String::new());
     }

@@ -70,7 +70,8 @@ impl Session {
         Ok(Records::new(Part::whole(&self.handle), count))
     }
 
-    /// Hands its records to each observer that waits.
+    /// Hands its records to each observer that waits, all at once. For callbacks there is
+    /// [`take_pending`](Session::take_pending).
     pub fn notify(&mut self) -> Result<Notices<'_>> {
         self.handle.notify().map_err(Exception::of)?;
         let count = self.handle.count().map_err(Exception::of)?;
@@ -82,6 +83,54 @@ impl Session {
         self.handle.pending().map_err(Exception::of)?;
         let count = self.handle.count().map_err(Exception::of)?;
         Ok(Observers::new(Part::whole(&self.handle), count))
+    }
+
+    /// Takes the observers that wait to be told, in the order of their turns: none of them waits any more. Their records stay, and
+    /// [`tell_observer`](Session::tell_observer) tells each in its turn.
+    ///
+    /// These are the standard's steps to notify mutation observers, for a program that does something for each observer before the next is told. One
+    /// that was disconnected meanwhile, or whose records were taken, is told no records. A change meanwhile is told to an observer whose turn is
+    /// still to come, and makes the others wait anew.
+    ///
+    /// ```
+    /// use huckleport::{Exception, Node, Options, Result, Session};
+    ///
+    /// fn main() -> Result<()> {
+    ///     let mut session = Session::new()?;
+    ///     let observers = [session.create_observer()?, session.create_observer()?];
+    ///     for it in observers {
+    ///         session.observe(it, Node::DOCUMENT, &Options { child_list: Some(true), ..Options::default() })?;
+    ///     }
+    ///     let comment = session.create_comment(Node::DOCUMENT, &[])?;
+    ///     session.append_child(Node::DOCUMENT, comment)?;
+    ///     let mut told = Vec::new();
+    ///     for it in session.take_pending()?.collect::<Vec<_>>() {
+    ///         let count = match session.tell_observer(it) {
+    ///             Err(Exception::NoSuchObject) => 0, // it was released before its turn
+    ///             records => records?.len(),
+    ///         };
+    ///         if count > 0 {
+    ///             told.push(it);
+    ///             session.disconnect(observers[1])?; // as a callback may do
+    ///         }
+    ///     }
+    ///     assert_eq!(told, observers[..1]);
+    ///     Ok(())
+    /// }
+    /// ```
+    pub fn take_pending(&mut self) -> Result<Observers<'_>> {
+        self.handle.take_pending().map_err(Exception::of)?;
+        let count = self.handle.count().map_err(Exception::of)?;
+        Ok(Observers::new(Part::whole(&self.handle), count))
+    }
+
+    /// Tells an observer in its turn: takes its records, and ends its transient registrations.
+    ///
+    /// One that was released is `NoSuchObject`. See [`take_pending`](Session::take_pending).
+    pub fn tell_observer(&mut self, observer: Observer) -> Result<Records<'_>> {
+        self.handle.tell_observer(observer.number()).map_err(Exception::of)?;
+        let count = self.handle.count().map_err(Exception::of)?;
+        Ok(Records::new(Part::whole(&self.handle), count))
     }
 
     /// Lets an observer go: it watches nothing more, and is not told the records that waited for it.

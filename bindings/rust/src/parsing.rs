@@ -117,7 +117,10 @@ impl<'a> Sink<'a> {
 
     /// Takes a node out of its parent, if it has one.
     fn take_out(&mut self, node: Node) {
-        let Some((parent, previous, next)) = self.ask(|session| session.node(node).map(|it| (it.parent, it.previous, it.next))) else { return };
+        let (parent, previous, next) = match self.ask(|session| session.node(node).map(|it| (it.parent, it.previous, it.next))) {
+            Some((parent, previous, next)) => (parent, previous, next),
+            None => return,
+        };
         self.ask(|session| session.remove(node));
         if let (Some(parent), Some(previous), None) = (parent, previous, next) {
             self.keep_end(parent, previous);
@@ -249,7 +252,7 @@ impl TreeSink for Sink<'_> {
     }
 
     fn is_mathml_annotation_xml_integration_point(&self, handle: &Handle) -> bool {
-        handle.element.as_ref().is_some_and(|it| it.is_integration_point)
+        handle.element.as_ref().map_or(false, |it| it.is_integration_point)
     }
 }
 

@@ -23,7 +23,8 @@ struct Open<'a>(Vec<(usize, &'a str)>);
 impl Open<'_> {
     /// Ends each element that does not stand above this depth.
     fn end(&mut self, depth: usize, to: &mut String) {
-        while let Some((_, name)) = self.0.pop_if(|it| it.0 >= depth) {
+        let stays = self.0.iter().rposition(|it| it.0 < depth).map_or(0, |at| at + 1);
+        for (_, name) in self.0.drain(stays..).rev() {
             to.extend(["</", name, ">"]);
         }
     }
@@ -43,7 +44,7 @@ fn write<'a>(rows: impl Iterator<Item = Row<'a>>, parent: Option<&str>, markup: 
         match row.kind {
             Kind::Text => markup.text(row.data().unwrap_or_default(), open.0.last().map(|it| it.1).or(parent), &mut to)?,
             Kind::Element => {
-                let is_empty = rows.peek().is_none_or(|next| next.depth <= row.depth);
+                let is_empty = rows.peek().map_or(true, |next| next.depth <= row.depth);
                 if markup.start(&row, is_empty, &mut to)? {
                     open.0.push((row.depth, row.name().unwrap_or_default()));
                 } else {
@@ -59,7 +60,10 @@ fn write<'a>(rows: impl Iterator<Item = Row<'a>>, parent: Option<&str>, markup: 
 
 /// The name of the element that a node stands in, if any.
 fn name_of_parent(session: &mut Session, node: Node) -> Result<Option<String>> {
-    let Some(parent) = session.node(node)?.parent else { return Ok(None) };
+    let parent = match session.node(node)?.parent {
+        Some(parent) => parent,
+        None => return Ok(None),
+    };
     Ok(session.node(parent)?.name().map(str::to_owned))
 }
 

@@ -96,7 +96,10 @@ impl Editor {
     fn swap(&mut self, session: &mut Session) -> Result<()> {
         let child = self.element(session)?;
         let parent = session.node(child)?.parent.filter(|it| child != self.root && *it != self.root);
-        let Some(parent) = parent else { return Ok(()) };
+        let parent = match parent {
+            Some(parent) => parent,
+            None => return Ok(()),
+        };
         let above = session.node(parent)?.parent.expect("it stands below the root");
         session.insert_before(above, child, Some(parent))?;
         session.append_child(child, parent).map(drop)
@@ -126,14 +129,20 @@ impl Editor {
     }
 
     fn text(&mut self, session: &mut Session) -> Result<()> {
-        let Some(text) = self.pick(session, &[Kind::Text, Kind::Comment])? else { return Ok(()) };
+        let text = match self.pick(session, &[Kind::Text, Kind::Comment])? {
+            Some(text) => text,
+            None => return Ok(()),
+        };
         let at = self.drawn.below(session.length(text)? + 1) as u32;
         let words = utf16(["", "a", "\u{1f600}", "abc"][self.drawn.below(4)]);
         session.replace_data(text, at, self.drawn.below(4) as u32, &words)
     }
 
     fn split(&mut self, session: &mut Session) -> Result<()> {
-        let Some(text) = self.pick(session, &[Kind::Text])? else { return Ok(()) };
+        let text = match self.pick(session, &[Kind::Text])? {
+            Some(text) => text,
+            None => return Ok(()),
+        };
         let at = self.drawn.below(session.length(text)? + 1) as u32;
         session.split_text(text, at).map(drop)
     }

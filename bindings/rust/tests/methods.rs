@@ -1,5 +1,5 @@
 //! What dialogues do not show: commands that they only refuse, texts that are not well-formed, limits, threads, iterators from both ends, what is released.
-use huckleport::{utf16, BoundaryPoint, Counts, Ends, Exception, Kind, Move, Node, Options, Result, Session, SHOW_ALL};
+use huckleport::{utf16, BoundaryPoint, Counts, Ends, Exception, Kind, Move, Node, Observer, Options, Result, Session, SHOW_ALL};
 use std::thread;
 
 #[cfg(target_os = "linux")]
@@ -184,6 +184,76 @@ fn an_observer_that_is_released_is_told_nothing() -> Result<()> {
     assert_eq!(session.pending()?.collect::<Vec<_>>(), observers[1..]);
     let told: Vec<_> = session.notify()?.map(|it| it.observer).collect();
     assert_eq!(told, observers[1..]);
+    Ok(())
+}
+
+/// How many records each of three observers has in its turn; none where it was released. They observe an element of which a Text was taken out.
+/// After the first one's turn something is done with that element, the Text and the observers.
+fn told_in_turn(does: impl FnOnce(&mut Session, [Node; 2], [Observer; 3]) -> Result<()>) -> Result<Vec<Option<usize>>> {
+    let (mut session, parent, [a, ..]) = session()?;
+    let observers = [session.create_observer()?, session.create_observer()?, session.create_observer()?];
+    let options = Options { child_list: Some(true), character_data: Some(true), subtree: Some(true), ..Options::default() };
+    for observer in observers {
+        session.observe(observer, parent, &options)?;
+    }
+    session.remove(a)?;
+    let pending: Vec<_> = session.take_pending()?.collect();
+    assert_eq!(pending, observers);
+    assert_eq!(session.pending()?.len(), 0);
+    let mut told = vec![Some(session.tell_observer(observers[0])?.len())];
+    does(&mut session, [parent, a], observers)?;
+    for observer in &observers[1..] {
+        match session.tell_observer(*observer) {
+            Err(Exception::NoSuchObject) => told.push(None),
+            records => told.push(Some(records?.len())),
+        }
+    }
+    Ok(told)
+}
+
+#[test]
+fn an_observer_that_is_disconnected_before_its_turn_is_told_nothing() -> Result<()> {
+    assert_eq!(told_in_turn(|session, _, [_, second, _]| session.disconnect(second))?, [Some(1), Some(0), Some(1)]);
+    Ok(())
+}
+
+#[test]
+fn an_observer_whose_records_are_taken_before_its_turn_is_told_nothing() -> Result<()> {
+    let told = told_in_turn(|session, _, [_, second, _]| {
+        assert_eq!(session.take_records(second)?.len(), 1);
+        Ok(())
+    });
+    assert_eq!(told?, [Some(1), Some(0), Some(1)]);
+    Ok(())
+}
+
+#[test]
+fn an_observer_that_is_released_before_its_turn_is_not_there() -> Result<()> {
+    assert_eq!(told_in_turn(|session, _, [_, second, _]| session.release_observer(second))?, [Some(1), None, Some(1)]);
+    Ok(())
+}
+
+#[test]
+fn a_change_is_told_in_a_turn_that_is_still_to_come() -> Result<()> {
+    let told = told_in_turn(|session, [parent, _], observers| {
+        let last = session.create_text(Node::DOCUMENT, &utf16("last"))?;
+        session.append_child(parent, last)?;
+        assert_eq!(session.pending()?.collect::<Vec<_>>(), observers);
+        assert_eq!(session.take_records(observers[0])?.len(), 1);
+        Ok(())
+    });
+    assert_eq!(told?, [Some(1), Some(2), Some(2)]);
+    Ok(())
+}
+
+#[test]
+fn what_is_taken_out_is_watched_by_each_observer_until_its_turn() -> Result<()> {
+    let told = told_in_turn(|session, [_, removed], [first, ..]| {
+        session.append_data(removed, &utf16("more"))?;
+        assert_eq!(session.take_records(first)?.len(), 0);
+        Ok(())
+    });
+    assert_eq!(told?, [Some(1), Some(2), Some(2)]);
     Ok(())
 }
 

@@ -15,7 +15,7 @@ fn say(it: &Dialogue, said: &mut BTreeSet<String>) {
     let mut session = it.open();
     for (line, due_line) in it.lines().zip(it.replies()) {
         let due = read(due_line);
-        if due.member("error").is_some_and(|it| OF_LINES.contains(&it.string().as_str())) {
+        if due.member("error").map_or(false, |it| OF_LINES.contains(&it.string().as_str())) {
             continue;
         }
         let given = read(line);

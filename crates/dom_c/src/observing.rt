@@ -1,7 +1,7 @@
 //! The commands of mutation observers.
 
 ghost use Rattle.std.specs.Prelude.{◌≡◌, Ok};
-ghost use Rattle.dom_model.specs.Commands.Command.{CreateObserver, Observe, Disconnect, TakeRecords, Notify, Pending, ReleaseObserver};
+ghost use Rattle.dom_model.specs.Commands.Command.{CreateObserver, Observe, Disconnect, TakeRecords, Notify, Pending, ReleaseObserver, TakePending, TellObserver};
 ghost use Rattle.dom_wire.specs.Sessions.{command_view};
 ghost use Rattle.dom_c.specs.Answers.{Answers};
 ghost use Rattle.dom_c.specs.Reads.{Reads, then_make};
@@ -91,6 +91,23 @@ pub extern "C" fn hp_pending(handle: &mut Handle) -> u8
     ensures { Answers handle.old handle.new (Ok Pending) result }
 {
     handle.take(Ok(Command::Observing(Observing::Pending)))
+}
+
+/// Takes the observers that wait to be told, of whom none waits any more: `hp_count` and `hp_number_at` read them. Their records wait on for
+/// `hp_tell_observer`, which tells each in its turn.
+#[unsafe(no_mangle)]
+pub extern "C" fn hp_take_pending(handle: &mut Handle) -> u8
+    ensures { Answers handle.old handle.new (Ok TakePending) result }
+{
+    handle.take(Ok(Command::Observing(Observing::TakePending)))
+}
+
+/// Tells an observer in its turn: takes its records, which are read as those of `hp_take_records`, and ends its transient registrations.
+#[unsafe(no_mangle)]
+pub extern "C" fn hp_tell_observer(handle: &mut Handle, observer: u32) -> u8
+    ensures { Answers handle.old handle.new (Ok (TellObserver observer)) result }
+{
+    handle.take(Ok(Command::Observing(Observing::TellObserver(ObserverId::new(observer)))))
 }
 
 /// Lets an observer go: it watches nothing more, and the records that wait for it are dropped.

@@ -30,6 +30,27 @@ impl<N> Clone for NodePtr<N> {
 
 impl<N> Copy for NodePtr<N> {}
 
+/// A block with room for one node. It is no `Drop`, and its field is its own: so a room ends by `Pool::put` or by `free`, and by nothing else.
+pub struct Room<N> {
+    vacant: Vacant<N, Global>,
+}
+
+impl<N> Room<N> {
+    /// A block, or the allocator where there is no memory.
+    pub fn take(alloc: Global) -> Result<Room<N>, Global> {
+        match Vacant::take(alloc) {
+            Ok(vacant) => Ok(Room { vacant }),
+            Err(alloc) => Err(alloc),
+        }
+    }
+
+    /// Gives the block back.
+    pub fn free(self) {
+        let Room { vacant } = self;
+        let _ = vacant.free();
+    }
+}
+
 /// The owner of a block for each node that was put in and not yet taken. It takes no space.
 pub struct Pool<N> {
     mark: PhantomData<*mut N>,
@@ -53,7 +74,17 @@ impl<N> Pool<N> {
     }
 
     /// Moves the node into the room. Its place differs from that of every other node.
-    pub fn put(&mut self, room: Vacant<N, Global>, node: N) -> NodePtr<N>
+    pub fn put(&mut self, room: Room<N>, node: N) -> NodePtr<N>
+        requires { 0 < type_size N.row }
+        ensures cells { self.new.cells ≡ (result.ptr, node) ∷ self.old.cells }
+        ensures fresh { look result.ptr self.old.cells ≡ None }
+        ensures place { IsPlace result.ptr }
+    {
+        let Room { vacant } = room;
+        self.put_vacant(vacant, node)
+    }
+
+    fn put_vacant(&mut self, room: Vacant<N, Global>, node: N) -> NodePtr<N>
         requires { 0 < type_size N.row }
         ensures cells { self.new.cells ≡ (result.ptr, node) ∷ self.old.cells }
         ensures fresh { look result.ptr self.old.cells ≡ None }
@@ -67,7 +98,16 @@ impl<N> Pool<N> {
     }
 
     /// Moves the node out, and hands its block back as room.
-    pub fn take(&mut self, node: NodePtr<N>, alloc: Global) -> (N, Vacant<N, Global>)
+    pub fn take(&mut self, node: NodePtr<N>, alloc: Global) -> (N, Room<N>)
+        requires { IsSome (look node.ptr self.old.cells) }
+        ensures node { look node.ptr self.old.cells ≡ Some result.0 }
+        ensures cells { self.new.cells ≡ without node.ptr self.old.cells }
+    {
+        let (value, vacant) = self.take_vacant(node, alloc);
+        (value, Room { vacant })
+    }
+
+    fn take_vacant(&mut self, node: NodePtr<N>, alloc: Global) -> (N, Vacant<N, Global>)
         requires { IsSome (look node.ptr self.old.cells) }
         ensures node { look node.ptr self.old.cells ≡ Some result.0 }
         ensures cells { self.new.cells ≡ without node.ptr self.old.cells }

@@ -5,11 +5,10 @@ ghost use Rattle.std.specs.Option.{ForSome};
 use crate::links::{Refused, Slot};
 use crate::node::{Node, alone, value_of};
 use crate::place::{Link, Place};
-use crate::pool::{NodePtr, Pool};
+use crate::pool::{NodePtr, Pool, Room};
 use crate::steps::{free_slot, lead_back, lead_on, link_at, link_before, recount, settle};
 use std::alloc::Global;
 use std::marker::Model;
-use std_alloc::room::Vacant;
 
 /// A store of linked nodes, each in a slot of its own, that is asked by places. It has at most 4,294,967,295 slots.
 ///
@@ -66,12 +65,12 @@ impl<T> Store<T> {
         ensures value_returned { IfErr result (λ refused. refused.value ≡ value) }
         ensures unchanged { OnErr result (self.new ≡ self.old) }
     {
-        let room = match Vacant::take(self.alloc) {
+        let room = match Room::take(self.alloc) {
             Ok(room) => room,
             Err(_) => return Err(Refused { value }),
         };
         let Some(index) = free_slot(&mut self.table, &mut self.free) else {
-            let _ = room.free();
+            room.free();
             return Err(Refused { value });
         };
         let node = self.pool.put(room, alone(index, value));
@@ -255,7 +254,7 @@ impl<T> Store<T> {
         let index = slot.number();
         let ptr: *mut Node<T> = link_at(&self.table, index).ptr().unwrap();
         let (node, room) = self.pool.take(NodePtr { ptr }, self.alloc);
-        let _ = room.free();
+        room.free();
         self.table[index] = Link::none();
         self.free.push_reserved(node.slot);
         value_of(node)
@@ -280,7 +279,7 @@ impl<T: Drop> Drop for Store<T> {
         while let Some(link) = table.pop() {
             if let Some(ptr) = link.ptr() {
                 let (node, room) = pool.take(NodePtr { ptr }, alloc);
-                let _ = room.free();
+                room.free();
                 drop(node);
             }
         }

@@ -5,3 +5,4 @@ pub mod ReleasedRefused
 pub mod LinesCut
 pub mod ReplyLines
 pub mod FirstDialogue
+pub mod NotifyInTurn

@@ -2,3 +2,4 @@
 pub mod Queues
 pub mod NodeRegistrations
 pub mod Apart
+pub mod InTurn

@@ -7,7 +7,6 @@ use Rattle.std.specs.Option.{option_map_or}
 use Rattle.std.proofs.lemmas.List.Elements.{filter_map-append, filter-append}
 use Rattle.std.proofs.lemmas.Bool.{true≢false}
 use Rattle.slab.specs.Slab.{Slab}
-use Rattle.dom_model.specs.PlainLists.Lists.{among}
 use Rattle.dom_model.specs.Worlds.World.{Registration}
 use Rattle.dom_model.specs.MutationObservers.Observing.{registered_on}
 use Rattle.dom_model.specs.MutationObservers.Record.{Record}
@@ -15,11 +14,11 @@ use Rattle.dom_model.proofs.PlainLists.Numbers.{same_or, same, apart}
 use Rattle.dom_observe.specs.declared.registration.Registration as held
 use Rattle.dom_observe.specs.declared.registration.Ended.{Ended}
 use Rattle.dom_observe.specs.Once.{once}
-use Rattle.dom_observe.specs.Watchers.{on, records_at}
+use Rattle.dom_observe.specs.Watchers.{on}
 use Rattle.dom_observe.specs.Registrations.{at, found, listed, spares, left_by, is_live, Stands, StandsOn, AllStand, HaveKeys, deep_at}
 use Rattle.dom_observe.specs.Kept.{registered_nodes, has_queue, IsKept}
 use Rattle.dom_observe.proofs.Once.{once-none}
-use Rattle.dom_observe.proofs.QueueLists.{has-more, has-set, records-more, records-set}
+use Rattle.dom_observe.proofs.QueueLists.{has-more, has-set}
 use Rattle.dom_observe.proofs.Tables.{all_imply, all_append, all_filter}
 
 -- what a function makes of each list, and of no list nothing
@@ -42,29 +41,24 @@ stand-alike u there there' lists more all n =
 
 module _ {A : Type 0} (table : Slab held.Registration) (entries : List (ℕ × Vec ℕ A)) (queues : List (Option (List Record))) (pending : List ℕ)
     (kept : IsKept table entries queues pending) where
-  -- other queues: of as many observers at least, and empty where nobody is pending
-  pub kept_queues : (queues' : List (Option (List Record))) → ((o : ℕ) → has_queue queues o ≡ true → has_queue queues' o ≡ true) → ((o : ℕ) → among o pending ≡ false → records_at queues' o ≡ []) → IsKept table entries queues' pending
-  kept_queues queues' more waiting = record {
+  -- other queues: of as many observers at least
+  pub kept_queues : (queues' : List (Option (List Record))) → ((o : ℕ) → has_queue queues o ≡ true → has_queue queues' o ≡ true) → IsKept table entries queues' pending
+  kept_queues queues' more = record {
     unique = kept.unique;
     stand = stand-alike (at table) (has_queue queues) (has_queue queues') (listed entries) more kept.stand;
     full = kept.full;
     there = all_imply (λ o. has_queue queues o ≡ true) (λ o. has_queue queues' o ≡ true) more pending kept.there;
-    waiting = waiting;
   }
 
   pub kept-made : IsKept table entries (queues ++ Some [] ∷ []) pending
-  kept-made = kept_queues (queues ++ Some [] ∷ []) (has-more queues) (λ o free. records-more queues o ∙ kept.waiting o free)
+  kept-made = kept_queues (queues ++ Some [] ∷ []) (has-more queues)
 
   pub kept-emptied : (i : ℕ) → has_queue queues i ≡ true → IsKept table entries (slice_set queues i (Some [])) pending
-  kept-emptied i there = kept_queues (slice_set queues i (Some [])) (λ o held_there. has-set queues i there [] o ∙ held_there) (λ o free. records-set queues i there [] o ∙ go (i == o) (kept.waiting o free))
-    where
-      go : (b : Bool) {rs : List Record} → rs ≡ [] → (if b then [] else rs) ≡ []
-      go true e = refl
-      go false e = e
+  kept-emptied i there = kept_queues (slice_set queues i (Some [])) (λ o held_there. has-set queues i there [] o ∙ held_there)
 
   -- another table
   pub kept_table : {B : Type 0} (table' : Slab held.Registration) (entries' : List (ℕ × Vec ℕ B)) → IsDistinct nat_eq (keys_of entries') → AllStand (at table') (has_queue queues) (listed entries') → HaveKeys (listed entries') → IsKept table' entries' queues pending
-  kept_table table' entries' unique stand full = record { unique = unique; stand = stand; full = full; there = kept.there; waiting = kept.waiting }
+  kept_table table' entries' unique stand full = record { unique = unique; stand = stand; full = full; there = kept.there }
 
 -- a step ends registrations, and the keys under which nothing is left go
 module _ (u v : ℕ → Option Registration) (ended : Ended) (lists lists' : List (ℕ × List ℕ))

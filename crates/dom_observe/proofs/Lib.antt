@@ -2,6 +2,7 @@ pub mod Again
 pub mod Agreeing
 pub mod Alone
 pub mod Asked
+pub mod Awaiting
 pub mod Climbing
 pub mod Counting
 pub mod EndedOnes

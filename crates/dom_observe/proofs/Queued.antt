@@ -13,7 +13,7 @@ use Rattle.dom_model.specs.MutationObservers.Records.{interests, observers_of, a
 use Rattle.dom_model.specs.PlainLists.LastOnce.{with_last, with_all_last}
 use Rattle.dom_observe.specs.declared.registration.Registration as held
 use Rattle.dom_observe.specs.Once.{once}
-use Rattle.dom_observe.specs.Watchers.{on, records_at}
+use Rattle.dom_observe.specs.Watchers.{on}
 use Rattle.dom_observe.specs.Registrations.{at, listed, Stands, AllStand}
 use Rattle.dom_observe.specs.Kept.{has_queue, AllThere, IsKept}
 use Rattle.dom_observe.specs.Telling.{listeners, asked_by, flag_of, delivered}
@@ -49,15 +49,13 @@ unheard p ls old new pended off = flag-none p ls (go (among p (keys_of ls)) refl
 
 module _ {A : Type 0} (table : Slab held.Registration) (entries : List (ℕ × Vec ℕ A)) (queues : List (Option (List Record))) (pending : List ℕ)
     (kept : IsKept table entries queues pending) (queues' : List (Option (List Record))) (pending' : List ℕ) (same : (o : ℕ) → has_queue queues' o ≡ has_queue queues o)
-    (stay : (p : ℕ) → among p pending ≡ true → among p pending' ≡ true) (there : AllThere (has_queue queues) pending')
-    (others : (p : ℕ) → among p pending' ≡ false → records_at queues' p ≡ records_at queues p) where
+    (there : AllThere (has_queue queues) pending') where
   pub kept-queued : IsKept table entries queues' pending'
   kept-queued = record {
     unique = kept.unique;
     stand = stand-alike (at table) (has_queue queues) (has_queue queues') (listed entries) (λ o held_there. same o ∙ held_there) kept.stand;
     full = kept.full;
     there = all_imply (λ o. has_queue queues o ≡ true) (λ o. has_queue queues' o ≡ true) (λ o held_there. same o ∙ held_there) pending' there;
-    waiting = λ p off. others p off ∙ kept.waiting p (not_before p pending pending' (stay p) off);
   }
 
 -- What listeners come to, registration by registration.

@@ -12,12 +12,12 @@ use Rattle.dom_model.specs.MutationObservers.Record.{Record}
 use Rattle.dom_model.proofs.PlainLists.Numbers.{Same, same_or, same, apart}
 use Rattle.dom_observe.specs.declared.registration.Registration as held
 use Rattle.dom_observe.specs.declared.registration.Ended.TheVariants.{Of}
-use Rattle.dom_observe.specs.Watchers.{on, records_at}
+use Rattle.dom_observe.specs.Watchers.{on}
 use Rattle.dom_observe.specs.Registrations.{at, listed, left_by, is_live, HaveKeys}
 use Rattle.dom_observe.specs.Kept.{has_queue, AllThere, IsKept}
 use Rattle.dom_observe.proofs.Hearing.{swapped, among-list_any}
 use Rattle.dom_observe.proofs.Keeping.{stand-left}
-use Rattle.dom_observe.proofs.QueueLists.{has-gone, records-gone, records-stay}
+use Rattle.dom_observe.proofs.QueueLists.{has-gone}
 
 -- The list without it.
 
@@ -40,7 +40,7 @@ taken-out o (x ∷ xs) h = go (nat_eq o x) refl h (taken-out o xs)
         ap (λ ys. x ∷ ys) (rest (or_parts (nat_eq o x) (list_any (nat_eq o) (remove_key (nat_eq o) xs)) none).1)
         ∙ sym (ap (λ b. if b then left_out o xs else x ∷ left_out o xs) (swapped x o ∙ e))
 
-among-others : (o p : ℕ) (xs : List ℕ) → (p ≡ o → ⊥) → among p (left_out o xs) ≡ among p xs
+pub among-others : (o p : ℕ) (xs : List ℕ) → (p ≡ o → ⊥) → among p (left_out o xs) ≡ among p xs
 among-others o p [] ne = refl
 among-others o p (x ∷ xs) ne = go (same_or x o) (same_or x p) (among-others o p xs ne)
   where
@@ -114,12 +114,7 @@ module _ {A B : Type 0} (table : Slab held.Registration) (entries : List (ℕ ×
     stand = stand-left (at table) (at table') (Of o) (listed entries) (listed entries') left swept (has_queue queues) (has_queue (slice_set queues o None)) (λ r stays held_there. others-there queues o r.observer (other r stays) held_there) kept.stand;
     full = full;
     there = there-others (has_queue queues) (has_queue (slice_set queues o None)) o pending (others-there queues o) kept.there;
-    waiting = λ p off. waiting p (same_or p o) off;
   }
     where
       other : (r : Registration) → not (r.observer == o) ≡ true → r.observer ≡ o → ⊥
       other r stays e = elim (same_or r.observer o) [ same _ t ↦ let k : false ≡ true = rw t at stays in true≢false (sym k) | apart ne _ ↦ ne e ]
-
-      waiting : (p : ℕ) → Same p o → among p (left_out o pending) ≡ false → records_at (slice_set queues o None) p ≡ []
-      waiting p (same e t) off = ap (records_at (slice_set queues o None)) e ∙ records-gone queues o
-      waiting p (apart ne t) off = records-stay queues o p ne ∙ kept.waiting p (sym (among-others o p pending ne) ∙ off)

@@ -93,5 +93,4 @@ module _ {A : Type 0} (table : Slab held.Registration) (entries : List (ℕ × V
     observers = λ n. all_on n (IsThere seen) (λ k r s is. subst (IsThere seen) (its_own n k r s is) s.observer);
     sources = λ n. all_on n (HasSource seen) (λ k r s is. has_source k r is);
     pending = kept.there;
-    waiting = kept.waiting;
   }

@@ -1,6 +1,6 @@
 -- The sources of transient registrations stand, as registrations come in and end.
 use Rattle.std.proofs.Common.{◌≡◌, ◌≢◌, ℕ, ◌==◌, Bool, true, false, not, ◌&&◌, if◌then◌else◌, List, Option, option_map, None, Some, refl, ap, sym, ◌∙◌, subst}
-use Rattle.std.specs.Prelude.{is_none, unwrap_or}
+use Rattle.std.specs.Prelude.{is_none, is_some, unwrap_or}
 use Rattle.std.specs.Option.{option_map_or}
 use Rattle.std.proofs.lemmas.Bool.{true≢false}
 use Rattle.dom_model.specs.PlainLists.Lists.{is_number}
@@ -9,7 +9,7 @@ use Rattle.dom_model.specs.MutationObservers.Observing.{transient_of}
 use Rattle.dom_model.specs.MutationObservers.Records.{is_registered}
 use Rattle.dom_model.proofs.PlainLists.Numbers.{Same, same_or, same, apart}
 use Rattle.dom_observe.specs.declared.registration.Ended.{Ended}
-use Rattle.dom_observe.specs.declared.registration.Ended.TheVariants.{Transient, Of, From}
+use Rattle.dom_observe.specs.declared.registration.Ended.TheVariants.{Transient, Of, From, TransientOf}
 use Rattle.dom_observe.specs.Registrations.{spares, left_by, own_at, Observes, HaveSources, Added, transient_under, with_new_options}
 use Rattle.dom_observe.proofs.Tables.{transient_shape}
 
@@ -39,6 +39,11 @@ spares-lasting : (ended : Ended) (r s : Registration) → spares ended r ≡ tru
 spares-lasting Transient r s h d e = ap is_none e
 spares-lasting (Of o) r s h d e = ap (λ p. not (p == o)) d ∙ h
 spares-lasting (From o n) r s h d e = ap (λ p. not ((s.observer == o) && is_number p n)) e ∙ go (s.observer == o)
+  where
+    go : (b : Bool) → not (b && false) ≡ true
+    go true = refl
+    go false = refl
+spares-lasting (TransientOf o) r s h d e = ap (λ p. not ((s.observer == o) && is_some p)) e ∙ go (s.observer == o)
   where
     go : (b : Bool) → not (b && false) ≡ true
     go true = refl

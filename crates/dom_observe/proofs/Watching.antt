@@ -1,19 +1,19 @@
 -- The observing part that observers stand for goes with them, step by step.
-use Rattle.std.proofs.Common.{◌≡◌, ℕ, zero, suc, ◌-◌, ◌<◌, ◌≤◌, ◌==◌, Bool, true, false, not, ◌&&◌, if◌then◌else◌, cond, List, [], ◌∷◌, ◌++◌, length, map, filter, Option, None, Some, is_some, option_map, refl, ap, sym, ◌∙◌, subst, arith, length-append, append-nil, ◌⊎◌, inl, inr}
+use Rattle.std.proofs.Common.{◌≡◌, ℕ, zero, suc, ◌-◌, ◌<◌, ◌≤◌, ◌==◌, Bool, true, false, not, ◌&&◌, if◌then◌else◌, cond, List, [], ◌∷◌, ◌++◌, length, map, filter, Option, None, Some, is_some, refl, ap, sym, ◌∙◌, subst, arith, length-append, append-nil, ◌⊎◌, inl, inr}
 use Rattle.std.specs.Prelude.{slice_index_or, slice_set, is_none, filter_map, option_to_list}
 use Rattle.std.specs.List.{list_any, AllByRecursion}
-use Rattle.std.proofs.lemmas.List.{get_or_append_left, get_or-append_right, get_or_past, length-set, length-map}
+use Rattle.std.proofs.lemmas.List.{get_or_append_left, get_or-append_right, get_or_past, length-set}
 use Rattle.std.proofs.lemmas.List.Elements.{All-from_recursion}
 use Rattle.std.proofs.Math.Seq.{drop-length}
 use Rattle.std.proofs.lemmas.Bool.{true≢false, or_parts, cases_lt}
 use Rattle.dom_model.specs.Worlds.World.{Options, Registration, Mutation, Observing}
 use Rattle.dom_model.specs.MutationObservers.Record.{Record}
 use Rattle.dom_model.specs.MutationObservers.Observing.{registered_on, standing_on, transient_of, with_transients, noted}
-use Rattle.dom_model.specs.MutationObservers.Records.{is_registered, is_transient_from, new_registration, with_options, registered, observed, taken_up_to, has_observer, records_past, queue_of, with_observer, records_taken, released_observer, record_by, record_for, interested, observers_of, after_notify}
+use Rattle.dom_model.specs.MutationObservers.Records.{is_registered, is_transient_from, new_registration, with_options, registered, observed, taken_up_to, has_observer, records_past, queue_of, with_observer, records_taken, released_observer, record_by, record_for, interested, observers_of, pending_of, after_notify, pending_taken}
 use Rattle.dom_model.specs.PlainLists.Lists.{among, left_out}
 use Rattle.dom_model.specs.PlainLists.LastOnce.{with_all_last}
 use Rattle.dom_model.proofs.PlainLists.Numbers.{Same, same_or, same, apart}
-use Rattle.dom_model.proofs.MutationObservers.Queues.{IsTimely, observer-made, there-taken, place-released, place-released_other, place-notified, queue-with_observer, queue-taken, queue-kept, queue-released, queue-released_other, timely-taken, timely-released, timely-notified, timely-with_observer, timely-noted, queue-noted, pending-noted_there, pending-taken, pending-released, pending-with_observer, queue-notified, pending-notified, interested_made-taken, interested_made-released, interested_made-with_observer, interested_made-noted, interested_made-notified}
+use Rattle.dom_model.proofs.MutationObservers.Queues.{IsTimely, observer-made, there-taken, place-released, place-released_other, there-notified, length-moved, pending-pending_taken, interested_made-pending_taken, queue-with_observer, queue-taken, queue-kept, queue-released, queue-released_other, timely-taken, timely-released, timely-notified, timely-with_observer, timely-noted, queue-noted, pending-noted_there, pending-taken, pending-released, pending-with_observer, queue-notified, pending-notified, interested_made-taken, interested_made-released, interested_made-with_observer, interested_made-noted, interested_made-notified}
 use Rattle.dom_model.proofs.MutationObservers.NodeRegistrations.{registered_on-filter, registered-there, registrations-observed, registrations-observed_again, registrations-transients}
 use Rattle.dom_observe.specs.Once.{same_registration, once}
 use Rattle.dom_observe.specs.Watchers.{Watchers, Watches, records_at, on}
@@ -317,20 +317,31 @@ module _ (o : Watchers) (x : Observing) (w : Watches o x) (m : Mutation) where
 module _ (o : Watchers) (x : Observing) (w : Watches o x) where
   pub watches-notified : (nodes : List (ℕ × List Registration)) (queues : List (Option (List Record))) (pending : List ℕ)
       → ((n : ℕ) → on n nodes ≡ filter (λ (r : Registration). is_none r.source) (on n o.nodes))
-      → length queues ≡ length o.queues → ((i : ℕ) → has_queue queues i ≡ has_queue o.queues i) → ((i : ℕ) → records_at queues i ≡ []) → pending ≡ []
+      → length queues ≡ length o.queues → ((i : ℕ) → has_queue queues i ≡ has_queue o.queues i) → ((i : ℕ) → records_at queues i ≡ (if among i o.pending then [] else records_at o.queues i)) → pending ≡ []
       → Watches (record { nodes = nodes; queues = queues; pending = pending }) (after_notify x)
-  watches-notified nodes queues pending kept same_length same_there empty none = record {
+  watches-notified nodes queues pending kept same_length same_there emptied none = record {
     registrations = λ n. kept n ∙ ap (filter (λ (r : Registration). is_none r.source)) (w.registrations n) ∙ filter-once (λ (r : Registration). is_none r.source) (registered_on n x.registrations) ∙ ap once (sym (registered_on-filter n (λ (r : Registration). is_none r.source) x.registrations));
-    made = length-map x.places (option_map (λ _. length x.mutations)) ∙ w.made ∙ sym same_length;
-    there = λ i. same_there i ∙ w.there i ∙ there i (taken_up_to i x) (place-notified i x);
-    queues = λ i. empty i ∙ sym (queue-notified i x);
+    made = length-moved (length x.mutations) (pending_of x) x.places ∙ w.made ∙ sym same_length;
+    there = λ i. same_there i ∙ w.there i ∙ sym (there-notified i x);
+    queues = λ i. emptied i ∙ (λ j. if among i (w.pending j) then [] else w.queues i j) ∙ sym (queue-notified i x);
     pending = none ∙ sym (pending-notified x);
-    places = (timely-notified x).places;
+    places = (timely-notified x (record { places = w.places; last = w.notified })).places;
     notified = omega arith;
     interested = interested_made-notified x;
     once = λ i n. let c = count-filter (is_registered i n) (λ (r : Registration). is_none r.source) x.registrations in let k = w.once i n in omega arith;
   }
-    where
-      there : (i : ℕ) (p : Option ℕ) → taken_up_to i (after_notify x) ≡ option_map (λ _. length x.mutations) p → is_some p ≡ has_observer (after_notify x) i
-      there i None e = sym (ap is_some e)
-      there i (Some k) e = sym (ap is_some e)
+
+-- The pending observers are taken.
+module _ (o : Watchers) (x : Observing) (w : Watches o x) where
+  pub watches-pending_taken : Watches (record o { pending = [] }) (pending_taken x)
+  watches-pending_taken = record {
+    registrations = w.registrations;
+    made = w.made;
+    there = w.there;
+    queues = w.queues;
+    pending = sym (pending-pending_taken x);
+    places = w.places;
+    notified = omega arith;
+    interested = interested_made-pending_taken x;
+    once = w.once;
+  }

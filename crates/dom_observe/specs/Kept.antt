@@ -23,14 +23,18 @@ abbrev pub AllThere : (ℕ → Bool) → List ℕ → Type 0
 AllThere there os = AllByRecursion (λ o. there o ≡ true) os
 
 -- each key has a registration on its node, of an observer that is there, and no node is listed without a key; the pending observers
--- are there, and those that are not pending have empty queues
+-- are there
 pub record IsKept {A : Type 0} (table : Slab Registration) (entries : List (ℕ × Vec ℕ A)) (queues : List (Option (List Record)))
     (pending : List ℕ) : Type 0 where
   pub unique : IsDistinct nat_eq (keys_of entries)
   pub stand : AllStand (at table) (has_queue queues) (listed entries)
   pub full : HaveKeys (listed entries)
   pub there : AllThere (has_queue queues) pending
-  pub waiting : (o : ℕ) → among o pending ≡ false → records_at queues o ≡ []
+
+-- the observers that were taken from the pending ones and not told since are there, and what waits, waits for a pending one or for one of those
+pub record IsAwaited (queues : List (Option (List Record))) (pending untold : List ℕ) : Type 0 where
+  pub there : AllThere (has_queue queues) untold
+  pub waiting : (o : ℕ) → among o pending ≡ false → among o untold ≡ false → records_at queues o ≡ []
 
 -- the observers that are not among these have no keys
 abbrev pub HaveNone : List ℕ → List (List ℕ) → Type 0

@@ -18,10 +18,11 @@ waiting_for queues o = record { observer = o; records = records_at queues o }
 abbrev pub waiting_in : List (Option (List Record)) → List ℕ → List Told
 waiting_in queues ps = filter has_records (map (waiting_for queues) ps)
 
--- Everybody was told: nobody is pending, no record waits, and of the registrations on a node those that are not transient are left.
+-- Each pending observer was told: nobody is pending, no record waits for those that were, what waits for another is as before, and of the registrations
+-- on a node those that are not transient are left.
 pub record IsNotified (old new : Watchers) : Type 0 where
   pub pending : new.pending ≡ []
-  pub queues : (i : ℕ) → records_at new.queues i ≡ []
+  pub queues : (i : ℕ) → records_at new.queues i ≡ (if among i old.pending then [] else records_at old.queues i)
   pub nodes : (n : ℕ) → on n new.nodes ≡ filter (λ (r : Registration). is_none r.source) (on n old.nodes)
 
 -- the queues of the first of these observers are empty, and each other one is as it was

@@ -8,11 +8,11 @@ use Rattle.dom_model.specs.declared.RecordType.{RecordType}
 use Rattle.dom_model.specs.Worlds.World as model
 use Rattle.dom_model.specs.PlainLists.Lists.{among}
 use Rattle.dom_model.specs.MutationObservers.Observing.{transient_of}
-use Rattle.dom_model.specs.MutationObservers.Records.{is_registered, is_transient_from, type_passes}
+use Rattle.dom_model.specs.MutationObservers.Records.{is_registered, is_transient_from, is_transient_of, type_passes}
 use Rattle.dom_observe.specs.Watchers.{on}
 use Rattle.dom_observe.specs.declared.registration.Registration.{Registration}
 use Rattle.dom_observe.specs.declared.registration.Ended.{Ended}
-use Rattle.dom_observe.specs.declared.registration.Ended.TheVariants.{Transient, Of, From}
+use Rattle.dom_observe.specs.declared.registration.Ended.TheVariants.{Transient, Of, From, TransientOf}
 use Rattle.dom_observe.specs.declared.registration.Lifetime.{Lifetime}
 use Rattle.dom_observe.specs.declared.registration.Lifetime.TheVariants.{Lasting, Passing}
 use Rattle.dom_observe.specs.declared.registration.Ending.{Ending}
@@ -29,6 +29,7 @@ abbrev pub spares : Ended → model.Registration → Bool
 spares Transient r = is_none r.source
 spares (Of o) r = not (r.observer == o)
 spares (From o n) r = not (is_transient_from o n r)
+spares (TransientOf o) r = not (is_transient_of o r)
 
 -- the registration under a key
 abbrev pub at : Slab Registration → ℕ → Option model.Registration

@@ -1,6 +1,6 @@
 //! Which nodes the registrations and the records that wait name.
 
-ghost use Rattle.std.specs.Prelude.{◌≡◌, flat_map};
+ghost use Rattle.std.specs.Prelude.{◌≡◌, ◌||◌, flat_map};
 ghost use Rattle.std.specs.List.{list_any};
 ghost use Rattle.std.specs.Map.{keys_of};
 ghost use Rattle.dom_model.specs.PlainLists.Lists.{among};
@@ -48,22 +48,39 @@ pub(crate) fn is_named<X>(tree: &Tree<X>, top: NodeId, nodes: &IndexMap<u32, Vec
         .unwrap_or_else(|| has_keys_inside(tree, top, nodes))
 }
 
-// Whether a record that waits for a pending observer names a node inside.
-pub(crate) fn is_told<X>(
+// Whether a record that waits for one of some observers names a node inside.
+fn is_told_by<X>(
     tree: &Tree<X>,
     top: NodeId,
     roster: &Roster,
-    pending: &IndexSet<ObserverId>,
+    observers: &IndexSet<ObserverId>,
 ) -> bool
     requires held { HasNode tree.now.forest top }
-    requires there { AllThere (is_there roster.now) pending.now.keys }
+    requires there { AllThere (is_there roster.now) observers.now.keys }
     ensures { result ≡ list_any
-        (λ o. list_any (λ m. among m (inclusive_descendants tree.now.forest top)) (flat_map nodes_of_record (records_of roster.now o))) pending.now.keys }
+        (λ o. list_any (λ m. among m (inclusive_descendants tree.now.forest top)) (flat_map nodes_of_record (records_of roster.now o))) observers.now.keys }
 {
-    for observer in pending.as_slice() {
+    for observer in observers.as_slice() {
         if roster.get(*observer).queue.names_inside(tree, top) {
             return true;
         }
     }
     false
+}
+
+// Whether a record that waits for a pending observer names a node inside, or one for an observer that was taken from them and not told since.
+pub(crate) fn is_told<X>(
+    tree: &Tree<X>,
+    top: NodeId,
+    roster: &Roster,
+    pending: &IndexSet<ObserverId>,
+    untold: &IndexSet<ObserverId>,
+) -> bool
+    requires held { HasNode tree.now.forest top }
+    requires pending { AllThere (is_there roster.now) pending.now.keys }
+    requires untold { AllThere (is_there roster.now) untold.now.keys }
+    ensures { result ≡ (list_any (λ o. list_any (λ m. among m (inclusive_descendants tree.now.forest top)) (flat_map nodes_of_record (records_of roster.now o))) pending.now.keys
+        || list_any (λ o. list_any (λ m. among m (inclusive_descendants tree.now.forest top)) (flat_map nodes_of_record (records_of roster.now o))) untold.now.keys) }
+{
+    is_told_by(tree, top, roster, pending) || is_told_by(tree, top, roster, untold)
 }

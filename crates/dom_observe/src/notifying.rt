@@ -1,6 +1,6 @@
 //! The records that pending observers are told.
 
-ghost use Rattle.std.specs.Prelude.{◌≡◌, ℕ, Bool, [], filter, map, nat_eq, true, OnOk, OnErr, IfOk};
+ghost use Rattle.std.specs.Prelude.{◌≡◌, ℕ, Bool, if◌then◌else◌, [], filter, map, nat_eq, true, OnOk, OnErr, IfOk};
 ghost use Rattle.std.specs.List.{IsDistinct};
 ghost use Rattle.dom_model.specs.PlainLists.Lists.{among};
 ghost use Rattle.dom_model.specs.MutationObservers.Records.{has_records};
@@ -24,7 +24,7 @@ pub(crate) fn gather(
 ) -> Result<Vec<(ObserverId, Vec<Record>)>, AllocError>
     requires { AllThere (is_there roster.old) pending.now.keys }
     ensures told { IfOk result (λ told. told_of told.items ≡ filter has_records (map (waiting_for (queues_by roster.old)) pending.now.keys)) }
-    ensures emptied { OnOk result ((p : ℕ) → among p pending.now.keys ≡ true → records_of roster.new p ≡ []) }
+    ensures emptied { OnOk result ((p : ℕ) → records_of roster.new p ≡ (if among p pending.now.keys then [] else records_of roster.old p)) }
     ensures lost { OnErr result (EmptiesFirst pending.now.keys (queues_by roster.old) (queues_by roster.new)) }
     ensures empty { (p : ℕ) → records_of roster.old p ≡ [] → records_of roster.new p ≡ [] }
     ensures names { (p : ℕ → Bool) → TellsNone p (queues_by roster.old) → TellsNone p (queues_by roster.new) }

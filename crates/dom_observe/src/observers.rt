@@ -6,7 +6,7 @@ ghost use Rattle.dom_model.specs.PlainLists.Lists.{among};
 ghost use Rattle.dom_model.specs.MutationAlgorithms.Discarding.{observed_nodes};
 ghost use Rattle.dom_model.specs.Worlds.World.{Observing};
 ghost use Rattle.dom_model.specs.MutationObservers.Observing.{standing_on, noted, with_transients};
-ghost use Rattle.dom_model.specs.MutationObservers.Records.{queue_of, observed, with_observer, records_taken, disconnected, released_observer, told, after_notify};
+ghost use Rattle.dom_model.specs.MutationObservers.Records.{queue_of, observed, with_observer, records_taken, disconnected, released_observer, told, after_notify, pending_taken, observer_told};
 ghost use Rattle.dom_observe.specs.Held.{named, nodes_of_mutation, NamesNoneOf, NamesOnly, SameObservers};
 ghost use Rattle.std.specs.List.{list_any};
 ghost use Rattle.dom_observe.specs.Notifying.{told_of, waiting_in, IsNotified, IsPartlyTold};
@@ -48,6 +48,8 @@ pub struct Observers {
     // the observers that may have transient registrations
     fleeting: IndexSet<ObserverId>,
     pending: IndexSet<ObserverId>,
+    // those that were taken from the pending ones and not told since: records may wait for them too
+    untold: IndexSet<ObserverId>,
     // the keys of the registrations that stood above a node that was last asked for, so that the next change has room for them
     standing: Vec<usize>,
     alloc: Global,
@@ -59,7 +61,7 @@ impl Model for Observers {
     ghost Value = { Watchers };
 
     ghost use Rattle.dom_observe.specs.Registrations.{at, listed, HaveSources, Agree};
-    ghost use Rattle.dom_observe.specs.Kept.{registered_nodes, has_queue, IsKept, IsIndexed};
+    ghost use Rattle.dom_observe.specs.Kept.{registered_nodes, has_queue, IsKept, IsIndexed, IsAwaited};
     ghost use Rattle.dom_observe.specs.Roster.{lasting_by, passing_by, queues_by};
 
     ghost view = { λ o. record {
@@ -70,7 +72,7 @@ impl Model for Observers {
 
     ghost invariant = { λ o. IsKept o.table o.nodes.entries (queues_by o.roster) o.pending.keys
         × IsIndexed (at o.table) (listed o.nodes.entries) (lasting_by o.roster) (passing_by o.roster) o.fleeting.keys (has_queue (queues_by o.roster))
-        × HaveSources (at o.table) × Agree (at o.table) };
+        × HaveSources (at o.table) × Agree (at o.table) × IsAwaited (queues_by o.roster) o.pending.keys o.untold.keys };
 }
 
 impl Observers {
@@ -84,6 +86,7 @@ impl Observers {
             roster: Roster::new(alloc),
             fleeting: IndexSet::new(alloc),
             pending: IndexSet::new(alloc),
+            untold: IndexSet::new(alloc),
             standing: Vec::new(alloc),
             alloc,
         }
@@ -248,6 +251,7 @@ impl Observers {
         end_all(&mut self.table, &mut self.nodes, kept, observer);
         self.pending.shift_remove(&observer);
         self.fleeting.swap_remove(&observer);
+        self.untold.swap_remove(&observer);
         self.roster.release(observer);
     }
 
@@ -373,7 +377,7 @@ impl Observers {
 
     /// Tells the pending observers their records, and ends every transient registration ("notify mutation observers").
     ///
-    /// After an error the records of the first pending observers are lost; all else is as it was.
+    /// What waits for an observer that was taken from the pending ones and not told since waits on. After an error the records of the first pending observers are lost; all else is as it was.
     pub fn notify(&mut self) -> Result<Vec<(ObserverId, Vec<Record>)>, AllocError>
         ensures told { IfOk result (λ all. (x : Observing) → Watches self.old x → told_of all.items ≡ told x) }
         ensures after { OnOk result ((x : Observing) → Watches self.old x → Watches self.new (after_notify x)) }
@@ -395,28 +399,69 @@ impl Observers {
         Ok(told)
     }
 
+    /// Takes the pending observers, the first step of "notify mutation observers": it answers them in their order, and nobody is pending any more.
+    /// Their records wait on, and all registrations stay.
+    ///
+    /// Give each of them to `tell` in this order. After an error nothing has changed.
+    pub fn take_pending(&mut self) -> Result<Vec<ObserverId>, AllocError>
+        ensures pending { IfOk result (λ taken. taken.items ≡ self.old.pending) }
+        ensures taken { OnOk result ((x : Observing) → Watches self.old x → Watches self.new (pending_taken x)) }
+        ensures left { OnOk result (self.new ≡ record self.old { pending = [] }) }
+        ensures err { OnErr result (self.new ≡ self.old) }
+        ensures names { NamesOnly [] self.old self.new }
+        ensures made { SameObservers self.old self.new }
+    {
+        let taken = Vec::from_slice(self.alloc, self.pending.as_slice())?;
+        self.untold.append(&mut self.pending)?;
+        Ok(taken)
+    }
+
+    /// Tells one observer, the second step of "notify mutation observers": takes its records out of its queue, and ends its transient registrations.
+    /// It stays pending where it is.
+    pub fn tell(&mut self, observer: ObserverId) -> Vec<Record>
+        requires held { IsSome (queue_in self.old observer) }
+        ensures records { (x : Observing) → Watches self.old x → result.items ≡ queue_of observer x }
+        ensures told { (x : Observing) → Watches self.old x → Watches self.new (observer_told observer x) }
+        ensures own { result.items ≡ records_at self.old.queues observer }
+        ensures queues { self.new.queues ≡ slice_set self.old.queues observer (Some []) }
+        ensures names { NamesOnly [] self.old self.new }
+        ensures made { SameObservers self.old self.new }
+    {
+        let kept = self.roster.get_mut(observer);
+        let ending = Ending {
+            observer,
+            lifetime: Lifetime::Passing,
+            ended: Ended::TransientOf(observer),
+        };
+        end_own(&mut self.table, &mut self.nodes, &mut kept.passing, &ending);
+        self.untold.swap_remove(&observer);
+        kept.queue.take(self.alloc)
+    }
+
     /// Puts the nodes that waiting records name where `refers` finds them without going through the records. It takes no memory, and what is observed stays
     /// as it is.
     ///
-    /// A record is queued without that, since most are taken before anyone asks. It costs one look at each pending observer, and as much as the records name
+    /// A record is queued without that, since most are taken before anyone asks. It costs one look at each observer that is pending, or was taken and not told, and as much as the records name
     /// that came since the last call: so call it before `refers` where it may be asked many times while the same records wait.
     pub fn settle(&mut self)
         ensures { self.new ≡ self.old }
     {
         settle_each(&mut self.roster, &self.pending);
+        settle_each(&mut self.roster, &self.untold);
     }
 
     /// Whether a registration, or a record that waits, names a node inside another. It takes no memory.
     ///
     /// It walks the nodes inside, and asks of each whether a registration stands on it: so does one on the source of each transient one. Where climbs from
     /// the nodes with registrations take fewer steps, it asks these: walk and climbs are counted in step, as `Tree::steps_inside` says. It asks each queue
-    /// of a pending observer in the same way, by the nodes that its records name, and climbs from each node of the records that came since `settle`.
+    /// of an observer that is pending, or was taken and not told, in the same way, by the nodes that its records name, and climbs from each node of the records that came since `settle`.
     pub fn refers<X>(&self, tree: &Tree<X>, top: NodeId) -> bool
         requires { HasNode tree.now.forest top }
         ensures observed { (x : Observing) → Watches self.now x →
             result ≡ list_any (λ m. among m (inclusive_descendants tree.now.forest top)) (observed_nodes x) }
         ensures named { result ≡ list_any (λ m. among m (inclusive_descendants tree.now.forest top)) (named self.now) }
     {
-        is_named(tree, top, &self.nodes) || is_told(tree, top, &self.roster, &self.pending)
+        is_named(tree, top, &self.nodes)
+            || is_told(tree, top, &self.roster, &self.pending, &self.untold)
     }
 }

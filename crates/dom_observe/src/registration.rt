@@ -30,6 +30,8 @@ pub enum Ended {
     Of(ObserverId),
     // the transient ones of an observer that come from its registration on a node
     From(ObserverId, NodeId),
+    // the transient ones of an observer
+    TransientOf(ObserverId),
 }
 
 // Whether registrations last, or are transient ones.
@@ -114,6 +116,9 @@ impl Ended {
             Ended::Transient => registration.source.is_none(),
             Ended::Of(observer) => registration.observer != observer,
             Ended::From(observer, node) => !registration.is_from(observer, node),
+            Ended::TransientOf(observer) => {
+                !(registration.observer == observer && registration.source.is_some())
+            }
         }
     }
 }

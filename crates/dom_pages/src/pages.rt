@@ -69,6 +69,7 @@ impl<T: Copy, C: Cell<T>> Pages<T, C> {
     fn add_page(&mut self) -> Result<(), AllocError>
         requires { length self.old.items + self.old.room < 4294967296 }
         ensures room { OnOk result (self.new.room ≡ self.old.room + page_size) }
+        ensures kept { self.old.room ≤ self.new.room }
         ensures items { self.new.items ≡ self.old.items }
     {
         let alloc = *self.pages.allocator();
@@ -77,10 +78,11 @@ impl<T: Copy, C: Cell<T>> Pages<T, C> {
         Ok(())
     }
 
-    /// Makes room for so many more numbers, as long as 32 bits can tell them all apart.
+    /// Makes room for so many more numbers, as long as 32 bits can tell them all apart. Room that was there stays, also where more is refused.
     pub fn reserve(&mut self, additional: usize) -> Result<(), AllocError>
         requires { length self.old.items + additional ≤ 4294967296 }
         ensures room { OnOk result (additional ≤ self.new.room) }
+        ensures kept { self.old.room ≤ self.new.room }
         ensures items { self.new.items ≡ self.old.items }
     {
         while self.room() < additional {

@@ -22,7 +22,7 @@ use Rattle.dom_session.specs.declared.command.StaticRanging.TheVariants.{CreateS
 use Rattle.dom_session.specs.declared.command.Traversing.{Traversing}
 use Rattle.dom_session.specs.declared.command.Traversing.TheVariants.{CreateIterator, CreateWalker, DescribeIterator, NextNode, PreviousNode, DescribeWalker, SetCurrent, Walk, ReleaseIterator, ReleaseWalker}
 use Rattle.dom_session.specs.declared.command.Observing.{Observing}
-use Rattle.dom_session.specs.declared.command.Observing.TheVariants.{CreateObserver, Observe, Disconnect, TakeRecords, Notify, Pending, ReleaseObserver}
+use Rattle.dom_session.specs.declared.command.Observing.TheVariants.{CreateObserver, Observe, Disconnect, TakeRecords, Notify, Pending, ReleaseObserver, TakePending, TellObserver}
 use Rattle.dom_session.specs.declared.command.Texts.{Texts}
 use Rattle.dom_session.specs.declared.command.Texts.TheVariants.{Normalize, TextContent, SetTextContent, GetData, SetData, AppendData, InsertData, DeleteData, ReplaceData, SubstringData, SplitText}
 use Rattle.dom_session.specs.declared.command.Attributes.{Attributes}
@@ -115,6 +115,8 @@ same_observing b w (TakeRecords observer) = refl
 same_observing b w Notify = refl
 same_observing b w Pending = refl
 same_observing b w (ReleaseObserver observer) = refl
+same_observing b w TakePending = refl
+same_observing b w (TellObserver observer) = refl
 
 same_texts : (b : Bounds) (w : World) (c : Texts) → answer (numbered b.numbers) w (texts_view c) ≡ answer b w (texts_view c)
 same_texts b w (Normalize node) = refl

@@ -5,13 +5,13 @@ use Rattle.dom_model.specs.declared.DomError.{DomError}
 use Rattle.dom_model.specs.Forests.Forest.{HasNode, entry_in}
 use Rattle.dom_model.specs.Worlds.World.{Observing, Options}
 use Rattle.dom_model.specs.Worlds.World as model
-use Rattle.dom_model.specs.Commands.Command.{Command, CreateObserver, Observe, Disconnect, TakeRecords, Notify, ReleaseObserver}
+use Rattle.dom_model.specs.Commands.Command.{Command, CreateObserver, Observe, Disconnect, TakeRecords, Notify, ReleaseObserver, TakePending, TellObserver}
 use Rattle.dom_model.specs.MutationObservers.GivenOptions.{GivenOptions}
 use Rattle.dom_model.specs.Commands.Reply as model_reply
 use Rattle.dom_model.specs.Commands.Reply.{is_refusal}
 use Rattle.dom_model.specs.Commands.Answer.{Bounds, answer}
 use Rattle.dom_model.specs.Commands.AnswerObserving.{with_observing}
-use Rattle.dom_model.specs.MutationObservers.Records.{options_refusal, options_of, settled, settled_unless, has_observer, with_observer, observed, disconnected, released_observer, queue_of, records_taken, told, after_notify}
+use Rattle.dom_model.specs.MutationObservers.Records.{options_refusal, options_of, settled, settled_unless, has_observer, with_observer, observed, disconnected, released_observer, queue_of, pending_of, records_taken, told, after_notify, pending_taken, observer_told}
 use Rattle.dom_model.specs.MutationObservers.Record.{Record, Told}
 use Rattle.dom_model.proofs.PlainLists.Numbers.{same_or, same, apart}
 use Rattle.dom_observe.specs.Held.{NamesHeld, NamesOnly}
@@ -71,6 +71,14 @@ module _ (v : World) (whole : IsWhole v) where
   pub step-notify : (b : Bounds) (all : List Told) (o : Watchers) (reply : Reply) → reply_view reply ≡ model_reply.Done (model_reply.Notified all) → ((x : Observing) → Watches v.observers x → all ≡ told x) → ((x : Observing) → Watches v.observers x → Watches o (after_notify x)) → NamesOnly [] v.observers o → IsStep v (record v { observers = o }) b Notify reply
   step-notify b all o reply said are watched only =
       step-observers b Notify reply o after_notify (ap is_refusal said) (λ w s. rw (said, are w.observing s.watched) refl) watched (names-none o only)
+
+  pub step-take_pending : (b : Bounds) (numbers : List ℕ) (o : Watchers) (reply : Reply) → reply_view reply ≡ model_reply.Done (model_reply.Numbers numbers) → numbers ≡ v.observers.pending → ((x : Observing) → Watches v.observers x → Watches o (pending_taken x)) → NamesOnly [] v.observers o → IsStep v (record v { observers = o }) b TakePending reply
+  step-take_pending b numbers o reply said are watched only =
+      step-observers b TakePending reply o pending_taken (ap is_refusal said) (λ w s. rw (said, are ∙ s.watched.pending) refl) watched (names-none o only)
+
+  pub step-tell_observer : (b : Bounds) (i : ℕ) (records : List Record) (o : Watchers) (reply : Reply) → is_some (queue_in v.observers i) ≡ true → reply_view reply ≡ model_reply.Done (model_reply.Records records) → ((x : Observing) → Watches v.observers x → records ≡ queue_of i x) → ((x : Observing) → Watches v.observers x → Watches o (observer_told i x)) → NamesOnly [] v.observers o → IsStep v (record v { observers = o }) b (TellObserver i) reply
+  step-tell_observer b i records o reply there said are watched only =
+      step-observers b (TellObserver i) reply o (observer_told i) (ap is_refusal said) (λ w s. rw (said, is-there i there w s, are w.observing s.watched) refl) watched (names-none o only)
 
   -- options that are refused
   pub step-not_observed : (b : Bounds) (i n : ℕ) (given : GivenOptions) (error : DomError) (reply : Reply) → is_some (queue_in v.observers i) ≡ true → is_some (entry_in v.tree.forest n) ≡ true → options_refusal given ≡ Some error → reply_view reply ≡ model_reply.Dom error → IsStep v v b (Observe i n given) reply

@@ -19,7 +19,7 @@ use Rattle.dom_session.specs.declared.command.StaticRanging.TheVariants.{CreateS
 use Rattle.dom_session.specs.declared.command.Traversing.{Traversing}
 use Rattle.dom_session.specs.declared.command.Traversing.TheVariants.{CreateIterator, CreateWalker, DescribeIterator, NextNode, PreviousNode, DescribeWalker, SetCurrent, Walk, ReleaseIterator, ReleaseWalker}
 use Rattle.dom_session.specs.declared.command.Observing.{Observing}
-use Rattle.dom_session.specs.declared.command.Observing.TheVariants.{CreateObserver, Observe, Disconnect, TakeRecords, Notify, Pending, ReleaseObserver}
+use Rattle.dom_session.specs.declared.command.Observing.TheVariants.{CreateObserver, Observe, Disconnect, TakeRecords, Notify, Pending, ReleaseObserver, TakePending, TellObserver}
 use Rattle.dom_session.specs.declared.command.Texts.{Texts}
 use Rattle.dom_session.specs.declared.command.Texts.TheVariants.{Normalize, TextContent, SetTextContent, GetData, SetData, AppendData, InsertData, DeleteData, ReplaceData, SubstringData, SplitText}
 use Rattle.dom_session.specs.declared.command.Attributes.{Attributes}
@@ -112,6 +112,8 @@ observing_view (TakeRecords observer) = model_command.TakeRecords observer
 observing_view Notify = model_command.Notify
 observing_view Pending = model_command.Pending
 observing_view (ReleaseObserver observer) = model_command.ReleaseObserver observer
+observing_view TakePending = model_command.TakePending
+observing_view (TellObserver observer) = model_command.TellObserver observer
 
 abbrev pub texts_view : Texts → model_command.Command
 texts_view (Normalize node) = model_command.Normalize node

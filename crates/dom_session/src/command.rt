@@ -169,6 +169,10 @@ pub enum Observing {
     Pending,
     /// Lets an observer go, with all that it observes and the records that wait for it.
     ReleaseObserver(ObserverId),
+    /// Takes the observers that wait to be told, of whom none waits any more, in the order in which each is to be told.
+    TakePending,
+    /// Tells an observer in its turn: takes its records, and ends its transient registrations.
+    TellObserver(ObserverId),
 }
 
 /// A command on data or text.

@@ -25,9 +25,9 @@ ghost use Rattle.dom_model.specs.Soundness.Sound.{IsSound};
 ghost use Rattle.dom_model.specs.Erasure.DiscardsAlike.{replies_to_discards};
 ghost use Rattle.dom_model.specs.Erasure.Erasing.{replies_to, makes_no_discard, without_observers, replies_without_observers, makes_no_edit_by_range, without_watchers, replies_without_watchers};
 
-/// A law: observers do not feel one another. Without what some of them observe, disconnect and take, and without the release of these,
-/// every other reply stays as it is, and of the replies to `notify` and `pending` the parts of the others stay. A `discard` may feel an
-/// observer: the list has none, or each is answered alike in both lists (DOM Standard, "Mutation observers").
+/// A law: observers do not feel one another. Without what some of them observe, disconnect and take, without the turns of these and their
+/// release, every other reply stays as it is, and of the replies to `notify`, to `pending` and to its taking the parts of the others stay. A
+/// `discard` may feel an observer: the list has none, or each is answered alike in both lists (DOM Standard, "Mutation observers").
 pub fn observers_apart()
     ensures without_discard { (erased : ℕ → Bool) → (b : Bounds) → (cs : List Command) → makes_no_discard cs ≡ true →
         replies_to b first_world (without_observers erased cs) ≡ replies_without_observers erased cs (replies_to b first_world cs) }

@@ -1,7 +1,7 @@
 //! The commands on mutation observers (DOM Standard, "Mutation observers").
 
 ghost use Rattle.std.specs.Prelude.{◌≡◌, ◌≤◌, IfOk};
-ghost use Rattle.dom_model.specs.Commands.Command.{CreateObserver, Observe, Disconnect, TakeRecords, Notify, Pending, ReleaseObserver};
+ghost use Rattle.dom_model.specs.Commands.Command.{CreateObserver, Observe, Disconnect, TakeRecords, Notify, Pending, ReleaseObserver, TakePending, TellObserver};
 ghost use Rattle.dom_model.specs.Commands.Guards.{Bounds};
 ghost use Rattle.dom_observe.specs.Notifying.{told_of};
 ghost use Rattle.dom_edit.specs.Whole.{IsShown};
@@ -126,6 +126,39 @@ pub(crate) fn pending(world: &World, alloc: Global) -> Result<Reply, AllocError>
     Ok(Reply::Done(Answer::Numbers(numbers)))
 }
 
+// The numbers of observers.
+fn numbers_of(alloc: Global, observers: Vec<ObserverId>) -> Result<Vec<u32>, AllocError>
+    ensures { IfOk result (λ numbers. numbers.items ≡ observers.items) }
+{
+    let mut numbers: Vec<u32> = Vec::new(alloc);
+    for observer in observers {
+        numbers.push(observer.number())?;
+    }
+    Ok(numbers)
+}
+
+/// Takes the observers that wait to be told: none of them waits any more, and each is to be told in this order (the first step of "notify mutation
+/// observers").
+pub(crate) fn take_pending(world: &mut World, alloc: Global) -> Result<Reply, AllocError>
+    requires shown { IsShown world.old }
+    ensures step { IfOk result (λ reply. (b : Bounds) → IsStep world.old world.new b TakePending reply) }
+{
+    let taken = world.observers.take_pending()?;
+    Ok(Reply::Done(Answer::Numbers(numbers_of(alloc, taken)?)))
+}
+
+/// Tells an observer in its turn: takes the records that wait for it, and ends its transient registrations (the second step of "notify mutation
+/// observers").
+pub(crate) fn tell_observer(world: &mut World, observer: ObserverId) -> Reply
+    requires shown { IsShown world.old }
+    ensures step { (b : Bounds) → IsStep world.old world.new b (TellObserver observer) result }
+{
+    if !world.observers.holds(observer) {
+        return Reply::Own(OwnError::NoSuchObject);
+    }
+    Reply::Done(Answer::Records(world.observers.tell(observer)))
+}
+
 /// Answers the commands on observers.
 pub(crate) fn watch(
     world: &mut World,
@@ -145,5 +178,7 @@ pub(crate) fn watch(
         Observing::Notify => notify(world, alloc),
         Observing::Pending => pending(world, alloc),
         Observing::ReleaseObserver(observer) => Ok(release_observer(world, observer)),
+        Observing::TakePending => take_pending(world, alloc),
+        Observing::TellObserver(observer) => Ok(tell_observer(world, observer)),
     }
 }

@@ -78,10 +78,11 @@ impl Slots {
         self.numbers[slot]
     }
 
-    /// Makes room for so many more numbers, as long as 32 bits can tell them all apart.
+    /// Makes room for so many more numbers, as long as 32 bits can tell them all apart. Room that was there stays, also where more is refused.
     pub fn reserve(&mut self, additional: usize) -> Result<(), AllocError>
         requires { length self.old.slots + additional ≤ 4294967296 }
         ensures room { OnOk result (additional ≤ self.new.room) }
+        ensures kept { self.old.room ≤ self.new.room }
         ensures slots { self.new.slots ≡ self.old.slots }
         ensures numbers { self.new.numbers ≡ self.old.numbers }
     {

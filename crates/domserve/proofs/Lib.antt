@@ -1,5 +1,2 @@
 pub mod Faults
-pub mod Reading
 pub mod Said
-pub mod Told
-pub mod Words

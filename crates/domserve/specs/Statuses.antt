@@ -1,5 +1,5 @@
 -- The program's limits, its statuses, and what it says of faults.
-use Rattle.std.specs.Prelude.{◌≡◌, ℕ, ◌≤◌, Bool, true, false, ⊤, ◌⊎◌, List, [], ◌∷◌, ◌++◌, Option, codes}
+use Rattle.std.specs.Prelude.{◌≡◌, ℕ, Bool, true, false, ◌⊎◌, List, [], ◌∷◌, ◌++◌, Option, codes}
 use Rattle.std.specs.Io.KnownBytes.{Appends}
 use Rattle.dom_model.specs.Commands.Answer.{Bounds}
 use Rattle.dom_model.specs.Commands.Table.{whole_table}
@@ -8,11 +8,6 @@ use Rattle.dom_serve.specs.Calls.{IsWritten}
 use Rattle.dom_serve.specs.Writes.{AppendsFront}
 use Rattle.dom_serve.specs.declared.fault.Fault.{Fault}
 use Rattle.dom_serve.specs.declared.fault.Fault.TheVariants.{Read, Write, Memory, InputTooLong}
-
--- the ranges of the two options
-pub record IsInRange (b : Bounds) : Type 0 where
-  pub numbers : (1 ≤ b.numbers) × (b.numbers ≤ 4294967295)
-  pub line : (1 ≤ b.line) × (b.line ≤ 1073741824)
 
 -- the output for the input was written
 abbrev pub IsServed : Bounds → Option (List ℕ) → Option (List ℕ) → List ℕ → Type 0
@@ -34,10 +29,10 @@ status_of InputTooLong = 3
 abbrev pub TellsFailure : ℕ → (Bool → Type 0) → Type 0
 TellsFailure status calls = calls false ⊎ ((status ≡ 3) × calls true)
 
--- a text was said whole, on a line of its own; or, where a write or a flush of it failed, a front of that
-abbrev pub SaysLine : {E : Type 0} → (E → Option (List ℕ)) → (E → E → Type 0) → (E → E → Type 0) → List ℕ → E → E → Type 0
-SaysLine taken works fails text old new =
-    (Appends (taken old) (taken new) (text ++ 10 ∷ []) × IsWritten works fails false old new)
+-- a text was said whole, on a line of its own, and passed on; or, where a write or a flush of it failed, a front of that
+abbrev pub SaysLine : {E : Type 0} → (E → Option (List ℕ)) → (E → E → Type 0) → (E → E → Type 0) → (E → Bool) → List ℕ → E → E → Type 0
+SaysLine taken works fails is_passed_on text old new =
+    (Appends (taken old) (taken new) (text ++ 10 ∷ []) × IsWritten works fails false old new × (is_passed_on new ≡ true))
     ⊎ (AppendsFront (taken old) (taken new) (text ++ 10 ∷ []) × IsWritten works fails true old new)
 
 -- a write or a flush of one text failed, and a front of it was written

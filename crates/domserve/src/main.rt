@@ -1,7 +1,6 @@
 //! The program: it serves standard input to standard output. README and `--help` tell its options.
 #![tactic(auto)]
 
-mod options;
 mod running;
 #[cfg(test)]
 mod tests;

@@ -1,15 +1,15 @@
 //! Serving as the words ask, and the status.
 
-ghost use Rattle.std.specs.Prelude.{◌≡◌, ◌≢◌, ◌≤◌, ◌^◌, ℕ, List, [], true, Err, ◌⊎◌, IfSome, map};
+ghost use Rattle.std.specs.Prelude.{◌≡◌, ◌≢◌, ◌≤◌, ◌^◌, ℕ, List, [], true, Err, ◌⊎◌, IfErr, IfOk, IfSome, map};
 ghost use Rattle.std.specs.Io.KnownBytes.{Appends};
 ghost use Rattle.dom_serve.specs.Calls.{HasPassedOn, IsRead, IsWritten};
 ghost use Rattle.dom_serve.specs.Limits.{bounds_of};
 ghost use Rattle.dom_serve.specs.Serves.{Serves};
-ghost use Rattle.domserve.specs.CommandLine.{asks_for_help, bounds_asked, faults_in, has_mistake};
+ghost use Rattle.dom_options.specs.CommandLine.{IsInRange, TellsOf, asks_for_help, bounds_asked, faults_in, has_mistake};
 ghost use Rattle.dom_serve.specs.declared.fault.Fault.TheVariants as faults;
-ghost use Rattle.domserve.specs.Statuses.{IsInRange, text_of, status_of, IsServed, SaysLine, IsCutOff, IsWantAhead, TellsFailure, TellsFault};
+ghost use Rattle.domserve.specs.Statuses.{text_of, status_of, IsServed, SaysLine, IsCutOff, IsWantAhead, TellsFailure, TellsFault};
 
-use crate::options::{Refusal, limits_from};
+use dom_options::{Refusal, asked_from};
 use dom_serve::{Failed, Fault, Limits, Sink, Source, serve, write_line};
 use std::alloc::Global;
 use std::convert::AsStr;
@@ -37,7 +37,7 @@ fn fault_status(fault: &Fault) -> u8
 
 /// Says a text on a line of its own; that this fails is not told.
 fn say_line<E: Sink>(errors: &mut E, text: &[u8])
-    ensures { SaysLine E.taken E.works E.fails text.now errors.old errors.new }
+    ensures { SaysLine E.taken E.works E.fails E.is_passed_on text.now errors.old errors.new }
 {
     if let Err(Failed) = write_line(errors, text) {
         return;
@@ -48,7 +48,7 @@ fn say_line<E: Sink>(errors: &mut E, text: &[u8])
 /// Says the fault, and gives its status.
 fn faulted<E: Sink>(errors: &mut E, fault: &Fault) -> u8
     ensures status { result ≡ status_of fault.now }
-    ensures says { SaysLine E.taken E.works E.fails (text_of fault.now) errors.old errors.new }
+    ensures says { SaysLine E.taken E.works E.fails E.is_passed_on (text_of fault.now) errors.old errors.new }
 {
     say_line(errors, fault_text(fault).as_bytes());
     fault_status(fault)
@@ -57,7 +57,7 @@ fn faulted<E: Sink>(errors: &mut E, fault: &Fault) -> u8
 /// Says that memory was wanting, and gives its status.
 pub(crate) fn without_memory<E: Sink>(errors: &mut E) -> u8
     ensures status { result ≡ 1 }
-    ensures says { SaysLine E.taken E.works E.fails (text_of faults.Memory) errors.old errors.new }
+    ensures says { SaysLine E.taken E.works E.fails E.is_passed_on (text_of faults.Memory) errors.old errors.new }
 {
     faulted(errors, &Fault::Memory)
 }
@@ -73,7 +73,7 @@ fn served<R: Source, W: Sink, E: Sink>(
     ensures range { (result ≤ 1) ⊎ (result ≡ 3) }
     ensures served { result ≡ 0 → IfSome (R.left reader.old) (IsServed (bounds_of limits) (W.taken writer.old) (W.taken writer.new)) }
     ensures silent { result ≡ 0 → errors.new ≡ errors.old }
-    ensures told { result ≢ 0 → TellsFault result (λ fault. SaysLine E.taken E.works E.fails (text_of fault) errors.old errors.new) (λ fault.
+    ensures told { result ≢ 0 → TellsFault result (λ fault. SaysLine E.taken E.works E.fails E.is_passed_on (text_of fault) errors.old errors.new) (λ fault.
         Serves R.gives R.fails R.left W.works W.fails W.taken W.is_passed_on (bounds_of limits) (2 ^ 40) reader.old reader.new writer.old writer.new (Err fault)) }
     ensures passed { result ≢ 3 → HasPassedOn W.is_passed_on writer.old writer.new }
     ensures reader { TellsFailure result (λ failed. IsRead R.gives R.fails failed reader.old reader.new) }
@@ -89,7 +89,7 @@ fn helped<W: Sink, E: Sink>(text: &str, writer: &mut W, errors: &mut E) -> u8
     ensures range { (result ≡ 0) ⊎ (result ≡ 3) }
     ensures helped { result ≡ 0 → Appends (W.taken writer.old) (W.taken writer.new) text.now }
     ensures silent { result ≡ 0 → errors.new ≡ errors.old }
-    ensures told { result ≢ 0 → TellsFault result (λ fault. SaysLine E.taken E.works E.fails (text_of fault) errors.old errors.new)
+    ensures told { result ≢ 0 → TellsFault result (λ fault. SaysLine E.taken E.works E.fails E.is_passed_on (text_of fault) errors.old errors.new)
         (IsCutOff W.taken W.works W.fails writer.old writer.new) }
     ensures passed { result ≢ 3 → HasPassedOn W.is_passed_on writer.old writer.new }
     ensures writer { TellsFailure result (λ failed. IsWritten W.works W.fails failed writer.old writer.new) }
@@ -97,6 +97,22 @@ fn helped<W: Sink, E: Sink>(text: &str, writer: &mut W, errors: &mut E) -> u8
     match write_line(writer, text.as_bytes()) {
         Ok(()) => 0,
         Err(Failed) => faulted(errors, &Fault::Write),
+    }
+}
+
+/// The limits that the words ask for, as the server takes them.
+fn limits_from<S: AsStr>(alloc: Global, words: &[S]) -> Result<Limits, Refusal>
+    ensures range { IfOk result (λ limits. IsInRange (bounds_of limits)) }
+    ensures asked { IfOk result (λ limits. bounds_of limits ≡ bounds_asked (map S.text words.now)) }
+    ensures taken { IfOk result (λ _. faults_in (map S.text words.now) ≡ []) }
+    ensures told { IfErr result (TellsOf (faults_in (map S.text words.now))) }
+{
+    match asked_from(alloc, words) {
+        Ok(asked) => Ok(Limits {
+            numbers: asked.numbers,
+            line: asked.line as usize,
+        }),
+        Err(refusal) => Err(refusal),
     }
 }
 
@@ -132,7 +148,7 @@ pub fn run<S: AsStr, R: Source, W: Sink, E: Sink>(
     // At status 1 and 3 the text of a fault of that status was said whole, on a line, or, where a write or a flush of `errors` failed, a front of it.
     // Serving came to that fault at the limits that the words ask for, and read and wrote what it tells of it; or the words ask for help, which could
     // not be written; or memory was wanting before anything was read or written.
-    ensures told { result ≢ 0 → result ≢ 2 → TellsFault result (λ fault. SaysLine E.taken E.works E.fails (text_of fault) errors.old errors.new) (λ fault.
+    ensures told { result ≢ 0 → result ≢ 2 → TellsFault result (λ fault. SaysLine E.taken E.works E.fails E.is_passed_on (text_of fault) errors.old errors.new) (λ fault.
         ((faults_in (map S.text words.now) ≡ []) × Serves R.gives R.fails R.left W.works W.fails W.taken W.is_passed_on
         (bounds_asked (map S.text words.now)) (2 ^ 40) reader.old reader.new writer.old writer.new (Err fault))
         ⊎ (((asks_for_help (faults_in (map S.text words.now)) ≡ true) × (reader.new ≡ reader.old)

@@ -25,12 +25,18 @@ fn take_out(rt: &impl Abort, attrs: &mut Attrs, name: &str, unit: u16) {
     }
 }
 
-// Attributes of these names and texts, set in this order.
+// Sets attributes of these names and texts, in this order.
+fn set_pairs(alloc: Global, attrs: &mut Attrs, pairs: &[(&str, &str)]) -> Result<(), AllocError> {
+    for (name, value) in pairs {
+        let _ = set(alloc, attrs, name, value)?;
+    }
+    Ok(())
+}
+
+// Attributes of these names and texts alone.
 fn made(alloc: Global, pairs: &[(&str, &str)]) -> Result<Attrs, AllocError> {
     let mut attrs = Attrs::new(alloc);
-    for (name, value) in pairs {
-        let _ = set(alloc, &mut attrs, name, value)?;
-    }
+    set_pairs(alloc, &mut attrs, pairs)?;
     Ok(attrs)
 }
 
@@ -58,13 +64,6 @@ fn expect(rt: &impl Abort, attrs: &Attrs, pairs: &[(&str, &str)]) {
     assert!(rt; attrs.at(index).is_none());
 }
 
-#[test]
-fn none_at_first(rt: HostRuntime) {
-    let mut attrs = Attrs::new(rt.alloc());
-    assert!(rt; attrs.is_empty() && attrs.get("k").is_none());
-    assert!(rt; attrs.remove("k").is_none());
-}
-
 // Each is set over those before it; only the third finds its name, with the empty text.
 fn set_each(rt: &impl Abort, alloc: Global, attrs: &mut Attrs) -> Result<(), AllocError> {
     for (name, value, is_there, pairs) in [
@@ -88,54 +87,66 @@ fn set_each(rt: &impl Abort, alloc: Global, attrs: &mut Attrs) -> Result<(), All
     Ok(())
 }
 
-#[test]
-fn set_in_place_or_last(rt: HostRuntime) -> Result<(), Fail> {
-    let mut attrs = Attrs::new(rt.alloc());
-    set_each(&rt, rt.alloc(), &mut attrs)?;
+// There are none, some are set, and the first of these is taken out.
+fn set_and_take_out(rt: &impl Abort, alloc: Global, attrs: &mut Attrs) -> Result<(), AllocError> {
+    assert!(rt; attrs.is_empty() && attrs.get("k").is_none());
+    assert!(rt; attrs.remove("k").is_none());
+    set_each(rt, alloc, attrs)?;
+    take_out(rt, attrs, "k", 50);
+    expect(rt, attrs, &[("a", "1"), ("", "3")]);
+    assert!(rt; attrs.get("k").is_none());
+    match attrs.get("") {
+        None => assert!(rt; false, "empty name"),
+        Some(value) => assert!(rt; value.units() == [51].as_slice()),
+    }
     Ok(())
 }
 
 #[test]
-fn taken_out(rt: HostRuntime) -> Result<(), Fail> {
-    let mut attrs = made(rt.alloc(), &[("k", "2"), ("a", "1"), ("", "3")])?;
-    take_out(&rt, &mut attrs, "k", 50);
-    expect(&rt, &attrs, &[("a", "1"), ("", "3")]);
-    assert!(rt; attrs.get("k").is_none());
-    assert!(rt; attrs.get("").ok_or("empty name")?.units() == [51].as_slice());
+fn set_in_place_or_last_and_taken_out(rt: HostRuntime) -> Result<(), Fail> {
+    let mut attrs = Attrs::new(rt.alloc());
+    set_and_take_out(&rt, rt.alloc(), &mut attrs)?;
     Ok(())
+}
+
+// One of five leaves, and comes again as the last.
+fn leaves_and_comes(rt: &impl Abort, alloc: Global, attrs: &mut Attrs) -> Result<(), AllocError> {
+    take_out(rt, attrs, "a", 50);
+    expect(rt, attrs, &[("b", "1"), ("d", "3"), ("c", "4"), ("é", "5")]);
+    assert!(rt; set(alloc, attrs, "a", "2")?.is_none());
+    expect(
+        rt,
+        attrs,
+        &[("b", "1"), ("d", "3"), ("c", "4"), ("é", "5"), ("a", "2")],
+    );
+    Ok(())
+}
+
+// The first leaves, and stays in a copy.
+fn stays_in_a_copy(rt: &impl Abort, alloc: Global, attrs: &mut Attrs) -> Result<(), AllocError> {
+    let copy = attrs.try_clone(alloc)?;
+    take_out(rt, attrs, "b", 49);
+    expect(rt, attrs, &[("d", "3"), ("c", "4"), ("é", "5"), ("a", "2")]);
+    expect(
+        rt,
+        &copy,
+        &[("b", "1"), ("d", "3"), ("c", "4"), ("é", "5"), ("a", "2")],
+    );
+    Ok(())
+}
+
+fn leave(rt: &impl Abort, alloc: Global, attrs: &mut Attrs) -> Result<(), AllocError> {
+    leaves_and_comes(rt, alloc, attrs)?;
+    stays_in_a_copy(rt, alloc, attrs)
 }
 
 #[test]
 fn the_order_stays(rt: HostRuntime) -> Result<(), Fail> {
-    let alloc = rt.alloc();
     let mut attrs = made(
-        alloc,
+        rt.alloc(),
         &[("b", "1"), ("a", "2"), ("d", "3"), ("c", "4"), ("é", "5")],
     )?;
-    take_out(&rt, &mut attrs, "a", 50);
-    expect(
-        &rt,
-        &attrs,
-        &[("b", "1"), ("d", "3"), ("c", "4"), ("é", "5")],
-    );
-    assert!(rt; set(alloc, &mut attrs, "a", "2")?.is_none());
-    expect(
-        &rt,
-        &attrs,
-        &[("b", "1"), ("d", "3"), ("c", "4"), ("é", "5"), ("a", "2")],
-    );
-    let copy = attrs.try_clone(alloc)?;
-    take_out(&rt, &mut attrs, "b", 49);
-    expect(
-        &rt,
-        &attrs,
-        &[("d", "3"), ("c", "4"), ("é", "5"), ("a", "2")],
-    );
-    expect(
-        &rt,
-        &copy,
-        &[("b", "1"), ("d", "3"), ("c", "4"), ("é", "5"), ("a", "2")],
-    );
+    leave(&rt, rt.alloc(), &mut attrs)?;
     Ok(())
 }
 
@@ -195,12 +206,18 @@ fn try_to_set(
     Ok(())
 }
 
+// Twelve are set, or refused, one after another.
+fn try_each(rt: &impl Abort, alloc: Global, attrs: &mut Attrs) -> Result<(), AllocError> {
+    for name in ["a", "b", "c", "d", "e", "f", "g", "h", "i", "j", "k", "l"] {
+        try_to_set(rt, alloc, attrs, name)?;
+    }
+    Ok(())
+}
+
 #[test]
 fn refused_growth(rt: HostRuntime) -> Result<(), Fail> {
     let mut attrs = Attrs::new(rt.alloc());
-    for name in ["a", "b", "c", "d", "e", "f", "g", "h", "i", "j", "k", "l"] {
-        try_to_set(&rt, rt.alloc(), &mut attrs, name)?;
-    }
+    try_each(&rt, rt.alloc(), &mut attrs)?;
     Ok(())
 }
 
@@ -240,18 +257,17 @@ fn expect_all(rt: &impl Abort, alloc: Global, attrs: &Attrs) -> Result<(), Fail>
     Ok(())
 }
 
-#[test]
-fn twenty_thousand(rt: HostRuntime) -> Result<(), Fail> {
-    let mut attrs = Attrs::new(rt.alloc());
-    set_all(&rt, rt.alloc(), &mut attrs)?;
-    expect_all(&rt, rt.alloc(), &attrs)
+// All are set and found, and a copy is the same.
+fn set_find_and_copy(rt: &impl Abort, alloc: Global, attrs: &mut Attrs) -> Result<(), Fail> {
+    set_all(rt, alloc, attrs)?;
+    expect_all(rt, alloc, attrs)?;
+    let copy = attrs.try_clone(alloc)?;
+    assert!(rt; copy.same(attrs));
+    Ok(())
 }
 
 #[test]
-fn a_copy_is_the_same(rt: HostRuntime) -> Result<(), Fail> {
+fn twenty_thousand(rt: HostRuntime) -> Result<(), Fail> {
     let mut attrs = Attrs::new(rt.alloc());
-    set_all(&rt, rt.alloc(), &mut attrs)?;
-    let copy = attrs.try_clone(rt.alloc())?;
-    assert!(rt; copy.same(&attrs));
-    Ok(())
+    set_find_and_copy(&rt, rt.alloc(), &mut attrs)
 }

@@ -49,9 +49,9 @@ fn keep_four(
     assert!(rt; links.holds(first));
     assert!(rt; links.parent(first).is_none() && links.count(first) == 0);
     let value = links.take(first);
-    assert_eq!(rt; drops.get(), 0);
+    assert!(rt; drops.get() == 0);
     drop(value);
-    assert_eq!(rt; drops.get(), 1);
+    assert!(rt; drops.get() == 1);
     Ok(())
 }
 
@@ -61,7 +61,7 @@ fn each_value_is_dropped_once(rt: HostRuntime) -> Result<(), Fail> {
     let mut links = Links::new(rt.alloc());
     keep_four(&rt, &mut links, &drops)?;
     drop(links);
-    assert_eq!(rt; drops.get(), 5);
+    assert!(rt; drops.get() == 5);
     Ok(())
 }
 
@@ -91,11 +91,11 @@ fn let_go_of_three(
         put(rt, tree, top, child, None);
     }
     let _stays = element(rt, alloc, tree, drops)?;
-    assert_eq!(rt; drops.get(), 0);
+    assert!(rt; drops.get() == 0);
     assert!(rt; tree.holds(top));
     assert!(rt; !tree.refers(top));
     tree.free(top);
-    assert_eq!(rt; drops.get(), 3);
+    assert!(rt; drops.get() == 3);
     Ok(())
 }
 
@@ -105,6 +105,6 @@ fn each_node_s_value_is_dropped_once(rt: HostRuntime) -> Result<(), Fail> {
     let mut tree = Tree::new(rt.alloc());
     let_go_of_three(&rt, rt.alloc(), &mut tree, &drops)?;
     drop(tree);
-    assert_eq!(rt; drops.get(), 4);
+    assert!(rt; drops.get() == 4);
     Ok(())
 }

@@ -8,101 +8,139 @@ use std::mem::size_of;
 use std::process::Abort;
 use std::test::Fail;
 
+// What a name may be.
+#[derive(Clone, Copy)]
+enum Naming {
+    Element,
+    Attribute,
+    Doctype,
+}
+
+fn allows(naming: Naming, name: &str) -> bool {
+    match naming {
+        Naming::Element => is_element_name(name),
+        Naming::Attribute => is_attribute_name(name),
+        Naming::Doctype => is_doctype_name(name),
+    }
+}
+
+// That all of these are allowed, or none.
+fn are(rt: &impl Abort, naming: Naming, are_allowed: bool, names: &[&str]) {
+    for name in names {
+        assert!(rt; allows(naming, name) == are_allowed, "{name}");
+    }
+}
+
 #[test]
-fn element_names(rt: HostRuntime) {
-    for name in [
-        "a",
-        "Z",
-        ":",
-        "_",
-        "é",
-        "a1",
-        "a=b",
-        "a\u{7F}",
-        "é-1.x:y_",
-        ":é",
-        "a\"<",
-        "\u{80}",
+fn names_of_each_kind(rt: HostRuntime) {
+    for (naming, are_allowed, names) in [
+        (
+            Naming::Element,
+            true,
+            [
+                "a",
+                "Z",
+                ":",
+                "_",
+                "é",
+                "a1",
+                "a=b",
+                "a\u{7F}",
+                "é-1.x:y_",
+                ":é",
+                "a\"<",
+                "\u{80}",
+            ]
+            .as_slice(),
+        ),
+        (
+            Naming::Element,
+            false,
+            [
+                "", "1a", "-", ".", "=", "a b", "a\t", "a\n", "a\u{C}", "a\r", "a\0", "a/", "a>",
+                "\u{7F}", "_=", "_\u{7F}", ": ", "é/", "@", "[", "`", "{",
+            ]
+            .as_slice(),
+        ),
+        (
+            Naming::Attribute,
+            true,
+            ["1", "a<b", "\u{7F}", "\u{80}", "-", "\"", "é"].as_slice(),
+        ),
+        (
+            Naming::Attribute,
+            false,
+            ["", " ", "a\t", "\n", "\u{C}b", "\r", "\0", "a/", "a=b", ">"].as_slice(),
+        ),
+        (
+            Naming::Doctype,
+            true,
+            ["", "html", "1/=", "\u{7F}", "é"].as_slice(),
+        ),
+        (
+            Naming::Doctype,
+            false,
+            [" ", "a\t", "\n", "\u{C}", "a\rb", "\0", "a>"].as_slice(),
+        ),
     ] {
-        assert!(rt; is_element_name(name), "{name}");
+        are(&rt, naming, are_allowed, names);
     }
 }
 
 #[test]
-fn no_element_names(rt: HostRuntime) {
-    for name in [
-        "", "1a", "-", ".", "=", "a b", "a\t", "a\n", "a\u{C}", "a\r", "a\0", "a/", "a>", "\u{7F}",
-        "_=", "_\u{7F}", ": ", "é/", "@", "[", "`", "{",
-    ] {
-        assert!(rt; !is_element_name(name), "{name}");
-    }
-}
-
-#[test]
-fn attribute_names(rt: HostRuntime) {
-    for name in ["1", "a<b", "\u{7F}", "\u{80}", "-", "\"", "é"] {
-        assert!(rt; is_attribute_name(name), "{name}");
-    }
-}
-
-#[test]
-fn no_attribute_names(rt: HostRuntime) {
-    for name in ["", " ", "a\t", "\n", "\u{C}b", "\r", "\0", "a/", "a=b", ">"] {
-        assert!(rt; !is_attribute_name(name), "{name}");
-    }
-}
-
-#[test]
-fn doctype_names(rt: HostRuntime) {
-    for name in ["", "html", "1/=", "\u{7F}", "é"] {
-        assert!(rt; is_doctype_name(name), "{name}");
-    }
-}
-
-#[test]
-fn no_doctype_names(rt: HostRuntime) {
-    for name in [" ", "a\t", "\n", "\u{C}", "a\rb", "\0", "a>"] {
-        assert!(rt; !is_doctype_name(name), "{name}");
-    }
-}
-
-#[test]
-fn numbers_and_names(rt: HostRuntime) {
+fn numbers_names_and_bytes(rt: HostRuntime) {
     assert!(rt; Kind::ProcessingInstruction.number() == 7);
     assert!(rt; Kind::DocumentFragment.number() == 11);
     assert!(rt; DomError::InvalidNodeTypeError.code() == 24);
     assert!(rt; DomError::TypeError.code() == 0);
     assert!(rt; DomError::HierarchyRequestError.name() == "HierarchyRequestError");
+    assert!(rt; size_of::<Label>() == 32);
 }
 
-// The label of a doctype with a public id.
-fn doctype(alloc: Global) -> Result<Label, AllocError> {
-    let name = String::from_str(alloc, "html")?;
-    let public_id = String::from_str(alloc, "é")?;
-    Label::doctype(alloc, name, public_id, String::new(alloc))
-}
-
-#[test]
-fn copied_label(rt: HostRuntime) -> Result<(), Fail> {
-    let label = doctype(rt.alloc())?;
-    let copy = label.try_clone(rt.alloc())?;
-    assert!(rt; copy.kind == Kind::DocumentType);
-    assert!(rt; copy.name() == "html");
-    assert!(rt; copy.public_id() == "é");
-    assert!(rt; copy.system_id() == "");
+// That a label and a copy of it have that name and that public id, and no system id.
+fn expect_copied(
+    rt: &impl Abort,
+    alloc: Global,
+    label: &Label,
+    kind: Kind,
+    name: &str,
+    public_id: &str,
+) -> Result<(), AllocError> {
+    let copy = label.try_clone(alloc)?;
+    for made in [label, &copy] {
+        assert!(rt; made.kind == kind, "{name}");
+        assert!(rt; made.name() == name, "{name}");
+        assert!(rt; made.public_id() == public_id, "{name}");
+        assert!(rt; made.system_id() == "", "{name}");
+    }
     Ok(())
 }
 
-// A label of an element and a copy of it have the name, and no ids.
-fn expect_name(rt: &impl Abort, alloc: Global, name: &str) -> Result<(), AllocError> {
-    let label = Label::named(alloc, Kind::Element, name)?;
-    let copy = label.try_clone(alloc)?;
-    for made in [&label, &copy] {
-        assert!(rt; made.kind == Kind::Element);
-        assert_eq!(rt; made.name(), name);
-        assert_eq!(rt; made.public_id(), "");
-        assert_eq!(rt; made.system_id(), "");
+// The same of a doctype with a public id.
+fn expect_doctype(rt: &impl Abort, alloc: Global) -> Result<(), AllocError> {
+    let name = String::from_str(alloc, "html")?;
+    let public_id = String::from_str(alloc, "é")?;
+    let label = Label::doctype(alloc, name, public_id, String::new(alloc))?;
+    expect_copied(rt, alloc, &label, Kind::DocumentType, "html", "é")
+}
+
+// The same of elements of these names.
+fn expect_elements(rt: &impl Abort, alloc: Global, names: &[&str]) -> Result<(), AllocError> {
+    for name in names {
+        let label = Label::named(alloc, Kind::Element, name)?;
+        expect_copied(rt, alloc, &label, Kind::Element, name, "")?;
     }
+    Ok(())
+}
+
+#[test]
+fn copied_labels(rt: HostRuntime) -> Result<(), Fail> {
+    expect_doctype(&rt, rt.alloc())?;
+    expect_elements(
+        &rt,
+        rt.alloc(),
+        &["abcdefghi", "élément", "un-nom-très-très-très-long"],
+    )?;
     Ok(())
 }
 
@@ -110,23 +148,8 @@ fn expect_name(rt: &impl Abort, alloc: Global, name: &str) -> Result<(), AllocEr
 #[test]
 fn short_names_without_a_growth(rt: HostRuntime) -> Result<(), Fail> {
     begins(rt.alloc())?;
-    for name in ["", "p", "été-ab", "abcdefgh"] {
-        expect_name(&rt, rt.alloc(), name)?;
-    }
-    assert_eq!(rt; Label::nameless(Kind::Text).node_name(), "#text");
+    expect_elements(&rt, rt.alloc(), &["", "p", "été-ab", "abcdefgh"])?;
+    assert!(rt; Label::nameless(Kind::Text).node_name() == "#text");
     ends(rt.alloc());
     Ok(())
-}
-
-#[test]
-fn long_names(rt: HostRuntime) -> Result<(), Fail> {
-    for name in ["abcdefghi", "élément", "un-nom-très-très-très-long"] {
-        expect_name(&rt, rt.alloc(), name)?;
-    }
-    Ok(())
-}
-
-#[test]
-fn bytes_of_a_label(rt: HostRuntime) {
-    assert_eq!(rt; size_of::<Label>(), 32);
 }

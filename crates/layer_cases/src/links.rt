@@ -1,11 +1,10 @@
 //! Slots that are linked, cut, taken and taken again, and the memory under them.
 use super::marks::{begins, ends};
-use dom_links::{Links, Node, NodePtr, Pool, Slot};
+use dom_links::{Links, Node, Slot};
 use std::alloc::{AllocError, Global};
 use std::mem::size_of;
 use std::process::Abort;
 use std::test::Fail;
-use std_alloc::room::Vacant;
 
 fn added<T: Drop>(rt: &impl Abort, links: &mut Links<T>, value: T) -> Slot {
     let slot = links.add(value);
@@ -74,47 +73,91 @@ fn has_children(rt: &impl Abort, links: &Links<u32>, parent: Slot, children: &[S
     come_in_reverse(rt, links, parent, children);
 }
 
+// A child comes before another, or last, or it leaves; and the children then.
+fn comes(
+    rt: &impl Abort,
+    links: &mut Links<u32>,
+    top: Slot,
+    child: Slot,
+    before: Option<Slot>,
+    children: &[Slot],
+) {
+    put(rt, links, top, child, before);
+    has_children(rt, links, top, children);
+}
+
+fn leaves(rt: &impl Abort, links: &mut Links<u32>, top: Slot, child: Slot, children: &[Slot]) {
+    cut(rt, links, child);
+    has_children(rt, links, top, children);
+}
+
+// Three children come and go.
+fn come_and_leave(rt: &impl Abort, links: &mut Links<u32>, top: Slot, a: Slot, b: Slot, c: Slot) {
+    comes(rt, links, top, a, None, &[a]);
+    comes(rt, links, top, c, None, &[a, c]);
+    comes(rt, links, top, b, Some(c), &[a, b, c]);
+    leaves(rt, links, top, b, &[a, c]);
+    comes(rt, links, top, b, Some(a), &[b, a, c]);
+    leaves(rt, links, top, c, &[b, a]);
+    leaves(rt, links, top, b, &[a]);
+    leaves(rt, links, top, a, &[]);
+}
+
+fn have_orders(rt: &impl Abort, links: &mut Links<u32>) {
+    let top = added(rt, links, 10);
+    let a = added(rt, links, 11);
+    let b = added(rt, links, 12);
+    let c = added(rt, links, 13);
+    come_and_leave(rt, links, top, a, b, c);
+}
+
 #[test]
 fn order_of_children(rt: HostRuntime) {
     let mut links = Links::new(rt.alloc());
-    let top = added(&rt, &mut links, 10);
-    let a = added(&rt, &mut links, 11);
-    let b = added(&rt, &mut links, 12);
-    let c = added(&rt, &mut links, 13);
-    put(&rt, &mut links, top, a, None);
-    put(&rt, &mut links, top, c, None);
-    put(&rt, &mut links, top, b, Some(c));
-    has_children(&rt, &links, top, &[a, b, c]);
-    cut(&rt, &mut links, b);
-    has_children(&rt, &links, top, &[a, c]);
-    put(&rt, &mut links, top, b, Some(a));
-    has_children(&rt, &links, top, &[b, a, c]);
-    cut(&rt, &mut links, c);
-    has_children(&rt, &links, top, &[b, a]);
-    cut(&rt, &mut links, b);
-    has_children(&rt, &links, top, &[a]);
-    cut(&rt, &mut links, a);
-    has_children(&rt, &links, top, &[]);
+    have_orders(&rt, &mut links);
+}
+
+// That a node has that value.
+fn has(rt: &impl Abort, links: &Links<u32>, slot: Slot, value: u32) {
+    assert!(rt; links.holds(slot));
+    assert!(rt; *links.value(slot) == value, "{value}");
+}
+
+// Two of three slots are free then.
+fn take_two(rt: &impl Abort, links: &mut Links<u32>, a: Slot, b: Slot, c: Slot) {
+    assert!(rt; taken(rt, links, a) == 1);
+    assert!(rt; taken(rt, links, b) == 2);
+    assert!(rt; !links.holds(a) && !links.holds(b) && links.holds(c));
+}
+
+// The last that became free comes first, and a slot of its own once none is free.
+fn come_again(rt: &impl Abort, links: &mut Links<u32>, a: Slot, b: Slot, c: Slot) {
+    assert!(rt; added(rt, links, 4) == b);
+    assert!(rt; added(rt, links, 5) == a);
+    let d = added(rt, links, 6);
+    assert!(rt; d != a && d != b && d != c);
+}
+
+fn change(rt: &impl Abort, links: &mut Links<u32>, slot: Slot, value: u32) {
+    assert!(rt; links.holds(slot));
+    *links.value_mut(slot) = value;
+}
+
+fn take_and_add(rt: &impl Abort, links: &mut Links<u32>) {
+    let a = added(rt, links, 1);
+    let b = added(rt, links, 2);
+    let c = added(rt, links, 3);
+    take_two(rt, links, a, b, c);
+    come_again(rt, links, a, b, c);
+    has(rt, links, a, 5);
+    change(rt, links, a, 7);
+    has(rt, links, a, 7);
 }
 
 #[test]
 fn taken_slots_come_again(rt: HostRuntime) {
     let mut links = Links::new(rt.alloc());
-    let a = added(&rt, &mut links, 1);
-    let b = added(&rt, &mut links, 2);
-    let c = added(&rt, &mut links, 3);
-    assert!(rt; taken(&rt, &mut links, a) == 1);
-    assert!(rt; taken(&rt, &mut links, b) == 2);
-    assert!(rt; !links.holds(a) && !links.holds(b) && links.holds(c));
-    assert!(rt; added(&rt, &mut links, 4) == b);
-    assert!(rt; added(&rt, &mut links, 5) == a);
-    let d = added(&rt, &mut links, 6);
-    assert!(rt; d != a && d != b && d != c);
-    assert!(rt; links.holds(a));
-    assert!(rt; *links.value(a) == 5);
-    *links.value_mut(a) = 7;
-    assert!(rt; links.holds(a));
-    assert!(rt; *links.value(a) == 7);
+    take_and_add(&rt, &mut links);
 }
 
 // Adds a thousand nodes, each with its number, and tells where they are.
@@ -185,19 +228,34 @@ fn a_thousand_children(rt: HostRuntime) -> Result<(), Fail> {
     Ok(())
 }
 
+// A thousand nodes and one for their parent, and the first mark.
+fn add_all(
+    rt: &impl Abort,
+    alloc: Global,
+    links: &mut Links<u32>,
+    slots: &mut Vec<Slot>,
+) -> Result<Slot, AllocError> {
+    let top = added(rt, links, 5000);
+    add_thousand(rt, links, slots)?;
+    begins(alloc)?;
+    Ok(top)
+}
+
+fn link_and_take(rt: &impl Abort, links: &mut Links<u32>, top: Slot, slots: &[Slot]) {
+    put_all(rt, links, top, slots);
+    has_children(rt, links, top, slots);
+    cut_all(rt, links, slots);
+    has_children(rt, links, top, &[]);
+    take_all(rt, links, slots);
+}
+
 // All nodes stand before the first link.
 #[test]
 fn a_thousand_links_without_a_growth(rt: HostRuntime) -> Result<(), Fail> {
     let mut links = Links::new(rt.alloc());
     let mut slots = Vec::new(rt.alloc());
-    let top = added(&rt, &mut links, 5000);
-    add_thousand(&rt, &mut links, &mut slots)?;
-    begins(rt.alloc())?;
-    put_all(&rt, &mut links, top, slots.as_slice());
-    has_children(&rt, &links, top, slots.as_slice());
-    cut_all(&rt, &mut links, slots.as_slice());
-    has_children(&rt, &links, top, &[]);
-    take_all(&rt, &mut links, slots.as_slice());
+    let top = add_all(&rt, rt.alloc(), &mut links, &mut slots)?;
+    link_and_take(&rt, &mut links, top, slots.as_slice());
     ends(rt.alloc());
     Ok(())
 }
@@ -223,59 +281,27 @@ fn five_million_slots(rt: HostRuntime) {
     }
 }
 
-#[derive(Drop)]
-struct Item {
-    value: u32,
-    next: Option<NodePtr<Item>>,
-}
-
-/// Two items, the first with a pointer to the second: the first is read, the second is changed, and both are taken out.
-fn through_a_pointer(alloc: Global) -> Option<(u32, u32, u32)> {
-    let first_room: Vacant<Item, Global> = Vacant::take(alloc).ok()?;
-    match Vacant::take(alloc) {
-        Ok(second_room) => {
-            let mut pool: Pool<Item> = Pool::new();
-            let second = pool.put(
-                second_room,
-                Item {
-                    value: 2,
-                    next: None,
-                },
-            );
-            let first = pool.put(
-                first_room,
-                Item {
-                    value: 1,
-                    next: Some(second),
-                },
-            );
-            let mut seen = 0;
-            if let Some(ptr) = pool.get(first).next {
-                seen = 5;
-            }
-            pool.get_mut(second).value = 7;
-            let (last, room) = pool.take(second, alloc);
-            room.free();
-            let (head, room) = pool.take(first, alloc);
-            room.free();
-            pool.close();
-            Some((seen, last.value, head.value))
-        }
-        Err(_) => {
-            first_room.free();
-            None
-        }
-    }
+/// Two items, the second under the first: it is reached by the pointer of the first and changed, and both are taken out.
+fn through_a_pointer(rt: &impl Abort, links: &mut Links<u32>) {
+    let first = added(rt, links, 1);
+    let second = added(rt, links, 2);
+    put(rt, links, first, second, None);
+    assert!(rt; links.holds(first));
+    assert!(rt; links.first(first) == Some(second) && links.holds(second));
+    *links.value_mut(second) = 7;
+    cut(rt, links, second);
+    assert!(rt; taken(rt, links, second) == 7);
+    assert!(rt; taken(rt, links, first) == 1);
 }
 
 #[test]
-fn puts_reads_changes_and_takes(rt: HostRuntime) -> Result<(), Fail> {
-    assert!(rt; through_a_pointer(rt.alloc()) == Some((5, 7, 1)));
-    Ok(())
+fn puts_reads_changes_and_takes(rt: HostRuntime) {
+    let mut links = Links::new(rt.alloc());
+    through_a_pointer(&rt, &mut links);
 }
 
 // Five links and two numbers of four bytes stand beside the value.
 #[test]
 fn bytes_of_a_node(rt: HostRuntime) {
-    assert_eq!(rt; size_of::<Node<u64>>(), 56);
+    assert!(rt; size_of::<Node<u64>>() == 56);
 }

@@ -183,7 +183,7 @@ fn numbers_without_a_growth(rt: HostRuntime) -> Result<(), Fail> {
     begins(rt.alloc())?;
     expect_each(&rt, &pages, 2500);
     assert!(rt; pages.get(2500).is_none());
-    assert_eq!(rt; pages.len(), 2500);
+    assert!(rt; pages.len() == 2500);
     pages.push_reserved(2500);
     put(&rt, &mut pages, 2500, 7);
     expect_present(&rt, &pages, &[true, true, true, false]);

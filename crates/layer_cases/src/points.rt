@@ -1,4 +1,4 @@
-//! Points of small trees, by the rules; and points of wide trees, whose cost bench/order_cost.sh counts.
+//! Points of small trees, by the rules; and points of wide trees.
 
 ghost use Rattle.std.specs.Prelude.{◌<◌, ◌^◌};
 
@@ -36,31 +36,37 @@ fn at(node: NodeId, offset: usize) -> Point {
 fn stand(rt: &impl Abort, tree: &Tree<()>, a: Point, b: Point, due: Ordering) {
     assert!(rt; tree.holds(a.node));
     assert!(rt; tree.holds(b.node));
-    assert_eq!(rt; tree.root(a.node), tree.root(b.node));
-    assert_eq!(rt; order(tree, a, b), due);
-    assert_eq!(rt; order(tree, b, a), due.reverse());
+    assert!(rt; tree.root(a.node) == tree.root(b.node));
+    assert!(rt; order(tree, a, b) == due);
+    assert!(rt; order(tree, b, a) == due.reverse());
 }
 
 // That the deepest node above both is this one.
 fn meet(rt: &impl Abort, tree: &Tree<()>, a: NodeId, b: NodeId, due: NodeId) {
     assert!(rt; tree.holds(a));
     assert!(rt; tree.holds(b));
-    assert_eq!(rt; tree.root(a), tree.root(b));
-    assert_eq!(rt; common(tree, a, b), due);
+    assert!(rt; tree.root(a) == tree.root(b));
+    assert!(rt; common(tree, a, b) == due);
 }
 
-// A root, and then elements, each the last child of the one of that number.
-fn grown(rt: &impl Abort, alloc: Global, parents: &[u32]) -> Result<Tree<()>, AllocError> {
-    let mut tree = Tree::new(alloc);
-    let _ = element(rt, alloc, &mut tree)?;
+// Makes a root, and then elements, each the last child of the one of that number.
+fn grow(
+    rt: &impl Abort,
+    alloc: Global,
+    tree: &mut Tree<()>,
+    parents: &[u32],
+) -> Result<(), AllocError> {
+    let _ = element(rt, alloc, tree)?;
     for parent in parents {
-        let _ = child(rt, alloc, &mut tree, NodeId::new(*parent))?;
+        let _ = child(rt, alloc, tree, NodeId::new(*parent))?;
     }
-    Ok(tree)
+    Ok(())
 }
 
-// That points, each a node and an offset, stand so.
-fn stand_all(rt: &impl Abort, tree: &Tree<()>, rows: &[((u32, usize), (u32, usize), Ordering)]) {
+// Two points, each a node and an offset, and how they stand.
+type Row = ((u32, usize), (u32, usize), Ordering);
+
+fn stand_all(rt: &impl Abort, tree: &Tree<()>, rows: &[Row]) {
     for ((a, i), (b, j), due) in rows {
         let (a, b) = (NodeId::new(*a), NodeId::new(*b));
         stand(rt, tree, at(a, *i), at(b, *j), *due);
@@ -80,66 +86,89 @@ fn meet_all(rt: &impl Abort, tree: &Tree<()>, rows: &[(u32, u32, u32)]) {
     }
 }
 
-#[test]
-fn points_of_one_node(rt: HostRuntime) -> Result<(), Fail> {
-    let tree = grown(&rt, rt.alloc(), &[0])?;
-    stand_all(
-        &rt,
-        &tree,
-        &[
-            ((0, 0), (0, 1), Ordering::Less),
-            ((0, 1), (0, 1), Ordering::Equal),
-        ],
-    );
+// A tree, as the parent of each node from 1 on, and its points.
+fn stand_in(
+    rt: &impl Abort,
+    alloc: Global,
+    parents: &[u32],
+    rows: &[Row],
+    common: &[(u32, u32, u32)],
+) -> Result<(), AllocError> {
+    let mut tree = Tree::new(alloc);
+    grow(rt, alloc, &mut tree, parents)?;
+    stand_all(rt, &tree, rows);
+    meet_all(rt, &tree, common);
     Ok(())
 }
 
-// 0 [ 1 [ 3 ] 2 [ 4 [ 5 ] ] ]
-#[test]
-fn points_of_a_small_tree(rt: HostRuntime) -> Result<(), Fail> {
-    let tree = grown(&rt, rt.alloc(), &[0, 0, 1, 2, 4])?;
-    // a point above stands ahead up to the child on the way, and behind past it; else by tree order
-    stand_all(
-        &rt,
-        &tree,
-        &[
-            ((0, 0), (5, 0), Ordering::Less),
-            ((0, 1), (5, 0), Ordering::Less),
-            ((0, 2), (5, 0), Ordering::Greater),
-            ((2, 0), (5, 0), Ordering::Less),
-            ((2, 1), (5, 0), Ordering::Greater),
-            ((1, 1), (2, 0), Ordering::Less),
-            ((3, 0), (5, 0), Ordering::Less),
-        ],
-    );
-    meet_all(&rt, &tree, &[(3, 5, 0), (5, 2, 2), (2, 5, 2), (4, 4, 4)]);
+// 0 with 51 children, of which the last has one.
+fn far_apart() -> [u32; 52] {
+    let mut parents = [0; 52];
+    parents[51] = 51;
+    parents
+}
+
+// Points of one node; of 0 [ 1 [ 3 ] 2 [ 4 [ 5 ] ] ], where a point above stands ahead up to the child on the way, and behind past it, else by
+// tree order; and of siblings far apart.
+fn stand_in_each(rt: &impl Abort, alloc: Global) -> Result<(), AllocError> {
+    let far = far_apart();
+    for (parents, rows, common) in [
+        (
+            [0].as_slice(),
+            [
+                ((0, 0), (0, 1), Ordering::Less),
+                ((0, 1), (0, 1), Ordering::Equal),
+            ]
+            .as_slice(),
+            [].as_slice(),
+        ),
+        (
+            [0, 0, 1, 2, 4].as_slice(),
+            [
+                ((0, 0), (5, 0), Ordering::Less),
+                ((0, 1), (5, 0), Ordering::Less),
+                ((0, 2), (5, 0), Ordering::Greater),
+                ((2, 0), (5, 0), Ordering::Less),
+                ((2, 1), (5, 0), Ordering::Greater),
+                ((1, 1), (2, 0), Ordering::Less),
+                ((3, 0), (5, 0), Ordering::Less),
+            ]
+            .as_slice(),
+            [(3, 5, 0), (5, 2, 2), (2, 5, 2), (4, 4, 4)].as_slice(),
+        ),
+        (
+            far.as_slice(),
+            [
+                ((1, 0), (51, 1), Ordering::Less),
+                ((52, 0), (1, 0), Ordering::Greater),
+            ]
+            .as_slice(),
+            [(52, 1, 0)].as_slice(),
+        ),
+    ] {
+        stand_in(rt, alloc, parents, rows, common)?;
+    }
     Ok(())
 }
 
-// 0 with 51 children, of which the last has one
 #[test]
-fn points_of_siblings_far_apart(rt: HostRuntime) -> Result<(), Fail> {
-    let mut tree = grown(&rt, rt.alloc(), &[0; 51])?;
-    let _ = child(&rt, rt.alloc(), &mut tree, NodeId::new(51))?;
-    stand_all(
-        &rt,
-        &tree,
-        &[
-            ((1, 0), (51, 1), Ordering::Less),
-            ((52, 0), (1, 0), Ordering::Greater),
-        ],
-    );
-    meet_all(&rt, &tree, &[(52, 1, 0)]);
+fn points_of_small_trees(rt: HostRuntime) -> Result<(), Fail> {
+    stand_in_each(&rt, rt.alloc())?;
     Ok(())
 }
 
 // A root with two groups of so many leaves each: the leaves of the first are numbered from 3 on, then those of the second.
-fn wide_tree(rt: &impl Abort, alloc: Global, leaves: u32) -> Result<Tree<()>, AllocError> {
-    let mut tree = grown(rt, alloc, &[0, 0])?;
+fn grow_wide(
+    rt: &impl Abort,
+    alloc: Global,
+    tree: &mut Tree<()>,
+    leaves: u32,
+) -> Result<(), AllocError> {
+    grow(rt, alloc, tree, &[0, 0])?;
     for group in 1..3 {
-        add_leaves(rt, alloc, &mut tree, NodeId::new(group), leaves)?;
+        add_leaves(rt, alloc, tree, NodeId::new(group), leaves)?;
     }
-    Ok(tree)
+    Ok(())
 }
 
 fn add_leaves(
@@ -191,7 +220,8 @@ fn far_points_stand(rt: &impl Abort, tree: &Tree<()>, leaves: u32)
 fn points_of_a_wide_tree(rt: &impl Abort, alloc: Global, leaves: u32) -> Result<(), Fail>
     requires { leaves < 2 ^ 20 }
 {
-    let tree = wide_tree(rt, alloc, leaves)?;
+    let mut tree = Tree::new(alloc);
+    grow_wide(rt, alloc, &mut tree, leaves)?;
     near_points_stand(rt, &tree, leaves);
     far_points_stand(rt, &tree, leaves);
     Ok(())

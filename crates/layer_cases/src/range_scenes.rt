@@ -63,25 +63,36 @@ fn text(
     Ok(id)
 }
 
-// A root, and then elements, each the last child of the one of that number.
-pub(crate) fn grown(
+// Makes a root, and then elements, each the last child of the one of that number.
+pub(crate) fn grow(
     rt: &impl Abort,
     alloc: Global,
+    tree: &mut Tree<Units>,
     parents: &[u32],
-) -> Result<Tree<Units>, AllocError> {
-    let mut tree = Tree::new(alloc);
-    let _ = element(rt, alloc, &mut tree)?;
+) -> Result<(), AllocError> {
+    let _ = element(rt, alloc, tree)?;
     for parent in parents {
-        let _ = child(rt, alloc, &mut tree, NodeId::new(*parent))?;
+        let _ = child(rt, alloc, tree, NodeId::new(*parent))?;
     }
-    Ok(tree)
+    Ok(())
 }
 
 // root [ a [ b ] t u ], numbered in this order, with ten units in t and six in u
+pub(crate) fn grow_with_texts(
+    rt: &impl Abort,
+    alloc: Global,
+    tree: &mut Tree<Units>,
+) -> Result<(), AllocError> {
+    grow(rt, alloc, tree, &[0, 1])?;
+    let _ = text(rt, alloc, tree, NodeId::new(0), 10)?;
+    let _ = text(rt, alloc, tree, NodeId::new(0), 6)?;
+    Ok(())
+}
+
+// The same alone.
 pub(crate) fn with_texts(rt: &impl Abort, alloc: Global) -> Result<Tree<Units>, AllocError> {
-    let mut tree = grown(rt, alloc, &[0, 1])?;
-    let _ = text(rt, alloc, &mut tree, NodeId::new(0), 10)?;
-    let _ = text(rt, alloc, &mut tree, NodeId::new(0), 6)?;
+    let mut tree = Tree::new(alloc);
+    grow_with_texts(rt, alloc, &mut tree)?;
     Ok(tree)
 }
 
@@ -142,7 +153,7 @@ fn placed(
 {
     stands(rt, tree, start);
     stands(rt, tree, end);
-    assert_eq!(rt; tree.root(start.node), tree.root(end.node));
+    assert!(rt; tree.root(start.node) == tree.root(end.node));
     assert!(rt; !is_after(tree, start, end));
     ranges.cover(10)?;
     assert!(rt; ranges.is_covered(start.node) && ranges.is_covered(end.node));

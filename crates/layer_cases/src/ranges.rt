@@ -4,9 +4,10 @@ ghost use Rattle.std.specs.Prelude.{◌≡◌, [], ◌∷◌, Some, IfOk};
 
 use super::marks::{begins, ends};
 use super::range_scenes::{
-    Units, alone, at, child, element, grown, leaves, lies, ranged, refers, release, stands,
+    Units, alone, at, child, element, grow, grow_with_texts, leaves, lies, ranged, refers, release,
     with_texts,
 };
+use super::slots::{come_and_go, make_in_slots, take_turns};
 use dom_point::Point;
 use dom_ranges::{RangeId, Ranges};
 use dom_tree::{NodeId, Tree};
@@ -22,7 +23,7 @@ fn cover(ranges: &mut Ranges) -> Result<(), AllocError> {
 
 // That there is room in a thousand nodes, and no end in any.
 fn has_room(rt: &impl Abort, ranges: &Ranges) {
-    assert_eq!(rt; ranges.made(), 0);
+    assert!(rt; ranges.made() == 0);
     assert!(rt; ranges.is_covered(NodeId::new(0)) && ranges.is_covered(NodeId::new(999)));
     assert!(rt; !ranges.is_covered(NodeId::new(1000)));
     assert!(rt; !ranges.stands_in(NodeId::new(5)) && !ranges.stands_in(NodeId::new(5000)));
@@ -63,11 +64,6 @@ fn refused_room(rt: HostRuntime) -> Result<(), Fail> {
     Ok(())
 }
 
-// 0 [ 1 [ 2 ] 3 ]
-fn nested(rt: &impl Abort, alloc: Global) -> Result<Tree<Units>, AllocError> {
-    grown(rt, alloc, &[0, 1, 0])
-}
-
 // A range from inside 1 to behind it is made and released.
 fn make_and_release(
     rt: &impl Abort,
@@ -80,15 +76,7 @@ fn make_and_release(
     assert!(rt; refers(rt, ranges, tree, 1) && !refers(rt, ranges, tree, 3));
     release(rt, ranges, r);
     assert!(rt; !ranges.stands_in(NodeId::new(2)));
-    assert_eq!(rt; ranges.made(), 1);
-    Ok(())
-}
-
-#[test]
-fn made_and_released(rt: HostRuntime) -> Result<(), Fail> {
-    let tree = nested(&rt, rt.alloc())?;
-    let mut ranges = Ranges::new(rt.alloc());
-    make_and_release(&rt, &mut ranges, &tree)?;
+    assert!(rt; ranges.made() == 1);
     Ok(())
 }
 
@@ -104,22 +92,14 @@ fn make_and_remove(
     Ok(())
 }
 
-#[test]
-fn removed(rt: HostRuntime) -> Result<(), Fail> {
-    let tree = nested(&rt, rt.alloc())?;
-    let mut ranges = Ranges::new(rt.alloc());
-    make_and_remove(&rt, &mut ranges, &tree)?;
-    Ok(())
-}
-
 // 0 [ 1 [ 99 children, from 2 on ] 101 ], where more nodes stand inside 1 than there are ends
-fn with_many(rt: &impl Abort, alloc: Global) -> Result<Tree<Units>, AllocError> {
-    let mut tree = grown(rt, alloc, &[0])?;
+fn grow_many(rt: &impl Abort, alloc: Global, tree: &mut Tree<Units>) -> Result<(), AllocError> {
+    grow(rt, alloc, tree, &[0])?;
     for _ in 0..99 {
-        let _ = child(rt, alloc, &mut tree, NodeId::new(1))?;
+        let _ = child(rt, alloc, tree, NodeId::new(1))?;
     }
-    let _ = child(rt, alloc, &mut tree, NodeId::new(0))?;
-    Ok(tree)
+    let _ = child(rt, alloc, tree, NodeId::new(0))?;
+    Ok(())
 }
 
 // Of three ranges one stands in the last children of 1, one from the first child to behind 1, and one in 101.
@@ -148,11 +128,69 @@ fn make_three_and_remove(
     Ok(())
 }
 
+// What is done with ranges over a tree.
+#[derive(Clone, Copy)]
+enum Scene {
+    MadeAndReleased,
+    Removed,
+    RemovedWithManyInside,
+    MadeAgainAndAgain,
+    MadeByTurns,
+    MadeInReleasedSlots,
+}
+
+// The tree of a scene; the first two have 0 [ 1 [ 2 ] 3 ].
+fn grow_for(
+    rt: &impl Abort,
+    alloc: Global,
+    tree: &mut Tree<Units>,
+    scene: Scene,
+) -> Result<(), AllocError> {
+    match scene {
+        Scene::MadeAndReleased | Scene::Removed => grow(rt, alloc, tree, &[0, 1, 0]),
+        Scene::RemovedWithManyInside => grow_many(rt, alloc, tree),
+        Scene::MadeAgainAndAgain | Scene::MadeByTurns | Scene::MadeInReleasedSlots => {
+            grow_with_texts(rt, alloc, tree)
+        }
+    }
+}
+
+fn act(
+    rt: &impl Abort,
+    ranges: &mut Ranges,
+    tree: &Tree<Units>,
+    scene: Scene,
+) -> Result<(), AllocError> {
+    match scene {
+        Scene::MadeAndReleased => make_and_release(rt, ranges, tree),
+        Scene::Removed => make_and_remove(rt, ranges, tree),
+        Scene::RemovedWithManyInside => make_three_and_remove(rt, ranges, tree),
+        Scene::MadeAgainAndAgain => come_and_go(rt, ranges, tree),
+        Scene::MadeByTurns => take_turns(rt, ranges, tree),
+        Scene::MadeInReleasedSlots => make_in_slots(rt, ranges, tree),
+    }
+}
+
+fn play(rt: &impl Abort, alloc: Global, scene: Scene) -> Result<(), AllocError> {
+    let mut tree = Tree::new(alloc);
+    grow_for(rt, alloc, &mut tree, scene)?;
+    let mut ranges = Ranges::new(alloc);
+    act(rt, &mut ranges, &tree, scene)
+}
+
+// Each scene has functions of its own, which a failed assertion names by its line.
 #[test]
-fn removed_with_many_inside(rt: HostRuntime) -> Result<(), Fail> {
-    let tree = with_many(&rt, rt.alloc())?;
-    let mut ranges = Ranges::new(rt.alloc());
-    make_three_and_remove(&rt, &mut ranges, &tree)?;
+fn scenes(rt: HostRuntime) -> Result<(), Fail> {
+    for scene in [
+        Scene::MadeAndReleased,
+        Scene::Removed,
+        Scene::RemovedWithManyInside,
+        Scene::MadeAgainAndAgain,
+        Scene::MadeByTurns,
+        Scene::MadeInReleasedSlots,
+    ] {
+        play(&rt, rt.alloc(), scene)?;
+    }
     Ok(())
 }
 
@@ -169,7 +207,7 @@ fn set(
     let (start, end) = ranges.ends(r);
     assert!(rt; tree.holds(start.node));
     assert!(rt; tree.holds(end.node));
-    assert_eq!(rt; tree.root(start.node), tree.root(end.node));
+    assert!(rt; tree.root(start.node) == tree.root(end.node));
     assert!(rt; tree.holds(p.node));
     assert!(rt; ranges.is_covered(p.node));
     if is_start {
@@ -188,7 +226,7 @@ fn set_each(rt: &impl Abort, ranges: &mut Ranges, tree: &mut Tree<Units>) {
         (false, at(3, 11), false, at(3, 4), at(3, 4)),
         (false, at(3, 10), true, at(3, 4), at(3, 10)),
     ] {
-        assert_eq!(rt; set(rt, ranges, tree, is_start, p), is_set);
+        assert!(rt; set(rt, ranges, tree, is_start, p) == is_set);
         lies(rt, ranges, RangeId::new(0), start, end);
     }
 }
@@ -217,7 +255,7 @@ fn forget_and_cover(
     forget(rt, ranges, tree, NodeId::new(0));
     ranges.cover(1000)?;
     for n in 0..10 {
-        assert_eq!(rt; ranges.is_covered(NodeId::new(n)), n >= 5);
+        assert!(rt; ranges.is_covered(NodeId::new(n)) == (n >= 5));
     }
     Ok(())
 }
@@ -225,7 +263,7 @@ fn forget_and_cover(
 // Two trees, of which the second is node 5 alone.
 fn two_trees(rt: &impl Abort, alloc: Global) -> Result<Tree<Units>, AllocError> {
     let mut tree = with_texts(rt, alloc)?;
-    assert_eq!(rt; element(rt, alloc, &mut tree)?, NodeId::new(5));
+    assert!(rt; element(rt, alloc, &mut tree)? == NodeId::new(5));
     Ok(tree)
 }
 

@@ -42,7 +42,7 @@ fn two_of_three(
         let _ = new_iterator(iterators, root, filter(alloc, &[])?)?;
     }
     release(rt, iterators, IteratorId::new(0));
-    assert_eq!(rt; (iterators.made(), iterators.count()), (3, 2));
+    assert!(rt; iterators.made() == 3 && iterators.count() == 2);
     Ok(())
 }
 
@@ -50,9 +50,9 @@ fn two_of_three(
 fn others_go_on(rt: &impl Abort, iterators: &mut NodeIterators, tree: &mut Tree<()>) {
     let (second, third) = (IteratorId::new(1), IteratorId::new(2));
     for wanted in 1..4 {
-        assert_eq!(rt; next(rt, iterators, tree, second), Some(wanted));
+        assert!(rt; next(rt, iterators, tree, second) == Some(wanted));
     }
-    assert_eq!(rt; next(rt, iterators, tree, third), Some(2));
+    assert!(rt; next(rt, iterators, tree, third) == Some(2));
     remove(rt, iterators, tree, 2);
     assert!(rt; iterator(rt, iterators, second) == (1, 1, false));
     assert!(rt; iterator(rt, iterators, third) == (2, 2, false));
@@ -69,7 +69,7 @@ fn none_names_it(
     release(rt, iterators, IteratorId::new(2));
     assert!(rt; !names(rt, iterators, tree, 2) && names(rt, iterators, tree, 1));
     let id = new_iterator(iterators, 4, filter(alloc, &[])?)?;
-    assert_eq!(rt; id.number(), 3);
+    assert!(rt; id.number() == 3);
     assert!(rt; iterator(rt, iterators, id) == (4, 4, true));
     Ok(())
 }
@@ -97,7 +97,7 @@ fn takes_its_turn(
     n: u32,
 ) -> Result<(), AllocError> {
     let id = new_iterator(iterators, root_of(n), filter(alloc, &[])?)?;
-    assert_eq!(rt; id.number(), n);
+    assert!(rt; id.number() == n);
     if n >= 10 {
         let first = n - 10;
         let id = IteratorId::new(first);
@@ -142,7 +142,7 @@ fn come_and_go(
 ) -> Result<(), AllocError> {
     for n in numbers {
         let id = new_walker(walkers, root_of(n), filter(alloc, &[])?)?;
-        assert_eq!(rt; id.number(), n);
+        assert!(rt; id.number() == n);
         release_walker(rt, walkers, id);
     }
     assert!(rt; walker(rt, walkers, WalkerId::new(0)) == (1, 1));
@@ -185,11 +185,11 @@ fn one_of_two(rt: &impl Abort, alloc: Global, walkers: &mut Walkers) -> Result<(
 fn other_walks_on(rt: &impl Abort, walkers: &mut Walkers, tree: &Tree<()>) {
     let second = WalkerId::new(1);
     assert!(rt; refers(rt, walkers, tree, 2));
-    assert_eq!(rt; walk(rt, walkers, tree, second, Move::NextNode), Some(4));
+    assert!(rt; walk(rt, walkers, tree, second, Move::NextNode) == Some(4));
     assert!(rt; !refers(rt, walkers, tree, 2) && refers(rt, walkers, tree, 1));
     release_walker(rt, walkers, second);
     assert!(rt; !refers(rt, walkers, tree, 1));
-    assert_eq!(rt; (walkers.made(), walkers.count()), (2, 0));
+    assert!(rt; walkers.made() == 2 && walkers.count() == 0);
 }
 
 #[test]

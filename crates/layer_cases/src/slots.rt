@@ -1,12 +1,11 @@
 //! Live ranges that are made and released over and over, so that one comes into the slot of another.
 
-use super::range_scenes::{Units, at, lies, ranged, release, with_texts};
+use super::range_scenes::{Units, at, lies, ranged, release};
 use dom_point::Point;
 use dom_ranges::{RangeId, Ranges};
 use dom_tree::{NodeId, Tree};
 use std::alloc::AllocError;
 use std::process::Abort;
-use std::test::Fail;
 
 // A range from a unit of t to its last is made and released, beside one that stays.
 fn comes_and_goes(
@@ -17,7 +16,7 @@ fn comes_and_goes(
 ) -> Result<(), AllocError> {
     let (start, end) = (at(3, n as usize % 10), at(3, 10));
     let r = ranged(rt, ranges, tree, start, end)?;
-    assert_eq!(rt; r, RangeId::new(n));
+    assert!(rt; r == RangeId::new(n));
     lies(rt, ranges, r, start, end);
     lies(rt, ranges, RangeId::new(0), at(0, 1), at(0, 2));
     release(rt, ranges, r);
@@ -25,23 +24,18 @@ fn comes_and_goes(
     Ok(())
 }
 
-// Two hundred ranges come and go, beside one that stays.
-fn come_and_go(rt: &impl Abort, ranges: &mut Ranges, tree: &Tree<Units>) -> Result<(), AllocError> {
+// A range is made and released over and over, beside one that stays: two hundred come and go. Each has the next number and ends of its own,
+// and the table of ends does not grow.
+pub(crate) fn come_and_go(
+    rt: &impl Abort,
+    ranges: &mut Ranges,
+    tree: &Tree<Units>,
+) -> Result<(), AllocError> {
     let _ = ranged(rt, ranges, tree, at(0, 1), at(0, 2))?;
     for n in 1..201 {
         comes_and_goes(rt, ranges, tree, n)?;
     }
-    assert_eq!(rt; (ranges.made(), ranges.count()), (201, 1));
-    Ok(())
-}
-
-// A range is made and released over and over, beside one that stays. Each has the next number and ends of its own, and the table of ends
-// does not grow.
-#[test]
-fn made_again_and_again(rt: HostRuntime) -> Result<(), Fail> {
-    let tree = with_texts(&rt, rt.alloc())?;
-    let mut ranges = Ranges::new(rt.alloc());
-    come_and_go(&rt, &mut ranges, &tree)?;
+    assert!(rt; ranges.made() == 201 && ranges.count() == 1);
     Ok(())
 }
 
@@ -59,7 +53,7 @@ fn takes_its_turn(
 ) -> Result<(), AllocError> {
     let (start, end) = by_number(n);
     let r = ranged(rt, ranges, tree, start, end)?;
-    assert_eq!(rt; r, RangeId::new(n));
+    assert!(rt; r == RangeId::new(n));
     if n >= 10 {
         let first = RangeId::new(n - 10);
         lies(rt, ranges, first, start, end);
@@ -70,7 +64,7 @@ fn takes_its_turn(
 
 // Of three thousand ranges the last ten are live, each where its number says.
 fn expect_last_ten(rt: &impl Abort, ranges: &Ranges) {
-    assert_eq!(rt; (ranges.made(), ranges.count()), (3_000, 10));
+    assert!(rt; ranges.made() == 3_000 && ranges.count() == 10);
     assert!(rt; !ranges.holds(RangeId::new(0)) && !ranges.holds(RangeId::new(2_989)));
     for n in 2_990..3_000 {
         let (start, end) = by_number(n);
@@ -78,21 +72,16 @@ fn expect_last_ten(rt: &impl Abort, ranges: &Ranges) {
     }
 }
 
-// Three thousand ranges take their turns.
-fn take_turns(rt: &impl Abort, ranges: &mut Ranges, tree: &Tree<Units>) -> Result<(), AllocError> {
+// Ranges are made and released by turns, ten of them live at a time, over more numbers than a page has. Each starts where its number says.
+pub(crate) fn take_turns(
+    rt: &impl Abort,
+    ranges: &mut Ranges,
+    tree: &Tree<Units>,
+) -> Result<(), AllocError> {
     for n in 0..3_000 {
         takes_its_turn(rt, ranges, tree, n)?;
     }
     expect_last_ten(rt, ranges);
-    Ok(())
-}
-
-// Ranges are made and released by turns, ten of them live at a time, over more numbers than a page has. Each starts where its number says.
-#[test]
-fn made_and_released_by_turns(rt: HostRuntime) -> Result<(), Fail> {
-    let tree = with_texts(&rt, rt.alloc())?;
-    let mut ranges = Ranges::new(rt.alloc());
-    take_turns(&rt, &mut ranges, &tree)?;
     Ok(())
 }
 
@@ -127,8 +116,9 @@ fn expect_all(rt: &impl Abort, ranges: &Ranges, from: u32, all: &[(Point, Point)
     }
 }
 
-// Two ranges are made and released, and three are made then.
-fn make_in_slots(
+// Two ranges that are released, the first before the second, so that each was in the last slot or had the last one come into its slot. Three
+// that are made later have slots of their own.
+pub(crate) fn make_in_slots(
     rt: &impl Abort,
     ranges: &mut Ranges,
     tree: &Tree<Units>,
@@ -140,16 +130,6 @@ fn make_in_slots(
     make_all(rt, ranges, tree, &later())?;
     assert!(rt; !ranges.holds(RangeId::new(0)) && !ranges.holds(RangeId::new(1)));
     expect_all(rt, ranges, 2, &later());
-    assert_eq!(rt; ranges.count(), 3);
-    Ok(())
-}
-
-// Two ranges that were released, the first before the second, so that each was in the last slot or had the last one come into its slot. Three
-// that are made later have slots of their own.
-#[test]
-fn made_in_released_slots(rt: HostRuntime) -> Result<(), Fail> {
-    let tree = with_texts(&rt, rt.alloc())?;
-    let mut ranges = Ranges::new(rt.alloc());
-    make_in_slots(&rt, &mut ranges, &tree)?;
+    assert!(rt; ranges.count() == 3);
     Ok(())
 }

@@ -48,42 +48,75 @@ fn release_all(rt: &impl Abort, slots: &mut Slots, from: u32, to: u32) {
 
 // That these are the live numbers, by slot, and that each has its slot.
 fn expect(rt: &impl Abort, slots: &Slots, numbers: &[u32]) {
-    assert_eq!(rt; slots.count(), numbers.len());
+    assert!(rt; slots.count() == numbers.len());
     for (slot, number) in numbers.iter().enumerate() {
         assert!(rt; slot < slots.count());
-        assert_eq!(rt; slots.number(slot), *number);
-        assert_eq!(rt; slots.slot(*number), Some(slot));
+        assert!(rt; slots.number(slot) == *number);
+        assert!(rt; slots.slot(*number) == Some(slot));
+    }
+}
+
+// A number that is given out, or released.
+#[derive(Clone, Copy)]
+enum Step {
+    // Gives out so many.
+    MakeAll(usize),
+    // Gives out this one.
+    Make(u32),
+    // Releases a number, which has this slot.
+    Release(u32, usize),
+    // Releases the numbers of a range.
+    ReleaseAll(u32, u32),
+}
+
+fn take(rt: &impl Abort, slots: &mut Slots, step: Step) -> Result<(), AllocError> {
+    match step {
+        Step::MakeAll(count) => make_all(rt, slots, count)?,
+        Step::Make(due) => {
+            let number = make(rt, slots)?;
+            assert!(rt; number == due, "{number}");
+        }
+        Step::Release(number, due) => {
+            let slot = release(rt, slots, number);
+            assert!(rt; slot == due, "{number}");
+        }
+        Step::ReleaseAll(from, to) => release_all(rt, slots, from, to),
+    }
+    Ok(())
+}
+
+// The last comes into the slot of the one that is released, and the next number is a new one.
+fn take_each(rt: &impl Abort, slots: &mut Slots) -> Result<(), AllocError> {
+    for (step, live) in [
+        (Step::MakeAll(4), [0, 1, 2, 3].as_slice()),
+        (Step::Release(1, 1), [0, 3, 2].as_slice()),
+        (Step::Make(4), [0, 3, 2, 4].as_slice()),
+        (Step::Release(4, 3), [0, 3, 2].as_slice()),
+        (Step::Release(0, 0), [2, 3].as_slice()),
+        (Step::ReleaseAll(2, 4), [].as_slice()),
+        (Step::Make(5), [5].as_slice()),
+    ] {
+        take(rt, slots, step)?;
+        expect(rt, slots, live);
+    }
+    Ok(())
+}
+
+fn have_none(rt: &impl Abort, slots: &Slots, numbers: &[u32]) {
+    for number in numbers {
+        assert!(rt; slots.slot(*number).is_none(), "{number}");
     }
 }
 
 #[test]
-fn none_at_first(rt: HostRuntime) {
-    let slots = Slots::new(rt.alloc());
-    assert_eq!(rt; (slots.made(), slots.count()), (0, 0));
-    assert!(rt; slots.slot(0).is_none() && !slots.is_present(0));
-}
-
-// The last comes into the slot of the one that is released, and the next number is a new one.
-#[test]
 fn none_comes_again(rt: HostRuntime) -> Result<(), Fail> {
     let mut slots = Slots::new(rt.alloc());
-    make_all(&rt, &mut slots, 4)?;
-    expect(&rt, &slots, &[0, 1, 2, 3]);
-    assert_eq!(rt; release(&rt, &mut slots, 1), 1);
-    expect(&rt, &slots, &[0, 3, 2]);
-    assert_eq!(rt; make(&rt, &mut slots)?, 4);
-    expect(&rt, &slots, &[0, 3, 2, 4]);
-    assert_eq!(rt; release(&rt, &mut slots, 4), 3);
-    assert_eq!(rt; release(&rt, &mut slots, 0), 0);
-    expect(&rt, &slots, &[2, 3]);
-    release_all(&rt, &mut slots, 2, 4);
     expect(&rt, &slots, &[]);
-    assert_eq!(rt; make(&rt, &mut slots)?, 5);
-    expect(&rt, &slots, &[5]);
-    assert_eq!(rt; slots.made(), 6);
-    assert!(rt;
-        slots.slot(3).is_none() && slots.slot(6).is_none() && slots.slot(u32::MAX).is_none()
-    );
+    assert!(rt; slots.made() == 0 && !slots.is_present(0));
+    have_none(&rt, &slots, &[0]);
+    take_each(&rt, &mut slots)?;
+    assert!(rt; slots.made() == 6);
+    have_none(&rt, &slots, &[3, 6, u32::MAX]);
     Ok(())
 }
 
@@ -119,17 +152,17 @@ impl Items {
     fn release(&mut self, rt: &impl Abort, number: u32) {
         let slot = release(rt, &mut self.slots, number);
         assert!(rt; slot < self.items.len());
-        assert_eq!(rt; self.items.swap_remove(slot), item_of(number));
+        assert!(rt; self.items.swap_remove(slot) == item_of(number));
     }
 
     // That there is an item to each slot, that of the number there, and that the number has the slot.
     fn expect(&self, rt: &impl Abort, count: usize) {
-        assert_eq!(rt; (self.slots.count(), self.items.len()), (count, count));
+        assert!(rt; (self.slots.count(), self.items.len()) == (count, count));
         for (slot, item) in self.items.iter().enumerate() {
             assert!(rt; slot < self.slots.count());
             let number = self.slots.number(slot);
-            assert_eq!(rt; self.slots.slot(number), Some(slot));
-            assert_eq!(rt; *item, item_of(number));
+            assert!(rt; self.slots.slot(number) == Some(slot));
+            assert!(rt; *item == item_of(number));
         }
     }
 }
@@ -181,10 +214,26 @@ fn expect_page(rt: &impl Abort, slots: &Slots, present: u32) {
 fn a_hundred_thousand_at_once(rt: HostRuntime) -> Result<(), Fail> {
     let mut slots = Slots::new(rt.alloc());
     make_all(&rt, &mut slots, 100_000)?;
-    assert_eq!(rt; slots.count(), 100_000);
+    assert!(rt; slots.count() == 100_000);
     release_all(&rt, &mut slots, 0, 100_000);
-    assert_eq!(rt; (slots.made(), slots.count()), (100_000, 0));
+    has_made(&rt, &slots, 100_000, 0);
     expect_page(&rt, &slots, 100_000);
+    Ok(())
+}
+
+// So many come and go by turns, beside one of them that stays.
+fn take_turns(
+    rt: &impl Abort,
+    slots: &mut Slots,
+    count: u32,
+    stays: u32,
+) -> Result<(), AllocError> {
+    for _ in 0..count {
+        let number = make(rt, slots)?;
+        if number != stays {
+            let _ = release(rt, slots, number);
+        }
+    }
     Ok(())
 }
 
@@ -192,14 +241,9 @@ fn a_hundred_thousand_at_once(rt: HostRuntime) -> Result<(), Fail> {
 #[test]
 fn a_hundred_thousand_by_turns(rt: HostRuntime) -> Result<(), Fail> {
     let mut slots = Slots::new(rt.alloc());
-    for _ in 0..100_000 {
-        let number = make(&rt, &mut slots)?;
-        if number != 50_000 {
-            let _ = release(&rt, &mut slots, number);
-        }
-    }
+    take_turns(&rt, &mut slots, 100_000, 50_000)?;
     expect(&rt, &slots, &[50_000]);
-    assert_eq!(rt; slots.made(), 100_000);
+    assert!(rt; slots.made() == 100_000);
     assert!(rt; slots.is_present(50_000) && slots.is_present(100_000));
     let _ = release(&rt, &mut slots, 50_000);
     expect_page(&rt, &slots, 100_000);
@@ -210,38 +254,71 @@ fn a_hundred_thousand_by_turns(rt: HostRuntime) -> Result<(), Fail> {
 fn reserve_at_last(rt: &impl Abort, slots: &mut Slots) -> Result<(), AllocError>
     ensures room { OnOk result (1 ≤ slots.new.room) }
 {
-    let was = (slots.made(), slots.count());
+    let (made, live) = (slots.made(), slots.count());
     if reserve(rt, slots, 1).is_ok() {
         return Ok(());
     }
-    assert_eq!(rt; (slots.made(), slots.count()), was);
+    has_made(rt, slots, made, live);
     reserve(rt, slots, 1)
+}
+
+// That the next numbers are given out in order, each with its slot.
+fn give_out(rt: &impl Abort, slots: &mut Slots, count: u32) -> Result<(), AllocError> {
+    for number in 0..count {
+        reserve_at_last(rt, slots)?;
+        let made = slots.push_reserved();
+        assert!(rt; made == number);
+        assert!(rt; slots.slot(number) == Some(number as usize));
+    }
+    Ok(())
 }
 
 // Where a growth is refused nothing has happened, and the next try makes the room.
 #[test]
 fn refused_room(rt: HostRuntime) -> Result<(), Fail> {
     let mut slots = Slots::new(rt.alloc());
-    for number in 0..3_000u32 {
-        reserve_at_last(&rt, &mut slots)?;
-        assert_eq!(rt; slots.push_reserved(), number);
-        assert_eq!(rt; slots.slot(number), Some(number as usize));
-    }
-    assert_eq!(rt; (slots.made(), slots.count()), (3_000, 3_000));
+    give_out(&rt, &mut slots, 3_000)?;
+    has_made(&rt, &slots, 3_000, 3_000);
     Ok(())
+}
+
+// How many numbers were given out, and how many of them are live.
+fn has_made(rt: &impl Abort, slots: &Slots, made: u64, live: usize) {
+    assert!(rt; slots.made() == made);
+    assert!(rt; slots.count() == live);
+}
+
+// 2,500 numbers, room for one more, and the first mark.
+fn make_ready(rt: &impl Abort, alloc: Global, slots: &mut Slots) -> Result<(), AllocError>
+    ensures room { OnOk result (1 ≤ slots.new.room) }
+{
+    make_all(rt, slots, 2_500)?;
+    begins_after(rt, alloc, slots)
+}
+
+fn begins_after(rt: &impl Abort, alloc: Global, slots: &mut Slots) -> Result<(), AllocError>
+    ensures room { OnOk result (1 ≤ slots.new.room) }
+{
+    reserve(rt, slots, 1)?;
+    begins(alloc)
+}
+
+// One more number is given out, and most are released.
+fn make_and_release(rt: &impl Abort, slots: &mut Slots)
+    requires { 1 ≤ slots.old.room }
+{
+    let next = slots.push_reserved();
+    assert!(rt; next == 2_500 && slots.slot(next) == Some(2_500));
+    release_all(rt, slots, 0, 2_400);
+    has_made(rt, slots, 2_501, 101);
 }
 
 // Numbers are given out in room that is there, looked up and released.
 #[test]
 fn numbers_without_a_growth(rt: HostRuntime) -> Result<(), Fail> {
     let mut slots = Slots::new(rt.alloc());
-    make_all(&rt, &mut slots, 2_500)?;
-    reserve(&rt, &mut slots, 1)?;
-    begins(rt.alloc())?;
-    let next = slots.push_reserved();
-    assert_eq!(rt; (next, slots.slot(next)), (2_500, Some(2_500)));
-    release_all(&rt, &mut slots, 0, 2_400);
-    assert_eq!(rt; (slots.made(), slots.count()), (2_501, 101));
+    make_ready(&rt, rt.alloc(), &mut slots)?;
+    make_and_release(&rt, &mut slots);
     ends(rt.alloc());
     assert!(rt; !slots.is_present(0) && slots.is_present(2_400));
     Ok(())

@@ -1,7 +1,7 @@
 //! Static ranges over a small tree: made, read, asked for by node, and released; and many that come and go.
 
 use super::marks::{begins, ends};
-use super::range_scenes::{Units, at, grown};
+use super::range_scenes::{Units, at, grow};
 use dom_point::Point;
 use dom_ranges::{StaticId, Statics};
 use dom_tree::{NodeId, Tree};
@@ -42,19 +42,12 @@ fn refers(rt: &impl Abort, statics: &Statics, tree: &Tree<Units>, node: u32) -> 
 
 // A static range is made, and stays where it was put.
 fn keep_static(rt: &impl Abort, statics: &mut Statics) -> Result<(), AllocError> {
-    assert_eq!(rt; statics.made(), 0);
+    assert!(rt; statics.made() == 0);
     let u = kept(rt, statics, at(3, 4), at(5, 6))?;
-    assert_eq!(rt; statics.made(), 1);
+    assert!(rt; statics.made() == 1);
     assert!(rt; statics.holds(u));
     assert!(rt; !statics.holds(StaticId::new(1)));
     lies(rt, statics, 0, at(3, 4), at(5, 6));
-    Ok(())
-}
-
-#[test]
-fn static_ranges(rt: HostRuntime) -> Result<(), Fail> {
-    let mut statics = Statics::new(rt.alloc());
-    keep_static(&rt, &mut statics)?;
     Ok(())
 }
 
@@ -74,7 +67,7 @@ fn release_three(rt: &impl Abort, statics: &mut Statics) -> Result<(), AllocErro
         lies(rt, statics, 2, at(3, 0), at(3, 0));
     }
     let u = kept(rt, statics, at(9, 1), at(9, 2))?;
-    assert_eq!(rt; (u, statics.made()), (StaticId::new(4), 5));
+    assert!(rt; u == StaticId::new(4) && statics.made() == 5);
     for number in [0, 1, 3, 5] {
         assert!(rt; !statics.holds(StaticId::new(number)), "there is {number}");
     }
@@ -83,14 +76,7 @@ fn release_three(rt: &impl Abort, statics: &mut Statics) -> Result<(), AllocErro
     Ok(())
 }
 
-#[test]
-fn one_stays(rt: HostRuntime) -> Result<(), Fail> {
-    let mut statics = Statics::new(rt.alloc());
-    release_three(&rt, &mut statics)?;
-    Ok(())
-}
-
-// 0 [ 1 [ 2 ] 3 ], where two static ranges have ends in 2, one of them both, and the other one in 3
+// A node is named until the last end in it goes: 0 [ 1 [ 2 ] 3 ], where two static ranges have ends in 2, one of them both, and the other one in 3
 fn release_in_one_node(
     rt: &impl Abort,
     statics: &mut Statics,
@@ -110,15 +96,6 @@ fn release_in_one_node(
     Ok(())
 }
 
-// A node is named until the last end in it goes.
-#[test]
-fn ends_in_one_node(rt: HostRuntime) -> Result<(), Fail> {
-    let tree = grown(&rt, rt.alloc(), &[0, 1, 0])?;
-    let mut statics = Statics::new(rt.alloc());
-    release_in_one_node(&rt, &mut statics, &tree)?;
-    Ok(())
-}
-
 // Of a tree with more nodes than there are ends, one end after another goes.
 fn release_inside_many(
     rt: &impl Abort,
@@ -135,13 +112,65 @@ fn release_inside_many(
     Ok(())
 }
 
+// What is done with static ranges.
+#[derive(Clone, Copy)]
+enum Scene {
+    OneIsKept,
+    OneStays,
+    EndsInOneNode,
+    MoreNodesThanEnds,
+}
+
+// The tree of a scene; two need none.
+fn grow_for(
+    rt: &impl Abort,
+    alloc: Global,
+    tree: &mut Tree<Units>,
+    scene: Scene,
+) -> Result<(), AllocError> {
+    match scene {
+        Scene::OneIsKept | Scene::OneStays => Ok(()),
+        Scene::EndsInOneNode => grow(rt, alloc, tree, &[0, 1, 0]),
+        Scene::MoreNodesThanEnds => {
+            let mut parents = [1; 100];
+            parents[0] = 0;
+            grow(rt, alloc, tree, &parents)
+        }
+    }
+}
+
+fn act(
+    rt: &impl Abort,
+    statics: &mut Statics,
+    tree: &Tree<Units>,
+    scene: Scene,
+) -> Result<(), AllocError> {
+    match scene {
+        Scene::OneIsKept => keep_static(rt, statics),
+        Scene::OneStays => release_three(rt, statics),
+        Scene::EndsInOneNode => release_in_one_node(rt, statics, tree),
+        Scene::MoreNodesThanEnds => release_inside_many(rt, statics, tree),
+    }
+}
+
+fn play(rt: &impl Abort, alloc: Global, scene: Scene) -> Result<(), AllocError> {
+    let mut tree = Tree::new(alloc);
+    grow_for(rt, alloc, &mut tree, scene)?;
+    let mut statics = Statics::new(alloc);
+    act(rt, &mut statics, &tree, scene)
+}
+
+// Each scene has functions of its own, which a failed assertion names by its line.
 #[test]
-fn more_nodes_than_ends(rt: HostRuntime) -> Result<(), Fail> {
-    let mut parents = [1; 100];
-    parents[0] = 0;
-    let tree = grown(&rt, rt.alloc(), &parents)?;
-    let mut statics = Statics::new(rt.alloc());
-    release_inside_many(&rt, &mut statics, &tree)?;
+fn scenes(rt: HostRuntime) -> Result<(), Fail> {
+    for scene in [
+        Scene::OneIsKept,
+        Scene::OneStays,
+        Scene::EndsInOneNode,
+        Scene::MoreNodesThanEnds,
+    ] {
+        play(&rt, rt.alloc(), scene)?;
+    }
     Ok(())
 }
 
@@ -152,13 +181,17 @@ fn keep_a_hundred(rt: &impl Abort, alloc: Global, statics: &mut Statics) -> Resu
 }
 
 // All of a hundred are released, every second one from the first on, and then the others.
+fn release_a_hundred(rt: &impl Abort, statics: &mut Statics) {
+    for n in 0..100u32 {
+        release(rt, statics, n % 50 * 2 + n / 50);
+    }
+}
+
 #[test]
 fn released_without_a_growth(rt: HostRuntime) -> Result<(), Fail> {
     let mut statics = Statics::new(rt.alloc());
     keep_a_hundred(&rt, rt.alloc(), &mut statics)?;
-    for n in 0..100u32 {
-        release(&rt, &mut statics, n % 50 * 2 + n / 50);
-    }
+    release_a_hundred(&rt, &mut statics);
     ends(rt.alloc());
     Ok(())
 }
@@ -171,7 +204,7 @@ fn come_and_go(rt: &impl Abort, statics: &mut Statics) -> Result<(), AllocError>
         release(rt, statics, n);
     }
     lies(rt, statics, 0, at(0, 1), at(0, 2));
-    assert_eq!(rt; (statics.made(), statics.count()), (1_000_001, 1));
+    assert!(rt; statics.made() == 1_000_001 && statics.count() == 1);
     Ok(())
 }
 

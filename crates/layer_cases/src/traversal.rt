@@ -23,14 +23,18 @@ fn element(
     made(rt, tree, label, (), Some(NodeId::new(0)))
 }
 
-// A Document, numbered 0, and elements of these names, numbered from 1.
-fn elements(rt: &impl Abort, alloc: Global, names: &[&str]) -> Result<Tree<()>, AllocError> {
-    let mut tree = Tree::new(alloc);
-    let _ = made(rt, &mut tree, Label::nameless(Kind::Document), (), None)?;
+// Makes a Document, numbered 0, and elements of these names, numbered from 1.
+fn make_elements(
+    rt: &impl Abort,
+    alloc: Global,
+    tree: &mut Tree<()>,
+    names: &[&str],
+) -> Result<(), AllocError> {
+    let _ = made(rt, tree, Label::nameless(Kind::Document), (), None)?;
     for name in names {
-        let _ = element(rt, alloc, &mut tree, name)?;
+        let _ = element(rt, alloc, tree, name)?;
     }
-    Ok(tree)
+    Ok(())
 }
 
 // Puts an element last under another.
@@ -52,14 +56,23 @@ pub(crate) fn remove(
     tree.cut(node);
 }
 
-pub(crate) fn filter(alloc: Global, rules: &[(&str, Verdict)]) -> Result<Filter, AllocError> {
-    let mut all = Vec::new(alloc);
+fn push_rules(
+    alloc: Global,
+    all: &mut Vec<Rule>,
+    rules: &[(&str, Verdict)],
+) -> Result<(), AllocError> {
     for (name, verdict) in rules {
         all.push(Rule {
             name: String::from_str(alloc, name)?,
             verdict: *verdict,
         })?;
     }
+    Ok(())
+}
+
+pub(crate) fn filter(alloc: Global, rules: &[(&str, Verdict)]) -> Result<Filter, AllocError> {
+    let mut all = Vec::new(alloc);
+    push_rules(alloc, &mut all, rules)?;
     Ok(Filter {
         show: 4294967295,
         rules: all,
@@ -167,16 +180,27 @@ fn walk_all(
     steps: &[(WalkerId, Move, Option<u32>)],
 ) {
     for (id, direction, found) in steps {
-        assert_eq!(rt; walk(rt, walkers, tree, *id, *direction), *found);
+        assert!(rt; walk(rt, walkers, tree, *id, *direction) == *found);
     }
 }
 
 // r [ a [ b ] c ], and two more elements, 5 and 6, which are roots
+pub(crate) fn grow_small(
+    rt: &impl Abort,
+    alloc: Global,
+    tree: &mut Tree<()>,
+) -> Result<(), AllocError> {
+    make_elements(rt, alloc, tree, &["r", "a", "b", "c", "s", "t"])?;
+    append(rt, tree, 1, 2);
+    append(rt, tree, 2, 3);
+    append(rt, tree, 1, 4);
+    Ok(())
+}
+
+// The same alone.
 pub(crate) fn small(rt: &impl Abort, alloc: Global) -> Result<Tree<()>, AllocError> {
-    let mut tree = elements(rt, alloc, &["r", "a", "b", "c", "s", "t"])?;
-    append(rt, &mut tree, 1, 2);
-    append(rt, &mut tree, 2, 3);
-    append(rt, &mut tree, 1, 4);
+    let mut tree = Tree::new(alloc);
+    grow_small(rt, alloc, &mut tree)?;
     Ok(tree)
 }
 
@@ -187,7 +211,7 @@ fn show_all(
     iterators: &mut NodeIterators,
 ) -> Result<(), AllocError> {
     let id = new_iterator(iterators, 1, filter(alloc, &[])?)?;
-    assert_eq!(rt; id.number(), 0);
+    assert!(rt; id.number() == 0);
     Ok(())
 }
 
@@ -198,25 +222,67 @@ fn iterates_all(rt: &impl Abort, alloc: Global) -> Result<NodeIterators, AllocEr
     Ok(iterators)
 }
 
+// What the first iterator does, or what happens to its tree.
+#[derive(Clone, Copy)]
+enum Step {
+    // It comes to this element, or to none.
+    Next(Option<u32>),
+    Previous(Option<u32>),
+    // This element leaves its parent.
+    Remove(u32),
+    // The second becomes the last child of the first.
+    Append(u32, u32),
+    // It is of the element 1, and stands at this one, before it or behind it.
+    Stands(u32, bool),
+}
+
+fn take(rt: &impl Abort, iterators: &mut NodeIterators, tree: &mut Tree<()>, step: Step) {
+    let id = IteratorId::new(0);
+    match step {
+        Step::Next(due) => assert!(rt; next(rt, iterators, tree, id) == due, "next: {due:?}"),
+        Step::Previous(due) => {
+            assert!(rt;
+                previous(rt, iterators, tree, id) == due,
+                "previous: {due:?}"
+            )
+        }
+        Step::Remove(node) => remove(rt, iterators, tree, node),
+        Step::Append(parent, child) => append(rt, tree, parent, child),
+        Step::Stands(reference, before) => {
+            assert!(rt;
+                iterator(rt, iterators, id) == (1, reference, before),
+                "{reference}"
+            )
+        }
+    }
+}
+
+fn take_each(rt: &impl Abort, iterators: &mut NodeIterators, tree: &mut Tree<()>) {
+    for step in [
+        Step::Stands(1, true),
+        Step::Next(Some(1)),
+        Step::Next(Some(2)),
+        Step::Next(Some(3)),
+        Step::Previous(Some(3)),
+        Step::Remove(2),
+        Step::Stands(4, true),
+        Step::Remove(4),
+        Step::Stands(1, false),
+        Step::Next(None),
+        Step::Append(5, 1),
+        Step::Append(6, 5),
+        Step::Remove(5),
+        Step::Stands(1, false),
+    ] {
+        take(rt, iterators, tree, step);
+    }
+}
+
 #[test]
 fn an_iterator_steps_off_what_is_removed(rt: HostRuntime) -> Result<(), Fail> {
     let mut tree = small(&rt, rt.alloc())?;
     let mut iterators = iterates_all(&rt, rt.alloc())?;
-    let id = IteratorId::new(0);
-    assert!(rt; iterator(&rt, &iterators, id) == (1, 1, true));
-    for wanted in 1..4 {
-        assert_eq!(rt; next(&rt, &mut iterators, &tree, id), Some(wanted));
-    }
-    assert_eq!(rt; previous(&rt, &mut iterators, &tree, id), Some(3));
-    remove(&rt, &mut iterators, &mut tree, 2);
-    assert!(rt; iterator(&rt, &iterators, id) == (1, 4, true));
-    remove(&rt, &mut iterators, &mut tree, 4);
-    assert!(rt; iterator(&rt, &iterators, id) == (1, 1, false));
-    assert_eq!(rt; next(&rt, &mut iterators, &tree, id), None);
-    append(&rt, &mut tree, 5, 1);
-    append(&rt, &mut tree, 6, 5);
-    remove(&rt, &mut iterators, &mut tree, 5);
-    assert!(rt; iterator(&rt, &iterators, id) == (1, 1, false));
+    take_each(&rt, &mut iterators, &mut tree);
     Ok(())
 }
 
@@ -228,7 +294,7 @@ fn skip_and_reject(
 ) -> Result<(), AllocError> {
     for (verdict, number) in [(Verdict::Skip, 0), (Verdict::Reject, 1)] {
         let id = new_walker(walkers, 1, filter(alloc, &[("a", verdict)])?)?;
-        assert_eq!(rt; id.number(), number);
+        assert!(rt; id.number() == number);
     }
     Ok(())
 }
@@ -283,12 +349,12 @@ fn walkers_that_skip_and_reject(rt: HostRuntime) -> Result<(), Fail> {
 }
 
 // p [ a b c ]
-fn three_children(rt: &impl Abort, alloc: Global) -> Result<Tree<()>, AllocError> {
-    let mut tree = elements(rt, alloc, &["p", "a", "b", "c"])?;
+fn three_children(rt: &impl Abort, alloc: Global, tree: &mut Tree<()>) -> Result<(), AllocError> {
+    make_elements(rt, alloc, tree, &["p", "a", "b", "c"])?;
     for child in 2..5 {
-        append(rt, &mut tree, 1, child);
+        append(rt, tree, 1, child);
     }
-    Ok(tree)
+    Ok(())
 }
 
 pub(crate) fn refers(rt: &impl Abort, walkers: &Walkers, tree: &Tree<()>, node: u32) -> bool {
@@ -297,57 +363,101 @@ pub(crate) fn refers(rt: &impl Abort, walkers: &Walkers, tree: &Tree<()>, node: 
     walkers.refers(tree, node)
 }
 
+// A walker of the element 3 that skips what is named b, and stands at the element 4.
+fn stand_behind(alloc: Global, rt: &impl Abort, walkers: &mut Walkers) -> Result<(), AllocError> {
+    let id = new_walker(walkers, 3, filter(alloc, &[("b", Verdict::Skip)])?)?;
+    assert!(rt; id.number() == 0);
+    set_current(rt, walkers, id, 4);
+    Ok(())
+}
+
+fn goes_back(rt: &impl Abort, walkers: &mut Walkers, tree: &Tree<()>) {
+    let id = WalkerId::new(0);
+    walk_all(rt, walkers, tree, &[(id, Move::PreviousNode, Some(2))]);
+    assert!(rt; walker(rt, walkers, id) == (3, 2));
+    assert!(rt; refers(rt, walkers, tree, 1));
+    assert!(rt; !refers(rt, walkers, tree, 4));
+}
+
+// No iterator, where there is none.
+fn no_iterator_refers(rt: &impl Abort, alloc: Global, tree: &Tree<()>) {
+    assert!(rt; tree.holds(NodeId::new(1)));
+    assert!(rt; !NodeIterators::new(alloc).refers(tree, NodeId::new(1)));
+}
+
+fn walks_back(
+    rt: &impl Abort,
+    alloc: Global,
+    walkers: &mut Walkers,
+    tree: &mut Tree<()>,
+) -> Result<(), AllocError> {
+    three_children(rt, alloc, tree)?;
+    stand_behind(alloc, rt, walkers)?;
+    goes_back(rt, walkers, tree);
+    no_iterator_refers(rt, alloc, tree);
+    Ok(())
+}
+
 #[test]
 fn a_walker_goes_back_past_its_root(rt: HostRuntime) -> Result<(), Fail> {
-    let tree = three_children(&rt, rt.alloc())?;
+    let mut tree = Tree::new(rt.alloc());
     let mut walkers = Walkers::new(rt.alloc());
-    let skips = filter(rt.alloc(), &[("b", Verdict::Skip)])?;
-    let id = new_walker(&mut walkers, 3, skips)?;
-    set_current(&rt, &mut walkers, id, 4);
-    walk_all(
-        &rt,
-        &mut walkers,
-        &tree,
-        &[(id, Move::PreviousNode, Some(2))],
-    );
-    assert_eq!(rt; walker(&rt, &walkers, id), (3, 2));
-    assert!(rt; refers(&rt, &walkers, &tree, 1));
-    assert!(rt; !refers(&rt, &walkers, &tree, 4));
-    assert!(rt; tree.holds(NodeId::new(1)));
-    assert!(rt; !NodeIterators::new(rt.alloc()).refers(&tree, NodeId::new(1)));
+    walks_back(&rt, rt.alloc(), &mut walkers, &mut tree)?;
     Ok(())
 }
 
 // An element with so many others under it, less two, which are numbered from 2 on.
-fn wide(rt: &impl Abort, alloc: Global, count: u32) -> Result<Tree<()>, AllocError> {
-    let mut tree = elements(rt, alloc, &["r"])?;
+fn grow_wide(
+    rt: &impl Abort,
+    alloc: Global,
+    tree: &mut Tree<()>,
+    count: u32,
+) -> Result<(), AllocError> {
+    make_elements(rt, alloc, tree, &["r"])?;
     for number in 2..count {
-        let _ = element(rt, alloc, &mut tree, "a")?;
-        append(rt, &mut tree, 1, number);
+        let _ = element(rt, alloc, tree, "a")?;
+        append(rt, tree, 1, number);
     }
-    Ok(tree)
+    Ok(())
 }
 
-// An iterator over so many elements, all under the first of them: each is found once.
-fn iterates(rt: &impl Abort, alloc: Global, count: u32) -> Result<(), AllocError> {
-    let tree = wide(rt, alloc, count)?;
-    let mut iterators = iterates_all(rt, alloc)?;
+// Each of so many elements is found once.
+fn finds_each(rt: &impl Abort, iterators: &mut NodeIterators, tree: &Tree<()>, count: u32) {
     let id = IteratorId::new(0);
     for number in 1..count {
-        assert_eq!(rt; next(rt, &mut iterators, &tree, id), Some(number));
+        assert!(rt; next(rt, iterators, tree, id) == Some(number), "{number}");
     }
-    assert_eq!(rt; next(rt, &mut iterators, &tree, id), None);
+    assert!(rt; next(rt, iterators, tree, id).is_none());
+}
+
+// An iterator over so many elements, all under the first of them.
+fn iterates(
+    rt: &impl Abort,
+    alloc: Global,
+    iterators: &mut NodeIterators,
+    tree: &mut Tree<()>,
+    count: u32,
+) -> Result<(), AllocError> {
+    grow_wide(rt, alloc, tree, count)?;
+    show_all(rt, alloc, iterators)?;
+    finds_each(rt, iterators, tree, count);
     Ok(())
+}
+
+fn iterates_over(rt: &impl Abort, alloc: Global, count: u32) -> Result<(), AllocError> {
+    let mut tree = Tree::new(alloc);
+    let mut iterators = NodeIterators::new(alloc);
+    iterates(rt, alloc, &mut iterators, &mut tree, count)
 }
 
 #[test]
 fn an_iterator_over_1000(rt: HostRuntime) -> Result<(), Fail> {
-    iterates(&rt, rt.alloc(), 1000)?;
+    iterates_over(&rt, rt.alloc(), 1000)?;
     Ok(())
 }
 
 #[test]
 fn an_iterator_over_100000(rt: HostRuntime) -> Result<(), Fail> {
-    iterates(&rt, rt.alloc(), 100000)?;
+    iterates_over(&rt, rt.alloc(), 100000)?;
     Ok(())
 }

@@ -27,6 +27,19 @@ fn refers(rt: &impl Abort, tree: &Tree<u32>, id: NodeId) -> bool {
     tree.refers(id)
 }
 
+fn push_children(
+    rt: &impl Abort,
+    numbers: &mut Vec<u32>,
+    tree: &Tree<u32>,
+    parent: NodeId,
+) -> Result<(), AllocError> {
+    assert!(rt; tree.holds(parent));
+    for child in tree.children(parent) {
+        numbers.push(child.number())?;
+    }
+    Ok(())
+}
+
 /// The numbers of the children of a node.
 fn children(
     rt: &impl Abort,
@@ -34,12 +47,25 @@ fn children(
     tree: &Tree<u32>,
     parent: NodeId,
 ) -> Result<Vec<u32>, AllocError> {
-    assert!(rt; tree.holds(parent));
     let mut numbers: Vec<u32> = Vec::new(alloc);
-    for child in tree.children(parent) {
-        numbers.push(child.number())?;
-    }
+    push_children(rt, &mut numbers, tree, parent)?;
     Ok(numbers)
+}
+
+fn push_children_from(
+    rt: &impl Abort,
+    numbers: &mut Vec<u32>,
+    tree: &Tree<u32>,
+    child: NodeId,
+) -> Result<(), AllocError> {
+    assert!(rt; tree.holds(child));
+    let above = tree.parent(child);
+    assert!(rt; above.is_some());
+    let parent = above.unwrap();
+    for each in tree.children_from(parent, Some(child)) {
+        numbers.push(each.number())?;
+    }
+    Ok(())
 }
 
 /// The numbers of the children of a node from one of them on.
@@ -49,14 +75,8 @@ fn children_from(
     tree: &Tree<u32>,
     child: NodeId,
 ) -> Result<Vec<u32>, AllocError> {
-    assert!(rt; tree.holds(child));
-    let above = tree.parent(child);
-    assert!(rt; above.is_some());
-    let parent = above.unwrap();
     let mut numbers: Vec<u32> = Vec::new(alloc);
-    for each in tree.children_from(parent, Some(child)) {
-        numbers.push(each.number())?;
-    }
+    push_children_from(rt, &mut numbers, tree, child)?;
     Ok(numbers)
 }
 
@@ -83,89 +103,94 @@ fn element(rt: &impl Abort, alloc: Global, tree: &mut Tree<u32>) -> Result<NodeI
     made(rt, tree, label, 7, Some(NodeId::new(0)))
 }
 
-/// The document 0, and the element 1 with four others in it, in the order in which they were made.
-fn four_children(rt: &impl Abort, alloc: Global) -> Result<Tree<u32>, AllocError> {
-    let mut tree = Tree::new(alloc);
-    let _ = made(rt, &mut tree, Label::nameless(Kind::Document), 7, None)?;
-    let parent = element(rt, alloc, &mut tree)?;
-    for _ in 0..4 {
-        let child = element(rt, alloc, &mut tree)?;
-        put(rt, &mut tree, parent, child, None);
-    }
-    Ok(tree)
+// The document 0, and the element 1.
+fn plant(rt: &impl Abort, alloc: Global, tree: &mut Tree<u32>) -> Result<(), AllocError> {
+    let _ = made(rt, tree, Label::nameless(Kind::Document), 7, None)?;
+    let _ = element(rt, alloc, tree)?;
+    Ok(())
 }
 
-/// The same, and the element 6 ahead of the four.
-fn five_children(rt: &impl Abort, alloc: Global) -> Result<Tree<u32>, AllocError> {
-    let mut tree = four_children(rt, alloc)?;
-    let first = element(rt, alloc, &mut tree)?;
-    put(rt, &mut tree, NodeId::new(1), first, Some(NodeId::new(2)));
-    Ok(tree)
+// The same, and so many others in the element, in the order in which they are made.
+fn plant_behind(
+    rt: &impl Abort,
+    alloc: Global,
+    tree: &mut Tree<u32>,
+    count: u32,
+) -> Result<(), AllocError> {
+    plant(rt, alloc, tree)?;
+    for _ in 0..count {
+        let child = element(rt, alloc, tree)?;
+        put(rt, tree, NodeId::new(1), child, None);
+    }
+    Ok(())
 }
 
-#[test]
-fn appended_children_know_their_index(rt: HostRuntime) -> Result<(), Fail> {
-    let tree = four_children(&rt, rt.alloc())?;
-    for place in 0..4 {
-        let id = NodeId::new(2 + place);
-        assert_eq!(rt; kept(&rt, &tree, id), Some(place as usize));
+// The same, each put in front of those that were there.
+fn plant_in_front(
+    rt: &impl Abort,
+    alloc: Global,
+    tree: &mut Tree<u32>,
+    count: u32,
+) -> Result<(), AllocError> {
+    plant(rt, alloc, tree)?;
+    for _ in 0..count {
+        put_first(rt, alloc, tree)?;
     }
+    Ok(())
+}
+
+// An element more, ahead of those in the element 1.
+fn put_first(rt: &impl Abort, alloc: Global, tree: &mut Tree<u32>) -> Result<(), AllocError> {
+    let parent = NodeId::new(1);
+    let child = element(rt, alloc, tree)?;
+    assert!(rt; tree.holds(parent));
+    let first = tree.first(parent);
+    put(rt, tree, parent, child, first);
     Ok(())
 }
 
 // That a child has come to a place: an index that is known is this one, and so is the one found.
 fn has_moved_on(rt: &impl Abort, tree: &Tree<u32>, id: NodeId, place: usize) {
     let known = kept(rt, tree, id);
-    assert!(rt; known.is_none() || known == Some(place));
-    assert_eq!(rt; index(rt, tree, id), place);
+    assert!(rt; known.is_none() || known == Some(place), "place {place}");
+    assert!(rt; index(rt, tree, id) == place, "place {place}");
 }
 
-#[test]
-fn a_child_in_front_moves_the_others_on(rt: HostRuntime) -> Result<(), Fail> {
-    let tree = five_children(&rt, rt.alloc())?;
+// A child in front moves the others on.
+fn have_moved_on(rt: &impl Abort, tree: &Tree<u32>) {
     for (id, place) in [(2, 1), (3, 2), (4, 3), (5, 4)] {
-        has_moved_on(&rt, &tree, NodeId::new(id), place);
+        has_moved_on(rt, tree, NodeId::new(id), place);
     }
-    assert_eq!(rt; index(&rt, &tree, NodeId::new(6)), 0);
-    Ok(())
+    assert!(rt; index(rt, tree, NodeId::new(6)) == 0);
 }
 
-#[test]
-fn numbered_children_know_their_index(rt: HostRuntime) -> Result<(), Fail> {
-    let mut tree = five_children(&rt, rt.alloc())?;
-    number_children(&rt, &mut tree, NodeId::new(1));
-    for (id, place) in [(6, 0), (2, 1), (3, 2), (4, 3), (5, 4)] {
-        assert_eq!(rt; kept(&rt, &tree, NodeId::new(id)), Some(place));
+// That these children know their index, or that none does.
+fn know(rt: &impl Abort, tree: &Tree<u32>, places: &[(u32, Option<usize>)]) {
+    for (id, place) in places {
+        assert!(rt; kept(rt, tree, NodeId::new(*id)) == *place, "{id}");
     }
-    Ok(())
 }
 
 // Five children from the first on, from one of them on, and of a node without any.
 fn list_children(rt: &impl Abort, alloc: Global, tree: &Tree<u32>) -> Result<(), AllocError> {
     let all = children(rt, alloc, tree, NodeId::new(1))?;
-    assert_eq!(rt; all.as_slice(), [6, 2, 3, 4, 5].as_slice());
-    let later = children_from(rt, alloc, tree, NodeId::new(3))?;
-    assert_eq!(rt; later.as_slice(), [3, 4, 5].as_slice());
-    let last = children_from(rt, alloc, tree, NodeId::new(5))?;
-    assert_eq!(rt; last.as_slice(), [5].as_slice());
-    assert!(rt; children(rt, alloc, tree, NodeId::new(2))?.is_empty());
-    Ok(())
-}
-
-#[test]
-fn children_come_in_order(rt: HostRuntime) -> Result<(), Fail> {
-    let tree = five_children(&rt, rt.alloc())?;
-    list_children(&rt, rt.alloc(), &tree)?;
+    assert!(rt; all.as_slice() == [6, 2, 3, 4, 5].as_slice());
+    let none = children(rt, alloc, tree, NodeId::new(2))?;
+    assert!(rt; none.is_empty());
     assert!(rt; tree.children_from(NodeId::new(1), None).next().is_none());
     Ok(())
 }
 
-#[test]
-fn an_index_is_found_within_steps(rt: HostRuntime) -> Result<(), Fail> {
-    let mut tree = five_children(&rt, rt.alloc())?;
-    assert_eq!(rt; kept(&rt, &tree, NodeId::new(3)), None);
-    assert_eq!(rt; kept(&rt, &tree, NodeId::new(5)), None);
-    // from both sides; and node 1 is a root
+fn list_later_children(rt: &impl Abort, alloc: Global, tree: &Tree<u32>) -> Result<(), AllocError> {
+    let later = children_from(rt, alloc, tree, NodeId::new(3))?;
+    assert!(rt; later.as_slice() == [3, 4, 5].as_slice());
+    let last = children_from(rt, alloc, tree, NodeId::new(5))?;
+    assert!(rt; last.as_slice() == [5].as_slice());
+    Ok(())
+}
+
+// From both sides; and node 1 is a root.
+fn are_found_within_steps(rt: &impl Abort, tree: &Tree<u32>) {
     for (id, steps, found) in [
         (3, 0, None),
         (3, 1, None),
@@ -177,29 +202,48 @@ fn an_index_is_found_within_steps(rt: HostRuntime) -> Result<(), Fail> {
         (4, 1, Some(3)),
         (1, 0, Some(0)),
     ] {
-        assert_eq!(rt;
-            within(&rt, &tree, NodeId::new(id), steps),
-            found,
+        assert!(rt;
+            within(rt, tree, NodeId::new(id), steps) == found,
             "{id} in {steps}"
         );
     }
-    number_children(&rt, &mut tree, NodeId::new(1));
-    assert_eq!(rt; within(&rt, &tree, NodeId::new(3), 0), Some(2));
+}
+
+// Five children that are not numbered, and then are.
+fn number_five(rt: &impl Abort, tree: &mut Tree<u32>) {
+    know(rt, tree, &[(3, None), (5, None)]);
+    are_found_within_steps(rt, tree);
+    number_children(rt, tree, NodeId::new(1));
+    assert!(rt; within(rt, tree, NodeId::new(3), 0) == Some(2));
+    know(
+        rt,
+        tree,
+        &[
+            (6, Some(0)),
+            (2, Some(1)),
+            (3, Some(2)),
+            (4, Some(3)),
+            (5, Some(4)),
+        ],
+    );
+}
+
+// The element 6 ahead of four others.
+fn ask_five(rt: &impl Abort, alloc: Global, tree: &mut Tree<u32>) -> Result<(), AllocError> {
+    plant_behind(rt, alloc, tree, 4)?;
+    put_first(rt, alloc, tree)?;
+    have_moved_on(rt, tree);
+    list_children(rt, alloc, tree)?;
+    list_later_children(rt, alloc, tree)?;
+    number_five(rt, tree);
     Ok(())
 }
 
-/// The document 0, and the element 1 with so many others in it, each put in front of those that were there.
-fn put_in_front(rt: &impl Abort, alloc: Global, count: u32) -> Result<Tree<u32>, AllocError> {
-    let mut tree = Tree::new(alloc);
-    let _ = made(rt, &mut tree, Label::nameless(Kind::Document), 7, None)?;
-    let parent = element(rt, alloc, &mut tree)?;
-    for _ in 0..count {
-        let child = element(rt, alloc, &mut tree)?;
-        assert!(rt; tree.holds(parent));
-        let first = tree.first(parent);
-        put(rt, &mut tree, parent, child, first);
-    }
-    Ok(tree)
+#[test]
+fn five_children_and_their_indices(rt: HostRuntime) -> Result<(), Fail> {
+    let mut tree = Tree::new(rt.alloc());
+    ask_five(&rt, rt.alloc(), &mut tree)?;
+    Ok(())
 }
 
 // Whether one of two children of one parent comes first.
@@ -207,7 +251,7 @@ fn is_first(rt: &impl Abort, tree: &mut Tree<u32>, a: NodeId, b: NodeId) -> bool
     assert!(rt; tree.holds(a));
     assert!(rt; tree.holds(b));
     assert!(rt; tree.parent(a).is_some());
-    assert_eq!(rt; tree.parent(a), tree.parent(b));
+    assert!(rt; tree.parent(a) == tree.parent(b));
     tree.found_comes_before(a, b)
 }
 
@@ -215,72 +259,111 @@ fn is_first(rt: &impl Abort, tree: &mut Tree<u32>, a: NodeId, b: NodeId) -> bool
 fn compare_near_and_far(rt: &impl Abort, tree: &mut Tree<u32>) {
     let (early, late) = (NodeId::new(200), NodeId::new(100));
     assert!(rt; is_first(rt, tree, NodeId::new(151), NodeId::new(150)));
-    assert_eq!(rt;
-        kept(rt, tree, early),
-        None,
+    assert!(rt;
+        kept(rt, tree, early) == None,
         "side by side: none is numbered"
     );
     assert!(rt; is_first(rt, tree, early, late));
-    assert_eq!(rt; kept(rt, tree, early), Some(101));
-    assert_eq!(rt; kept(rt, tree, late), Some(201));
+    assert!(rt; kept(rt, tree, early) == Some(101));
+    assert!(rt; kept(rt, tree, late) == Some(201));
     assert!(rt; !is_first(rt, tree, late, early));
     assert!(rt; !is_first(rt, tree, late, late));
 }
 
+fn compare_children(
+    rt: &impl Abort,
+    alloc: Global,
+    tree: &mut Tree<u32>,
+) -> Result<(), AllocError> {
+    plant_in_front(rt, alloc, tree, 300)?;
+    compare_near_and_far(rt, tree);
+    Ok(())
+}
+
 #[test]
 fn children_far_apart_are_numbered_once_they_are_compared(rt: HostRuntime) -> Result<(), Fail> {
-    let mut tree = put_in_front(&rt, rt.alloc(), 300)?;
-    compare_near_and_far(&rt, &mut tree);
+    let mut tree = Tree::new(rt.alloc());
+    compare_children(&rt, rt.alloc(), &mut tree)?;
     Ok(())
 }
 
-#[test]
-fn a_cut_child_leaves_the_indices_before_it(rt: HostRuntime) -> Result<(), Fail> {
-    let mut tree = four_children(&rt, rt.alloc())?;
+// A cut child leaves the indices before it, and comes again as the last.
+fn cut_third(rt: &impl Abort, tree: &mut Tree<u32>) {
     let third = NodeId::new(4);
-    cut(&rt, &mut tree, third);
-    assert_eq!(rt; kept(&rt, &tree, NodeId::new(2)), Some(0));
-    assert_eq!(rt; kept(&rt, &tree, NodeId::new(3)), Some(1));
-    assert_eq!(rt; kept(&rt, &tree, NodeId::new(5)), None);
-    assert_eq!(rt; index(&rt, &tree, NodeId::new(5)), 2);
-    put(&rt, &mut tree, NodeId::new(1), third, None);
-    assert_eq!(rt; index(&rt, &tree, third), 3);
-    Ok(())
+    cut(rt, tree, third);
+    know(rt, tree, &[(2, Some(0)), (3, Some(1)), (5, None)]);
+    assert!(rt; index(rt, tree, NodeId::new(5)) == 2);
+    put(rt, tree, NodeId::new(1), third, None);
+    assert!(rt; index(rt, tree, third) == 3);
 }
 
-#[test]
-fn a_tree_is_let_go_of_once_nothing_names_it(rt: HostRuntime) -> Result<(), Fail> {
-    let mut tree = four_children(&rt, rt.alloc())?;
+// A tree is let go of once nothing names it.
+fn let_go(rt: &impl Abort, tree: &mut Tree<u32>) {
     let parent = NodeId::new(1);
     assert!(rt;
-        refers(&rt, &tree, NodeId::new(0)),
+        refers(rt, tree, NodeId::new(0)),
         "the element's node document"
     );
-    assert!(rt; refers(&rt, &tree, NodeId::new(2)), "a child");
-    assert!(rt; !refers(&rt, &tree, parent), "a root with its own children");
-    free(&rt, &mut tree, parent);
-    assert_eq!(rt; (tree.live(), tree.made()), (1, 6));
+    assert!(rt; refers(rt, tree, NodeId::new(2)), "a child");
+    assert!(rt; !refers(rt, tree, parent), "a root with its own children");
+    free(rt, tree, parent);
+    assert!(rt; tree.live() == 1);
+    assert!(rt; tree.made() == 6);
     assert!(rt; !tree.holds(parent) && !tree.holds(NodeId::new(5)));
-    let next = element(&rt, rt.alloc(), &mut tree)?;
-    assert_eq!(rt; (next.number(), tree.live()), (6, 2));
-    assert!(rt; !tree.holds(parent));
+}
+
+// Its numbers do not come again.
+fn make_next(rt: &impl Abort, alloc: Global, tree: &mut Tree<u32>) -> Result<(), AllocError> {
+    let next = element(rt, alloc, tree)?;
+    assert!(rt; next.number() == 6 && tree.live() == 2);
+    assert!(rt; !tree.holds(NodeId::new(1)));
     Ok(())
 }
 
-// Of three hundred children two are put in order, all are numbered, and one comes to the front; it is cut, and let go of.
+// Appended children know their index.
+fn ask_four(rt: &impl Abort, alloc: Global, tree: &mut Tree<u32>) -> Result<(), AllocError> {
+    plant_behind(rt, alloc, tree, 4)?;
+    know(
+        rt,
+        tree,
+        &[(2, Some(0)), (3, Some(1)), (4, Some(2)), (5, Some(3))],
+    );
+    cut_third(rt, tree);
+    let_go(rt, tree);
+    make_next(rt, alloc, tree)
+}
+
+#[test]
+fn four_children_cut_and_let_go(rt: HostRuntime) -> Result<(), Fail> {
+    let mut tree = Tree::new(rt.alloc());
+    ask_four(&rt, rt.alloc(), &mut tree)?;
+    Ok(())
+}
+
+// Two are put in order, all are numbered, and one comes to the front; it is cut, and let go of.
+fn move_and_free(rt: &impl Abort, tree: &mut Tree<u32>) {
+    let (parent, child) = (NodeId::new(1), NodeId::new(150));
+    assert!(rt; is_first(rt, tree, NodeId::new(200), NodeId::new(100)));
+    number_children(rt, tree, parent);
+    cut(rt, tree, child);
+    put(rt, tree, parent, child, Some(NodeId::new(301)));
+    assert!(rt; index(rt, tree, child) == 0);
+    cut(rt, tree, child);
+    free(rt, tree, child);
+}
+
+fn ready(rt: &impl Abort, alloc: Global, tree: &mut Tree<u32>) -> Result<(), AllocError> {
+    plant_in_front(rt, alloc, tree, 300)?;
+    begins(alloc)
+}
+
+// Of three hundred children.
 #[test]
 fn children_without_a_growth(rt: HostRuntime) -> Result<(), Fail> {
-    let mut tree = put_in_front(&rt, rt.alloc(), 300)?;
-    let (parent, child) = (NodeId::new(1), NodeId::new(150));
-    begins(rt.alloc())?;
-    assert!(rt; is_first(&rt, &mut tree, NodeId::new(200), NodeId::new(100)));
-    number_children(&rt, &mut tree, parent);
-    cut(&rt, &mut tree, child);
-    put(&rt, &mut tree, parent, child, Some(NodeId::new(301)));
-    assert_eq!(rt; index(&rt, &tree, child), 0);
-    cut(&rt, &mut tree, child);
-    free(&rt, &mut tree, child);
+    let mut tree = Tree::new(rt.alloc());
+    ready(&rt, rt.alloc(), &mut tree)?;
+    move_and_free(&rt, &mut tree);
     ends(rt.alloc());
-    assert!(rt; !tree.holds(child));
+    assert!(rt; !tree.holds(NodeId::new(150)));
     Ok(())
 }

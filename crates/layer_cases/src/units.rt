@@ -19,21 +19,21 @@ fn has_units(rt: &impl Abort, alloc: Global, text: &str, wanted: &[u16]) -> Resu
     Ok(())
 }
 
-#[test]
-fn text_to_units(rt: HostRuntime) -> Result<(), Fail> {
+// Each text has these units.
+fn have_units(rt: &impl Abort, alloc: Global) -> Result<(), AllocError> {
     for (text, wanted) in [
         ("", [].as_slice()),
         ("a😀b", [97, 55357, 56832, 98].as_slice()),
         (EDGES, UNITS_OF_EDGES.as_slice()),
     ] {
-        has_units(&rt, rt.alloc(), text, wanted)?;
+        has_units(rt, alloc, text, wanted)?;
     }
     Ok(())
 }
 
-#[test]
-fn a_part_that_cuts_a_pair(rt: HostRuntime) -> Result<(), Fail> {
-    let smile = Units::from_str(rt.alloc(), "a😀b")?;
+// A part that cuts a pair.
+fn cuts_a_pair(rt: &impl Abort, alloc: Global) -> Result<(), AllocError> {
+    let smile = Units::from_str(alloc, "a😀b")?;
     assert!(rt; smile.len() == 4);
     assert!(rt; smile.slice(2, 2) == [56832, 98].as_slice());
     Ok(())
@@ -49,22 +49,27 @@ fn reads(rt: &impl Abort, alloc: Global, units: &Units, wanted: &str) -> Result<
     Ok(())
 }
 
-#[test]
-fn units_to_text(rt: HostRuntime) -> Result<(), Fail> {
-    let edges = Units::from_units(rt.alloc(), &UNITS_OF_EDGES)?;
-    reads(&rt, rt.alloc(), &edges, EDGES)?;
+fn read_edges(rt: &impl Abort, alloc: Global) -> Result<(), AllocError> {
+    let edges = Units::from_units(alloc, &UNITS_OF_EDGES)?;
+    reads(rt, alloc, &edges, EDGES)
+}
+
+// That three units are no text.
+fn is_no_text(
+    rt: &impl Abort,
+    alloc: Global,
+    units: &[u16],
+    case: usize,
+) -> Result<(), AllocError> {
+    let units = Units::from_units(alloc, units)?;
+    assert!(rt; !units.is_well_formed(), "{case}");
+    assert!(rt; units.to_text(alloc)?.is_none(), "{case}");
+    assert!(rt; units.len() == 3, "{case}");
     Ok(())
 }
 
-#[test]
-fn no_units_to_text(rt: HostRuntime) -> Result<(), Fail> {
-    reads(&rt, rt.alloc(), &Units::new(rt.alloc()), "")?;
-    Ok(())
-}
-
-#[test]
-fn lone_surrogates(rt: HostRuntime) -> Result<(), Fail> {
-    let alloc = rt.alloc();
+// Lone surrogates.
+fn are_no_text(rt: &impl Abort, alloc: Global) -> Result<(), AllocError> {
     let lone = [
         [0xD800, 97, 97],
         [97, 0xDBFF, 97],
@@ -75,19 +80,38 @@ fn lone_surrogates(rt: HostRuntime) -> Result<(), Fail> {
         [0xD800, 0xD800, 0xDC00],
         [0xD800, 0xDC00, 0xDC00],
     ];
-    for units in lone {
-        let units = Units::from_units(alloc, &units)?;
-        assert!(rt; !units.is_well_formed());
-        assert!(rt; units.to_text(alloc)?.is_none());
-        assert!(rt; units.len() == 3);
+    for (case, units) in lone.iter().enumerate() {
+        is_no_text(rt, alloc, units, case)?;
     }
     Ok(())
 }
 
 #[test]
-fn replaced_parts(rt: HostRuntime) -> Result<(), Fail> {
-    let alloc = rt.alloc();
-    let two = Units::from_str(alloc, "XY")?;
+fn texts_and_units(rt: HostRuntime) -> Result<(), Fail> {
+    have_units(&rt, rt.alloc())?;
+    cuts_a_pair(&rt, rt.alloc())?;
+    read_edges(&rt, rt.alloc())?;
+    reads(&rt, rt.alloc(), &Units::new(rt.alloc()), "")?;
+    are_no_text(&rt, rt.alloc())?;
+    Ok(())
+}
+
+// That seven units of which some are replaced are this text.
+fn replaced(
+    rt: &impl Abort,
+    alloc: Global,
+    at: usize,
+    count: usize,
+    wanted: &str,
+) -> Result<(), AllocError> {
+    let mut data = Units::from_str(alloc, "abcdefg")?;
+    assert!(rt; at <= data.len() && count <= data.len() - at);
+    data.splice(at, count, &[88, 89])?;
+    reads(rt, alloc, &data, wanted)
+}
+
+// By X and Y.
+fn replace_each(rt: &impl Abort, alloc: Global) -> Result<(), AllocError> {
     for (at, count, wanted) in [
         (2, 3, "abXYfg"),
         (7, 0, "abcdefgXY"),
@@ -95,11 +119,14 @@ fn replaced_parts(rt: HostRuntime) -> Result<(), Fail> {
         (1, 2, "aXYdefg"),
         (0, 7, "XY"),
     ] {
-        let mut data = Units::from_str(alloc, "abcdefg")?;
-        assert!(rt; at <= data.len() && count <= data.len() - at);
-        data.splice(at, count, two.units())?;
-        assert!(rt; data.to_text(alloc)?.ok_or(wanted)?.as_str() == wanted);
+        replaced(rt, alloc, at, count, wanted)?;
     }
+    Ok(())
+}
+
+#[test]
+fn replaced_parts(rt: HostRuntime) -> Result<(), Fail> {
+    replace_each(&rt, rt.alloc())?;
     Ok(())
 }
 

@@ -208,6 +208,83 @@ fn a_node_that_left_is_told_of_once(rt: HostRuntime) -> Result<(), Fail> {
     Ok(())
 }
 
+// The pending observers are taken. Where that is refused, they are pending still.
+fn take_pending(rt: &impl Abort, observers: &mut Observers) -> Result<(), AllocError> {
+    let taken = match observers.take_pending() {
+        Ok(taken) => taken,
+        Err(_) => {
+            assert!(rt; observers.pending(0).is_some());
+            observers.take_pending()?
+        }
+    };
+    assert_eq!(rt; taken.len(), 1);
+    assert!(rt; observers.pending(0).is_none());
+    Ok(())
+}
+
+// How many records an observer is told in its turn.
+fn told_in_turn(rt: &impl Abort, observers: &mut Observers, observer: ObserverId) -> usize {
+    assert!(rt; observers.holds(observer));
+    observers.tell(observer).len()
+}
+
+// The observer is told of node 1 in its turn, and hears of it no more.
+struct AnObserverIsToldInItsTurn;
+
+impl Scene for AnObserverIsToldInItsTurn {
+    fn play(
+        rt: &impl Abort,
+        observers: &mut Observers,
+        tree: &Tree<u8>,
+        alloc: Global,
+    ) -> Result<(), AllocError> {
+        let node = NodeId::new(1);
+        begin(rt, observers)?;
+        leave(rt, observers, tree)?;
+        changed(rt, observers, tree, alloc, node)?;
+        take_pending(rt, observers)?;
+        assert_eq!(rt; told_in_turn(rt, observers, ObserverId::new(0)), 1);
+        changed(rt, observers, tree, alloc, node)?;
+        assert!(rt; observers.pending(0).is_none());
+        Ok(())
+    }
+}
+
+#[test]
+fn an_observer_is_told_in_its_turn(rt: HostRuntime) -> Result<(), Fail> {
+    played::<AnObserverIsToldInItsTurn>(&rt, rt.alloc())?;
+    Ok(())
+}
+
+// A record waits for its turn while all who are pending are told, and names its node until then.
+struct ARecordWaitsForItsTurn;
+
+impl Scene for ARecordWaitsForItsTurn {
+    fn play(
+        rt: &impl Abort,
+        observers: &mut Observers,
+        tree: &Tree<u8>,
+        alloc: Global,
+    ) -> Result<(), AllocError> {
+        let node = NodeId::new(1);
+        begin(rt, observers)?;
+        leave(rt, observers, tree)?;
+        changed(rt, observers, tree, alloc, node)?;
+        take_pending(rt, observers)?;
+        assert_eq!(rt; told(observers)?, 0);
+        assert!(rt; is_named(rt, observers, tree, node));
+        assert_eq!(rt; told_in_turn(rt, observers, ObserverId::new(0)), 1);
+        assert!(rt; !is_named(rt, observers, tree, node));
+        Ok(())
+    }
+}
+
+#[test]
+fn a_record_waits_for_its_turn(rt: HostRuntime) -> Result<(), Fail> {
+    played::<ARecordWaitsForItsTurn>(&rt, rt.alloc())?;
+    Ok(())
+}
+
 // Whether observers, or records that wait for them, name a node.
 fn is_named(rt: &impl Abort, observers: &Observers, tree: &Tree<u8>, node: NodeId) -> bool {
     assert!(rt; tree.holds(node));

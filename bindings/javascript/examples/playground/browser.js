@@ -36,11 +36,11 @@ export class Browser {
   #next = 1;
   #waiting = new Map();
 
-  static async open({ width = 1200, height = 800 } = {}) {
+  static async open({ width = 1200, height = 800, words: more = [] } = {}) {
     const it = new Browser();
     it.folder = mkdtempSync(join(tmpdir(), "huckleport-browser-"));
     const words = ["--headless=new", "--no-sandbox", "--disable-gpu", "--hide-scrollbars", "--remote-debugging-port=0", `--user-data-dir=${it.folder}`, `--window-size=${width},${height}`];
-    it.child = spawn(chromium(), [...words, "about:blank"], { stdio: ["ignore", "ignore", "pipe"] });
+    it.child = spawn(chromium(), [...words, ...more, "about:blank"], { stdio: ["ignore", "ignore", "pipe"] });
     it.socket = new Socket(await listening(it.child));
     it.socket.addEventListener("message", ({ data }) => it.#take(JSON.parse(data)));
     await new Promise((ready) => it.socket.addEventListener("open", ready));

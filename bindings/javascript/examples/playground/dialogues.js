@@ -3,9 +3,12 @@ import { existsSync, readdirSync, readFileSync } from "node:fs";
 import { fileURLToPath } from "node:url";
 import { parseArgs } from "node:util";
 
+import { linesOf } from "./page/dialogues.js";
+
+export { linesOf };
+
 const FOLDER = new URL("../../../../dialogues/", import.meta.url);
 const NAME = /^[a-z_]+\/[a-z0-9_]+$/;
-const NEWLINE = 10;
 
 // The names, by their subjects.
 export function names() {
@@ -15,17 +18,6 @@ export function names() {
   return subjects.flatMap((subject) => of(subject).sort());
 }
 
-// The lines of some bytes: a last piece that is not empty is a line too.
-export function linesOf(bytes) {
-  const lines = [];
-  let rest = bytes;
-  for (let end = rest.indexOf(NEWLINE); end >= 0; end = rest.indexOf(NEWLINE)) {
-    lines.push(rest.subarray(0, end));
-    rest = rest.subarray(end + 1);
-  }
-  return rest.length ? [...lines, rest] : lines;
-}
-
 function optionsOf(place) {
   if (!existsSync(place)) return {};
   const args = readFileSync(place, "utf8").split(/\s+/).filter(Boolean);
@@ -33,9 +25,19 @@ function optionsOf(place) {
   return Object.fromEntries(Object.entries(values).map(([name, value]) => [name, Number(value)]));
 }
 
+const at = (name, end) => new URL(`${name}.${end}`, FOLDER);
+
 // A dialogue by its name, or nothing where there is none.
 export function dialogue(name) {
-  const at = (end) => new URL(`${name}.${end}`, FOLDER);
-  if (!NAME.test(name) || !existsSync(at("in"))) return undefined;
-  return { lines: linesOf(readFileSync(at("in"))), options: optionsOf(at("opts")) };
+  if (!NAME.test(name) || !existsSync(at(name, "in"))) return undefined;
+  return { lines: linesOf(readFileSync(at(name, "in"))), options: optionsOf(at(name, "opts")) };
 }
+
+// All dialogues by their names, as a page has them: the bytes of their lines in base64, and their options.
+export function all() {
+  return Object.fromEntries(names().map((name) => [name, { lines: readFileSync(at(name, "in")).toString("base64"), options: optionsOf(at(name, "opts")) }]));
+}
+
+// What the program answers to a dialogue, as bytes.
+export const replies = (name) => readFileSync(at(name, "out"));
+

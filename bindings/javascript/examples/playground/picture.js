@@ -1,14 +1,17 @@
 #!/usr/bin/env node
 // Draws docs/playground.png: the page as Chromium shows it, after a dialogue to which an observer and two edits were typed.
-import { writeFileSync } from "node:fs";
+import { mkdtempSync, rmSync, writeFileSync } from "node:fs";
+import { tmpdir } from "node:os";
+import { join } from "node:path";
+import { pathToFileURL } from "node:url";
 import { parseArgs } from "node:util";
 
 import { Browser, missing } from "./browser.js";
-import { serve } from "./server.js";
+import { make } from "./make.js";
 
 const HELP = `usage: node bindings/javascript/examples/playground/picture.js [FILE]
 
-Draws the page into FILE, a picture of 1200 by 800 points (docs/playground.png). It needs the addon, Chromium and a WebSocket.
+Draws the page into FILE, a picture of 1200 by 800 points (docs/playground.png). It needs the module, esbuild, Chromium and a WebSocket.
 
   --help  this text
 `;
@@ -36,16 +39,17 @@ async function type(browser, line) {
 }
 
 async function draw(file) {
-  const { server, address } = await serve(0);
+  const folder = mkdtempSync(join(tmpdir(), "huckleport-page-"));
+  const address = `${pathToFileURL(make(folder))}`;
   const browser = await Browser.open();
   try {
-    await browser.goTo(`${address}?dialogue=${DIALOGUE}&step=${SET}`);
+    await browser.goTo(`${address}#dialogue=${DIALOGUE}&step=${SET}`);
     for (const line of TYPED) await type(browser, line);
     await browser.value('document.activeElement.blur()');
     writeFileSync(file, await browser.picture());
   } finally {
     await browser.close();
-    server.close();
+    rmSync(folder, { recursive: true });
   }
 }
 

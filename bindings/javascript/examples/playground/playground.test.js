@@ -1,25 +1,30 @@
-// Tests the playground: that each reply is the one of the dialogue, that token texts are those of docs/definitions.md, what the server refuses, and, where
-// Chromium is there, that what stands on the page is what the dialogue says.
+// Tests the playground: that each reply is the one of the dialogue, that token texts are those of docs/definitions.md, and, where Chromium and Firefox are
+// there, that what stands on the page is what the dialogue says. The page is opened from disk.
 import assert from "node:assert/strict";
 import { spawnSync } from "node:child_process";
-import { existsSync, readFileSync } from "node:fs";
-import { request } from "node:http";
+import { existsSync, mkdtempSync, readdirSync, readFileSync, rmSync } from "node:fs";
+import { tmpdir } from "node:os";
+import { join } from "node:path";
 import { after, before, describe, test } from "node:test";
-import { fileURLToPath } from "node:url";
+import { fileURLToPath, pathToFileURL } from "node:url";
 
 import { Browser, missing } from "./browser.js";
-import { dialogue, linesOf, names } from "./dialogues.js";
+import { dialogue, linesOf as cut, names } from "./dialogues.js";
+import { Firefox, missing as missingFirefox } from "./firefox.js";
+import { hasBundler, make, MODULE } from "./make.js";
 import { GROUPS, openPlace, template } from "./page/commands.js";
-import { tokenText } from "./token_text.js";
+import { tokenText } from "./page/token_text.js";
 
 const place = (path) => fileURLToPath(new URL(path, import.meta.url));
 const ROOT = "../../../../";
 const INDEX = place("index.js");
-const ADDON = process.env.HUCKLEPORT_ADDON ?? place("../../out/huckleport.node");
-const skip = existsSync(ADDON) ? false : "there is no addon (bindings/javascript/make.py builds it)";
+const skip = existsSync(MODULE) ? false : "there is no module (bindings/javascript/make.py puts it there)";
+const noBundler = hasBundler() ? false : "there is no esbuild";
 
 const document = (name) => readFileSync(place(`${ROOT}docs/${name}`), "utf8");
-const replies = (name) => linesOf(readFileSync(place(`${ROOT}dialogues/${name}.out`))).map(String);
+const texts = (lines) => lines.map((line) => Buffer.from(line).toString());
+const linesOf = (name) => texts(dialogue(name).lines);
+const replies = (name) => texts(cut(readFileSync(place(`${ROOT}dialogues/${name}.out`))));
 const written = (tokens) => tokens.map((it) => it.shown).join("");
 
 // The texts of the table that docs/definitions.md has: a dialogue, the line of the edit, the tree.
@@ -54,17 +59,14 @@ test("a command that is clicked is a line of JSON once its places are filled", (
 test("words that are not known are refused", () => {
   const run = (...words) => spawnSync(process.execPath, [INDEX, ...words], { encoding: "utf8", timeout: 10000 });
   assert.match(run("--help").stdout, /^usage:/);
-  for (const words of [["--nosuch"], ["--port", "x"], ["--port", "70000"]]) assert.equal(run(...words).status, 2);
+  for (const words of [["--nosuch"], ["here", "there"]]) assert.equal(run(...words).status, 2);
 });
 
-describe("over the addon", { skip }, () => {
-  let play, serve, server, address;
+describe("over the module", { skip }, () => {
+  let play;
   before(async () => {
-    ({ play } = await import("./play.js"));
-    ({ serve } = await import("./server.js"));
-    ({ server, address } = await serve(0));
+    ({ play } = await import("./page/play.js"));
   });
-  after(() => server?.close());
 
   test("each reply to each line of each dialogue is the dialogue's", () => {
     for (const name of names()) {
@@ -91,29 +93,33 @@ describe("over the addon", { skip }, () => {
     }
   });
 
-  // What a request of some other program is answered.
-  function status({ method = "GET", path = "/", headers = {}, body = "" }) {
-    const { hostname, port } = new URL(address);
-    return new Promise((tell, fail) => {
-      const asked = request({ hostname, port, path, method, headers }, (response) => {
-        response.resume();
-        tell(response.statusCode);
-      });
-      asked.on("error", fail).end(body);
-    });
-  }
+  describe("as a page", { skip: noBundler }, () => {
+  let folder, address;
+  before(() => {
+    folder = mkdtempSync(join(tmpdir(), "huckleport-page-"));
+    address = `${pathToFileURL(make(folder))}`;
+  });
+  after(() => rmSync(folder, { recursive: true }));
 
-  test("the server serves this machine's page alone", async () => {
-    const play = (body, headers) => status({ method: "POST", path: "/play", headers, body: JSON.stringify(body) });
-    assert.equal(await status({}), 200);
-    assert.equal(server.address().address, "127.0.0.1");
-    assert.equal(await status({ headers: { host: "elsewhere.test" } }), 403);
-    assert.equal(await play({ more: [] }, { origin: "http://elsewhere.test" }), 403);
-    assert.equal(await status({ path: "/../play.js" }), 404);
-    assert.equal(await play({ name: "../README", count: null }), 404);
-    assert.equal(await play({ more: ["[]\n[]"] }), 400);
-    assert.equal(await play({ more: Array(501).fill("[]") }), 413);
-    assert.equal(await play({ name: "ranges/ends_after_split", count: null }), 200);
+  test("the page is one file, which asks for nothing", () => {
+    assert.deepEqual(readdirSync(folder), ["index.html"]);
+    const text = readFileSync(join(folder, "index.html"), "utf8").replace(/<script>[^]*?<\/script>/u, "");
+    assert.doesNotMatch(text, /<(?:script|link|img)[^>]*(?:src|href)="(?!data:)/u);
+  });
+
+  describe("in firefox", { skip: missingFirefox() ?? false }, () => {
+    let browser;
+    before(async () => { browser = await Firefox.open(); });
+    after(() => browser?.close());
+
+    test("a dialogue is played, and what stands on the page is what the dialogue says", async () => {
+      for (const name of ["ranges/ends_after_split", "observers/two_told"]) {
+        await browser.goTo(`${address}?dialogue=${name}`);
+        const shown = (selector) => browser.value(`[...document.querySelectorAll(${JSON.stringify(selector)})].map((it) => it.textContent)`);
+        assert.deepEqual(await shown("#lines .command"), linesOf(name));
+        assert.deepEqual(await shown("#lines .reply"), replies(name));
+      }
+    });
   });
 
   describe("in chromium", { skip: missing() ?? false }, () => {
@@ -126,7 +132,7 @@ describe("over the addon", { skip }, () => {
     test("a dialogue is played, and what stands on the page is what the dialogue says", async () => {
       for (const name of ["ranges/ends_after_split", "observers/two_told", "bad_input/ranges_refused"]) {
         await browser.goTo(`${address}?dialogue=${name}`);
-        assert.deepEqual(await shown("#lines .command"), dialogue(name).lines.map(String));
+        assert.deepEqual(await shown("#lines .command"), linesOf(name));
         assert.deepEqual(await shown("#lines .reply"), replies(name));
       }
     });
@@ -167,11 +173,26 @@ describe("over the addon", { skip }, () => {
       assert.deepEqual(await shown(".text"), ["<#document></#document>", '<p>"text"</p>']);
     });
 
+    test("a link carries what was typed", async () => {
+      await browser.goTo(`${address}?dialogue=ranges/ends_after_split&step=2`);
+      await browser.click("#command");
+      await browser.type('["createComment",0,"mine"]');
+      await browser.press("Enter");
+      await browser.until('document.querySelectorAll(".line").length === 3');
+      const link = await browser.value('document.querySelector("#link").href');
+      await browser.call("Page.navigate", { url: "about:blank" });
+      await browser.until('location.href === "about:blank"');
+      await browser.goTo(link);
+      assert.deepEqual((await shown("#lines .command")).at(-1), '["createComment",0,"mine"]');
+      assert.deepEqual(await shown("#place"), ["3 of 3"]);
+    });
+
     test("an observer's records stand there until they are taken", async () => {
       await browser.goTo(`${address}?dialogue=observers/two_told&step=11`);
       assert.deepEqual(await shown("#records .type"), ["attributes", "childList", "attributes"]);
       await browser.goTo(`${address}?dialogue=observers/two_told&step=17`);
       assert.deepEqual(await shown("#records .type"), []);
     });
+  });
   });
 });

@@ -45,6 +45,22 @@ function reflected(name) {
   };
 }
 
+// An attribute that is an address: it is told whole, by the page's own.
+function address(name) {
+  return {
+    get() {
+      const written = this.getAttribute(name);
+      if (written === null) return "";
+      try {
+        return new URL(written, pageOf(this)?.url).href;
+      } catch {
+        return written;
+      }
+    },
+    set(value) { this.setAttribute(name, value); },
+  };
+}
+
 // The page of each document that is one.
 const pages = new WeakMap();
 const pageOf = (node) => pages.get(node.ownerDocument ?? node);
@@ -81,9 +97,10 @@ const inElements = {
   ...inTrees,
   id: reflected("id"),
   className: reflected("class"),
-  ...Object.fromEntries(["name", "title", "lang", "content", "type", "href"].map((name) => [name, reflected(name)])),
+  ...Object.fromEntries(["name", "title", "lang", "content", "type"].map((name) => [name, reflected(name)])),
+  href: address("href"),
   src: {
-    get() { return this.getAttribute("src") === null ? "" : new URL(this.getAttribute("src"), pageOf(this)?.url).href; },
+    get: address("src").get,
     set(value) {
       this.setAttribute("src", value);
       pageOf(this)?.frames.leave(this);

@@ -50,6 +50,16 @@ export class Frames {
     if (page) page.isLeft = true;
   }
 
+  names() {
+    return this.elements().map((element) => element.getAttribute("name"));
+  }
+
+  // The window of the first frame of a name, where there is one.
+  named(name) {
+    const element = this.elements().find((it) => it.getAttribute("name") === name);
+    return element && this.of(element)?.global;
+  }
+
   windows() {
     return this.elements().map((element) => this.of(element).global);
   }

@@ -107,16 +107,16 @@ export class Page {
     this.run(() => (type === "error" ? handler.call(this.global, event.message, "", 0, 0, event.error) : handler.call(this.global, event)));
   }
 
-  // Each id that is no other name of the window is a name of its element.
+  // The names of frames are names of the window, for their windows; then so is each id, for its element. A name that the window has stays.
   nameIds() {
-    for (const id of this.ids()) {
-      if (!id || id in this.global) continue;
-      Object.defineProperty(this.global, id, {
-        configurable: true,
-        get: () => this.document.getElementById(id) ?? undefined,
-        set: (value) => Object.defineProperty(this.global, id, { value, configurable: true, writable: true, enumerable: true }),
-      });
-    }
+    for (const name of this.frames.names()) this.nameFor(name, () => this.frames.named(name));
+    for (const id of this.ids()) this.nameFor(id, () => this.document.getElementById(id) ?? undefined);
+  }
+
+  nameFor(name, get) {
+    if (!name || name in this.global) return;
+    const set = (value) => Object.defineProperty(this.global, name, { value, configurable: true, writable: true, enumerable: true });
+    Object.defineProperty(this.global, name, { configurable: true, get, set });
   }
 
   ids() {

@@ -2,8 +2,6 @@
 import { treeAdapter } from "../../lib/index.js";
 import { load } from "../libraries.js";
 
-const XMLNS = "http://www.w3.org/2000/xmlns/";
-
 // Ends once the microtasks that wait have run, and those that they left, as they do before and after each script of a page.
 const afterMicrotasks = () => new Promise((ready) => process.nextTick(ready));
 
@@ -26,9 +24,7 @@ export async function parseHTML(document, text, runScript) {
 }
 
 function setAttributes(element, attributes) {
-  for (const { name, uri, value } of attributes) {
-    if (uri !== XMLNS) element.setAttributeNS(uri || null, name, value);
-  }
+  for (const { name, uri, value } of attributes) element.setAttributeNS(uri || null, name, value);
 }
 
 function addText(document, parent, text) {

@@ -13,7 +13,7 @@ function windows() {
   return function open({ href, pathname }, report) {
     const context = createContext(constants?.DONT_CONTEXTIFY ?? {});
     const global = runInContext("globalThis", context);
-    createWindow({ global, beside: first, report, empty: true, url: href, ...KINDS[pathname.split(".").at(-1)] });
+    createWindow({ global, beside: first, report, refuses: false, empty: true, url: href, ...KINDS[pathname.split(".").at(-1)] });
     first ??= global;
     return { global, evaluate: (source, filename) => new Script(source, { filename }).runInContext(context) };
   };

@@ -59,7 +59,7 @@ fn find(folder: &Path, found: &mut Vec<PathBuf>) {
         let path = it.expect("a file").path();
         if path.is_dir() {
             find(&path, found);
-        } else if path.extension().is_some_and(|it| it == "in") {
+        } else if path.extension().map_or(false, |it| it == "in") {
             found.push(path);
         }
     }

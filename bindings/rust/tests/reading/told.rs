@@ -33,7 +33,10 @@ pub fn ends(it: Ends) -> Json {
 }
 
 pub fn static_ends(it: StaticEnds) -> Json {
-    let Json::List(mut found) = ends(Ends { start: it.start, end: it.end }) else { unreachable!() };
+    let mut found = match ends(Ends { start: it.start, end: it.end }) {
+        Json::List(found) => found,
+        _ => unreachable!(),
+    };
     found.push(Json::Bool(it.is_valid));
     Json::List(found)
 }

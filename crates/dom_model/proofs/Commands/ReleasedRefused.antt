@@ -3,7 +3,7 @@
 use Rattle.std.proofs.Common.{◌≡◌, ℕ, ◌<◌, List, length, Some, None, refl, ap, ◌∙◌}
 use Rattle.dom_model.specs.declared.OwnError.TheVariants.{NoSuchObject}
 use Rattle.dom_model.specs.Worlds.World.{World}
-use Rattle.dom_model.specs.Commands.Command.{Command, DescribeIterator, NextNode, PreviousNode, ReleaseIterator, DescribeWalker, SetCurrent, Walk, ReleaseWalker, DescribeStaticRange, ReleaseStaticRange, Observe, Disconnect, TakeRecords, ReleaseObserver}
+use Rattle.dom_model.specs.Commands.Command.{Command, DescribeIterator, NextNode, PreviousNode, ReleaseIterator, DescribeWalker, SetCurrent, Walk, ReleaseWalker, DescribeStaticRange, ReleaseStaticRange, Observe, Disconnect, TakeRecords, ReleaseObserver, TellObserver}
 use Rattle.dom_model.specs.Commands.Reply.{Own}
 use Rattle.dom_model.specs.RangesAndContents.StaticRanges.{static_at}
 use Rattle.dom_model.specs.MutationObservers.Records.{taken_up_to}
@@ -39,6 +39,7 @@ module _ (b : Bounds) (w : World) where
   observer-refused (Disconnect p) o e h = let gone : taken_up_to p w.observing ≡ None = ap (λ n. taken_up_to n w.observing) (cc e) ∙ h in rw gone refl
   observer-refused (TakeRecords p) o e h = let gone : taken_up_to p w.observing ≡ None = ap (λ n. taken_up_to n w.observing) (cc e) ∙ h in rw gone refl
   observer-refused (ReleaseObserver p) o e h = let gone : taken_up_to p w.observing ≡ None = ap (λ n. taken_up_to n w.observing) (cc e) ∙ h in rw gone refl
+  observer-refused (TellObserver p) o e h = let gone : taken_up_to p w.observing ≡ None = ap (λ n. taken_up_to n w.observing) (cc e) ∙ h in rw gone refl
   observer-refused c o e h = absurd (cc e)
 
 -- after any further commands

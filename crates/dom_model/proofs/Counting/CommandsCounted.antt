@@ -1,7 +1,7 @@
 -- Each command leaves the world where it is refused, and else takes no more numbers than it asks for.
-use Rattle.std.proofs.Common.{◌≡◌, ℕ, ◌+◌, ◌*◌, nat_lt, Bool, false, not, List, [], ◌∷◌, ◌++◌, length, Option, Some, None, refl, arith, length-append}
+use Rattle.std.proofs.Common.{◌≡◌, ℕ, ◌+◌, ◌*◌, nat_lt, Bool, false, not, List, [], ◌∷◌, ◌++◌, length, Option, Some, None, refl, ap, arith, length-append}
 use Rattle.std.proofs.lemmas.Bool.{ltb-false}
-use Rattle.std.proofs.lemmas.List.{length-map, length-set}
+use Rattle.std.proofs.lemmas.List.{length-set}
 use Rattle.dom_model.specs.Forests.Arena.{Entry}
 use Rattle.dom_model.specs.Forests.Forest.{Node, size, entry_in, parent_of}
 use Rattle.dom_model.specs.declared.Kind.TheVariants.{Element, Text, Document}
@@ -20,10 +20,10 @@ use Rattle.dom_model.specs.RangesAndContents.Ranges.{range_at, start_set, end_se
 use Rattle.dom_model.specs.RangesAndContents.Contents.{check_extract}
 use Rattle.dom_model.specs.RangesAndContents.Wrapping.{insert_node, surround}
 use Rattle.dom_model.specs.RangesAndContents.StaticRanges.{check_static, static_at, made_static, released_static}
-use Rattle.dom_model.specs.MutationObservers.Records.{options_refusal, with_observer, released_observer}
+use Rattle.dom_model.specs.MutationObservers.Records.{options_refusal, pending_of, with_observer, released_observer}
 use Rattle.dom_model.specs.Commands.Counts.{no_numbers, node_numbers, numbers_for_copies, asked}
 use Rattle.dom_model.specs.Commands.Guards.{Bounds, Step, guarded, answers, does, no_node, no_node_given, wrong_kind, no_room, no_room_for_copies, bad_name, throws}
-use Rattle.dom_model.specs.Commands.Command.{Command, NewDocument, CreateElement, CreateText, CreateComment, CreatePI, CreateDoctype, CreateFragment, InsertBefore, AppendChild, AdoptNode, ReplaceChild, RemoveChild, Remove, ReplaceChildren, ImportNode, CloneNode, Normalize, DescribeNode, Children, Index, Length, Root, IsContaining, IsEqual, ComparePosition, TextContent, SetTextContent, Tree, GetData, SetData, AppendData, InsertData, DeleteData, ReplaceData, SubstringData, SplitText, SetAttribute, GetAttribute, HasAttribute, RemoveAttribute, ToggleAttribute, AttributeNames, CreateRange, CloneRange, DescribeRange, SetStart, SetEnd, SetStartBefore, SetStartAfter, SetEndBefore, SetEndAfter, Collapse, SelectNode, SelectNodeContents, CompareBoundaryPoints, ComparePoint, IsPointInRange, IntersectsNode, CommonAncestor, RangeText, DeleteContents, ExtractContents, CloneContents, InsertNode, SurroundContents, ReleaseRange, CreateIterator, CreateWalker, DescribeIterator, NextNode, PreviousNode, DescribeWalker, SetCurrent, Walk, CreateObserver, Observe, Disconnect, TakeRecords, Notify, Pending, Discard, CreateStaticRange, DescribeStaticRange, ReleaseIterator, ReleaseWalker, ReleaseStaticRange, ReleaseObserver}
+use Rattle.dom_model.specs.Commands.Command.{Command, NewDocument, CreateElement, CreateText, CreateComment, CreatePI, CreateDoctype, CreateFragment, InsertBefore, AppendChild, AdoptNode, ReplaceChild, RemoveChild, Remove, ReplaceChildren, ImportNode, CloneNode, Normalize, DescribeNode, Children, Index, Length, Root, IsContaining, IsEqual, ComparePosition, TextContent, SetTextContent, Tree, GetData, SetData, AppendData, InsertData, DeleteData, ReplaceData, SubstringData, SplitText, SetAttribute, GetAttribute, HasAttribute, RemoveAttribute, ToggleAttribute, AttributeNames, CreateRange, CloneRange, DescribeRange, SetStart, SetEnd, SetStartBefore, SetStartAfter, SetEndBefore, SetEndAfter, Collapse, SelectNode, SelectNodeContents, CompareBoundaryPoints, ComparePoint, IsPointInRange, IntersectsNode, CommonAncestor, RangeText, DeleteContents, ExtractContents, CloneContents, InsertNode, SurroundContents, ReleaseRange, CreateIterator, CreateWalker, DescribeIterator, NextNode, PreviousNode, DescribeWalker, SetCurrent, Walk, CreateObserver, Observe, Disconnect, TakeRecords, Notify, Pending, Discard, CreateStaticRange, DescribeStaticRange, ReleaseIterator, ReleaseWalker, ReleaseStaticRange, ReleaseObserver, TakePending, TellObserver}
 use Rattle.dom_model.specs.Commands.AnswerTree.{is_child_node, described, check_replace_children}
 use Rattle.dom_model.specs.Commands.AnswerRanges.{no_range, makes_range, on_range, sets_start, sets_end}
 use Rattle.dom_model.specs.Commands.AnswerTraversal.{iterator_at, walker_at, with_iterator, with_walker, released_iterator, released_walker}
@@ -32,7 +32,8 @@ use Rattle.dom_model.specs.Commands.AnswerMaking.{closes_instruction}
 use Rattle.dom_model.specs.MutationAlgorithms.Discarding.{is_in_use}
 use Rattle.dom_model.specs.Commands.AnswerStatic.{no_static, static_told}
 use Rattle.dom_model.specs.Commands.Answer.{answer}
-use Rattle.dom_model.proofs.Counting.NumbersGone.{IsLiveAt, none-without, live-of, live-mapped, live-set, pushed-released, none-set}
+use Rattle.dom_model.proofs.Counting.NumbersGone.{IsLiveAt, none-without, live-of, live-moved, live-set, pushed-released, none-set}
+use Rattle.dom_model.proofs.MutationObservers.Queues.{pending-there, length-moved}
 use Rattle.dom_model.proofs.Counting.CountsKept.{observing-kept, forest-kept, remove-kept, pre_insert-kept, append-kept, replace-kept, replace_all-kept, adopt-kept}
 use Rattle.dom_model.proofs.Counting.CountsOfData.{made_node-grown, replace_data-kept, set_data-kept, split-grown, normalize-kept, set_text_content-grown, set_attribute-kept, remove_attribute-kept, toggle_attribute-kept}
 use Rattle.dom_model.proofs.Counting.CountsOfContents.{clone-grown, import-grown, with_range-kept, delete_contents-kept}
@@ -258,7 +259,7 @@ command-counted b w CreateObserver = guarded-counted b (record no_numbers { obse
 command-counted b w (Observe o n options) = guarded-counted b no_numbers (no_observer o w ∷ no_node n w ∷ []) w _ (λ h. checked-counted b no_numbers (options_refusal options) w _ (keeps b w _ _ (observing-kept w _ refl (λ r. refl))))
 command-counted b w (Disconnect o) = guarded-counted b no_numbers (no_observer o w ∷ []) w _ (λ h. keeps b w _ _ (observing-kept w _ (length-set w.observing.places o _) (live-set w.observing.places o _ h.0)))
 command-counted b w (TakeRecords o) = guarded-counted b no_numbers (no_observer o w ∷ []) w _ (λ h. keeps b w _ _ (observing-kept w _ (length-set w.observing.places o _) (live-set w.observing.places o _ h.0)))
-command-counted b w Notify = keeps b w _ _ (observing-kept w _ (length-map w.observing.places _) (live-mapped (λ _. length w.observing.mutations) w.observing.places))
+command-counted b w Notify = keeps b w _ _ (observing-kept w _ (length-moved _ (pending_of w.observing) w.observing.places) (live-moved _ (pending_of w.observing) w.observing.places (λ o h. ap not (pending-there o w.observing h))))
 command-counted b w Pending = leaves refl
 command-counted b w (Discard n) = guarded-counted b no_numbers (no_node n w ∷ (is_in_use w n, Own InUse) ∷ []) w _ (λ h. keeps b w _ _ (forest-kept w _ (none-without n w.forest)))
 command-counted b w (CreateStaticRange start end) = guarded-counted b (record no_numbers { static_ranges = 1 }) (no_node start.node w ∷ no_node end.node w ∷ no_room b (length w.static_ranges) 1 ∷ []) w _ (λ h. checked-counted b (record no_numbers { static_ranges = 1 }) (check_static w.forest start.node end.node) w _ (static-counted b w _ _ h.1.1.0))
@@ -267,3 +268,5 @@ command-counted b w (ReleaseIterator i) = object-counted b no_numbers (iterator_
 command-counted b w (ReleaseWalker k) = object-counted b no_numbers (walker_at k w) w _ (λ x. released_walker-counted b w k)
 command-counted b w (ReleaseStaticRange u) = guarded-counted b no_numbers (no_static u w ∷ []) w _ (λ h. released_static-counted b w u)
 command-counted b w (ReleaseObserver o) = guarded-counted b no_numbers (no_observer o w ∷ []) w _ (λ h. released_observer-counted b w o)
+command-counted b w TakePending = keeps b w _ _ (observing-kept w _ refl (λ r. refl))
+command-counted b w (TellObserver o) = guarded-counted b no_numbers (no_observer o w ∷ []) w _ (λ h. keeps b w _ _ (observing-kept w _ (length-set w.observing.places o _) (live-set w.observing.places o _ h.0)))

@@ -1,14 +1,17 @@
 -- A number that stands nowhere in a forest comes into none as trees are cut, put, changed or taken away; and a live range, an iterator, a walker
 -- or an observer that is moved or set stays there, as a released one stays released.
-use Rattle.std.proofs.Common.{◌≡◌, ℕ, ◌<◌, ◌≤◌, true, false, List, ◌++◌, length, map, Option, Some, None, is_none, option_map, slice_index_or, slice_set, refl, ap, sym, ◌∙◌, subst, arith, ⊎_elim}
+use Rattle.std.proofs.Common.{◌≡◌, ℕ, ◌<◌, ◌≤◌, true, false, List, [], ◌∷◌, ◌++◌, length, map, Option, Some, None, is_none, option_map, slice_index_or, slice_set, refl, ap, sym, ◌∙◌, subst, arith, ⊎_elim}
 use Rattle.std.proofs.Math.ListN.{get_or-map}
 use Rattle.std.proofs.lemmas.Bool.{cases_lt, false≢true}
 use Rattle.std.proofs.lemmas.List.{length-set, get_or-set_same, get_or-set_other, get_or_past, get_or_append_left}
 use Rattle.dom_model.specs.Forests.Forest.{Forest, occurs, one_at, beside, tree_at, without, cut, put, adopted, in_document}
 use Rattle.dom_model.specs.Worlds.World.{Content, Point, Range}
 use Rattle.dom_model.specs.BoundaryPoints.Points.{moved_range, map_ranges}
+use Rattle.dom_model.specs.PlainLists.Lists.{among}
+use Rattle.dom_model.specs.MutationObservers.Records.{moved_to}
 use Rattle.dom_model.proofs.PlainLists.Numbers.{same_or, same, apart}
 use Rattle.dom_model.proofs.Forests.Totals.{total-beside, total-tree_at, total-placed_under, total-cut}
+use Rattle.dom_model.proofs.MutationObservers.Queues.{among-first, among-later}
 use Rattle.dom_model.proofs.Worlds.SameShape.{IsAlike, occurs-alike, with_tree-alike}
 
 -- the second forest has no number that the first has not
@@ -87,6 +90,13 @@ live-set {A} rs r a live q =
           (ap (λ (o : Option A). is_none o) (get_or-set_same rs r (Some a) None (given rs r live)) ∙ sym live)
       | apart ne t ↦ ap (λ (o : Option A). is_none o) (get_or-set_other rs r q (Some a) None ne)
     ]
+
+-- places of some that are there are moved
+pub live-moved : (place : ℕ) (os : List ℕ) (places : List (Option ℕ)) → ((o : ℕ) → among o os ≡ true → IsLiveAt places o) → AreLiveAlike places (moved_to place os places)
+live-moved place [] places h r = refl
+live-moved place (o ∷ os) places h r =
+    live-moved place os (slice_set places o (Some place)) (λ q k. live-set places o place (h o (among-first o os)) q ∙ h q (among-later q o os k)) r
+    ∙ live-set places o place (h o (among-first o os)) r
 
 pub alike-released : {A : Type 0} (rs ss : List (Option A)) → AreLiveAlike rs ss → StaysReleased rs ss
 alike-released {A} rs ss alike r l e = none-of (slice_index_or ss r None) (alike r ∙ ap (λ (o : Option A). is_none o) e)

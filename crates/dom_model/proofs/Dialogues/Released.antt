@@ -5,3 +5,4 @@ pub mod WalkerReleased
 pub mod StaticRangeReleased
 pub mod ObserverReleased
 pub mod LinesOfReleases
+pub mod ToldInTurn

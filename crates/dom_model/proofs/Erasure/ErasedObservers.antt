@@ -7,7 +7,7 @@ use Rattle.dom_model.specs.declared.DomError.{DomError}
 use Rattle.dom_model.specs.declared.OwnError.TheVariants.{NoSuchObject}
 use Rattle.dom_model.specs.Forests.Forest.{entry_in}
 use Rattle.dom_model.specs.Worlds.World.{World, first_world}
-use Rattle.dom_model.specs.Commands.Command.{Command, Observe, Disconnect, TakeRecords, Notify, Pending, ReleaseObserver}
+use Rattle.dom_model.specs.Commands.Command.{Command, Observe, Disconnect, TakeRecords, Notify, Pending, ReleaseObserver, TakePending, TellObserver}
 use Rattle.dom_model.specs.MutationObservers.GivenOptions.{GivenOptions}
 use Rattle.dom_model.specs.Commands.Reply.{Reply, Own}
 use Rattle.dom_model.specs.MutationObservers.Records.{options_refusal, options_of, observed, has_observer}
@@ -15,7 +15,7 @@ use Rattle.dom_model.specs.Commands.Guards.{Bounds, Step, refused, checked, does
 use Rattle.dom_model.specs.Commands.AnswerObserving.{with_observing}
 use Rattle.dom_model.specs.Commands.Answer.{answer}
 use Rattle.dom_model.specs.Erasure.Erasing.{replies_to, is_by_observer, left_by_observers, without_observers, replies_without_observers, discards, makes_no_discard}
-use Rattle.dom_model.proofs.MutationObservers.Apart.{taken-erased, disconnected-erased, released-erased, observed-erased}
+use Rattle.dom_model.proofs.MutationObservers.Apart.{taken-erased, observer_told-erased, disconnected-erased, released-erased, observed-erased}
 use Rattle.dom_model.proofs.Erasure.ErasedWorlds.{left_world, Without, without, first-left}
 use Rattle.dom_model.proofs.Erasure.ErasedTreeAnswers.{concerns_watchers}
 use Rattle.dom_model.proofs.Erasure.ErasedWatcherAnswers.{watcher_answer-left}
@@ -58,11 +58,16 @@ module _ (erased : ℕ → Bool) where
   take_records-erased b p e x _ (without o v h) =
       named-erased p x (left_world true o v x) (without o v h) _ (without o v (taken-erased erased x.observing o h p e))
 
+  tell_observer-erased : (b : Bounds) (p : ℕ) → erased p ≡ true → (x y : World) → Without erased true x y → Without erased true (answer b x (TellObserver p)).world y
+  tell_observer-erased b p e x _ (without o v h) =
+      named-erased p x (left_world true o v x) (without o v h) _ (without o v (observer_told-erased erased x.observing o h p e))
+
   pub command-erased : (b : Bounds) (c : Command) (x y : World) → Without erased true x y → is_by_observer erased c ≡ true → Without erased true (answer b x c).world y
   command-erased b (Observe p n options) x y h e = observe-erased b p n options e x y h
   command-erased b (Disconnect p) x y h e = disconnect-erased b p e x y h
   command-erased b (TakeRecords p) x y h e = take_records-erased b p e x y h
   command-erased b (ReleaseObserver p) x y h e = release-erased b p e x y h
+  command-erased b (TellObserver p) x y h e = tell_observer-erased b p e x y h
   command-erased b c x y h e = absurd (cc e)
 
   -- A list of commands, from any two such worlds on.
@@ -75,6 +80,7 @@ module _ (erased : ℕ → Bool) where
   untouched : (c : Command) → concerns_watchers c ≡ true → (r : Reply) → left_by_observers erased c r ≡ r
   untouched Notify e r = absurd (cc e)
   untouched Pending e r = absurd (cc e)
+  untouched TakePending e r = absurd (cc e)
   untouched c e r = refl
 
   -- a command that is not erased, and discards nothing

@@ -3,14 +3,14 @@
 use Rattle.std.proofs.Common.{◌≡◌, ℕ, ◌<◌, Bool, true, false, not, if◌then◌else◌, [], ◌∷◌, length, refl, ap, sym, subst}
 use Rattle.dom_model.specs.declared.OwnError.TheVariants.{NoSuchObject}
 use Rattle.dom_model.specs.Worlds.World.{World}
-use Rattle.dom_model.specs.Commands.Command.{Command, CreateObserver, Observe, Disconnect, TakeRecords, Notify, Pending, ReleaseObserver, Discard}
+use Rattle.dom_model.specs.Commands.Command.{Command, CreateObserver, Observe, Disconnect, TakeRecords, Notify, Pending, ReleaseObserver, TakePending, TellObserver, Discard}
 use Rattle.dom_model.specs.MutationObservers.GivenOptions.{GivenOptions}
 use Rattle.dom_model.specs.Commands.Reply.{Number, Numbers, Records, Notified, Done, Own}
-use Rattle.dom_model.specs.MutationObservers.Records.{options_refusal, options_of, observed, has_observer, with_observer, records_taken, disconnected, released_observer, after_notify}
+use Rattle.dom_model.specs.MutationObservers.Records.{options_refusal, options_of, observed, has_observer, with_observer, records_taken, disconnected, released_observer, after_notify, pending_taken, observer_told}
 use Rattle.dom_model.specs.Commands.Guards.{Bounds, Step, refused, guarded, no_node, no_room, answers}
 use Rattle.dom_model.specs.Commands.Answer.{answer}
 use Rattle.dom_model.specs.Erasure.Erasing.{is_by_observer, left_by_observers, discards}
-use Rattle.dom_model.proofs.MutationObservers.Apart.{queue-left, pending-left, told-left, notified-left, taken-left, disconnected-left, released-left, observed-left, made-left, there-left}
+use Rattle.dom_model.proofs.MutationObservers.Apart.{queue-left, pending-left, told-left, notified-left, pending_taken-left, taken-left, observer_told-left, disconnected-left, released-left, observed-left, made-left, there-left}
 use Rattle.dom_model.proofs.MutationObservers.Queues.{observer-made}
 use Rattle.dom_model.proofs.Erasure.ErasedWorlds.{left_world, Without, without}
 use Rattle.dom_model.proofs.Erasure.ErasedSteps.{Alike, guarded-left, checked-left}
@@ -60,6 +60,14 @@ module _ (erased : ℕ → Bool) (watched : Bool) where
         world = without (records_taken p o) v (taken-left erased x.observing o h p below);
       }
 
+  tell_observer-left : (b : Bounds) (p : ℕ) → erased p ≡ false → (x y : World) → Without erased watched x y → Alike erased watched (answer b x (TellObserver p)) (answer b y (TellObserver p))
+  tell_observer-left b p e x _ (without o v h) =
+      named-left p e x _ (without o v h) _ _ λ below.
+      record {
+        reply = ap (λ rs. Done (Records rs)) (queue-left erased x.observing o h p e);
+        world = without (observer_told p o) v (observer_told-left erased x.observing o h p below);
+      }
+
   -- the reply is what is left of the first, and the second world is the first one without the erased observers
   pub record Follows (c : Command) (s t : Step) : Type 0 where
     pub reply : t.reply ≡ left_by_observers erased c s.reply
@@ -78,5 +86,10 @@ module _ (erased : ℕ → Bool) (watched : Bool) where
   }
   command-left b Pending x _ (without o v h) d e f =
       record { reply = ap (λ os. Done (Numbers os)) (pending-left erased x.observing o h); world = without o v h }
+  command-left b TakePending x _ (without o v h) d e f = record {
+    reply = ap (λ os. Done (Numbers os)) (pending-left erased x.observing o h);
+    world = without (pending_taken o) v (pending_taken-left erased x.observing o h);
+  }
+  command-left b (TellObserver p) x y h d e f = let k = tell_observer-left b p e x y h in record { reply = k.reply; world = k.world }
   command-left b (Discard n) x y h d e f = absurd (cc d)
   command-left b c x y h d e f = let k = tree_answer-left erased watched b c x y h refl f in record { reply = k.reply; world = k.world }

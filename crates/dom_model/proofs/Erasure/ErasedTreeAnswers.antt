@@ -5,7 +5,7 @@ use Rattle.dom_model.specs.declared.Kind.TheVariants.{Element, Text, ProcessingI
 use Rattle.dom_model.specs.Forests.Arena.{Entry}
 use Rattle.dom_model.specs.Forests.Forest.{Node, entry_in}
 use Rattle.dom_model.specs.Worlds.World.{Content, Observing, World}
-use Rattle.dom_model.specs.Commands.Command.{Command, InsertBefore, ReplaceChildren, IsContaining, IsEqual, TextContent, CreateObserver, Observe, Disconnect, TakeRecords, Notify, Pending, ReleaseObserver, Discard}
+use Rattle.dom_model.specs.Commands.Command.{Command, InsertBefore, ReplaceChildren, IsContaining, IsEqual, TextContent, CreateObserver, Observe, Disconnect, TakeRecords, Notify, Pending, ReleaseObserver, TakePending, TellObserver, Discard}
 use Rattle.dom_model.specs.Commands.Reply.{MaybeUnits, Done}
 use Rattle.dom_model.specs.DataAndCopies.Data.{text_content, text_content_by, by_kind}
 use Rattle.dom_model.specs.Commands.Guards.{Bounds, Step, no_node, answers}
@@ -49,6 +49,8 @@ concerns_observers (TakeRecords o) = true
 concerns_observers (ReleaseObserver o) = true
 concerns_observers Notify = true
 concerns_observers Pending = true
+concerns_observers TakePending = true
+concerns_observers (TellObserver o) = true
 concerns_observers (Discard n) = true
 concerns_observers _ = false
 

@@ -5,7 +5,7 @@ use Rattle.std.specs.Prelude.{cond, filter}
 use Rattle.std.specs.List.{list_any}
 use Rattle.dom_model.specs.declared.DomError.{DomError}
 use Rattle.dom_model.specs.Worlds.World.{Point, Range, Iterator, Walker, World, first_world}
-use Rattle.dom_model.specs.Commands.Command.{Command, CreateIterator, CreateWalker, Disconnect, Notify, Pending}
+use Rattle.dom_model.specs.Commands.Command.{Command, CreateIterator, CreateWalker, Disconnect, Notify, Pending, TakePending}
 use Rattle.dom_model.specs.Commands.Reply.{Answer, Reply, Done, Dom, Own, Numbers, Notified}
 use Rattle.dom_model.specs.RangesAndContents.StaticRanges.{made_static, released_static}
 use Rattle.dom_model.specs.RangesAndContents.Ranges.{with_range, made_range, released}
@@ -134,6 +134,7 @@ whole_reply (Own e) = refl
 pub whole : (c : Command) (r : Reply) → left_by_observers none c r ≡ r
 whole Notify r = whole_reply r
 whole Pending r = whole_reply r
+whole TakePending r = whole_reply r
 whole c r = refl
 
 pub by_none : (c : Command) → is_by_observer none c ≡ false

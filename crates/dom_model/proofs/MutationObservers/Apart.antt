@@ -1,17 +1,18 @@
 -- Observers do not feel one another: the observing part without some observers tells the others the same.
-use Rattle.std.proofs.Common.{◌≡◌, ℕ, zero, suc, ◌+◌, ◌<◌, ◌≤◌, ◌==◌, Bool, true, false, not, ◌||◌, if◌then◌else◌, List, [], ◌∷◌, ◌++◌, map, length, drop, Option, Some, None, option_map, refl, ap, sym, ◌∙◌, subst, append-nil, length-append, ◌-◌, ◌⊎◌, inl, inr}
+use Rattle.std.proofs.Common.{◌≡◌, ℕ, zero, suc, ◌+◌, ◌<◌, ◌≤◌, ◌==◌, Bool, true, false, not, ◌||◌, if◌then◌else◌, List, [], ◌∷◌, ◌++◌, map, length, drop, Option, Some, None, refl, ap, sym, ◌∙◌, subst, append-nil, length-append, ◌-◌, ◌⊎◌, inl, inr}
 use Rattle.std.specs.Prelude.{filter, filter_map, flat_map, cond, is_none, is_some, slice_index_or}
 use Rattle.std.specs.List.{cons_option, list_any}
 use Rattle.std.proofs.lemmas.Bool.{false≢true, cases_lt}
 use Rattle.std.proofs.lemmas.List.{map-append, length-map, length-set, get_or-set_same, get_or-set_other, get_or_append_left, get_or-append_right}
 use Rattle.std.proofs.lemmas.List.Elements.{filter-append}
+use Rattle.dom_model.specs.PlainLists.Lists.{among}
 use Rattle.dom_model.specs.Worlds.World.{Options, Registration, Mutation, Observing}
 use Rattle.dom_model.specs.MutationObservers.Observing.{registered_on, standing_on, noted, transient_of, with_transients}
 use Rattle.dom_model.specs.MutationObservers.Record.{Told}
-use Rattle.dom_model.specs.MutationObservers.Records.{interests, interested, record_by, record_for, observers_of, each_once, taken_up_to, has_observer, records_past, queue_of, pending_of, told_in, has_records, told, after_notify, records_taken, disconnected, released_observer, is_registered, is_transient_from, new_registration, with_options, registered, observed, with_observer}
+use Rattle.dom_model.specs.MutationObservers.Records.{interests, interested, record_by, record_for, observers_of, each_once, taken_up_to, has_observer, records_past, queue_of, pending_of, told_in, has_records, told, after_notify, pending_taken, is_transient_of, observer_told, records_taken, disconnected, released_observer, is_registered, is_transient_from, new_registration, with_options, registered, observed, with_observer}
 use Rattle.dom_model.proofs.PlainLists.Numbers.{Same, same_or, same, apart}
 use Rattle.dom_model.proofs.MutationObservers.NodeRegistrations.{filter-twice, filter-map_kept, registered_on-filter}
-use Rattle.dom_model.proofs.MutationObservers.Queues.{each_once-filter, place-released, place-released_other, place-notified}
+use Rattle.dom_model.proofs.MutationObservers.Queues.{each_once-filter, place-released, place-released_other, place-notified, among-passing, length-moved}
 
 module _ (erased : ℕ → Bool) where
   abbrev pub is_left : Registration → Bool
@@ -178,15 +179,28 @@ module _ (erased : ℕ → Bool) where
     mutations = w.mutations;
     places = λ o h.
         place-notified o y
-        ∙ ap (λ place. option_map (λ _. length y.mutations) place) (w.places o h)
-        ∙ ap (λ l. option_map (λ _. l) (taken_up_to o x)) long
+        ∙ ap (λ b. if b then Some (length y.mutations) else taken_up_to o y) (pends o h)
+        ∙ ap (λ l. if among o (pending_of x) then Some l else taken_up_to o y) long
+        ∙ ap (λ place. if among o (pending_of x) then Some (length x.mutations) else place) (w.places o h)
         ∙ sym (place-notified o x);
-    made = length-map y.places _ ∙ w.made ∙ sym (length-map x.places _);
+    made = length-moved (length y.mutations) (pending_of y) y.places ∙ w.made ∙ sym (length-moved (length x.mutations) (pending_of x) x.places);
     last = long;
   }
     where
       long : length y.mutations ≡ length x.mutations
       long = ap length w.mutations ∙ length-map x.mutations left_of
+
+      pends : (o : ℕ) → erased o ≡ false → among o (pending_of y) ≡ among o (pending_of x)
+      pends o h = ap (among o) (pending-left x y w) ∙ among-passing is_other o (ap not h) (pending_of x)
+
+  pub pending_taken-left : (x y : Observing) → IsWithout x y → IsWithout (pending_taken x) (pending_taken y)
+  pending_taken-left x y w = record {
+    registrations = w.registrations;
+    mutations = w.mutations;
+    places = w.places;
+    made = w.made;
+    last = ap length w.mutations ∙ length-map x.mutations left_of;
+  }
 
   -- records of an erased observer are taken in the one alone, those of another in both
   pub taken-erased : (x y : Observing) → IsWithout x y → (o : ℕ) → erased o ≡ true → IsWithout (records_taken o x) y
@@ -241,6 +255,38 @@ module _ (erased : ℕ → Bool) where
       let t = taken-left x y w o h in
       record {
         registrations = ap (filter (λ (r : Registration). not (r.observer == o))) w.registrations ∙ filter-twice (λ (r : Registration). not (r.observer == o)) is_left x.registrations;
+        mutations = t.mutations;
+        places = t.places;
+        made = t.made;
+        last = t.last;
+      }
+
+  -- an erased observer is told in the one alone, another in both
+  pub observer_told-erased : (x y : Observing) → IsWithout x y → (o : ℕ) → erased o ≡ true → IsWithout (observer_told o x) y
+  observer_told-erased x y w o h =
+      let t = taken-erased x y w o h in
+      record {
+        registrations = w.registrations ∙ go x.registrations;
+        mutations = t.mutations;
+        places = t.places;
+        made = t.made;
+        last = t.last;
+      }
+    where
+      go : (rs : List Registration) → filter is_left rs ≡ filter is_left (filter (λ (r : Registration). not (is_transient_of o r)) rs)
+      go [] = refl
+      go (r ∷ rs) = one (same_or r.observer o) (is_some r.source) refl (go rs)
+        where
+          one : Same r.observer o → (b : Bool) → is_some r.source ≡ b → filter is_left rs ≡ filter is_left (filter (λ (s : Registration). not (is_transient_of o s)) rs) → filter is_left (r ∷ rs) ≡ filter is_left (filter (λ (s : Registration). not (is_transient_of o s)) (r ∷ rs))
+          one (same d t) true f i = let e : erased r.observer ≡ true = ap erased d ∙ h in rw (t, f, e) i
+          one (same d t) false f i = let e : erased r.observer ≡ true = ap erased d ∙ h in rw (t, f) (rw e i)
+          one (apart ne t) b f i = rw t (ap (λ ss. cond (not (erased r.observer)) (r ∷ ss) ss) i)
+
+  pub observer_told-left : (x y : Observing) → IsWithout x y → (o : ℕ) → o < length x.places → IsWithout (observer_told o x) (observer_told o y)
+  observer_told-left x y w o h =
+      let t = taken-left x y w o h in
+      record {
+        registrations = ap (filter (λ (r : Registration). not (is_transient_of o r))) w.registrations ∙ filter-twice (λ (r : Registration). not (is_transient_of o r)) is_left x.registrations;
         mutations = t.mutations;
         places = t.places;
         made = t.made;

@@ -1,18 +1,17 @@
 -- What the steps of the observing part do to the queues, the pending list and the registrations of a node.
-use Rattle.std.proofs.Common.{◌≡◌, ℕ, zero, suc, ◌+◌, ◌-◌, ◌<◌, ◌≤◌, ◌==◌, Bool, true, false, not, if◌then◌else◌, List, [], ◌∷◌, ◌++◌, map, length, drop, Option, Some, None, IfSome, All, option_map, slice_index_or, refl, ap, sym, ◌∙◌, subst, arith, ◌⊎◌, inl, inr, append_assoc, append-nil, length-append}
+use Rattle.std.proofs.Common.{◌≡◌, ℕ, zero, suc, ◌+◌, ◌-◌, ◌<◌, ◌≤◌, ◌==◌, Bool, true, false, not, if◌then◌else◌, List, [], ◌∷◌, ◌++◌, map, length, drop, Option, Some, None, IfSome, All, slice_index_or, refl, ap, sym, ◌∙◌, subst, arith, ◌⊎◌, inl, inr, append_assoc, append-nil, length-append}
 use Rattle.std.specs.Prelude.{filter, filter_map, flat_map, cond, is_some, option_to_list, slice_set}
 use Rattle.std.specs.List.{cons_option}
 use Rattle.std.proofs.lemmas.List.{drop-append-le, get_or-set_same, get_or-set_other, get_or_append_left, get_or-append_right, get_or_past, length-set}
 use Rattle.std.proofs.lemmas.List.Elements.{All-append, All-nil, All-weaker, filter-append, filter_map-append}
 use Rattle.std.proofs.lemmas.Grind.{flat_map-append}
-use Rattle.std.proofs.Math.ListN.{get_or-map}
 use Rattle.std.proofs.Math.Seq.{drop-length, get_or-append_seam}
 use Rattle.std.proofs.lemmas.Bool.{false≢true, cases_lt}
 use Rattle.dom_model.specs.PlainLists.Lists.{among, left_out}
 use Rattle.dom_model.specs.Worlds.World.{Options, Mutation, Observing}
 use Rattle.dom_model.specs.MutationObservers.Observing.{noted}
 use Rattle.dom_model.specs.MutationObservers.Record.{Record, Told}
-use Rattle.dom_model.specs.MutationObservers.Records.{observed, record_for, taken_up_to, has_observer, records_past, queue_of, observers_of, each_once, pending_of, InterestedAreMade, with_observer, records_taken, disconnected, released_observer, told_in, has_records, told, after_notify}
+use Rattle.dom_model.specs.MutationObservers.Records.{observed, record_for, taken_up_to, has_observer, records_past, queue_of, observers_of, each_once, pending_of, InterestedAreMade, with_observer, records_taken, disconnected, released_observer, told_in, has_records, told, moved_to, after_notify, pending_taken, observer_told}
 use Rattle.dom_model.specs.PlainLists.LastOnce.{with_last, with_all_last}
 use Rattle.dom_model.proofs.PlainLists.Numbers.{Same, same_or, same, apart}
 use Rattle.dom_model.proofs.MutationObservers.NodeRegistrations.{filter-twice}
@@ -280,18 +279,96 @@ told-released o x =
 
 -- The observers are notified.
 
-pub place-notified : (o : ℕ) (x : Observing) → taken_up_to o (after_notify x) ≡ option_map (λ _. length x.mutations) (taken_up_to o x)
-place-notified o x = get_or-map (λ (place : Option ℕ). option_map (λ _. length x.mutations) place) x.places o None
+pub among-first : (o : ℕ) (os : List ℕ) → among o (o ∷ os) ≡ true
+among-first o os = elim (same_or o o) [ same e t ↦ rw t refl | apart ne t ↦ absurd (ne refl) ]
 
-pub queue-notified : (o : ℕ) (x : Observing) → queue_of o (after_notify x) ≡ []
-queue-notified o x = ap (records_past o x.mutations) (place-notified o x) ∙ go (taken_up_to o x)
+pub among-later : (p o : ℕ) (os : List ℕ) → among p os ≡ true → among p (o ∷ os) ≡ true
+among-later p o os h = ap (λ v. if o == p then true else v) h ∙ go (o == p)
   where
-    go : (t : Option ℕ) → records_past o x.mutations (option_map (λ _. length x.mutations) t) ≡ []
-    go None = refl
-    go (Some place) = ap (filter_map (record_for o)) (drop-length x.mutations)
+    go : (b : Bool) → (if b then true else true) ≡ true
+    go true = refl
+    go false = refl
+
+-- what passes a test stands among those that do where it stands among all
+pub among-passing : (p : ℕ → Bool) (o : ℕ) → p o ≡ true → (ns : List ℕ) → among o (filter p ns) ≡ among o ns
+among-passing p o h [] = refl
+among-passing p o h (n ∷ ns) = go (same_or n o) (p n) refl (among-passing p o h ns)
+  where
+    go : Same n o → (b : Bool) → p n ≡ b → among o (filter p ns) ≡ among o ns → among o (cond b (n ∷ filter p ns) (filter p ns)) ≡ among o (n ∷ ns)
+    go (same e t) true f i = rw t refl
+    go (same e t) false f i = absurd (false≢true (sym f ∙ ap p e ∙ h))
+    go (apart ne t) true f i = rw t i
+    go (apart ne t) false f i = rw t i
+
+among-passes : (p : ℕ → Bool) (o : ℕ) (ns : List ℕ) → among o (filter p ns) ≡ true → p o ≡ true
+among-passes p o [] h = absurd (false≢true h)
+among-passes p o (n ∷ ns) h = go (same_or n o) (p n) refl h (among-passes p o ns)
+  where
+    go : Same n o → (b : Bool) → p n ≡ b → among o (cond b (n ∷ filter p ns) (filter p ns)) ≡ true → (among o (filter p ns) ≡ true → p o ≡ true) → p o ≡ true
+    go (same e t) true f k i = sym (ap p e) ∙ f
+    go (apart ne t) true f k i = i (rw t at k)
+    go s false f k i = i k
+
+pub pending-there : (o : ℕ) (x : Observing) → among o (pending_of x) ≡ true → has_observer x o ≡ true
+pending-there o x h = among-passes (has_observer x) o (each_once (flat_map observers_of (drop x.notified x.mutations))) h
+
+pub length-moved : (end : ℕ) (os : List ℕ) (places : List (Option ℕ)) → length (moved_to end os places) ≡ length places
+length-moved end [] places = refl
+length-moved end (o ∷ os) places = length-moved end os (slice_set places o (Some end)) ∙ length-set places o (Some end)
+
+moved-at : (end : ℕ) (os : List ℕ) (places : List (Option ℕ)) → ((q : ℕ) → among q os ≡ true → q < length places) → (p : ℕ) → slice_index_or (moved_to end os places) p None ≡ (if among p os then Some end else slice_index_or places p None)
+moved-at end [] places h p = refl
+moved-at end (o ∷ os) places h p = moved-at end os (slice_set places o (Some end)) (λ q k. rw (length-set places o (Some end)) (h q (among-later q o os k))) p ∙ go (same_or o p)
+  where
+    either : (b : Bool) {t : Option ℕ} → t ≡ Some end → (if b then Some end else t) ≡ Some end
+    either true e = refl
+    either false e = e
+
+    go : Same o p → (if among p os then Some end else slice_index_or (slice_set places o (Some end)) p None) ≡ (if among p (o ∷ os) then Some end else slice_index_or places p None)
+    go (same e t) = rw t (either (among p os) (ap (λ k. slice_index_or (slice_set places o (Some end)) k None) (sym e) ∙ get_or-set_same places o (Some end) None (h o (among-first o os))))
+    go (apart ne t) = rw t (ap (λ v. if among p os then Some end else v) (get_or-set_other places o p (Some end) None (λ d. ne (sym d))))
+
+pub place-notified : (o : ℕ) (x : Observing) → taken_up_to o (after_notify x) ≡ (if among o (pending_of x) then Some (length x.mutations) else taken_up_to o x)
+place-notified o x = moved-at (length x.mutations) (pending_of x) x.places (λ q h. observer-made x q (pending-there q x h)) o
+
+pub there-notified : (o : ℕ) (x : Observing) → has_observer (after_notify x) o ≡ has_observer x o
+there-notified o x = ap is_some (place-notified o x) ∙ go (among o (pending_of x)) refl
+  where
+    go : (b : Bool) → among o (pending_of x) ≡ b → is_some (if b then Some (length x.mutations) else taken_up_to o x) ≡ has_observer x o
+    go true h = sym (pending-there o x h)
+    go false h = refl
+
+pub queue-notified : (o : ℕ) (x : Observing) → queue_of o (after_notify x) ≡ (if among o (pending_of x) then [] else queue_of o x)
+queue-notified o x = ap (records_past o x.mutations) (place-notified o x) ∙ go (among o (pending_of x))
+  where
+    go : (b : Bool) → records_past o x.mutations (if b then Some (length x.mutations) else taken_up_to o x) ≡ (if b then [] else queue_of o x)
+    go true = ap (filter_map (record_for o)) (drop-length x.mutations)
+    go false = refl
+
+-- where what waits, waits for a pending observer, no queue has records then
+pub queues-notified : (x : Observing) → ((o : ℕ) → among o (pending_of x) ≡ false → queue_of o x ≡ []) → (o : ℕ) → queue_of o (after_notify x) ≡ []
+queues-notified x waits o = queue-notified o x ∙ go (among o (pending_of x)) refl
+  where
+    go : (b : Bool) → among o (pending_of x) ≡ b → (if b then [] else queue_of o x) ≡ []
+    go true h = refl
+    go false h = waits o h
 
 pub pending-notified : (x : Observing) → pending_of (after_notify x) ≡ []
 pending-notified x = ap (λ ms. filter (has_observer (after_notify x)) (each_once (flat_map observers_of ms))) (drop-length x.mutations)
+
+-- The steps of notify: the pending observers are taken, and one is told.
+
+pub pending-pending_taken : (x : Observing) → pending_of (pending_taken x) ≡ []
+pending-pending_taken x = ap (λ ms. filter (has_observer x) (each_once (flat_map observers_of ms))) (drop-length x.mutations)
+
+pub queue-pending_taken : (o : ℕ) (x : Observing) → queue_of o (pending_taken x) ≡ queue_of o x
+queue-pending_taken o x = refl
+
+pub queue-told : (o p : ℕ) (x : Observing) → queue_of p (observer_told o x) ≡ queue_of p (records_taken o x)
+queue-told o p x = refl
+
+pub pending-told : (o : ℕ) (x : Observing) → has_observer x o ≡ true → pending_of (observer_told o x) ≡ pending_of x
+pending-told o x h = pending-taken o x h
 
 -- An observer is made, or observes.
 
@@ -360,12 +437,15 @@ timely-released o x t = record { places = λ p. place p (same_or p o); last = t.
     place p (apart ne v) = subst (IsWithin x.mutations) (sym (place-released_other o p x ne)) (t.places p)
     place p (same e v) = subst (λ q. IsWithin x.mutations (taken_up_to q (released_observer o x))) (sym e) (subst (IsWithin x.mutations) (sym (place-released o x)) tt)
 
-pub timely-notified : (x : Observing) → IsTimely (after_notify x)
-timely-notified x = record { places = λ o. subst (IsWithin x.mutations) (sym (place-notified o x)) (end (taken_up_to o x)); last = omega arith }
+pub timely-notified : (x : Observing) → IsTimely x → IsTimely (after_notify x)
+timely-notified x t = record { places = λ o. subst (IsWithin x.mutations) (sym (place-notified o x)) (end (among o (pending_of x)) (taken_up_to o x) (t.places o)); last = omega arith }
   where
-    end : (place : Option ℕ) → IsWithin x.mutations (option_map (λ _. length x.mutations) place)
-    end None = tt
-    end (Some n) = omega arith
+    end : (b : Bool) (place : Option ℕ) → IsWithin x.mutations place → IsWithin x.mutations (if b then Some (length x.mutations) else place)
+    end true place h = omega arith
+    end false place h = h
+
+pub timely-pending_taken : (x : Observing) → IsTimely x → IsTimely (pending_taken x)
+timely-pending_taken x t = record { places = t.places; last = omega arith }
 
 pub timely-with_observer : (x : Observing) → IsTimely x → IsTimely (with_observer x)
 timely-with_observer x t = record { places = λ o. place o (cases_lt o (length x.places)); last = t.last }
@@ -404,6 +484,10 @@ interested_made-noted m x le made h = subst (All (λ o. o < length x.places)) (s
         ap (flat_map observers_of) (drop-append-le x.notified x.mutations (m ∷ []) le)
         ∙ flat_map-append observers_of (drop x.notified x.mutations) (m ∷ [])
         ∙ ap (λ os. before ++ os) (append-nil (observers_of m))
+
+pub interested_made-pending_taken : (x : Observing) → InterestedAreMade (pending_taken x)
+interested_made-pending_taken x =
+    subst (λ ms. All (λ o. o < length x.places) (flat_map observers_of ms)) (sym (drop-length x.mutations)) (All-nil (λ o. o < length x.places))
 
 pub interested_made-notified : (x : Observing) → InterestedAreMade (after_notify x)
 interested_made-notified x =

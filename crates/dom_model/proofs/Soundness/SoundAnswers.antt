@@ -2,7 +2,7 @@
 use Rattle.std.proofs.Common.{ℕ, List, [], ◌∷◌, Option, IfSome, Ok, Err, refl, arith}
 use Rattle.std.proofs.lemmas.List.Elements.{All-nil}
 use Rattle.dom_model.specs.Worlds.World.{Range, Iterator, Walker, World, first_world}
-use Rattle.dom_model.specs.Commands.Command.{Command, NewDocument, CreateElement, CreateText, CreateComment, CreatePI, CreateDoctype, CreateFragment, InsertBefore, AppendChild, ReplaceChild, RemoveChild, Remove, ReplaceChildren, AdoptNode, ImportNode, CloneNode, Normalize, DescribeNode, Children, Index, Length, Root, IsContaining, IsEqual, ComparePosition, TextContent, SetTextContent, Tree, GetData, SetData, AppendData, InsertData, DeleteData, ReplaceData, SubstringData, SplitText, SetAttribute, GetAttribute, HasAttribute, RemoveAttribute, ToggleAttribute, AttributeNames, CreateRange, CloneRange, DescribeRange, SetStart, SetEnd, SetStartBefore, SetStartAfter, SetEndBefore, SetEndAfter, Collapse, SelectNode, SelectNodeContents, CompareBoundaryPoints, ComparePoint, IsPointInRange, IntersectsNode, CommonAncestor, RangeText, DeleteContents, ExtractContents, CloneContents, InsertNode, SurroundContents, ReleaseRange, CreateIterator, CreateWalker, DescribeIterator, NextNode, PreviousNode, DescribeWalker, SetCurrent, Walk, CreateObserver, Observe, Disconnect, TakeRecords, Notify, Pending, Discard, CreateStaticRange, DescribeStaticRange, ReleaseIterator, ReleaseWalker, ReleaseStaticRange, ReleaseObserver}
+use Rattle.dom_model.specs.Commands.Command.{Command, NewDocument, CreateElement, CreateText, CreateComment, CreatePI, CreateDoctype, CreateFragment, InsertBefore, AppendChild, ReplaceChild, RemoveChild, Remove, ReplaceChildren, AdoptNode, ImportNode, CloneNode, Normalize, DescribeNode, Children, Index, Length, Root, IsContaining, IsEqual, ComparePosition, TextContent, SetTextContent, Tree, GetData, SetData, AppendData, InsertData, DeleteData, ReplaceData, SubstringData, SplitText, SetAttribute, GetAttribute, HasAttribute, RemoveAttribute, ToggleAttribute, AttributeNames, CreateRange, CloneRange, DescribeRange, SetStart, SetEnd, SetStartBefore, SetStartAfter, SetEndBefore, SetEndAfter, Collapse, SelectNode, SelectNodeContents, CompareBoundaryPoints, ComparePoint, IsPointInRange, IntersectsNode, CommonAncestor, RangeText, DeleteContents, ExtractContents, CloneContents, InsertNode, SurroundContents, ReleaseRange, CreateIterator, CreateWalker, DescribeIterator, NextNode, PreviousNode, DescribeWalker, SetCurrent, Walk, CreateObserver, Observe, Disconnect, TakeRecords, Notify, Pending, Discard, CreateStaticRange, DescribeStaticRange, ReleaseIterator, ReleaseWalker, ReleaseStaticRange, ReleaseObserver, TakePending, TellObserver}
 use Rattle.dom_model.specs.Commands.Reply.{Number, Done}
 use Rattle.dom_model.specs.Worlds.Lengths.{length_at}
 use Rattle.dom_model.specs.RangesAndContents.Contents.{delete_contents, check_extract, extract, clone_contents}
@@ -21,7 +21,7 @@ use Rattle.dom_model.proofs.Soundness.SoundPlacedNode.{Gives}
 use Rattle.dom_model.proofs.Soundness.SoundInsertedNode.{insert-next}
 use Rattle.dom_model.proofs.Soundness.SoundSurrounding.{surround-next}
 use Rattle.dom_model.proofs.Soundness.SoundDiscarding.{sound-discard}
-use Rattle.dom_model.proofs.Soundness.SoundObserverSteps.{sound-create_observer, sound-disconnect, sound-notify, sound-observe, sound-release_observer, sound-take_records}
+use Rattle.dom_model.proofs.Soundness.SoundObserverSteps.{sound-create_observer, sound-disconnect, sound-notify, sound-observe, sound-release_observer, sound-take_pending, sound-tell_observer, sound-take_records}
 use Rattle.dom_model.proofs.Soundness.SoundQuestions.{sound-attribute_names, sound-children, sound-common_ancestor, sound-compare_boundary_points, sound-compare_point, sound-compare_position, sound-contains, sound-create_static_range, sound-data, sound-get_attribute, sound-has_attribute, sound-index, sound-intersects_node, sound-is_equal, sound-is_point_in_range, sound-length, sound-node, sound-range, sound-range_text, sound-release_static_range, sound-root, sound-static_range, sound-text_content, sound-tree}
 use Rattle.dom_model.proofs.Soundness.SoundRangeSteps.{sound-clone_range, sound-collapse, sound-create_range, sound-release_range, sound-select_node, sound-select_node_contents, sound-set_end, sound-set_end_after, sound-set_end_before, sound-set_start, sound-set_start_after, sound-set_start_before}
 use Rattle.dom_model.proofs.Soundness.SoundTraversalSteps.{sound-create_iterator, sound-create_walker, sound-iterator, sound-next_node, sound-previous_node, sound-release_iterator, sound-release_walker, sound-set_current, sound-walk, sound-walker}
@@ -144,6 +144,8 @@ sound-answer b w (ReleaseIterator i) sound = sound-release_iterator b w sound i
 sound-answer b w (ReleaseWalker k) sound = sound-release_walker b w sound k
 sound-answer b w (ReleaseStaticRange u) sound = sound-release_static_range b w sound u
 sound-answer b w (ReleaseObserver o) sound = sound-release_observer b w sound o
+sound-answer b w TakePending sound = sound-take_pending b w sound
+sound-answer b w (TellObserver o) sound = sound-tell_observer b w sound o
 
 -- the first world is sound
 pub sound-first : IsSound first_world

@@ -6,9 +6,9 @@ use Rattle.dom_model.specs.Forests.Forest.{Forest, HasNode}
 use Rattle.dom_model.specs.Worlds.World.{Content, Options, Registration, Observing, World}
 use Rattle.dom_model.specs.MutationObservers.GivenOptions.{GivenOptions}
 use Rattle.dom_model.specs.Commands.Reply.{Number, Records}
-use Rattle.dom_model.specs.MutationObservers.Records.{options_refusal, options_of, is_registered, is_transient_from, new_registration, with_options, registered, observed, queue_of, with_observer, records_taken, disconnected, released_observer, after_notify}
+use Rattle.dom_model.specs.MutationObservers.Records.{options_refusal, options_of, is_registered, is_transient_from, new_registration, with_options, registered, observed, queue_of, with_observer, records_taken, disconnected, released_observer, after_notify, pending_taken, is_transient_of, observer_told}
 use Rattle.dom_model.specs.Commands.Guards.{Bounds, checked, no_node, no_room, answers, does}
-use Rattle.dom_model.specs.Commands.AnswerObserving.{observers_made, no_observer, with_observing, answer_create_observer, answer_observe, answer_disconnect, answer_take_records, answer_notify, answer_release_observer}
+use Rattle.dom_model.specs.Commands.AnswerObserving.{observers_made, no_observer, with_observing, answer_create_observer, answer_observe, answer_disconnect, answer_take_records, answer_notify, answer_release_observer, answer_take_pending, answer_tell_observer}
 use Rattle.dom_model.specs.Soundness.Sound.{IsRegistration, IsSound}
 use Rattle.dom_model.proofs.Forests.Entries.{HasNode-occurs}
 use Rattle.dom_model.proofs.Soundness.SoundGuards.{sound-guarded, sound-checked, there_unless}
@@ -62,6 +62,14 @@ module _ (b : Bounds) (w : World) (s : IsSound w) where
   sound-take_records o =
       sound-guarded (no_observer o w ∷ []) w (answers (Records (queue_of o w.observing)) (with_observing (records_taken o w.observing) w)) s
       (λ _. sound-observing (records_taken o w.observing) w s s.registrations)
+
+  pub sound-take_pending : IsSound (answer_take_pending b w).world
+  sound-take_pending = sound-observing (pending_taken w.observing) w s s.registrations
+
+  pub sound-tell_observer : (o : ℕ) → IsSound (answer_tell_observer b o w).world
+  sound-tell_observer o =
+      sound-guarded (no_observer o w ∷ []) w (answers (Records (queue_of o w.observing)) (with_observing (observer_told o w.observing) w)) s
+      (λ _. sound-observing (observer_told o w.observing) w s (All-filter (λ (r : Registration). not (is_transient_of o r)) (IsRegistration w.forest) w.observing.registrations s.registrations))
 
   pub sound-notify : IsSound (answer_notify b w).world
   sound-notify = sound-observing (after_notify w.observing) w s (All-filter (λ (r : Registration). is_none r.source) (IsRegistration w.forest) w.observing.registrations s.registrations)

@@ -1,12 +1,12 @@
 -- The answer to a command: its refusals in their order, then its meaning.
 use Rattle.dom_model.specs.Worlds.World.{World}
-use Rattle.dom_model.specs.Commands.Command.{Command, NewDocument, CreateElement, CreateText, CreateComment, CreatePI, CreateDoctype, CreateFragment, InsertBefore, AppendChild, AdoptNode, ReplaceChild, RemoveChild, Remove, ReplaceChildren, ImportNode, CloneNode, Normalize, DescribeNode, Children, Index, Length, Root, IsContaining, IsEqual, ComparePosition, TextContent, SetTextContent, Tree, GetData, SetData, AppendData, InsertData, DeleteData, ReplaceData, SubstringData, SplitText, SetAttribute, GetAttribute, HasAttribute, RemoveAttribute, ToggleAttribute, AttributeNames, CreateRange, CloneRange, DescribeRange, SetStart, SetEnd, SetStartBefore, SetStartAfter, SetEndBefore, SetEndAfter, Collapse, SelectNode, SelectNodeContents, CompareBoundaryPoints, ComparePoint, IsPointInRange, IntersectsNode, CommonAncestor, RangeText, DeleteContents, ExtractContents, CloneContents, InsertNode, SurroundContents, ReleaseRange, CreateIterator, CreateWalker, DescribeIterator, NextNode, PreviousNode, DescribeWalker, SetCurrent, Walk, CreateObserver, Observe, Disconnect, TakeRecords, Notify, Pending, Discard, CreateStaticRange, DescribeStaticRange, ReleaseIterator, ReleaseWalker, ReleaseStaticRange, ReleaseObserver}
+use Rattle.dom_model.specs.Commands.Command.{Command, NewDocument, CreateElement, CreateText, CreateComment, CreatePI, CreateDoctype, CreateFragment, InsertBefore, AppendChild, AdoptNode, ReplaceChild, RemoveChild, Remove, ReplaceChildren, ImportNode, CloneNode, Normalize, DescribeNode, Children, Index, Length, Root, IsContaining, IsEqual, ComparePosition, TextContent, SetTextContent, Tree, GetData, SetData, AppendData, InsertData, DeleteData, ReplaceData, SubstringData, SplitText, SetAttribute, GetAttribute, HasAttribute, RemoveAttribute, ToggleAttribute, AttributeNames, CreateRange, CloneRange, DescribeRange, SetStart, SetEnd, SetStartBefore, SetStartAfter, SetEndBefore, SetEndAfter, Collapse, SelectNode, SelectNodeContents, CompareBoundaryPoints, ComparePoint, IsPointInRange, IntersectsNode, CommonAncestor, RangeText, DeleteContents, ExtractContents, CloneContents, InsertNode, SurroundContents, ReleaseRange, CreateIterator, CreateWalker, DescribeIterator, NextNode, PreviousNode, DescribeWalker, SetCurrent, Walk, CreateObserver, Observe, Disconnect, TakeRecords, Notify, Pending, Discard, CreateStaticRange, DescribeStaticRange, ReleaseIterator, ReleaseWalker, ReleaseStaticRange, ReleaseObserver, TakePending, TellObserver}
 use Rattle.dom_model.specs.Commands.AnswerMaking.{answer_new_document, answer_create_element, answer_create_text, answer_create_comment, answer_create_instruction, answer_create_doctype, answer_create_fragment}
 use Rattle.dom_model.specs.Commands.AnswerTree.{answer_insert_before, answer_append_child, answer_replace_child, answer_remove_child, answer_remove, answer_replace_children, answer_adopt_node, answer_import_node, answer_clone_node, answer_normalize, answer_node, answer_children, answer_index, answer_length, answer_root, answer_contains, answer_is_equal, answer_compare_position, answer_text_content, answer_set_text_content, answer_tree}
 use Rattle.dom_model.specs.Commands.AnswerData.{answer_data, answer_set_data, answer_replace_data, answer_append_data, answer_insert_data, answer_delete_data, answer_substring_data, answer_split_text, answer_set_attribute, answer_get_attribute, answer_has_attribute, answer_remove_attribute, answer_toggle_attribute, answer_attribute_names}
 use Rattle.dom_model.specs.Commands.AnswerRanges.{answer_create_range, answer_clone_range, answer_range, answer_release_range, answer_set_start, answer_set_end, answer_set_start_before, answer_set_start_after, answer_set_end_before, answer_set_end_after, answer_collapse, answer_select_node, answer_select_node_contents, answer_compare_boundary_points, answer_compare_point, answer_is_point_in_range, answer_intersects_node, answer_common_ancestor, answer_range_text, answer_delete_contents, answer_extract_contents, answer_clone_contents, answer_insert_node, answer_surround_contents}
 use Rattle.dom_model.specs.Commands.AnswerTraversal.{answer_create_iterator, answer_create_walker, answer_iterator, answer_next_node, answer_previous_node, answer_walker, answer_set_current, answer_walk, answer_release_iterator, answer_release_walker}
-use Rattle.dom_model.specs.Commands.AnswerObserving.{answer_create_observer, answer_observe, answer_disconnect, answer_take_records, answer_notify, answer_pending, answer_release_observer}
+use Rattle.dom_model.specs.Commands.AnswerObserving.{answer_create_observer, answer_observe, answer_disconnect, answer_take_records, answer_notify, answer_pending, answer_release_observer, answer_take_pending, answer_tell_observer}
 use Rattle.dom_model.specs.Commands.AnswerStatic.{answer_create_static_range, answer_static_range, answer_release_static_range}
 use Rattle.dom_model.specs.Commands.AnswerDiscard.{answer_discard}
 pub use Rattle.dom_model.specs.Commands.Guards.{Bounds, Step, refused, guarded, checked, no_node, wrong_kind, no_room, bad_name, made_node, makes, named, with_text, answers, tree_row, tree_rows}
@@ -99,3 +99,5 @@ answer b w (ReleaseIterator i) = answer_release_iterator b i w
 answer b w (ReleaseWalker k) = answer_release_walker b k w
 answer b w (ReleaseStaticRange u) = answer_release_static_range b u w
 answer b w (ReleaseObserver o) = answer_release_observer b o w
+answer b w TakePending = answer_take_pending b w
+answer b w (TellObserver o) = answer_tell_observer b o w

@@ -6,7 +6,7 @@ use Rattle.dom_model.specs.Worlds.World.{Observing, World}
 use Rattle.dom_model.specs.MutationObservers.GivenOptions.{GivenOptions}
 use Rattle.dom_model.specs.Commands.Reply.{Number, Numbers, Records, Notified, Reply, Own}
 use Rattle.dom_model.specs.Commands.Guards.{Bounds, Step, guarded, checked, no_node, no_room, answers, does}
-use Rattle.dom_model.specs.MutationObservers.Records.{options_refusal, options_of, observed, has_observer, queue_of, pending_of, with_observer, records_taken, disconnected, released_observer, told, after_notify}
+use Rattle.dom_model.specs.MutationObservers.Records.{options_refusal, options_of, observed, has_observer, queue_of, pending_of, with_observer, records_taken, disconnected, released_observer, told, after_notify, pending_taken, observer_told}
 
 abbrev pub observers_made : World → ℕ
 observers_made w = length w.observing.places
@@ -44,6 +44,16 @@ answer_take_records b o w =
 
 abbrev pub answer_notify : Bounds → World → Step
 answer_notify b w = answers (Notified (told w.observing)) (with_observing (after_notify w.observing) w)
+
+-- the pending observers are taken (ours, the first step of notify): they are answered in order, and nobody is pending any more
+abbrev pub answer_take_pending : Bounds → World → Step
+answer_take_pending b w = answers (Numbers (pending_of w.observing)) (with_observing (pending_taken w.observing) w)
+
+-- one observer is told (ours, the second step of notify): its records are answered and its queue emptied, and its transient registrations go
+abbrev pub answer_tell_observer : Bounds → ℕ → World → Step
+answer_tell_observer b o w =
+    guarded (no_observer o w ∷ []) w
+    (answers (Records (queue_of o w.observing)) (with_observing (observer_told o w.observing) w))
 
 abbrev pub answer_pending : Bounds → World → Step
 answer_pending b w = answers (Numbers (pending_of w.observing)) w

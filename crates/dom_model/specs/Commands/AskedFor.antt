@@ -1,6 +1,6 @@
 -- The iterator, the walker, the static range and the observer that a command asks for by its number. Ours; the standard has no numbers.
 use Rattle.std.specs.Prelude.{ℕ, Option, Some, None}
-use Rattle.dom_model.specs.Commands.Command.{Command, DescribeIterator, NextNode, PreviousNode, ReleaseIterator, DescribeWalker, SetCurrent, Walk, ReleaseWalker, DescribeStaticRange, ReleaseStaticRange, Observe, Disconnect, TakeRecords, ReleaseObserver}
+use Rattle.dom_model.specs.Commands.Command.{Command, DescribeIterator, NextNode, PreviousNode, ReleaseIterator, DescribeWalker, SetCurrent, Walk, ReleaseWalker, DescribeStaticRange, ReleaseStaticRange, Observe, Disconnect, TakeRecords, ReleaseObserver, TellObserver}
 
 abbrev pub iterator_asked : Command → Option ℕ
 iterator_asked (DescribeIterator i) = Some i
@@ -26,4 +26,5 @@ observer_asked (Observe o n options) = Some o
 observer_asked (Disconnect o) = Some o
 observer_asked (TakeRecords o) = Some o
 observer_asked (ReleaseObserver o) = Some o
+observer_asked (TellObserver o) = Some o
 observer_asked _ = None

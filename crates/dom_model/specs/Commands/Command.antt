@@ -1,4 +1,4 @@
--- The commands: one for each name of the table, and four that no line has.
+-- The commands: one for each name of the table, and six that no line has.
 use Rattle.std.specs.Prelude.{ℕ, List, Bool, Option}
 use Rattle.dom_model.specs.declared.Move.{Move}
 use Rattle.dom_model.specs.Worlds.World.{Filter, Point}
@@ -89,8 +89,10 @@ pub data Command : Type 0 where
   Discard : ℕ → Command
   CreateStaticRange : Point → Point → Command
   DescribeStaticRange : ℕ → Command
-  -- ours; these four have no line, and are made by who calls the core as a library
+  -- ours; these six have no line, and are made by who calls the core as a library
   ReleaseIterator : ℕ → Command
   ReleaseWalker : ℕ → Command
   ReleaseStaticRange : ℕ → Command
   ReleaseObserver : ℕ → Command
+  TakePending : Command
+  TellObserver : ℕ → Command

@@ -1,5 +1,5 @@
 -- The table of commands: a name, the shapes of the arguments, and the command that they make.
--- The commands that release an iterator, a walker, a static range or an observer have no row (ours): a line with such a name is `bad-command`.
+-- The commands that release an iterator, a walker, a static range or an observer, and the two steps of notify, have no row (ours): a line with such a name is `bad-command`.
 use Rattle.std.specs.Prelude.{ℕ, List, [], ◌∷◌, Bool, false, Option, None, codes, slice_index, slice_index_or}
 use Rattle.dom_model.specs.declared.Move.{Move}
 use Rattle.dom_model.specs.declared.Move.TheVariants.{ParentNode}

@@ -3,7 +3,7 @@
 use Rattle.std.specs.Prelude.{ℕ, Bool, true, false, not, if◌then◌else◌, List, [], ◌∷◌, filter}
 use Rattle.std.specs.List.{list_any}
 use Rattle.dom_model.specs.Worlds.World.{World}
-use Rattle.dom_model.specs.Commands.Command.{Command, CreateRange, CloneRange, DescribeRange, SetStart, SetEnd, SetStartBefore, SetStartAfter, SetEndBefore, SetEndAfter, Collapse, SelectNode, SelectNodeContents, CompareBoundaryPoints, ComparePoint, IsPointInRange, IntersectsNode, CommonAncestor, RangeText, DeleteContents, ExtractContents, CloneContents, InsertNode, SurroundContents, ReleaseRange, CreateIterator, CreateWalker, DescribeIterator, NextNode, PreviousNode, DescribeWalker, SetCurrent, Walk, Observe, Disconnect, TakeRecords, Notify, Pending, CreateStaticRange, DescribeStaticRange, ReleaseIterator, ReleaseWalker, ReleaseStaticRange, ReleaseObserver, Discard}
+use Rattle.dom_model.specs.Commands.Command.{Command, CreateRange, CloneRange, DescribeRange, SetStart, SetEnd, SetStartBefore, SetStartAfter, SetEndBefore, SetEndAfter, Collapse, SelectNode, SelectNodeContents, CompareBoundaryPoints, ComparePoint, IsPointInRange, IntersectsNode, CommonAncestor, RangeText, DeleteContents, ExtractContents, CloneContents, InsertNode, SurroundContents, ReleaseRange, CreateIterator, CreateWalker, DescribeIterator, NextNode, PreviousNode, DescribeWalker, SetCurrent, Walk, Observe, Disconnect, TakeRecords, Notify, Pending, CreateStaticRange, DescribeStaticRange, ReleaseIterator, ReleaseWalker, ReleaseStaticRange, ReleaseObserver, TakePending, TellObserver, Discard}
 use Rattle.dom_model.specs.Commands.Reply.{Answer, Numbers, Notified, Reply, Done, Dom, Own}
 use Rattle.dom_model.specs.MutationObservers.Record.{Told}
 use Rattle.dom_model.specs.Commands.Guards.{Bounds}
@@ -34,13 +34,15 @@ discards _ = false
 abbrev pub makes_no_discard : List Command → Bool
 makes_no_discard cs = not (list_any discards cs)
 
--- Observers, told by a test of their numbers: what they observe, disconnect and take is erased, and that they are released; that they are made is not.
+-- Observers, told by a test of their numbers: what they observe, disconnect and take is erased, that they are told one by one, and that they are
+-- released; that they are made is not.
 
 abbrev pub is_by_observer : (ℕ → Bool) → Command → Bool
 is_by_observer erased (Observe o n options) = erased o
 is_by_observer erased (Disconnect o) = erased o
 is_by_observer erased (TakeRecords o) = erased o
 is_by_observer erased (ReleaseObserver o) = erased o
+is_by_observer erased (TellObserver o) = erased o
 is_by_observer erased _ = false
 
 abbrev pub parts_left : (ℕ → Bool) → Answer → Answer
@@ -53,10 +55,11 @@ reply_left erased (Done a) = Done (parts_left erased a)
 reply_left erased (Dom e) = Dom e
 reply_left erased (Own e) = Own e
 
--- their parts of what notify and pending answer are erased
+-- their parts of what notify, pending and its taking answer are erased
 abbrev pub left_by_observers : (ℕ → Bool) → Command → Reply → Reply
 left_by_observers erased Notify r = reply_left erased r
 left_by_observers erased Pending r = reply_left erased r
+left_by_observers erased TakePending r = reply_left erased r
 left_by_observers erased _ r = r
 
 abbrev pub without_observers : (ℕ → Bool) → List Command → List Command

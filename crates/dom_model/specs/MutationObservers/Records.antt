@@ -1,8 +1,9 @@
 -- What observers are told: options as they are settled, registrations, queues and the pending list as readings of the one list of mutations.
 -- DOM Standard, "Mutation observers": observe, disconnect, takeRecords, queue a mutation record, notify mutation observers.
--- Ours: only a registration that is not transient counts as already there, notify is a command that ends every transient one,
+-- Ours: only a registration that is not transient counts as already there, notify is a command that ends every transient one, its two steps can be
+-- made one by one,
 -- and an observer can be released, where the standard leaves it to garbage collection.
-use Rattle.std.specs.Prelude.{ℕ, ◌<◌, ◌==◌, Bool, true, false, not, ◌&&◌, ◌||◌, if◌then◌else◌, List, [], ◌∷◌, ◌++◌, map, filter, filter_map, flat_map, drop, length, Option, Some, None, is_some, is_none, option_map, unwrap_or, slice_index_or, slice_set, bytes_eq, All, Result, Ok, Err}
+use Rattle.std.specs.Prelude.{ℕ, ◌<◌, ◌==◌, Bool, true, false, not, ◌&&◌, ◌||◌, if◌then◌else◌, List, [], ◌∷◌, ◌++◌, map, filter, filter_map, flat_map, drop, length, Option, Some, None, is_some, is_none, unwrap_or, slice_index_or, slice_set, bytes_eq, All, Result, Ok, Err}
 use Rattle.std.specs.List.{list_any}
 use Rattle.dom_model.specs.declared.RecordType.{RecordType}
 use Rattle.dom_model.specs.declared.RecordType.TheVariants.{ChildList, Attributes, CharacterData}
@@ -190,10 +191,43 @@ has_records t = not (length t.records == 0)
 abbrev pub told : Observing → List Told
 told x = filter has_records (map (told_in x) (pending_of x))
 
--- notify: the queues and the pending list are emptied, and every transient registration goes
+-- the places of some observers moved to one place
+abbrev pub moved_to : ℕ → List ℕ → List (Option ℕ) → List (Option ℕ)
+moved_to place [] places = places
+moved_to place (o ∷ os) places = moved_to place os (slice_set places o (Some place))
+
+-- notify: the queues of the pending observers and the pending list are emptied, and every transient registration goes
 abbrev pub after_notify : Observing → Observing
 after_notify x = record x {
   registrations = filter (λ (r : Registration). is_none r.source) x.registrations;
-  places = map (λ (place : Option ℕ). option_map (λ _. length x.mutations) place) x.places;
+  places = moved_to (length x.mutations) (pending_of x) x.places;
   notified = length x.mutations;
 }
+
+-- The steps of notify, one by one.
+
+-- the pending observers are taken: nobody is pending any more, and the queues and all registrations stay
+abbrev pub pending_taken : Observing → Observing
+pending_taken x = record x { notified = length x.mutations }
+
+-- a transient registration of the observer
+abbrev pub is_transient_of : ℕ → Registration → Bool
+is_transient_of o r = (r.observer == o) && is_some r.source
+
+-- one observer is told: its queue is emptied, and its transient registrations go
+abbrev pub observer_told : ℕ → Observing → Observing
+observer_told o x = record (records_taken o x) { registrations = filter (λ (r : Registration). not (is_transient_of o r)) x.registrations }
+
+-- several are told, one after another
+abbrev pub told_in_turn : List ℕ → Observing → Observing
+told_in_turn [] x = x
+told_in_turn (o ∷ os) x = told_in_turn os (observer_told o x)
+
+-- what each of them is told
+abbrev pub answers_in_turn : List ℕ → Observing → List Told
+answers_in_turn [] x = []
+answers_in_turn (o ∷ os) x = told_in x o ∷ answers_in_turn os (observer_told o x)
+
+-- every transient registration that is left goes
+abbrev pub transients_ended : Observing → Observing
+transients_ended x = record x { registrations = filter (λ (r : Registration). is_none r.source) x.registrations }

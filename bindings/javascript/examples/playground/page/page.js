@@ -1,16 +1,23 @@
 // The page: which lines are played, which step is shown, and what is typed or clicked.
 import { GROUPS, openPlace, template } from "./commands.js";
+import { dialogue, names } from "./dialogues.js";
 import { element, others, records, tokenTexts, trees } from "./drawing.js";
+import { play as played } from "./play.js";
 
 const part = (id) => document.getElementById(id);
 
 // What is played: the first `count` lines of a dialogue (all of them where it is null), and then lines of one's own. Each step is what a line left.
 const state = { name: null, count: null, more: [], steps: [], at: 0 };
 
-async function asked(path, body) {
-  const response = await fetch(path, body && { method: "POST", body: JSON.stringify(body) });
-  if (!response.ok) throw new Error(await response.text());
-  return response.json();
+const MOST_LINES = 500;
+
+// The lines that are played: some of a dialogue, and then one's own.
+function linesOf({ name, count, more }) {
+  const found = name === null ? { lines: [], options: {} } : dialogue(name);
+  const lines = [...found.lines.slice(0, count ?? found.lines.length), ...more];
+  if (lines.length > MOST_LINES) throw new Error(`more than ${MOST_LINES} lines`);
+  if (more.some((line) => line.includes("\n"))) throw new Error("a command is one line");
+  return { lines, options: found.options };
 }
 
 function tell(message = "") {
@@ -18,9 +25,10 @@ function tell(message = "") {
 }
 
 // Plays lines from the beginning, and shows a step: the last one where none is named.
-async function play({ name, count, more }, at) {
+function play({ name, count, more }, at) {
   try {
-    const steps = await asked("/play", { name, count, more });
+    const { lines, options } = linesOf({ name, count, more });
+    const steps = played(lines, options);
     Object.assign(state, { name, count, more, steps });
     tell();
     drawLines();
@@ -53,6 +61,7 @@ function show(at) {
   part("records").replaceChildren(...records(step));
   part("others").replaceChildren(...others(step));
   part("place").textContent = `${at} of ${state.steps.length - 1}`;
+  part("link").href = linkTo(state);
   for (const id of ["first", "back"]) part(id).disabled = at === 0;
   for (const id of ["forward", "last"]) part(id).disabled = at === state.steps.length - 1;
 }
@@ -106,7 +115,9 @@ function listen() {
   part("entry").addEventListener("submit", (event) => {
     event.preventDefault();
     const line = part("command").value.trim();
-    if (line) add(line).then(() => { part("command").value = ""; });
+    if (!line) return;
+    add(line);
+    part("command").value = "";
   });
   document.addEventListener("keydown", (event) => {
     if (["INPUT", "SELECT"].includes(event.target.tagName)) return;
@@ -115,28 +126,45 @@ function listen() {
   });
 }
 
-async function drawDialogues() {
-  const names = await asked("/dialogues");
-  const subjects = [...new Set(names.map((name) => name.split("/")[0]))];
+function drawDialogues() {
+  const all = names();
+  const subjects = [...new Set(all.map((name) => name.split("/")[0]))];
   for (const subject of subjects) {
     const group = element("optgroup");
     group.label = subject.replaceAll("_", " ");
-    group.append(...names.filter((name) => name.startsWith(`${subject}/`)).map((name) => new Option(name.split("/")[1].replaceAll("_", " "), name)));
+    group.append(...all.filter((name) => name.startsWith(`${subject}/`)).map((name) => new Option(name.split("/")[1].replaceAll("_", " "), name)));
     part("dialogue").append(group);
   }
 }
 
-// The address may name a dialogue and a step: ?dialogue=ranges/ends_after_split&step=12
-async function start() {
-  const words = new URLSearchParams(location.search);
-  part("group").append(...Object.keys(GROUPS).map((group) => new Option(group)));
-  drawCommands("making");
-  listen();
-  await drawDialogues();
-  part("dialogue").value = words.get("dialogue") ?? "";
-  const step = words.has("step") ? Number(words.get("step")) : undefined;
-  await play({ name: words.get("dialogue"), count: null, more: [] }, step);
+// A link that carries what is played, and the step that is shown, behind the sign # of the address.
+function linkTo({ name, count, more, at }) {
+  return `#${new URLSearchParams(Object.entries({ dialogue: name, count, step: at, lines: more.length ? JSON.stringify(more) : null }).filter(([, it]) => it !== null))}`;
 }
 
-await start();
+const numberIn = (words, name) => (words.has(name) ? Number(words.get(name)) : null);
+
+// What the address asks for, as #dialogue=ranges/ends_after_split&step=12
+function asked() {
+  const words = new URLSearchParams(location.hash.slice(1) || location.search);
+  const more = JSON.parse(words.get("lines") ?? "[]").map(String);
+  return [{ name: words.get("dialogue"), count: numberIn(words, "count"), more }, numberIn(words, "step") ?? undefined];
+}
+
+function follow() {
+  try {
+    const [what, step] = asked();
+    part("dialogue").value = what.name ?? "";
+    play(what, step);
+  } catch (fault) {
+    tell(fault.message);
+  }
+}
+
+part("group").append(...Object.keys(GROUPS).map((group) => new Option(group)));
+drawCommands("making");
+listen();
+drawDialogues();
+follow();
+window.addEventListener("hashchange", follow);
 document.documentElement.dataset.ready = "true";

@@ -116,7 +116,8 @@ fn section<'a>(text: &'a str, head: &str, next: &str) -> Option<&'a str> {
 /// html5lib's tests of tree construction, as Debian's package of the parser's tree has them.
 fn cases() -> Vec<Case> {
     let folder = "/usr/share/cargo/registry/markup5ever_rcdom-0.2.0/html5lib-tests/tree-construction";
-    let mut files: Vec<_> = fs::read_dir(folder).unwrap().map(|it| it.unwrap().path()).filter(|it| it.extension().is_some_and(|it| it == "dat")).collect();
+    let mut files: Vec<_> =
+        fs::read_dir(folder).unwrap().map(|it| it.unwrap().path()).filter(|it| it.extension().and_then(|it| it.to_str()) == Some("dat")).collect();
     files.sort();
     let texts: Vec<String> = files.iter().map(|it| format!("\n{}", fs::read_to_string(it).unwrap())).collect();
     let parts = texts.iter().flat_map(|it| it.split("\n#data\n").skip(1));
@@ -144,7 +145,10 @@ fn parts_of_html5lib() {
     let mut count = 0;
     for it in cases() {
         // (the element of a part is one of HTML)
-        let Some(container) = it.container.filter(|it| !it.contains(' ')) else { continue };
+        let container = match it.container.filter(|it| !it.contains(' ')) {
+            Some(container) => container,
+            None => continue,
+        };
         let fragment = html::parse_fragment(&mut session, Node::DOCUMENT, &container, &it.data).unwrap();
         assert_eq!(ours(&mut session, fragment), held(their_part(&container, &it.data)), "{} in {container}", it.data);
         count += 1;

@@ -7,7 +7,7 @@ use Rattle.dom_model.specs.Forests.Forest.{Node}
 use Rattle.dom_model.specs.Worlds.World.{Content, Range, World}
 use Rattle.dom_model.specs.Commands.Reply.{Reply}
 use Rattle.dom_model.specs.Commands.Guards.{Bounds, Step, guarded, checked}
-use Rattle.dom_model.specs.Commands.Command.{Command, DescribeNode, Children, Index, Length, Root, IsContaining, IsEqual, ComparePosition, TextContent, Tree, GetData, SubstringData, GetAttribute, HasAttribute, AttributeNames, DescribeRange, CompareBoundaryPoints, ComparePoint, IsPointInRange, IntersectsNode, CommonAncestor, RangeText, CreateIterator, CreateWalker, DescribeIterator, NextNode, PreviousNode, DescribeWalker, SetCurrent, Walk, CreateObserver, Observe, Disconnect, TakeRecords, Notify, Pending, CreateStaticRange, DescribeStaticRange, ReleaseIterator, ReleaseWalker, ReleaseStaticRange, ReleaseObserver}
+use Rattle.dom_model.specs.Commands.Command.{Command, DescribeNode, Children, Index, Length, Root, IsContaining, IsEqual, ComparePosition, TextContent, Tree, GetData, SubstringData, GetAttribute, HasAttribute, AttributeNames, DescribeRange, CompareBoundaryPoints, ComparePoint, IsPointInRange, IntersectsNode, CommonAncestor, RangeText, CreateIterator, CreateWalker, DescribeIterator, NextNode, PreviousNode, DescribeWalker, SetCurrent, Walk, CreateObserver, Observe, Disconnect, TakeRecords, Notify, Pending, CreateStaticRange, DescribeStaticRange, ReleaseIterator, ReleaseWalker, ReleaseStaticRange, ReleaseObserver, TakePending, TellObserver}
 use Rattle.dom_model.specs.Commands.AnswerTree.{described}
 use Rattle.dom_model.specs.Commands.AnswerRanges.{on_range}
 use Rattle.dom_model.specs.Commands.AnswerTraversal.{with_object}
@@ -61,6 +61,8 @@ edits_nothing (ReleaseIterator i) = true
 edits_nothing (ReleaseWalker k) = true
 edits_nothing (ReleaseStaticRange u) = true
 edits_nothing (ReleaseObserver o) = true
+edits_nothing TakePending = true
+edits_nothing (TellObserver o) = true
 edits_nothing _ = false
 
 stays-step : (r : Reply) (w v : World) → laid w ≡ laid v → StepStays w (record { reply = r; world = v })

@@ -85,9 +85,9 @@ returns-clause-told c =
     c.loop-index.invariant.told ∙ ap (λ ks. filter has_records (map (waiting_for (queues_by c.args.roster.now)) ks)) whole
 
 pub returns-clause-emptied : goal.returns-clause-emptied
-returns-clause-emptied c = λ p m.
+returns-clause-emptied c = λ p.
     let whole = take_all c.loop-index.index c.args.pending.now.keys (omega (arith, c.loop-index-test.false, c.len-index-end.ensures.len)) in
-    c.loop-index.invariant.left p ∙ ap (λ b. if b then [] else records_at (queues_by c.args.roster.now) p) (ap (among p) whole ∙ m)
+    c.loop-index.invariant.left p ∙ ap (λ b. if b then [] else records_at (queues_by c.args.roster.now) p) (ap (among p) whole)
 
 -- what was empty is empty
 left_empty : (b : Bool) (rs : List Record) → rs ≡ [] → (if b then [] else rs) ≡ []

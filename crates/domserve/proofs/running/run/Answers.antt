@@ -1,7 +1,7 @@
 use Rattle.std.proofs.Common.{◌^◌, Err, inl, inr, map, refl, subst}
 use Rattle.dom_serve.specs.Serves.{Serves}
 use Rattle.dom_serve.specs.declared.fault.Fault.TheVariants.{Memory}
-use Rattle.domserve.specs.CommandLine.{TellsOf, faults_in}
+use Rattle.dom_options.specs.CommandLine.{TellsOf, faults_in}
 use Rattle.domserve.proofs.running.run.Goals as goal
 
 pub returns-in-Ok-clause-told : goal.returns-in-Ok-clause-told

@@ -1,4 +1,5 @@
 -- The observer's registrations go from every node, and its queue is emptied.
+use Rattle.dom_observe.proofs.Awaiting.{awaited-emptied}
 use Rattle.std.proofs.Common.{◌≡◌, ℕ, true, List, [], Option, Some, length, filter, ap, sym, ◌∙◌, subst, inr}
 use Rattle.std.specs.Prelude.{slice_set}
 use Rattle.dom_model.specs.PlainLists.Lists.{among}
@@ -8,7 +9,7 @@ use Rattle.dom_observe.specs.declared.registration.Ended.TheVariants.{Of}
 use Rattle.dom_observe.specs.declared.roster.Observer.{Observer}
 use Rattle.dom_observe.specs.Watchers.{Watchers, Watches, on}
 use Rattle.dom_observe.specs.Registrations.{at, listed, is_live, spares}
-use Rattle.dom_observe.specs.Kept.{registered_nodes, has_queue, AllThere, IsKept}
+use Rattle.dom_observe.specs.Kept.{registered_nodes, has_queue, AllThere, IsKept, IsAwaited}
 use Rattle.dom_observe.specs.Roster.{lasting_by, passing_by, queues_by}
 use Rattle.dom_observe.specs.Naming.{TellsNone}
 use Rattle.dom_observe.proofs.Agreeing.{agree-ended}
@@ -61,6 +62,7 @@ invariant_of-self c =
           (placed_once-swept lists lists' (is_live v) c.end_all.ensures.swept c.self.invariant.1.placed_once) c.end_all.ensures.left lasting passing a.fleeting.keys (λ p off. inr off) known,
       sources-ended u v (Of o) c.end_all.ensures.left c.self.invariant.2,
       agree-ended u v (Of o) c.end_all.ensures.left c.self.invariant.3,
+      subst (λ q. IsAwaited q a.pending.keys a.untold.keys) (sym queues) (awaited-emptied qs a.pending.keys a.untold.keys c.self.invariant.4 o held_there),
     )
 
 pub returns-clause-ended : goal.returns-clause-ended

@@ -1,11 +1,12 @@
 -- One more queue, and nothing in it.
+use Rattle.dom_observe.proofs.Awaiting.{awaited-made}
 use Rattle.std.proofs.Common.{List, [], ◌∷◌, ◌++◌, Option, Some, None, length, is_some, ap, sym, ◌∙◌, subst}
 use Rattle.std.proofs.Math.Seq.{get_or-append_seam}
 use Rattle.dom_model.specs.MutationObservers.Records.{with_observer}
 use Rattle.dom_observe.specs.declared.roster.Observer.{Observer}
 use Rattle.dom_observe.specs.Watchers.{Watchers, Watches}
 use Rattle.dom_observe.specs.Registrations.{at, listed}
-use Rattle.dom_observe.specs.Kept.{registered_nodes, has_queue, IsKept, IsIndexed}
+use Rattle.dom_observe.specs.Kept.{registered_nodes, has_queue, IsKept, IsIndexed, IsAwaited}
 use Rattle.dom_observe.specs.Roster.{lasting_by, passing_by, queues_by}
 use Rattle.dom_observe.specs.Held.{NamesOnly}
 use Rattle.dom_observe.specs.Naming.{TellsNone}
@@ -27,12 +28,14 @@ invariant_of-self c =
       indexed-more (at a.table) (listed a.nodes.entries) a.fleeting.keys a.roster new c.self.invariant.1 keys queues,
       c.self.invariant.2,
       c.self.invariant.3,
+      subst (λ qs. IsAwaited qs a.pending.keys a.untold.keys) (sym queues) (awaited-made (queues_by a.roster) a.pending.keys a.untold.keys c.self.invariant.4),
     ))
     (λ same. (
       subst (λ r. IsKept a.table a.nodes.entries (queues_by r) a.pending.keys) (sym same) c.self.invariant.0,
       subst (λ r. IsIndexed (at a.table) (listed a.nodes.entries) (lasting_by r) (passing_by r) a.fleeting.keys (has_queue (queues_by r))) (sym same) c.self.invariant.1,
       c.self.invariant.2,
       c.self.invariant.3,
+      subst (λ r. IsAwaited (queues_by r) a.pending.keys a.untold.keys) (sym same) c.self.invariant.4,
     ))
 
 pub returns-clause-ok : goal.returns-clause-ok

@@ -28,7 +28,7 @@ agree-empty table empty = record {
     nothing key = ap (λ slots. option_map plain (slice_index_or slots key None)) empty ∙ ap (option_map plain) (past key)
 
 pub invariant_of-result : goal.invariant_of-result
-invariant_of-result c = (search (tests, rules), search (tests, rules), search (tests, rules), agree-empty c.new.result c.new.ensures.empty)
+invariant_of-result c = (search (tests, rules), search (tests, rules), search (tests, rules), agree-empty c.new.result c.new.ensures.empty, search (tests, rules))
 
 pub returns : goal.returns
 returns c = search (tests, rules)

@@ -1,9 +1,8 @@
--- Each pending observer is told its records; then nobody is pending, and no queue has records.
-use Rattle.std.proofs.Common.{◌≡◌, ℕ, Bool, true, false, List, [], Option, length, map, filter, refl, ap, sym, ◌∙◌, subst}
+-- Each pending observer is told its records; then nobody is pending, and none of those has records.
+use Rattle.std.proofs.Common.{◌≡◌, ℕ, true, if◌then◌else◌, [], length, map, filter, refl, ap, sym, ◌∙◌, subst}
 use Rattle.std.specs.Prelude.{is_none}
 use Rattle.dom_model.specs.PlainLists.Lists.{among}
 use Rattle.dom_model.specs.Worlds.World.{Registration}
-use Rattle.dom_model.specs.MutationObservers.Record.{Record}
 use Rattle.dom_model.specs.MutationObservers.Records.{has_records, told_in}
 use Rattle.dom_observe.specs.Notifying.{waiting_in, EmptiesFirst, IsPartlyTold}
 use Rattle.dom_observe.proofs.Outcomes.{at_err}
@@ -12,6 +11,7 @@ use Rattle.dom_observe.specs.Naming.{TellsNone}
 use Rattle.dom_observe.specs.Registrations.{at, listed, is_live, passes_for, Owned}
 use Rattle.dom_observe.specs.Kept.{registered_nodes, has_queue, AllThere, HaveNone, IsKept}
 use Rattle.dom_observe.specs.Roster.{first_keys, second_keys, lasting_by, passing_by, queues_by}
+use Rattle.dom_observe.proofs.Awaiting.{awaited-queues, awaited-notified}
 use Rattle.dom_observe.proofs.Holding.{names-only, none-ended, same-there}
 use Rattle.dom_observe.specs.declared.registration.Ended.TheVariants.{Transient}
 use Rattle.dom_observe.proofs.Indexing.{indexed-notified}
@@ -25,15 +25,6 @@ use Rattle.dom_observe.proofs.Agreeing.{agree-ended}
 use Rattle.dom_observe.proofs.Sources.{sources-ended}
 use Rattle.dom_observe.proofs.Watching.{watches-notified}
 use Rattle.dom_observe.proofs.observers.Observers.notify.Goals as goal
-
--- an observer that is pending was told, and another had nothing to be told
-all_empty : (pending : List ℕ) (old new : List (Option (List Record))) → ((p : ℕ) → among p pending ≡ false → records_at old p ≡ [])
-    → ((p : ℕ) → among p pending ≡ true → records_at new p ≡ []) → ((p : ℕ) → records_at old p ≡ [] → records_at new p ≡ []) → (p : ℕ) → records_at new p ≡ []
-all_empty pending old new waiting emptied empty p = go (among p pending) refl
-  where
-    go : (b : Bool) → among p pending ≡ b → records_at new p ≡ []
-    go true e = emptied p e
-    go false e = empty p (waiting p e)
 
 pub gather-requires : goal.gather-requires
 gather-requires c = c.self.invariant.0.there
@@ -49,13 +40,11 @@ invariant_of-self-2 c =
     let lists' = listed c.end_transients.new.nodes.entries in
     let same : (i : ℕ) → has_queue qs' i ≡ has_queue qs i = λ i. ap (λ q. has_queue q i) c.end_transients.ensures.queues ∙ has-same a.roster c.gather.new.roster c.gather.ensures.keys i in
     let stand = stand-ended u v Transient lists lists' c.end_transients.ensures.left c.end_transients.ensures.swept (has_queue qs) c.self.invariant.0.stand in
-    let empty = all_empty a.pending.keys qs (queues_by c.gather.new.roster) c.self.invariant.0.waiting c.in_ok-told.ensures.emptied c.gather.ensures.empty in
     let kept : IsKept c.end_transients.new.table c.end_transients.new.nodes.entries qs' c.clear.new.self.keys = record {
       unique = c.end_transients.ensures.unique;
       full = c.end_transients.ensures.full c.self.invariant.0.full;
       stand = stand-alike v (has_queue qs) (has_queue qs') lists' (λ i there. same i ∙ there) stand;
       there = subst (AllThere (has_queue qs')) (sym c.clear.ensures.empty) tt;
-      waiting = λ p _. ap (λ q. records_at q p) c.end_transients.ensures.queues ∙ empty p;
     } in (
       kept,
       indexed-by v lists' c.clear-2.new.self.keys c.end_transients.new.roster (lasting_by a.roster) (passing_by c.end_transients.new.roster) (has_queue qs)
@@ -64,6 +53,7 @@ invariant_of-self-2 c =
           c.end_transients.ensures.placed (placed_once-swept lists lists' (is_live v) c.end_transients.ensures.swept c.self.invariant.1.placed_once) c.end_transients.ensures.left c.end_transients.ensures.owned c.end_transients.ensures.none c.clear-2.ensures.empty),
       sources-ended u v Transient c.end_transients.ensures.left c.self.invariant.2,
       agree-ended u v Transient c.end_transients.ensures.left c.self.invariant.3,
+      awaited-notified qs a.pending.keys a.untold.keys c.self.invariant.4 qs' c.clear.new.self.keys same (λ p. ap (λ q. records_at q p) c.end_transients.ensures.queues ∙ c.in_ok-told.ensures.emptied p),
     )
 
 pub returns-clause-told : goal.returns-clause-told
@@ -82,20 +72,19 @@ returns-clause-after c = λ x w.
     let qs' = queues_by c.end_transients.new.roster in
     let o : Watchers = record { nodes = registered_nodes a.table a.nodes.entries; queues = qs; pending = a.pending.keys } in
     let shown = subst (λ (o : Watchers). Watches o x) (sym c.self.view_is) w in
-    let empty = all_empty a.pending.keys qs (queues_by c.gather.new.roster) c.self.invariant.0.waiting c.in_ok-told.ensures.emptied c.gather.ensures.empty in
     let found = λ (n : ℕ). found-ended (at a.table) (at c.end_transients.new.table) Transient (listed a.nodes.entries) (listed c.end_transients.new.nodes.entries) c.end_transients.ensures.left c.end_transients.ensures.swept n in
     watches-notified o x shown (registered_nodes c.end_transients.new.table c.end_transients.new.nodes.entries) qs' c.clear.new.self.keys
     (λ n. on-registered_nodes c.end_transients.new.table n c.end_transients.new.nodes.entries ∙ found n ∙ ap (filter (λ (r : Registration). is_none r.source)) (sym (on-registered_nodes a.table n a.nodes.entries)))
     (ap length c.end_transients.ensures.queues ∙ length-same a.roster c.gather.new.roster c.gather.ensures.keys)
     (λ i. ap (λ q. has_queue q i) c.end_transients.ensures.queues ∙ has-same a.roster c.gather.new.roster c.gather.ensures.keys i)
-    (λ i. ap (λ q. records_at q i) c.end_transients.ensures.queues ∙ empty i) c.clear.ensures.empty
+    (λ i. ap (λ q. records_at q i) c.end_transients.ensures.queues ∙ c.in_ok-told.ensures.emptied i) c.clear.ensures.empty
 
 pub returns-in_err-told-clause-names : goal.returns-in_err-told-clause-names
 returns-in_err-told-clause-names c =
     let a = c.self.inside in
     let qs = queues_by a.roster in
     let qs' = queues_by c.gather.new.roster in
-    let kept = kept_queues a.table a.nodes.entries qs a.pending.keys c.self.invariant.0 qs' (λ i there. has-same a.roster c.gather.new.roster c.gather.ensures.keys i ∙ there) (λ o free. c.gather.ensures.empty o (c.self.invariant.0.waiting o free)) in
+    let kept = kept_queues a.table a.nodes.entries qs a.pending.keys c.self.invariant.0 qs' (λ i there. has-same a.roster c.gather.new.roster c.gather.ensures.keys i ∙ there) in
     names-only a.table a.nodes.entries qs a.pending.keys c.args.self.now c.self.view_is a.table a.nodes.entries qs' a.pending.keys kept [] (λ p _ names tells. (names, c.gather.ensures.names p tells))
 
 pub returns-in_err-told-clause-made : goal.returns-in_err-told-clause-made
@@ -115,13 +104,11 @@ returns-clause-names c =
     let lists' = listed c.end_transients.new.nodes.entries in
     let same : (i : ℕ) → has_queue qs' i ≡ has_queue qs i = λ i. ap (λ q. has_queue q i) c.end_transients.ensures.queues ∙ has-same a.roster c.gather.new.roster c.gather.ensures.keys i in
     let stand = stand-ended u v Transient lists lists' c.end_transients.ensures.left c.end_transients.ensures.swept (has_queue qs) c.self.invariant.0.stand in
-    let empty = all_empty a.pending.keys qs (queues_by c.gather.new.roster) c.self.invariant.0.waiting c.in_ok-told.ensures.emptied c.gather.ensures.empty in
     let kept : IsKept c.end_transients.new.table c.end_transients.new.nodes.entries qs' c.clear.new.self.keys = record {
       unique = c.end_transients.ensures.unique;
       full = c.end_transients.ensures.full c.self.invariant.0.full;
       stand = stand-alike v (has_queue qs) (has_queue qs') lists' (λ i there. same i ∙ there) stand;
       there = subst (AllThere (has_queue qs')) (sym c.clear.ensures.empty) tt;
-      waiting = λ p _. ap (λ q. records_at q p) c.end_transients.ensures.queues ∙ empty p;
     } in
     names-only a.table a.nodes.entries qs a.pending.keys c.args.self.now c.self.view_is c.end_transients.new.table c.end_transients.new.nodes.entries qs' c.clear.new.self.keys kept []
     (λ p _ names tells. (none-ended p u v Transient lists lists' c.end_transients.ensures.left c.end_transients.ensures.swept names, subst (TellsNone p) (sym c.end_transients.ensures.queues) (c.gather.ensures.names p tells)))
@@ -152,10 +139,11 @@ invariant_of-self c =
     let a = c.self.inside in
     let qs = queues_by a.roster in
     let qs' = queues_by c.gather.new.roster in (
-      kept_queues a.table a.nodes.entries qs a.pending.keys c.self.invariant.0 qs' (λ i there. has-same a.roster c.gather.new.roster c.gather.ensures.keys i ∙ there) (λ o free. c.gather.ensures.empty o (c.self.invariant.0.waiting o free)),
+      kept_queues a.table a.nodes.entries qs a.pending.keys c.self.invariant.0 qs' (λ i there. has-same a.roster c.gather.new.roster c.gather.ensures.keys i ∙ there),
       indexed-same (at a.table) (listed a.nodes.entries) a.fleeting.keys a.roster c.gather.new.roster c.self.invariant.1 c.gather.ensures.keys,
       c.self.invariant.2,
       c.self.invariant.3,
+      awaited-queues qs a.pending.keys a.untold.keys c.self.invariant.4 qs' (λ i there. has-same a.roster c.gather.new.roster c.gather.ensures.keys i ∙ there) c.gather.ensures.empty,
     )
 
 pub returns-clause-own : goal.returns-clause-own
@@ -164,11 +152,13 @@ returns-clause-own c = c.in_ok-told.ensures.told ∙ ap (λ (o : Watchers). wait
 pub returns-clause-notified : goal.returns-clause-notified
 returns-clause-notified c =
     let a = c.self.inside in
-    let empty = all_empty a.pending.keys (queues_by a.roster) (queues_by c.gather.new.roster) c.self.invariant.0.waiting c.in_ok-told.ensures.emptied c.gather.ensures.empty in
     let found = λ (n : ℕ). found-ended (at a.table) (at c.end_transients.new.table) Transient (listed a.nodes.entries) (listed c.end_transients.new.nodes.entries) c.end_transients.ensures.left c.end_transients.ensures.swept n in
     record {
       pending = c.clear.ensures.empty;
-      queues = λ i. ap (λ q. records_at q i) c.end_transients.ensures.queues ∙ empty i;
+      queues = λ i.
+          ap (λ q. records_at q i) c.end_transients.ensures.queues
+          ∙ c.in_ok-told.ensures.emptied i
+          ∙ ap (λ (o : Watchers). if among i o.pending then [] else records_at o.queues i) c.self.view_is;
       nodes = λ n.
           on-registered_nodes c.end_transients.new.table n c.end_transients.new.nodes.entries
           ∙ found n

@@ -14,6 +14,7 @@ use Rattle.dom_observe.specs.Kept.{registered_nodes, has_queue}
 use Rattle.dom_observe.specs.Roster.{queues_by}
 use Rattle.dom_observe.specs.Telling.{listeners}
 use Rattle.dom_observe.specs.Held.{nodes_of_mutation}
+use Rattle.dom_observe.proofs.Awaiting.{awaited-queued}
 use Rattle.dom_observe.proofs.Holding.{names-only, names-same, same-there}
 use Rattle.dom_observe.proofs.Hearing.{all_last-there}
 use Rattle.dom_observe.proofs.Keyrings.{indexed-same}
@@ -58,11 +59,11 @@ invariant_of-self-2 g c =
     let bounded = standing_stands (at a.table) (has_queue qs) (listed a.nodes.entries) _ c.as_slice.result.now c.self.invariant.0.stand (c.as_slice.ensures.value ∙ c.in_ok-find_standing.ensures) in (
       kept-queued a.table a.nodes.entries qs a.pending.keys c.self.invariant.0 (queues_by c.tell.new.roster) c.tell.new.pending.keys
           (has-same a.roster c.tell.new.roster c.tell.ensures.keys)
-          c.tell.ensures.stay (c.tell.ensures.there (has_queue qs) bounded c.self.invariant.0.there)
-          c.tell.ensures.others,
+          (c.tell.ensures.there (has_queue qs) bounded c.self.invariant.0.there),
       indexed-same (at a.table) (listed a.nodes.entries) a.fleeting.keys a.roster c.tell.new.roster c.self.invariant.1 c.tell.ensures.keys,
       c.self.invariant.2,
       c.self.invariant.3,
+      awaited-queued qs a.pending.keys a.untold.keys c.self.invariant.4 (queues_by c.tell.new.roster) c.tell.new.pending.keys (has-same a.roster c.tell.new.roster c.tell.ensures.keys) c.tell.ensures.stay c.tell.ensures.others,
     )
 
 pub returns-clause-queued : goal.returns-clause-queued
@@ -106,8 +107,7 @@ returns-clause-names g c =
     let bounded = standing_stands (at a.table) (has_queue qs) (listed a.nodes.entries) _ c.as_slice.result.now c.self.invariant.0.stand (c.as_slice.ensures.value ∙ c.in_ok-find_standing.ensures) in
     let kept = kept-queued a.table a.nodes.entries qs a.pending.keys c.self.invariant.0 qs' c.tell.new.pending.keys
     (has-same a.roster c.tell.new.roster c.tell.ensures.keys)
-    c.tell.ensures.stay (c.tell.ensures.there (has_queue qs) bounded c.self.invariant.0.there)
-    c.tell.ensures.others in
+    (c.tell.ensures.there (has_queue qs) bounded c.self.invariant.0.there) in
     names-only a.table a.nodes.entries qs a.pending.keys c.args.self.now c.self.view_is a.table a.nodes.entries qs' c.tell.new.pending.keys kept (nodes_of_mutation c.args.mutation.now)
     (λ p nameless names tells. (names, c.tell.ensures.names p nameless tells))
 

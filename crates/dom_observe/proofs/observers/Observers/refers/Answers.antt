@@ -15,7 +15,7 @@ use Rattle.dom_observe.specs.Held.{named}
 use Rattle.dom_observe.proofs.Holding.{named-parts}
 use Rattle.dom_observe.proofs.Keyed.{any-keyed}
 use Rattle.dom_observe.proofs.Named.{any-flat, any-registered, queues-waiting, keys-registered_nodes, any-observed}
-use Rattle.dom_observe.proofs.Waiting.{any-told}
+use Rattle.dom_observe.proofs.Awaiting.{awaited-names}
 use Rattle.dom_observe.proofs.observers.Observers.refers.Goals as goal
 
 pub returns-then-is_named-clause-observed : goal.returns-then-is_named-clause-observed
@@ -43,7 +43,7 @@ returns-else-is_named-clause-observed g c = λ x w.
     let end : (i : ℕ) → i ≡ i + 0 = λ i. omega arith in
     let waiting = queues-waiting x x.places (queues_by a.roster) 0 shown.made (λ i. shown.queues i ∙ ap (λ k. queue_of k x) (end i)) in
     c.is_told.ensures
-    ∙ any-told p (queues_by a.roster) a.pending.keys c.self.invariant.0.waiting
+    ∙ awaited-names (queues_by a.roster) a.pending.keys a.untold.keys c.self.invariant.4 p
     ∙ sym (any-flat told (λ (q : Option (List Record)). unwrap_or q []) (queues_by a.roster))
     ∙ ap (list_any told) (sym waiting)
     ∙ sym (any-observed p x ∙ ap (λ b. b || list_any told (queued_records x)) (sym named ∙ c.if-is_named.false))
@@ -64,6 +64,6 @@ returns-else-is_named-clause-named g c =
     let told = λ (r : Record). list_any p (nodes_of_record r) in
     let there = sym (c.is_named.ensures ∙ any-keyed a.table a.nodes.entries (queues_by a.roster) a.pending.keys c.self.invariant.0 c.self.invariant.1.placed c.self.invariant.2 p) ∙ c.if-is_named.false in
     c.is_told.ensures
-    ∙ any-told p (queues_by a.roster) a.pending.keys c.self.invariant.0.waiting
+    ∙ awaited-names (queues_by a.roster) a.pending.keys a.untold.keys c.self.invariant.4 p
     ∙ sym (ap (λ (o : Watchers). list_any p (named o)) (sym c.self.view_is) ∙ named-parts p (record { nodes = registered_nodes a.table a.nodes.entries; queues = queues_by a.roster; pending = a.pending.keys })
     ∙ ap (λ b. b || list_any (λ (q : Option (List Record)). list_any told (unwrap_or q [])) (queues_by a.roster)) there)

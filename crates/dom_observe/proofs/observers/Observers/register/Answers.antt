@@ -10,7 +10,7 @@ use Rattle.dom_model.specs.MutationObservers.Records.{is_registered, is_transien
 use Rattle.dom_observe.specs.Watchers.{Watchers, Watches, on}
 use Rattle.dom_observe.specs.Once.{once}
 use Rattle.dom_observe.specs.Registrations.{plain, at, listed, is_live, left_by, own_at, AllStand, HaveSources, Agree}
-use Rattle.dom_observe.specs.Kept.{registered_nodes, has_queue, IsKept, IsIndexed}
+use Rattle.dom_observe.specs.Kept.{registered_nodes, has_queue, IsKept, IsIndexed, IsAwaited}
 use Rattle.dom_observe.specs.Roster.{lasting_by, passing_by, queues_by}
 use Rattle.dom_observe.proofs.Indexing.{from-left, indexed-changed, indexed-passing_ended, indexed-lasting}
 use Rattle.dom_observe.proofs.Agreeing.{agree-again, agree-lasting, nothing-comes}
@@ -85,6 +85,7 @@ invariant_of-self c =
           (placed_once-swept lists lists' (is_live v) c.end_own.ensures.swept c.self.invariant.1.placed_once) _ (within-passing a.roster o held_there) ended refl)),
       sources-changed v w c.in-Some.key c.args.options.value c.set_options.ensures.changed c.set_options.ensures.others (sources-ended u v (From o c.args.node) left c.self.invariant.2),
       agree-again u v w lists o c.args.node c.in-Some.key c.args.options.value left found_key c.set_options.ensures.changed c.set_options.ensures.others c.self.invariant.3,
+      subst (λ qs. IsAwaited qs a.pending.keys a.untold.keys) (sym same) c.self.invariant.4,
     )
 
 pub returns-in-Some-clause-ok : goal.returns-in-Some-clause-ok
@@ -155,6 +156,7 @@ invariant_of-self-in-None c =
           (λ added. agree-lasting u (at c.add.new.table) lists _ lists' added c.self.invariant.3 refl
           (nothing-comes u o c.args.node lists c.self.invariant.1.placed c.self.invariant.2 no_key))
           (λ slots. subst (λ ss. Agree (λ k. option_map plain (slice_index_or ss k None))) (sym slots) c.self.invariant.3),
+      subst (λ qs. IsAwaited qs a.pending.keys a.untold.keys) (sym same) c.self.invariant.4,
     )
 
 pub returns-in-None-clause-ok : goal.returns-in-None-clause-ok

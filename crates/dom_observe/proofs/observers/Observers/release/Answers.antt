@@ -1,4 +1,5 @@
 -- The observer's registrations go from every node, it is not pending any more, and has no queue.
+use Rattle.dom_observe.proofs.Awaiting.{awaited-released}
 use Rattle.std.proofs.Common.{◌≡◌, ℕ, true, List, [], Option, Some, None, filter, is_some, ap, sym, ◌∙◌, subst, arith, nat_eq}
 use Rattle.std.specs.Prelude.{slice_set}
 use Rattle.dom_model.specs.PlainLists.Lists.{among, left_out}
@@ -7,7 +8,7 @@ use Rattle.dom_model.specs.MutationObservers.Records.{released_observer}
 use Rattle.dom_observe.specs.declared.registration.Ended.TheVariants.{Of}
 use Rattle.dom_observe.specs.Watchers.{Watchers, Watches, on}
 use Rattle.dom_observe.specs.Registrations.{at, listed, is_live, spares}
-use Rattle.dom_observe.specs.Kept.{registered_nodes, has_queue, AllThere, IsKept}
+use Rattle.dom_observe.specs.Kept.{registered_nodes, has_queue, AllThere, IsKept, IsAwaited}
 use Rattle.dom_observe.specs.Roster.{lasting_by, passing_by, queues_by}
 use Rattle.dom_observe.specs.Naming.{TellsNone}
 use Rattle.dom_observe.proofs.Agreeing.{agree-ended}
@@ -70,6 +71,9 @@ invariant_of-self c =
           c.swap_remove.new.self.keys (out-taken o a.fleeting.keys c.swap_remove.new.self.keys taken) known,
       sources-ended u v (Of o) c.end_all.ensures.left c.self.invariant.2,
       agree-ended u v (Of o) c.end_all.ensures.left c.self.invariant.3,
+      subst (λ ps. IsAwaited (queues_by new) ps c.swap_remove-2.new.self.keys) (sym pending)
+          (subst (λ q. IsAwaited q (left_out o a.pending.keys) c.swap_remove-2.new.self.keys) (sym queues)
+          (awaited-released qs a.pending.keys a.untold.keys c.self.invariant.4 o c.swap_remove-2.new.self.keys c.swap_remove-2.ensures.updates.0)),
     )
 
 pub returns-clause-released : goal.returns-clause-released

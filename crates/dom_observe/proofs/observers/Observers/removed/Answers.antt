@@ -1,4 +1,5 @@
 -- Transient registrations are made, and then each observer that the mutation interests gets its record.
+use Rattle.dom_observe.proofs.Awaiting.{awaited-queued}
 use Rattle.std.proofs.Common.{◌≡◌, ℕ, ◌==◌, true, List, [], ◌∷◌, ◌++◌, length, refl, ap, sym, ◌∙◌, subst, arith}
 use Rattle.std.specs.Prelude.{flat_map, filter_map, option_to_list}
 use Rattle.std.proofs.lemmas.Bool.{true≢false, or_parts}
@@ -12,7 +13,7 @@ use Rattle.dom_model.proofs.PlainLists.Numbers.{same_or, same, apart}
 use Rattle.dom_observe.specs.Once.{once}
 use Rattle.dom_observe.specs.Watchers.{Watchers, Watches, records_at, on}
 use Rattle.dom_observe.specs.Registrations.{at, listed}
-use Rattle.dom_observe.specs.Kept.{registered_nodes, has_queue}
+use Rattle.dom_observe.specs.Kept.{registered_nodes, has_queue, IsAwaited}
 use Rattle.dom_observe.specs.Roster.{lasting_by, passing_by, queues_by}
 use Rattle.dom_observe.specs.Naming.{TellsNone}
 use Rattle.dom_observe.specs.Held.{nodes_of_mutation}
@@ -116,6 +117,7 @@ invariant_of-self-in_err-add_transients g c =
           (λ i held_there. ap (λ q. has_queue q i) s.queues ∙ held_there) (s.indexed (lasting_by a.roster) there bounded c.self.invariant.1),
       s.sources c.self.invariant.2,
       s.agree c.self.invariant.3,
+      subst (λ q. IsAwaited q a.pending.keys a.untold.keys) (sym s.queues) c.self.invariant.4,
     )
 
 pub returns-in_err-add_transients-clause-names : goal.returns-in_err-add_transients-clause-names
@@ -176,11 +178,11 @@ invariant_of-self-2 g c =
     let bounded' = stood (at a.table) (at b.table) qs qs' c.as_slice.result.now c.as_slice-2.result.now (c.as_slice-2.ensures.value ∙ sym c.as_slice.ensures.value) s.queues s.stay bounded in (
       kept-queued b.table b.nodes.entries qs' a.pending.keys kept (queues_by d.roster) d.pending.keys
           (has-same b.roster d.roster c.tell.ensures.keys)
-          c.tell.ensures.stay (c.tell.ensures.there (has_queue qs') bounded' kept.there)
-          c.tell.ensures.others,
+          (c.tell.ensures.there (has_queue qs') bounded' kept.there),
       indexed-same (at b.table) (listed b.nodes.entries) b.fleeting.keys b.roster d.roster indexed c.tell.ensures.keys,
       s.sources c.self.invariant.2,
       s.agree c.self.invariant.3,
+      awaited-queued qs' a.pending.keys a.untold.keys (subst (λ q. IsAwaited q a.pending.keys a.untold.keys) (sym s.queues) c.self.invariant.4) (queues_by d.roster) d.pending.keys (has-same b.roster d.roster c.tell.ensures.keys) c.tell.ensures.stay c.tell.ensures.others,
     )
 
 pub returns-clause-removed : goal.returns-clause-removed
@@ -247,8 +249,7 @@ returns-clause-names g c =
     let bounded' = stood (at a.table) (at b.table) qs qs' c.as_slice.result.now c.as_slice-2.result.now (c.as_slice-2.ensures.value ∙ sym c.as_slice.ensures.value) s.queues s.stay bounded in
     let kept' = kept-queued b.table b.nodes.entries qs' a.pending.keys kept (queues_by d.roster) d.pending.keys
     (has-same b.roster d.roster c.tell.ensures.keys)
-    c.tell.ensures.stay (c.tell.ensures.there (has_queue qs') bounded' kept.there)
-    c.tell.ensures.others in
+    (c.tell.ensures.there (has_queue qs') bounded' kept.there) in
     names-only a.table a.nodes.entries qs a.pending.keys c.args.self.now c.self.view_is b.table b.nodes.entries (queues_by d.roster) d.pending.keys kept' (c.args.node ∷ nodes_of_mutation c.args.mutation.now)
     (λ p nameless names tells. (
       s.names p (or_parts (p c.args.node) _ nameless).0 (standing-unnamed (at a.table) lists _ c.as_slice.result.now is p names) names,

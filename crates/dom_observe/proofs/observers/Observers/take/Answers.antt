@@ -1,4 +1,5 @@
 -- One queue is emptied.
+use Rattle.dom_observe.proofs.Awaiting.{awaited-emptied}
 use Rattle.std.proofs.Common.{◌≡◌, ℕ, true, [], ap, sym, ◌∙◌, subst, List, Option, Some}
 use Rattle.std.specs.Prelude.{slice_set}
 use Rattle.dom_model.specs.Worlds.World.{Registration}
@@ -6,7 +7,7 @@ use Rattle.dom_model.specs.MutationObservers.Record.{Record}
 use Rattle.dom_model.specs.MutationObservers.Records.{records_taken}
 use Rattle.dom_observe.specs.Watchers.{Watchers, Watches, records_at}
 use Rattle.dom_observe.specs.Registrations.{at, listed}
-use Rattle.dom_observe.specs.Kept.{registered_nodes, has_queue, IsKept}
+use Rattle.dom_observe.specs.Kept.{registered_nodes, has_queue, IsKept, IsAwaited}
 use Rattle.dom_observe.specs.Roster.{queues_by}
 use Rattle.dom_observe.specs.Naming.{TellsNone}
 use Rattle.dom_observe.proofs.Holding.{names-only, tells-emptied, same-there}
@@ -28,6 +29,8 @@ invariant_of-self c =
       indexed-same (at a.table) (listed a.nodes.entries) a.fleeting.keys a.roster c.take_from.new.roster c.self.invariant.1 c.take_from.ensures.keys,
       c.self.invariant.2,
       c.self.invariant.3,
+      subst (λ (qs : List (Option (List Record))). IsAwaited qs a.pending.keys a.untold.keys) (sym c.take_from.ensures.emptied)
+          (awaited-emptied (queues_by a.roster) a.pending.keys a.untold.keys c.self.invariant.4 c.args.observer held_there),
     )
 
 pub returns-clause-records : goal.returns-clause-records

@@ -8,7 +8,7 @@ use Rattle.dom_model.specs.MutationObservers.Observing.{registered_on, with_tran
 use Rattle.dom_observe.specs.Once.{once}
 use Rattle.dom_observe.specs.Watchers.{Watchers, Watches, on}
 use Rattle.dom_observe.specs.Registrations.{at, found, listed, is_live, AllLive, Stands}
-use Rattle.dom_observe.specs.Kept.{registered_nodes, has_queue, IsKept}
+use Rattle.dom_observe.specs.Kept.{registered_nodes, has_queue, IsKept, IsAwaited}
 use Rattle.dom_observe.specs.Roster.{lasting_by, passing_by, queues_by}
 use Rattle.dom_observe.specs.Naming.{names_one, TellsNone}
 use Rattle.dom_observe.proofs.Holding.{names-only, same-queues}
@@ -71,6 +71,7 @@ invariant_of-self-2 g c =
           (λ i held_there. ap (λ q. has_queue q i) queues ∙ held_there) (c.add_transients.ensures.indexed (lasting_by a.roster) there bounded c.self.invariant.1),
       c.add_transients.ensures.sources c.self.invariant.2,
       c.add_transients.ensures.agree c.self.invariant.3,
+      subst (λ q. IsAwaited q a.pending.keys a.untold.keys) (sym queues) c.self.invariant.4,
     )
 
 pub returns-clause-left : goal.returns-clause-left

@@ -1,0 +1,329 @@
+/**
+ * Attr and NamedNodeMap over the core's attributes (DOM Standard, section 4.9). Names, values and order are the core's; an Attr is an object that stands
+ * for one of them as long as the element has it, and keeps its value when it has left.
+ */
+import {
+  attributeNames,
+  documentOf,
+  Element,
+  HTML,
+  documentKnown,
+  keptOf,
+  known,
+  makeThing,
+  pageOf,
+  realmOf,
+  refuse,
+  small,
+  stillNodeList,
+  thingOf,
+} from "./core.js";
+import { borrow, knownOf, makeLegacy } from "./legacy.js";
+import { styleChanged } from "./styles.js";
+import { alsoTarget } from "./targets.js";
+
+/** What an Attr knows: its name, its element or none, and its value where it has none. */
+class AttrIs {
+  element = null;
+
+  constructor(document, name, value) {
+    this.document = document;
+    this.name = name;
+    this.kept = value;
+  }
+
+  get value() {
+    const { element, name } = this;
+    return element === null ? this.kept : (element.getAttributeNS(name.namespace, name.local) ?? "");
+  }
+}
+
+const attrOf = (it) => thingOf(it, AttrIs);
+const isAttr = (it) => attrOf(it) !== undefined;
+
+alsoTarget(isAttr);
+
+// ---- The Attr objects that were asked for, of each element, by namespace and local name.
+
+const keyOf = ({ namespace, local }) => `${namespace ?? ""} ${local}`;
+
+function attrFor(element, name) {
+  const its = (keptOf(element).attrs ??= new Map());
+  const key = keyOf(name);
+  if (!its.has(key)) {
+    const made = makeThing(realmOf(element), "Attr", new AttrIs(documentOf(element), name, ""));
+    attrOf(made).element = element;
+    its.set(key, made);
+  }
+  return its.get(key);
+}
+
+/** Has the Attr of a name, where somebody holds it, keep its value, since the element is about to lose it. */
+function release(element, name) {
+  const its = keptOf(element).attrs;
+  const attr = its?.get(keyOf(name));
+  if (!attr) return;
+  const known = attrOf(attr);
+  known.kept = known.value;
+  known.document = documentOf(element);
+  known.element = null;
+  its.delete(keyOf(name));
+}
+
+const isOfHtml = (element) => element.namespaceURI === HTML && documentKnown(documentOf(element)).isHtml;
+const sought = (element, qualified) => (/[A-Z]/.test(qualified) && isOfHtml(element) ? small(qualified) : qualified);
+
+function byQualified(element, qualified) {
+  const its = sought(element, qualified);
+  return attributeNames(element).find((name) => name.qualified === its);
+}
+
+function byNamespace(element, namespace, local) {
+  const its = namespace === "" ? null : namespace;
+  return attributeNames(element).find((name) => name.namespace === its && name.local === local);
+}
+
+const orNull = (element, name) => (name ? attrFor(element, name) : null);
+
+// ---- Changes. Each goes to the core by the element's own operations, and then those follow that stand on attributes.
+
+const base = Element.operations;
+
+/** Which attributes something of the page follows: styles and handlers. */
+const STYLE = "style";
+const FOLLOWED = /^(?:style$|on)/i;
+
+/** Tells the page that an attribute of a name has changed. */
+function changed(element, name) {
+  if (!FOLLOWED.test(name)) return;
+  if (name.length === STYLE.length && small(name) === STYLE) styleChanged(element);
+  else pageOf(element)?.handlers.changed(element, small(name));
+}
+
+function setAttribute(element, qualified, value) {
+  base.setAttribute[1](element, qualified, value);
+  changed(element, qualified);
+}
+
+function setAttributeNS(element, namespace, qualified, value) {
+  base.setAttributeNS[1](element, namespace, qualified, value);
+  changed(element, qualified);
+}
+
+function removeAttribute(element, qualified) {
+  const name = keptOf(element).attrs ? byQualified(element, qualified) : undefined;
+  if (name) release(element, name);
+  base.removeAttribute[1](element, qualified);
+  changed(element, qualified);
+}
+
+function removeAttributeNS(element, namespace, local) {
+  const name = keptOf(element).attrs ? byNamespace(element, namespace, local) : undefined;
+  if (name) release(element, name);
+  base.removeAttributeNS[1](element, namespace, local);
+  changed(element, local);
+}
+
+function toggleAttribute(element, qualified, force) {
+  const name = keptOf(element).attrs ? byQualified(element, qualified) : undefined;
+  const isLeaving = name && (force === undefined || !force);
+  if (isLeaving) release(element, name);
+  const answer = base.toggleAttribute[1](element, qualified, force);
+  changed(element, qualified);
+  return answer;
+}
+
+function setAttributeNode(element, attr) {
+  const its = attrOf(attr);
+  if (its.element !== null && its.element !== element) refuse("InUseAttributeError", "the attribute is one of another element");
+  const { namespace, local, qualified } = its.name;
+  const there = byNamespace(element, namespace, local);
+  const old = there ? attrFor(element, there) : null;
+  if (old === attr) return attr;
+  if (there) release(element, there);
+  const { value } = its;
+  base.setAttributeNS[1](element, namespace, qualified, value);
+  its.element = element;
+  its.document = documentOf(element);
+  (keptOf(element).attrs ??= new Map()).set(keyOf(its.name), attr);
+  changed(element, qualified);
+  return old;
+}
+
+function removeAttributeNode(element, attr) {
+  const its = attrOf(attr);
+  if (its.element !== element) refuse("NotFoundError", "the attribute is none of this element");
+  removeAttributeNS(element, its.name.namespace, its.name.local);
+  return attr;
+}
+
+// ---- NamedNodeMap.
+
+class MapIs {
+  constructor(element) {
+    this.element = element;
+  }
+
+  get length() {
+    return attributeNames(this.element).length;
+  }
+
+  at(index) {
+    return orNull(this.element, attributeNames(this.element)[index]);
+  }
+
+  names() {
+    const isPlain = isOfHtml(this.element);
+    return [...new Set(attributeNames(this.element).map((it) => it.qualified))].filter((name) => !isPlain || small(name) === name);
+  }
+
+  named(qualified) {
+    return orNull(this.element, byQualified(this.element, qualified));
+  }
+}
+
+const mapOf = (it) => knownOf(it, MapIs);
+const attributes = (element) => (keptOf(element).attributes ??= makeLegacy(realmOf(element), "NamedNodeMap", new MapIs(element)));
+
+const OF_NAMESPACE = ["DOMString?", "DOMString"];
+
+function removed(element, name) {
+  if (!name) refuse("NotFoundError", "there is no such attribute");
+  return removeAttributeNode(element, attrFor(element, name));
+}
+
+export const NamedNodeMap = known({
+  name: "NamedNodeMap",
+  is: (it) => mapOf(it) !== undefined,
+  attributes: { length: (map) => mapOf(map).length },
+  operations: {
+    item: [["unsigned long"], (map, index) => mapOf(map).at(index)],
+    getNamedItem: [["DOMString"], (map, name) => orNull(mapOf(map).element, byQualified(mapOf(map).element, name))],
+    getNamedItemNS: [OF_NAMESPACE, (map, ...words) => orNull(mapOf(map).element, byNamespace(mapOf(map).element, ...words))],
+    setNamedItem: [["Attr"], (map, attr) => setAttributeNode(mapOf(map).element, attr)],
+    setNamedItemNS: [["Attr"], (map, attr) => setAttributeNode(mapOf(map).element, attr)],
+    removeNamedItem: [["DOMString"], (map, name) => removed(mapOf(map).element, byQualified(mapOf(map).element, name))],
+    removeNamedItemNS: [OF_NAMESPACE, (map, ...words) => removed(mapOf(map).element, byNamespace(mapOf(map).element, ...words))],
+  },
+  finish: (realm, made) => borrow(realm, made.prototype, [Symbol.iterator]),
+});
+
+// ---- Attr, which is a Node that the core does not have.
+
+function setValue(attr, value) {
+  const its = attrOf(attr);
+  const { element, name } = its;
+  if (element === null) its.kept = value;
+  else setAttributeNS(element, name.namespace, name.qualified, value);
+}
+
+const value = { type: "DOMString", get: (attr) => attrOf(attr).value, set: setValue };
+const orEmpty = { type: "DOMString?", get: value.get, set: (attr, text) => setValue(attr, text ?? "") };
+const none = () => null;
+const named = (part) => (attr) => attrOf(attr).name[part];
+
+function copy(attr) {
+  const { document, name, value: its } = attrOf(attr);
+  return makeThing(realmOf(document), "Attr", new AttrIs(document, name, its));
+}
+
+function isEqual(attr, other) {
+  if (!isAttr(other)) return false;
+  const [one, another] = [attrOf(attr), attrOf(other)];
+  return keyOf(one.name) === keyOf(another.name) && one.value === another.value;
+}
+
+const isSame = (attr, other) => attr === other;
+const childless = () => refuse("HierarchyRequestError", "an attribute has no children");
+const DISCONNECTED = 1 | 32 | 4;
+
+/** An Attr says of itself what a node of the core is asked. */
+const asNode = {
+  attributes: {
+    nodeType: () => 2,
+    nodeName: named("qualified"),
+    nodeValue: orEmpty,
+    textContent: orEmpty,
+    baseURI: (attr) => attrOf(attr).document.baseURI,
+    isConnected: () => false,
+    ownerDocument: (attr) => (attrOf(attr).element ? documentOf(attrOf(attr).element) : attrOf(attr).document),
+    parentNode: none,
+    parentElement: none,
+    childNodes: (attr) => stillNodeList(realmOf(attrOf(attr).document), []),
+    firstChild: none,
+    lastChild: none,
+    previousSibling: none,
+    nextSibling: none,
+  },
+  operations: {
+    getRootNode: [["any = undefined"], (attr) => attr],
+    hasChildNodes: [[], () => false],
+    normalize: [[], () => undefined],
+    cloneNode: [["boolean = false"], copy],
+    isEqualNode: [["any"], isEqual],
+    isSameNode: [["any"], isSame],
+    contains: [["any"], isSame],
+    compareDocumentPosition: [["any"], (attr, other) => (attr === other ? 0 : DISCONNECTED)],
+    lookupPrefix: [["DOMString?"], (attr, namespace) => attrOf(attr).element?.lookupPrefix(namespace) ?? null],
+    lookupNamespaceURI: [["DOMString?"], (attr, prefix) => attrOf(attr).element?.lookupNamespaceURI(prefix) ?? null],
+    isDefaultNamespace: [["DOMString?"], (attr, namespace) => attrOf(attr).element?.isDefaultNamespace(namespace) ?? namespace === null],
+    insertBefore: [["any", "any"], childless],
+    appendChild: [["any"], childless],
+    replaceChild: [["any", "any"], childless],
+    removeChild: [["any"], () => refuse("NotFoundError", "an attribute has no children")],
+  },
+};
+
+export const Attr = known({
+  name: "Attr",
+  parent: "Node",
+  is: isAttr,
+  attributes: {
+    namespaceURI: named("namespace"),
+    prefix: named("prefix"),
+    localName: named("local"),
+    name: named("qualified"),
+    value,
+    ownerElement: (attr) => attrOf(attr).element,
+    specified: () => true,
+    ...asNode.attributes,
+  },
+  operations: asNode.operations,
+});
+
+/** A name that an attribute may have, by the element of a trial that has it. */
+function nameOn(document, give) {
+  const trial = document.createElementNS(null, "a");
+  give(trial);
+  return attributeNames(trial)[0];
+}
+
+function created(document, give) {
+  return makeThing(realmOf(document), "Attr", new AttrIs(document, nameOn(document, give), ""));
+}
+
+/** What Documents have of attributes. */
+export const inDocuments = {
+  createAttribute: [
+    ["DOMString"],
+    (document, local) => created(document, (trial) => base.setAttribute[1](trial, documentKnown(document).isHtml ? small(local) : local, "")),
+  ],
+  createAttributeNS: [OF_NAMESPACE, (document, ...words) => created(document, (trial) => base.setAttributeNS[1](trial, ...words, ""))],
+};
+
+/** What elements have of attributes. */
+export const inElements = {
+  attributes: { attributes },
+  operations: {
+    setAttribute: [["DOMString", "DOMString"], setAttribute],
+    setAttributeNS: [["DOMString?", "DOMString", "DOMString"], setAttributeNS],
+    removeAttribute: [["DOMString"], removeAttribute],
+    removeAttributeNS: [OF_NAMESPACE, removeAttributeNS],
+    toggleAttribute: [["DOMString", "any = undefined"], toggleAttribute],
+    getAttributeNode: [["DOMString"], (element, name) => orNull(element, byQualified(element, name))],
+    getAttributeNodeNS: [OF_NAMESPACE, (element, ...words) => orNull(element, byNamespace(element, ...words))],
+    setAttributeNode: [["Attr"], setAttributeNode],
+    setAttributeNodeNS: [["Attr"], setAttributeNode],
+    removeAttributeNode: [["Attr"], removeAttributeNode],
+  },
+};

@@ -1,0 +1,218 @@
+/** Inputs (HTML Standard, section 4.10.5): values by their types, boxes, and what is selected of a text. */
+import { pageOf, refuse } from "../core.js";
+import { flags, oneOf, text, texts, url, whole } from "./reflect.js";
+import { formOf, isNamed, stateOf } from "./states.js";
+
+const TYPES = [
+  ...["text", "hidden", "search", "tel", "url", "email", "password", "date", "month", "week", "time", "datetime-local", "number", "range", "color"],
+  ...["checkbox", "radio", "file", "submit", "image", "reset", "button"],
+];
+
+const type = oneOf("type", TYPES);
+const typeOf = type.get;
+
+/** How a type's value stands to the attribute. */
+const MODES = { hidden: "default", submit: "default", image: "default", reset: "default", button: "default", checkbox: "on", radio: "on", file: "file" };
+const modeOf = (input) => MODES[typeOf(input)] ?? "value";
+
+// ---- What a value is made to be.
+
+const oneLine = (value) => value.replace(/[\n\r]/g, "");
+const trimmed = (value) => oneLine(value).replace(/^[\t\n\f\r ]+|[\t\n\f\r ]+$/g, "");
+const fitting = (form) => (value) => (form.test(value) ? value : "");
+const NUMBER = /^-?(?:\d+(?:\.\d+)?|\.\d+)(?:[eE][+-]?\d+)?$/;
+
+function inRange(value, input) {
+  const bound = (name, absent) => (NUMBER.test(input.getAttribute(name) ?? "") ? Number(input.getAttribute(name)) : absent);
+  const [least, most] = [bound("min", 0), bound("max", 100)];
+  const number = NUMBER.test(value) ? Number(value) : least + Math.max(0, most - least) / 2;
+  return `${Math.max(least, Math.min(number, Math.max(least, most)))}`;
+}
+
+const SANITIZED = {
+  text: oneLine,
+  search: oneLine,
+  tel: oneLine,
+  password: oneLine,
+  url: trimmed,
+  email: trimmed,
+  date: fitting(/^\d{4,}-(?:0[1-9]|1[0-2])-(?:0[1-9]|[12]\d|3[01])$/),
+  month: fitting(/^\d{4,}-(?:0[1-9]|1[0-2])$/),
+  week: fitting(/^\d{4,}-W(?:0[1-9]|[1-4]\d|5[0-3])$/),
+  time: fitting(/^(?:[01]\d|2[0-3]):[0-5]\d(?::[0-5]\d(?:\.\d{1,3})?)?$/),
+  "datetime-local": (value) => fitting(/^\d{4,}-\d\d-\d\dT\d\d:\d\d(?::\d\d(?:\.\d{1,3})?)?$/)(value.replace(" ", "T")),
+  number: fitting(NUMBER),
+  color: (value) => (/^#[\da-f]{6}$/i.test(value) ? value.toLowerCase() : "#000000"),
+  range: inRange,
+};
+
+const sanitized = (input, value) => SANITIZED[typeOf(input)]?.(value, input) ?? value;
+
+const VALUES = {
+  value: {
+    get: (input) => sanitized(input, stateOf(input).value ?? input.getAttribute("value") ?? ""),
+    set(input, value) {
+      const before = VALUES.value.get(input);
+      const state = stateOf(input);
+      state.value = sanitized(input, value);
+      if (state.value !== before) state.selection = { start: state.value.length, end: state.value.length, direction: "none" };
+    },
+  },
+  default: { get: (input) => input.getAttribute("value") ?? "", set: (input, value) => input.setAttribute("value", value) },
+  on: { get: (input) => input.getAttribute("value") ?? "on", set: (input, value) => input.setAttribute("value", value) },
+  file: {
+    get: () => "",
+    set: (input, value) => void (value === "" || refuse("InvalidStateError", "the value of a file's input can only be emptied")),
+  },
+};
+
+const value = { type: "DOMString or empty", get: (input) => VALUES[modeOf(input)].get(input), set: (input, its) => VALUES[modeOf(input)].set(input, its) };
+
+// ---- Boxes.
+
+function groupOf(radio) {
+  const name = radio.getAttribute("name");
+  if (!name) return [];
+  const form = formOf(radio);
+  const among = (form ?? radio.getRootNode()).querySelectorAll("input");
+  return [...among].filter((it) => it !== radio && typeOf(it) === "radio" && it.getAttribute("name") === name && formOf(it) === form);
+}
+
+/** Whether a box is ticked: of radios that nobody touched, the last one of a group that says so. */
+function isChecked(input) {
+  const { isOn } = stateOf(input);
+  if (isOn !== null) return isOn;
+  if (!input.hasAttribute("checked")) return false;
+  if (typeOf(input) !== "radio") return true;
+  const others = groupOf(input).filter((it) => stateOf(it).isOn ?? it.hasAttribute("checked"));
+  return !others.some((it) => stateOf(it).isOn || input.compareDocumentPosition(it) & 4);
+}
+
+function check(input, isOn) {
+  stateOf(input).isOn = isOn;
+  if (isOn && typeOf(input) === "radio") for (const it of groupOf(input)) stateOf(it).isOn = false;
+}
+
+const isBox = (input) => ["checkbox", "radio"].includes(typeOf(input));
+
+/** What a click does to a box ahead of all listeners, and how it is undone. */
+export const boxes = {
+  isFor: isBox,
+  before(input) {
+    const group = typeOf(input) === "radio" ? [input, ...groupOf(input)] : [input];
+    const before = group.map((it) => [it, stateOf(it).isOn, isChecked(it), stateOf(it).indeterminate]);
+    check(input, typeOf(input) === "radio" || !isChecked(input));
+    stateOf(input).indeterminate = false;
+    return before;
+  },
+  undo: (input, before) => before.forEach(([it, isOn, , indeterminate]) => Object.assign(stateOf(it), { isOn, indeterminate })),
+  after(input) {
+    if (!input.isConnected) return;
+    const page = pageOf(input);
+    page.tell(input, "Event", "input", { bubbles: true, composed: true });
+    page.tell(input, "Event", "change", { bubbles: true });
+  },
+};
+
+// ---- What is selected of a text.
+
+const SELECTABLE = ["text", "search", "url", "tel", "password"];
+const canSelect = (control) => isNamed(control, "textarea") || SELECTABLE.includes(typeOf(control));
+const lengthOf = (control) => control.value.length;
+
+function selectionOf(control) {
+  const { selection } = stateOf(control);
+  const length = lengthOf(control);
+  return { ...selection, start: Math.min(selection.start, length), end: Math.min(selection.end, length) };
+}
+
+function setSelectionRange(control, start, end, direction) {
+  if (!canSelect(control)) refuse("InvalidStateError", "nothing can be selected of an input of this type");
+  const to = Math.min(end ?? 0, lengthOf(control));
+  const its = { start: Math.min(start ?? 0, to), end: to, direction: ["forward", "backward"].includes(direction) ? direction : "none" };
+  stateOf(control).selection = its;
+  pageOf(control).later(() => pageOf(control).tell(control, "Event", "select", { bubbles: true }));
+}
+
+const selected = (name, set) => ({
+  type: "any",
+  get: (control) => (canSelect(control) ? selectionOf(control)[name] : null),
+  set: (control, its) => set(control, its, selectionOf(control)),
+});
+
+function setRangeText(control, replacement, start, end) {
+  if (!canSelect(control)) refuse("InvalidStateError", "nothing can be selected of an input of this type");
+  const its = selectionOf(control);
+  const [from, to] = [start ?? its.start, end ?? its.end].map((at) => Math.min(at, lengthOf(control)));
+  if (from > to) refuse("IndexSizeError", "the start is behind the end");
+  const before = control.value;
+  control.value = before.slice(0, from) + replacement + before.slice(to);
+  stateOf(control).selection = { start: Math.min(its.start, lengthOf(control)), end: Math.min(its.end, lengthOf(control)), direction: "none" };
+}
+
+/** What inputs of a text and textareas have. */
+export const textSelection = {
+  attributes: {
+    selectionStart: selected("start", (control, start, { end, direction }) => setSelectionRange(control, start, Math.max(start, end), direction)),
+    selectionEnd: selected("end", (control, end, { start, direction }) => setSelectionRange(control, start, end, direction)),
+    selectionDirection: selected("direction", (control, direction, { start, end }) => setSelectionRange(control, start, end, direction)),
+  },
+  operations: {
+    select: [[], (control) => canSelect(control) && setSelectionRange(control, 0, lengthOf(control), "none")],
+    setSelectionRange: [["unsigned long", "unsigned long", "DOMString = undefined"], setSelectionRange],
+    setRangeText: [["DOMString", "unsigned long = undefined", "unsigned long = undefined", "any = undefined"], setRangeText],
+  },
+};
+
+function number(input) {
+  const its = value.get(input);
+  return ["number", "range"].includes(typeOf(input)) && its !== "" ? Number(its) : NaN;
+}
+
+function step(sign) {
+  return (input, count) => {
+    if (!["number", "range"].includes(typeOf(input))) refuse("InvalidStateError", "an input of this type has no steps");
+    const size = Number(input.getAttribute("step") || 1) || 1;
+    const before = Number.isNaN(number(input)) ? 0 : number(input);
+    value.set(input, `${before + sign * count * size}`);
+  };
+}
+
+export const inputMembers = {
+  attributes: {
+    ...texts("accept", "align", "alt", "autocomplete", "dirName", "max", "min", "name", "pattern", "placeholder", "step", "useMap"),
+    ...flags("autofocus", "disabled", "formNoValidate", "multiple", "readOnly", "required"),
+    formAction: url("formaction"),
+    formEnctype: text("formenctype"),
+    formMethod: text("formmethod"),
+    formTarget: text("formtarget"),
+    src: url("src"),
+    height: whole("height"),
+    width: whole("width"),
+    maxLength: whole("maxlength", -1, 0),
+    minLength: whole("minlength", -1, 0),
+    size: whole("size", 20, 1),
+    type,
+    value,
+    defaultValue: text("value"),
+    defaultChecked: { type: "boolean", get: (input) => input.hasAttribute("checked"), set: (input, its) => void input.toggleAttribute("checked", its) },
+    checked: { type: "boolean", get: isChecked, set: check },
+    indeterminate: {
+      type: "boolean",
+      get: (input) => stateOf(input).indeterminate,
+      set: (input, its) => void (stateOf(input).indeterminate = its),
+    },
+    valueAsNumber: { type: "any", get: number, set: (input, its) => value.set(input, Number.isNaN(its) ? "" : `${its}`) },
+    form: formOf,
+    list: (input) => {
+      const found = input.hasAttribute("list") ? input.ownerDocument.getElementById(input.getAttribute("list")) : null;
+      return isNamed(found, "datalist") ? found : null;
+    },
+    ...textSelection.attributes,
+  },
+  operations: {
+    stepUp: [["long = 1"], step(1)],
+    stepDown: [["long = 1"], step(-1)],
+    ...textSelection.operations,
+  },
+};

@@ -1,0 +1,79 @@
+/** Attributes that stand for properties (HTML Standard, section 2.6.1), each as a table's attribute. */
+import { refuse } from "../core.js";
+
+export const text = (name) => ({
+  type: "DOMString",
+  get: (element) => element.getAttribute(name) ?? "",
+  set: (element, value) => element.setAttribute(name, value),
+});
+
+/** A text that may be absent. */
+export const textOrNull = (name) => ({
+  type: "DOMString?",
+  get: (element) => element.getAttribute(name),
+  set: (element, value) => (value === null ? element.removeAttribute(name) : element.setAttribute(name, value)),
+});
+
+const flag = (name) => ({
+  type: "boolean",
+  get: (element) => element.hasAttribute(name),
+  set: (element, value) => void element.toggleAttribute(name, value),
+});
+
+const WHOLE = /^[\t\n\f\r ]*([+-]?\d+)/;
+
+/** A whole number as a text begins with it, or null. */
+function wholeIn(written) {
+  const found = written === null ? null : WHOLE.exec(written);
+  return found ? Number(found[1]) : null;
+}
+
+/** A whole number; `least` is the smallest that counts, and what is below it may not be set. */
+export const whole = (name, absent = 0, least = -Infinity) => ({
+  type: "long",
+  get(element) {
+    const found = wholeIn(element.getAttribute(name));
+    return found === null || found < least ? absent : found;
+  },
+  set(element, value) {
+    if (value < least) refuse("IndexSizeError", `${name} is at least ${least}`);
+    element.setAttribute(name, `${value}`);
+  },
+});
+
+/** An address as the base of its Document resolves it; where it is none, as it is written. */
+export function resolved(element, written) {
+  try {
+    return new URL(written, element.baseURI).href;
+  } catch {
+    return written;
+  }
+}
+
+export const url = (name) => ({
+  type: "DOMString",
+  get(element) {
+    const written = element.getAttribute(name);
+    return written === null ? "" : resolved(element, written);
+  },
+  set: (element, value) => element.setAttribute(name, value),
+});
+
+/** A word out of some; the first stands for an absent attribute where nothing else is said, and `invalid` for any other word. */
+export const oneOf = (name, words, absent = words[0], invalid = absent) => ({
+  type: "DOMString",
+  get(element) {
+    const written = element.getAttribute(name);
+    if (written === null) return absent;
+    const word = written.toLowerCase();
+    return words.includes(word) ? word : invalid;
+  },
+  set: (element, value) => element.setAttribute(name, value),
+});
+
+/** Many of a kind, where attribute and property have the same name in another case: `texts("accessKey", "title")`. */
+const several = (make) => (...names) => Object.fromEntries(names.map((name) => [name, make(name.toLowerCase())]));
+
+export const texts = several(text);
+export const flags = several(flag);
+export const urls = several(url);

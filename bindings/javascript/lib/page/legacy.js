@@ -1,0 +1,111 @@
+/** Objects whose properties are indices and names (Web IDL's legacy platform objects): what is asked of them is asked of what they know. */
+
+const PAST = 4294967295;
+
+function indexOf(key) {
+  if (typeof key !== "string" || !/^\d+$/.test(key)) return -1;
+  const index = Number(key);
+  return index < PAST && String(index) === key ? index : -1;
+}
+
+/**
+ * The traps of such an object. What it knows has `length` and `at(index)` where it has indices, and `names()`, `named(name)` where it has names, with
+ * `setNamed` and `deleteNamed` where those are for writing; `isOverriding` where its names come before what the interface has.
+ */
+class Traps {
+  #its;
+
+  constructor(its) {
+    this.#its = its;
+  }
+
+  #visible(target, key) {
+    const its = this.#its;
+    if (typeof key !== "string" || !its.named) return undefined;
+    if (!its.isOverriding && key in target) return undefined;
+    return its.named(key) ?? undefined;
+  }
+
+  #at(key) {
+    const index = this.#its.at ? indexOf(key) : -1;
+    return index < 0 ? undefined : { value: this.#its.at(index) ?? undefined };
+  }
+
+  get(target, key, receiver) {
+    const found = this.#at(key);
+    if (found) return found.value;
+    const named = this.#visible(target, key);
+    return named === undefined ? Reflect.get(target, key, receiver) : named;
+  }
+
+  has(target, key) {
+    const found = this.#at(key);
+    if (found) return found.value !== undefined;
+    return this.#visible(target, key) !== undefined || Reflect.has(target, key);
+  }
+
+  set(target, key, value, receiver) {
+    const its = this.#its;
+    const index = its.at ? indexOf(key) : -1;
+    if (index >= 0) return its.setAt ? its.setAt(index, value) : false;
+    if (its.setNamed && typeof key === "string") return its.setNamed(key, value);
+    return Reflect.set(target, key, value, receiver);
+  }
+
+  defineProperty(target, key, descriptor) {
+    const its = this.#its;
+    if (its.at && indexOf(key) >= 0) return its.setAt && "value" in descriptor ? its.setAt(indexOf(key), descriptor.value) : false;
+    if (its.setNamed && typeof key === "string") return "value" in descriptor && its.setNamed(key, descriptor.value);
+    return Reflect.defineProperty(target, key, descriptor);
+  }
+
+  deleteProperty(target, key) {
+    const its = this.#its;
+    const found = this.#at(key);
+    if (found) return found.value === undefined;
+    if (its.deleteNamed && typeof key === "string" && this.#visible(target, key) !== undefined) return its.deleteNamed(key);
+    return Reflect.deleteProperty(target, key);
+  }
+
+  ownKeys(target) {
+    const its = this.#its;
+    const indices = its.at ? Array.from({ length: its.length }, (_, at) => String(at)) : [];
+    const names = its.named ? its.names().filter((name) => its.isOverriding || !(name in target)) : [];
+    return [...new Set([...indices, ...names, ...Reflect.ownKeys(target)])];
+  }
+
+  getOwnPropertyDescriptor(target, key) {
+    const its = this.#its;
+    const found = this.#at(key);
+    const value = found ? found.value : this.#visible(target, key);
+    if (value !== undefined) return { value, writable: Boolean(found ? its.setAt : its.setNamed), enumerable: Boolean(found || its.areNamesShown), configurable: true };
+    return found ? undefined : Reflect.getOwnPropertyDescriptor(target, key);
+  }
+
+  preventExtensions() {
+    return false;
+  }
+}
+
+const known = new WeakMap();
+
+/** What such an object knows, of a class. */
+export function knownOf(it, Kind) {
+  const its = typeof it === "object" && it !== null ? known.get(it) : undefined;
+  return its instanceof Kind ? its : undefined;
+}
+
+/** An object of an interface of a realm, with what it knows. */
+export function makeLegacy(realm, name, its) {
+  const made = new Proxy(Object.create(realm.interfaces[name].prototype), new Traps(its));
+  known.set(made, its);
+  return made;
+}
+
+/** Gives a prototype what arrays have for going through. */
+export function borrow(realm, prototype, names) {
+  for (const name of names) {
+    const value = realm.global.Array.prototype[name];
+    Object.defineProperty(prototype, name, { value, enumerable: typeof name === "string", writable: true, configurable: true });
+  }
+}

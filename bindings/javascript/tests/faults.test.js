@@ -1,0 +1,198 @@
+// What was once wrong: each has a test of its own. Expected values are the standard's.
+import assert from "node:assert/strict";
+import test from "node:test";
+
+import { createDocument, createWindow, DOMException, memory, NodeFilter, serialize, Session, XMLDocument } from "../lib/index.js";
+
+const HTML = "http://www.w3.org/1999/xhtml";
+const SVG = "http://www.w3.org/2000/svg";
+
+/** A Document with an element that has so many elements. */
+function listOf(count) {
+  const document = createDocument();
+  const root = document.appendChild(document.createElement("ul"));
+  const items = Array.from({ length: count }, () => root.appendChild(document.createElement("li")));
+  return { document, root, items };
+}
+
+test("an iterator whose filter removes the node that it takes skips none", () => {
+  const { document, root, items } = listOf(4);
+  const iterator = document.createNodeIterator(root, NodeFilter.SHOW_ELEMENT, (node) => {
+    if (node === items[1]) node.remove();
+    return node === root ? NodeFilter.FILTER_SKIP : NodeFilter.FILTER_ACCEPT;
+  });
+  const found = [];
+  for (let node = iterator.nextNode(); node; node = iterator.nextNode()) found.push(items.indexOf(node));
+  assert.deepEqual(found, [0, 1, 2, 3]);
+  assert.equal(iterator.referenceNode, items[3]);
+});
+
+test("prefixes of attributes are not compared", () => {
+  const document = createDocument();
+  const [one, other] = ["a:x", "b:x"].map((name) => {
+    const made = document.createElement("p");
+    made.setAttributeNS("n", name, "1");
+    return made;
+  });
+  assert.equal(one.isEqualNode(other), true);
+  other.setAttributeNS("n", "x", "2");
+  assert.equal(one.isEqualNode(other), false);
+  const [left, right] = ["a:b", "c:b"].map((name) => document.createElementNS("n", name));
+  assert.equal(left.isEqualNode(right), false);
+});
+
+test("nodes of two sessions can be equal", () => {
+  const [one, other] = [createDocument(), createDocument()].map((document) => {
+    const made = document.createElementNS(SVG, "path");
+    made.setAttribute("d", "M0");
+    made.append("text", document.createComment("c"));
+    return made;
+  });
+  assert.equal(one.isEqualNode(other), true);
+  other.firstChild.data = "other";
+  assert.equal(one.isEqualNode(other), false);
+  assert.equal(one.contains(other), false);
+});
+
+test("each kind of node is written", () => {
+  const document = createDocument();
+  const made = document.createElement("p");
+  made.setAttributeNS("n", "x", '<1>"\u00a0&');
+  made.append(document.createProcessingInstruction("target", "data"), "a<b&\u00a0>", document.createComment("c"), document.createElement("br"));
+  assert.equal(serialize(made), '<p x="&lt;1&gt;&quot;&nbsp;&amp;"><?target data>a&lt;b&amp;&nbsp;&gt;<!--c--><br></p>');
+  assert.deepEqual([...made.childNodes].map(serialize), ["<?target data>", "a&lt;b&amp;&nbsp;&gt;", "<!--c-->", "<br>"]);
+  assert.equal(serialize(document.implementation.createDocumentType("html", "a", "b")), "<!DOCTYPE html>");
+  const script = document.createElement("script");
+  script.append("a < b");
+  assert.equal(serialize(script), "<script>a < b</script>");
+  const fragment = document.createDocumentFragment();
+  fragment.append(script, "c");
+  assert.equal(serialize(fragment), "<script>a < b</script>c");
+  const svg = document.createElementNS(SVG, "s:script");
+  svg.append("a < b");
+  assert.equal(serialize(svg), "<script>a &lt; b</script>");
+  assert.throws(() => serialize({}), TypeError);
+});
+
+test("names of prototypes are names like others", () => {
+  const document = createDocument();
+  const made = document.implementation.createDocument("__proto__", "a");
+  assert.equal(made.contentType, "application/xml");
+  assert.equal(made.documentElement.namespaceURI, "__proto__");
+  assert.throws(() => document.createElement("p").insertAdjacentElement("__proto__", document.createElement("b")), { name: "SyntaxError" });
+  const element = document.createElement("p");
+  element.setAttribute("__proto__", "1");
+  element.id = "__proto__";
+  document.append(element);
+  assert.equal(element.getAttribute("__proto__"), "1");
+  assert.equal(element.getAttribute("constructor"), null);
+  assert.equal(document.getElementById("__proto__"), element);
+  assert.equal(document.getElementById("constructor"), null);
+});
+
+test("a collection has elements by their ids and names", () => {
+  const { document, root, items } = listOf(3);
+  items[0].id = "one";
+  items[1].setAttribute("name", "two");
+  items[2].id = "length";
+  const foreign = root.appendChild(document.createElementNS(SVG, "path"));
+  foreign.setAttribute("name", "three");
+  const list = root.children;
+  assert.equal(list.one, items[0]);
+  assert.equal(list.two, items[1]);
+  assert.equal(list.three, undefined);
+  assert.equal(list.length, 4);
+  assert.equal(list.namedItem("length"), items[2]);
+  assert.ok("one" in list && !("three" in list));
+  assert.deepEqual(Object.keys(list), ["0", "1", "2", "3"]);
+  assert.deepEqual(Object.getOwnPropertyNames(list), ["0", "1", "2", "3", "one", "two"]);
+  assert.throws(() => (list.one = 1), TypeError);
+  assert.throws(() => delete list.two, TypeError);
+  items[0].removeAttribute("id");
+  assert.equal(list.one, undefined);
+});
+
+test("a kept list of tags follows its root into a Document of XML", () => {
+  const { document, root, items } = listOf(1);
+  const list = root.getElementsByTagName("LI");
+  assert.deepEqual([...list], items);
+  createWindow();
+  const xml = createDocument({ beside: document, xml: true });
+  xml.adoptNode(root);
+  assert.deepEqual([...list], []);
+  assert.deepEqual([...root.getElementsByTagName("li")], items);
+  document.adoptNode(root);
+  assert.deepEqual([...list], items);
+});
+
+test("what is refused says why", () => {
+  const saying = (does) => {
+    try {
+      does();
+    } catch (fault) {
+      return fault;
+    }
+    return null;
+  };
+  for (const limits of [{ numbers: -1 }, { numbers: 0 }, { numbers: "x" }, { line: 0 }, { line: 2 ** 40 }]) {
+    const fault = saying(() => new Session(limits));
+    assert.ok(fault instanceof TypeError && /is a number from 1 to/u.test(fault.message), `${fault}`);
+  }
+  const session = new Session();
+  for (const line of [5, null, {}, undefined]) assert.match(saying(() => session.line(line)).message, /a line is a string/u);
+  assert.match(saying(() => createDocument({ beside: {} })).message, /no node/u);
+  assert.match(saying(() => session.number({})).message, /no node/u);
+  assert.ok(saying(() => memory.limit(-1)) instanceof RangeError);
+  const fault = saying(() => createDocument().appendChild(createDocument().createElement("p")));
+  assert.ok(fault instanceof DOMException && fault.message !== "");
+});
+
+test("a Document of XML is an XMLDocument", () => {
+  assert.ok(createDocument({ xml: true }) instanceof XMLDocument);
+  assert.ok(!(createDocument() instanceof XMLDocument));
+});
+
+test("lists and ids stay right while the tree changes", () => {
+  const { document, root, items } = listOf(6);
+  items.forEach((it, at) => (it.id = `i${at}`));
+  for (let at = 0; at < 6; at++) {
+    assert.equal(root.childNodes[at], items[at]);
+    assert.equal(document.getElementById(`i${at}`), items[at]);
+    items[at].textContent = "text";
+    items[at].className = "seen";
+  }
+  assert.deepEqual([...document.getElementsByClassName("seen")], items);
+  const [first] = items;
+  first.remove();
+  assert.equal(document.getElementById("i0"), null);
+  assert.deepEqual([...root.children], items.slice(1));
+  const copy = root.appendChild(items[1].cloneNode(true));
+  assert.equal(document.getElementById("i1"), items[1]);
+  items[1].remove();
+  assert.equal(document.getElementById("i1"), copy);
+  copy.id = "other";
+  assert.equal(document.getElementById("i1"), null);
+  assert.equal(document.getElementById("other"), copy);
+  const fragment = document.createDocumentFragment();
+  fragment.append(first);
+  assert.equal(fragment.getElementById("i0"), first);
+  assert.equal(document.documentElement.namespaceURI, HTML);
+});
+
+test("the memory of the module can be bounded, and what is refused then ends its session alone", () => {
+  const session = new Session();
+  const other = new Session();
+  memory.limit(memory.size);
+  const made = [];
+  try {
+    assert.throws(() => {
+      for (;;) made.push(session.document.createTextNode("x".repeat(10000)));
+    }, RangeError);
+    assert.throws(() => session.document.createElement("p"), RangeError);
+  } finally {
+    memory.limit(0);
+    session.close();
+  }
+  assert.ok(made.length > 0);
+  assert.equal(other.document.createElement("p").nodeName, "P");
+});

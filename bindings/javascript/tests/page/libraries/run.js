@@ -1,0 +1,32 @@
+// Runs a scene over a window whose names are global, and prints what it answers and the milliseconds of processor time that its parts took, as JSON:
+// `node run.js PLAYER SCENE`.
+import { WINDOWS } from "../players.js";
+import { SCENES } from "./scenes.js";
+
+const [player, scene] = process.argv.slice(2);
+
+/** What a library finds without saying `window.`, beside what node has. */
+const AS_GLOBAL = /^(?:[A-Z].*|document|navigator|location|history|getComputedStyle|getSelection|requestAnimationFrame|cancelAnimationFrame|innerHeight|innerWidth)$/;
+const OF_NODE = /^(?:Array|Object|Function|Promise|Error|.*Error|Symbol|Map|Set|Weak.*|Proxy|Reflect|JSON|Math|Date|RegExp|String|Number|Boolean|BigInt.*|.*Array|ArrayBuffer|DataView|Intl|WebAssembly|Atomics|SharedArrayBuffer|Infinity|NaN|FinalizationRegistry|Iterator|Buffer|URL.*|Abort.*|Text(?:En|De)coder.*|MessageChannel|MessagePort|Blob|Headers|Performance.*|Escape.*)$/;
+
+function makeGlobal(window) {
+  for (const name of Object.getOwnPropertyNames(window).filter((it) => AS_GLOBAL.test(it) && !OF_NODE.test(it))) {
+    Object.defineProperty(globalThis, name, { value: window[name], writable: true, configurable: true });
+  }
+  Object.defineProperty(globalThis, "window", { value: window, writable: true, configurable: true });
+}
+
+const times = {};
+
+/** Measures what is done; of several times, the quickest counts. */
+function timed(name, does) {
+  const before = process.cpuUsage();
+  does();
+  const { user, system } = process.cpuUsage(before);
+  times[name] = Math.min(times[name] ?? Infinity, (user + system) / 1000);
+}
+
+const window = await WINDOWS[player]();
+makeGlobal(window);
+const answer = await SCENES[scene][0](window, timed);
+process.stdout.write(JSON.stringify({ answer, times }), () => process.exit(0));

@@ -1,0 +1,13 @@
+/* What the glue and the heap need of C's header, in the compiler's own words: no C library stands under the module. */
+#ifndef HUCKLEPORT_STDINT_H
+#define HUCKLEPORT_STDINT_H
+typedef __INT8_TYPE__ int8_t;
+typedef __INT16_TYPE__ int16_t;
+typedef __INT32_TYPE__ int32_t;
+typedef __INT64_TYPE__ int64_t;
+typedef __UINT8_TYPE__ uint8_t;
+typedef __UINT16_TYPE__ uint16_t;
+typedef __UINT32_TYPE__ uint32_t;
+typedef __UINT64_TYPE__ uint64_t;
+typedef __UINTPTR_TYPE__ uintptr_t;
+#endif

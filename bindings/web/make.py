@@ -1,0 +1,314 @@
+#!/usr/bin/env python3
+"""Makes the core as a WebAssembly module: out/huckleport.wasm, and out/calls.js, by which JavaScript calls it.
+
+The kit proves dom_c and writes it as LLVM code for x86-64, which it hands to clang. That code is kept here, retargeted for wasm64, compiled by the kit's
+clang, linked by its lld with a heap, Debian's functions of compiler-rt and glue, and lowered by binaryen to memory of 32 bits, which every host has.
+What the kit has proved once on this machine, with the code that was kept, is not proved again.
+
+Debian has what is needed beside the kit: binaryen, libclang-rt-16-dev-wasm64, and the malloc in the source that the package emscripten has
+(--install installs the first two and takes that one file out of the third).
+"""
+import argparse
+import glob
+import gzip
+import hashlib
+import importlib.util
+import json
+import os
+import re
+import shutil
+import subprocess
+import sys
+import tempfile
+
+HERE = os.path.dirname(os.path.abspath(__file__))
+ROOT = os.path.dirname(os.path.dirname(HERE))
+OUT = os.path.join(HERE, "out")
+sys.dont_write_bytecode = True
+sys.path[:0] = [HERE, os.path.join(ROOT, "bindings/c")]
+
+from exports import SOURCES, modules
+from glue import glue
+from header import header
+from retarget import TRIPLE, refuse, retarget
+from wasm import without_table
+
+CRATE = "dom_c"
+BUILTINS = ["/usr/lib/llvm-*/lib/clang/*/lib/*/libclang_rt.builtins-wasm64.a"]
+MALLOC = ["/usr/share/emscripten/system/lib/dlmalloc.c", os.path.join(OUT, "dlmalloc.c")]
+# What lime1 stands for, as binaryen names it.
+FEATURES = "memory64 bulk-memory mutable-globals sign-ext nontrapping-float-to-int multivalue simd".split()
+STACK = 1048576
+# Compiled for: what node 20 has with memory of 32 bits.
+STRICT = ["-ffreestanding", "-fno-builtin", "-nostdinc", "-Wall", "-Wextra", "-Werror"]
+
+
+def loaded(name, path):
+    """A script as a module."""
+    spec = importlib.util.spec_from_file_location(name, path)
+    found = importlib.util.module_from_spec(spec)
+    spec.loader.exec_module(found)
+    return found
+
+
+def call(*words, **how):
+    ran = subprocess.run(words, stdout=subprocess.PIPE, stderr=subprocess.STDOUT, errors="replace", check=False, **how)
+    if ran.returncode:
+        sys.exit(f"{' '.join(words[:4])} ..\n{ran.stdout[-3000:]}")
+    return ran.stdout
+
+
+def kit_folder():
+    return os.path.dirname(call("rt", "doc").strip())
+
+
+# ---- The LLVM code of the proved crate
+
+WRAPPER = """\
+#!/bin/sh
+# Keeps the code that is handed to clang, and then is clang.
+for it in "$@"; do
+    case "$it" in *.bc) cp "$it" '{kept}' ;; esac
+done
+exec '{clang}' "$@"
+"""
+
+
+def toolchain(kit, to, kept):
+    """A folder like the kit's toolchain, whose clang keeps the code that it is handed."""
+    theirs = os.path.join(kit, "toolchain")
+    os.makedirs(os.path.join(to, "bin"))
+    os.symlink(os.path.join(theirs, "lib"), os.path.join(to, "lib"))
+    for it in os.listdir(os.path.join(theirs, "bin")):
+        if it != "clang":
+            os.symlink(os.path.join(theirs, "bin", it), os.path.join(to, "bin", it))
+    clang = os.path.join(to, "bin/clang")
+    with open(clang, "w", encoding="utf-8") as file:
+        file.write(WRAPPER.format(kept=kept, clang=os.path.join(theirs, "bin/clang")))
+    os.chmod(clang, 0o755)
+
+
+def keep_code(start, kit, crate, jobs):
+    """Proves and builds the crate with a clang that keeps the code; answers whether that went well. The code is then out/NAME."""
+    with tempfile.TemporaryDirectory() as work:
+        kept = os.path.join(work, "module.bc")
+        toolchain(kit, os.path.join(work, "toolchain"), kept)
+        words = [*crate.words(["--jobs", str(jobs)]), "--toolchain", os.path.join(work, "toolchain"), "--backend", "llvm"]
+        status = crate.call(start.kit().rtlib.RATTLE, "build", *words, "-o", f"out/lib{crate.name}.a")
+        if not status and not os.path.isfile(kept):
+            refuse("no file of it was handed to clang")
+        if not status:
+            shutil.copy(kept, f"{crate.folder}/out/{crate.name}")
+        return not status
+
+
+def prove_for_wasm(start, kit, crate, jobs):
+    """Proves the crate for wasm64; answers whether it is proved. The line of its verdict is then out/NAME."""
+    status = crate.prove(["check", *crate.words(["--jobs", str(jobs)], keeps=False)])
+    if not status:
+        write(f"{crate.folder}/out/{crate.name}", f"{crate.name} is proved for {TRIPLE}\n")
+    return not status
+
+
+def made_by(does, what, kit):
+    """The script that proves what is missing, so that it makes something else of the crate than its archive: kept in the kit's store under a sum of its
+    own, and here as out/NAME.WHAT."""
+    start = loaded("start", os.path.join(ROOT, "tools/start.py"))
+
+    class Making(start.Start):
+        def build(self, crate, jobs):
+            return does(start, kit, crate, jobs) if crate.name == CRATE else super().build(crate, jobs)
+
+    whole, built = start.store, start.built
+
+    def store(rt, crates):
+        found = whole(rt, crates)
+        if not hasattr(rt, "Kept"):
+            sys.exit("this kit keeps nothing that was proved: take a newer one")
+        key = found.key
+        found.key = lambda crate: hashlib.sha256(f"{what} {key(crate)}".encode()).hexdigest() if crate.name == CRATE else key(crate)
+        return found
+
+    start.Start, start.store = Making, store
+    start.built = lambda name: tuple(it.replace(f"out/{name}", f"out/{name}.{what}") for it in built(name))
+    return start
+
+
+def code(kit):
+    """Proves what is missing, or takes it from the kit's store, and returns the file of the crate's LLVM code."""
+    start = made_by(keep_code, "bc", kit)
+    if not start.start([CRATE]):
+        sys.exit(f"{CRATE} was not proved and built")
+    return start.built(CRATE)[0]
+
+
+def verdict(kit):
+    """Proves the crate for the target of the module, where that was not done."""
+    start = made_by(prove_for_wasm, "wasm64", kit)
+    copied = start.kit().copy_crates
+
+    def copy_crates(top, to):
+        copied(top, to)
+        listed = os.path.join(to, "crates.txt")
+        with open(listed, encoding="utf-8") as file:
+            text = file.read()
+        changed = text.replace(f"\n{CRATE} staticlib:", f"\n{CRATE} wasm64:")
+        if changed == text:
+            sys.exit(f"crates.txt has no line of {CRATE} that is known here")
+        write(listed, changed)
+
+    start.kit().copy_crates = copy_crates
+    if not start.start([CRATE]):
+        sys.exit(f"{CRATE} is not proved for {TRIPLE}")
+    with open(start.built(CRATE)[0], encoding="utf-8") as file:
+        return file.read().strip()
+
+
+# ---- The module
+
+def first(patterns):
+    """The last of the files that fit the first pattern that any fits, or None."""
+    return next((sorted(glob.glob(it))[-1] for it in patterns if glob.glob(it)), None)
+
+
+def lacking(malloc=None):
+    """Why no module can be made here, or None."""
+    for tool, how in (("rt", "the Rattle kit proves and compiles"), ("wasm-opt", "apt-get install binaryen"), ("node", "apt-get install nodejs")):
+        if not shutil.which(tool):
+            return f"there is no {tool} ({how})"
+    if not first(BUILTINS):
+        return "there is no library of compiler-rt for wasm64 (apt-get install libclang-rt-16-dev-wasm64)"
+    return None if malloc or first(MALLOC) else "there is no dlmalloc.c (bindings/web/make.py --install, or --malloc FILE)"
+
+
+class Tools:
+    """What makes a module: the kit's clang and its linker, and Debian's parts."""
+
+    def __init__(self, kit, work, malloc):
+        self.clang = os.path.join(kit, "toolchain/bin/clang")
+        self.work = work
+        self.linker, self.archiver = os.path.join(work, "wasm-ld"), os.path.join(work, "llvm-ar")
+        for it in (self.linker, self.archiver):
+            os.symlink(self.clang, it)
+        self.builtins, self.malloc = first(BUILTINS), malloc or first(MALLOC)
+
+    def path(self, name):
+        return os.path.join(self.work, name)
+
+    def compile(self, source, to, *words):
+        call(self.clang, f"--target={TRIPLE}", "-mcpu=lime1", "-O3", "--no-default-config", *words, "-c", source, "-o", self.path(to))
+        return self.path(to)
+
+    def core(self, kept):
+        """The archive of the crate's code."""
+        text = self.path("core.ll")
+        call(self.clang, "--target=x86_64-unknown-linux-gnu", "--no-default-config", "-x", "ir", kept, "-S", "-emit-llvm", "-o", text)
+        with open(text, encoding="utf-8") as file:
+            made = retarget(file.read())
+        with open(text, "w", encoding="utf-8") as file:
+            file.write(made)
+        words = ["-ffunction-sections", "-fdata-sections", "-mllvm", "-disable-machine-licm", "-x", "ir"]
+        call(self.archiver, "rcs", self.path("core.a"), self.compile(text, "core.o", *words))
+        return self.path("core.a")
+
+    def glue(self, in_c):
+        """The objects of the glue and of the heap."""
+        with open(self.path("glue.c"), "w", encoding="utf-8") as file:
+            file.write(in_c)
+        places = [f"-I{it}" for it in (os.path.join(HERE, "include"), HERE, self.work)]
+        shutil.copy(self.malloc, self.path("dlmalloc.c"))
+        glued = self.compile(self.path("glue.c"), "glue.o", *STRICT, *places)
+        over_bytes = self.compile(os.path.join(HERE, "bytes.c"), "bytes.o", *STRICT, *places)
+        # (the malloc is another project's: its warnings are not ours)
+        return [glued, over_bytes, self.compile(os.path.join(HERE, "heap.c"), "heap.o", *STRICT, "-Wno-everything", *places)]
+
+    def link(self, core, objects, most):
+        """The module with memory of 64 bits. Its stack stands ahead of all data and grows down, so that a call too deep leaves the memory and ends."""
+        words = ["-mwasm64", "--no-entry", "--stack-first", "-z", f"stack-size={STACK}", "--gc-sections", "--strip-all", "--threads=1"]
+        words += [f"--max-memory={most}"] if most else []
+        call(self.linker, *words, "-o", self.path("linked.wasm"), core, *objects, self.builtins)
+        return self.path("linked.wasm")
+
+    def lower(self, linked, to):
+        """The module with memory of 32 bits."""
+        with open(linked, "rb") as file:
+            made = without_table(file.read())
+        with open(self.path("bare.wasm"), "wb") as file:
+            file.write(made)
+        call("wasm-opt", self.path("bare.wasm"), *(f"--enable-{it}" for it in FEATURES), "--memory64-lowering", "-O3", "-o", to)
+
+
+def check(module, calls):
+    """Fails where the module takes more from its host than the one word that memory has grown, or lacks a call."""
+    said = call("node", "-e", "const m = new WebAssembly.Module(require('fs').readFileSync(process.argv[1])); console.log(JSON.stringify([WebAssembly.Module.imports(m), WebAssembly.Module.exports(m)]))", module)
+    taken, shown = json.loads(said)
+    taken, shown = [f"{it['module']}.{it['name']}" for it in taken], {it["name"] for it in shown}
+    if taken != ["env.grown"] or not set(calls) <= shown:
+        sys.exit(f"the module takes {taken} from its host, and lacks {sorted(set(calls) - shown)}")
+
+
+def write(path, text):
+    with open(path, "w", encoding="utf-8") as file:
+        file.write(text)
+
+
+def make(given):
+    """Makes the module and its calls; returns the module."""
+    why = lacking(given.malloc)
+    if why:
+        sys.exit(why)
+    kit = kit_folder()
+    found = modules(given.sources)
+    in_c, in_script = glue(found)
+    kept = os.path.abspath(given.code) if given.code else code(kit)
+    os.makedirs(given.to, exist_ok=True)
+    to = os.path.join(os.path.abspath(given.to), "huckleport.wasm")
+    with tempfile.TemporaryDirectory() as work:
+        tools = Tools(kit, work, given.malloc)
+        write(tools.path("huckleport.h"), header(found))
+        tools.lower(tools.link(tools.core(kept), tools.glue(in_c), given.memory), to)
+    check(to, re.findall(r"module\.(hp_\w+)", in_script))
+    write(os.path.join(os.path.dirname(to), "calls.js"), in_script)
+    return to
+
+
+def install():
+    """Installs Debian's packages, and puts the malloc's source, out of the one that is not installed, where that would have it."""
+    if not lacking():
+        return
+    call("apt-get", "install", "-y", "--no-install-recommends", "binaryen", "libclang-rt-16-dev-wasm64")
+    os.makedirs(os.path.dirname(MALLOC[0]), exist_ok=True)
+    with tempfile.TemporaryDirectory() as work:
+        call("apt-get", "download", "-o", "APT::Sandbox::User=root", "emscripten", cwd=work)
+        package = glob.glob(os.path.join(work, "emscripten_*.deb"))[0]
+        call("dpkg-deb", "-x", package, os.path.join(work, "whole"))
+        shutil.copy(os.path.join(work, "whole", MALLOC[0].lstrip("/")), MALLOC[0])
+
+
+def words_of(text):
+    parser = argparse.ArgumentParser(description=text, formatter_class=argparse.RawDescriptionHelpFormatter)
+    parser.add_argument("--code", metavar="FILE", help=f"the LLVM code of {CRATE}, in place of what is proved and built now")
+    parser.add_argument("--sources", metavar="FOLDER", default=SOURCES, help="the exports that the glue is made of (crates/dom_c/src)")
+    parser.add_argument("--malloc", metavar="FILE", help="the source of the malloc (dlmalloc.c)")
+    parser.add_argument("--memory", metavar="BYTES", type=int, help="how large the memory may become, in pages of 65,536 bytes (4 GB)")
+    parser.add_argument("--to", metavar="FOLDER", default=OUT, help="where the files go (bindings/web/out)")
+    return parser
+
+
+def main():
+    parser = words_of(__doc__)
+    parser.add_argument("--install", action="store_true", help="installs what is needed beside the kit, from Debian, and makes nothing")
+    parser.add_argument("--verdict", action="store_true", help="proves the crate for the target wasm64, where that was not done, and makes nothing")
+    given = parser.parse_args()
+    if given.install:
+        return install()
+    if given.verdict:
+        return print(verdict(kit_folder()))
+    made = make(given)
+    with open(made, "rb") as file:
+        whole = file.read()
+    print(f"{made}: {len(whole):,} bytes, {len(gzip.compress(whole, 9)):,} under gzip -9; calls.js beside it")
+
+
+if __name__ == "__main__":
+    main()

@@ -1,0 +1,15 @@
+-- What is inside waits for an observer that is left.
+use Rattle.std.proofs.Common.{◌≡◌, ℕ, drop}
+use Rattle.std.specs.Prelude.{flat_map}
+use Rattle.std.specs.List.{list_any}
+use Rattle.dom_model.specs.PlainLists.Lists.{among}
+use Rattle.dom_model.specs.Forests.Forest.{inclusive_descendants}
+use Rattle.dom_model.specs.MutationAlgorithms.Discarding.{nodes_of_record}
+use Rattle.dom_observe.specs.Roster.{queues_by}
+use Rattle.dom_observe.specs.Watchers.{records_at}
+use Rattle.dom_observe.proofs.naming.is_told_by.Given as goal
+
+abbrev pub invariant-loop-observer : goal.invariant-loop-observer
+invariant-loop-observer g l =
+    list_any (λ (o : ℕ). list_any (λ m. among m (inclusive_descendants l.tree.forest l.top)) (flat_map nodes_of_record (records_at (queues_by l.roster) o))) (drop l.observer-index l.observer-items)
+    ≡ list_any (λ (o : ℕ). list_any (λ m. among m (inclusive_descendants l.tree.forest l.top)) (flat_map nodes_of_record (records_at (queues_by l.roster) o))) l.observers.keys

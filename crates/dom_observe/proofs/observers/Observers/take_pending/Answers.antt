@@ -1,0 +1,50 @@
+-- The pending observers are among those that were not told, and nobody is pending; or nothing has changed.
+use Rattle.std.proofs.Common.{[], sym, ◌∙◌, subst}
+use Rattle.dom_observe.specs.Kept.{has_queue, AllThere, IsKept}
+use Rattle.dom_observe.specs.Roster.{queues_by}
+use Rattle.dom_observe.proofs.Awaiting.{awaited-taken, insert_all-last}
+use Rattle.dom_observe.proofs.Holding.{names-only, names-same}
+use Rattle.dom_observe.proofs.observers.Observers.take_pending.Goals as goal
+
+pub invariant_of-self-2 : goal.invariant_of-self-2
+invariant_of-self-2 c =
+    let a = c.self.inside in
+    let qs = queues_by a.roster in
+    let kept = c.self.invariant.0 in
+    let nobody : IsKept a.table a.nodes.entries qs c.append.new.other.keys = record {
+      unique = kept.unique;
+      stand = kept.stand;
+      full = kept.full;
+      there = subst (AllThere (has_queue qs)) (sym c.in_ok-append.ensures.emptied) tt;
+    } in (
+      nobody,
+      c.self.invariant.1,
+      c.self.invariant.2,
+      c.self.invariant.3,
+      awaited-taken qs a.pending.keys a.untold.keys c.self.invariant.4 c.append.new.other.keys c.append.new.self.keys kept.there (c.in_ok-append.ensures.keys ∙ insert_all-last a.untold.keys a.pending.keys),
+    )
+
+pub returns-clause-names : goal.returns-clause-names
+returns-clause-names c =
+    let a = c.self.inside in
+    let qs = queues_by a.roster in
+    let kept = c.self.invariant.0 in
+    let nobody : IsKept a.table a.nodes.entries qs c.append.new.other.keys = record {
+      unique = kept.unique;
+      stand = kept.stand;
+      full = kept.full;
+      there = subst (AllThere (has_queue qs)) (sym c.in_ok-append.ensures.emptied) tt;
+    } in
+    names-only a.table a.nodes.entries qs a.pending.keys c.args.self.now c.self.view_is a.table a.nodes.entries qs c.append.new.other.keys nobody [] (λ p _ names tells. (names, tells))
+
+pub returns-in_err-taken-clause-names : goal.returns-in_err-taken-clause-names
+returns-in_err-taken-clause-names c =
+    let a = c.self.inside in
+    names-same a.table a.nodes.entries (queues_by a.roster) a.pending.keys c.self.invariant.0 c.args.self.now c.self.view_is []
+
+pub returns-in_err-append-clause-names : goal.returns-in_err-append-clause-names
+returns-in_err-append-clause-names c =
+    let a = c.self.inside in
+    let qs = queues_by a.roster in
+    names-only a.table a.nodes.entries qs a.pending.keys c.args.self.now c.self.view_is a.table a.nodes.entries qs c.append.new.other.keys
+    (subst (IsKept a.table a.nodes.entries qs) (sym c.in_err-append.ensures.other_err) c.self.invariant.0) [] (λ p _ names tells. (names, tells))

@@ -1,0 +1,150 @@
+-- The observer's queue is emptied, and its transient registrations go.
+use Rattle.std.proofs.Common.{◌≡◌, ℕ, true, if◌then◌else◌, List, [], Option, Some, length, filter, refl, ap, sym, ◌∙◌, subst}
+use Rattle.std.specs.Prelude.{slice_index_or, slice_set, unwrap_or}
+use Rattle.dom_model.specs.PlainLists.Lists.{among}
+use Rattle.dom_model.specs.MutationObservers.Record.{Record}
+use Rattle.dom_model.specs.MutationObservers.Records.{observer_told}
+use Rattle.dom_observe.specs.declared.registration.Ended.TheVariants.{TransientOf}
+use Rattle.dom_observe.specs.declared.roster.Observer.{Observer}
+use Rattle.dom_observe.specs.Watchers.{Watchers, Watches, records_at, on}
+use Rattle.dom_observe.specs.Registrations.{at, listed, is_live, left_by, spares}
+use Rattle.dom_observe.specs.Kept.{registered_nodes, has_queue, IsKept, IsAwaited}
+use Rattle.dom_observe.specs.Roster.{lasting_by, passing_by, queues_by}
+use Rattle.dom_observe.specs.Naming.{TellsNone}
+use Rattle.dom_observe.proofs.Agreeing.{agree-ended}
+use Rattle.dom_observe.proofs.Awaiting.{awaited-told, told-left}
+use Rattle.dom_observe.proofs.Holding.{names-only, none-ended, tells-emptied, same-there}
+use Rattle.dom_observe.proofs.Indexing.{indexed-passing_ended}
+use Rattle.dom_observe.proofs.Keeping.{on-registered_nodes, kept-emptied, kept_table, found-ended, stand-ended}
+use Rattle.dom_observe.proofs.Keyrings.{indexed-by}
+use Rattle.dom_observe.proofs.KeysOnce.{placed_once-swept}
+use Rattle.dom_observe.proofs.QueueLists.{has-set}
+use Rattle.dom_observe.proofs.Rosters.{has-kept, within-passing, passing-there, lasting-same, passing-set, queues-set, queue-there}
+use Rattle.dom_observe.proofs.Sources.{sources-ended}
+use Rattle.dom_observe.proofs.Watching.{watches-filtered, watches-taken}
+use Rattle.std.proofs.lemmas.List.{length-set}
+use Rattle.dom_observe.proofs.observers.Observers.tell.Goals as goal
+
+pub get_mut-kept-requires : goal.get_mut-kept-requires
+get_mut-kept-requires c = sym (has-kept c.self.inside.roster c.args.observer) ∙ subst (λ (o : Watchers). has_queue o.queues c.args.observer ≡ true) (sym c.self.view_is) c.requires.held
+
+pub end_own-requires-clause-owned : goal.end_own-requires-clause-owned
+end_own-requires-clause-owned c = λ k.
+    ap (among k) (sym (passing-there c.self.inside.roster c.args.observer c.get_mut-kept.result.now c.get_mut-kept.ensures.value)) ∙ c.self.invariant.1.passing c.args.observer k
+
+pub invariant_of-self : goal.invariant_of-self
+invariant_of-self c =
+    let a = c.self.inside in
+    let o = c.args.observer in
+    let qs = queues_by a.roster in
+    let there = has_queue qs in
+    let held_there = subst (λ (w : Watchers). has_queue w.queues o ≡ true) (sym c.self.view_is) c.requires.held in
+    let u = at a.table in
+    let v = at c.end_own.new.table in
+    let lists = listed a.nodes.entries in
+    let lists' = listed c.end_own.new.nodes.entries in
+    let had = passing-there a.roster o c.get_mut-kept.result.now c.get_mut-kept.ensures.value in
+    let ended : (k : ℕ) → v k ≡ (if among k (slice_index_or (passing_by a.roster) o []) then left_by (TransientOf o) (u k) else u k) = λ k.
+    c.end_own.ensures.left k ∙ ap (λ ks. if among k ks then left_by (TransientOf o) (u k) else u k) (sym had) in
+    let left = told-left u v lists (lasting_by a.roster) (passing_by a.roster) a.fleeting.keys there o c.self.invariant.1 ended in
+    let kept' : Observer = record c.get_mut-kept.result.now { passing = c.end_own.new.keys; queue = c.take.new.self } in
+    let roster' = slice_set a.roster o (Some kept') in
+    let queues : queues_by roster' ≡ slice_set qs o (Some []) = queues-set a.roster o kept' ∙ ap (λ q. slice_set qs o (Some q)) c.take.ensures.emptied in
+    let passing : passing_by roster' ≡ slice_set (passing_by a.roster) o (filter (is_live v) (slice_index_or (passing_by a.roster) o [])) =
+    passing-set a.roster o kept' ∙ ap (slice_set (passing_by a.roster) o) (c.end_own.ensures.keys ∙ ap (filter (is_live v)) (sym had)) in
+    let lasting = lasting-same a.roster o c.get_mut-kept.result.now c.get_mut-kept.ensures.value kept' refl in
+    let stand = stand-ended u v (TransientOf o) lists lists' left c.end_own.ensures.swept there c.self.invariant.0.stand in
+    let kept = kept_table a.table a.nodes.entries qs a.pending.keys c.self.invariant.0 c.end_own.new.table c.end_own.new.nodes.entries c.end_own.ensures.unique stand (c.end_own.ensures.full c.self.invariant.0.full) in (
+      subst (λ q. IsKept c.end_own.new.table c.end_own.new.nodes.entries q a.pending.keys) (sym queues)
+          (kept-emptied c.end_own.new.table c.end_own.new.nodes.entries qs a.pending.keys kept o held_there),
+      indexed-by v lists' a.fleeting.keys roster' (lasting_by a.roster) (slice_set (passing_by a.roster) o (filter (is_live v) (slice_index_or (passing_by a.roster) o []))) there lasting passing
+          (λ i yet. ap (λ q. has_queue q i) queues ∙ has-set qs o held_there [] i ∙ yet)
+          (indexed-passing_ended u v lists lists' (lasting_by a.roster) (passing_by a.roster) a.fleeting.keys there o (TransientOf o) c.self.invariant.1 c.end_own.ensures.placed
+          (placed_once-swept lists lists' (is_live v) c.end_own.ensures.swept c.self.invariant.1.placed_once) _ (within-passing a.roster o held_there) ended refl),
+      sources-ended u v (TransientOf o) left c.self.invariant.2,
+      agree-ended u v (TransientOf o) left c.self.invariant.3,
+      subst (λ q. IsAwaited q a.pending.keys c.swap_remove.new.self.keys) (sym queues)
+          (awaited-told qs a.pending.keys a.untold.keys c.self.invariant.4 o held_there c.swap_remove.new.self.keys c.swap_remove.ensures.updates.0),
+    )
+
+pub returns-clause-told : goal.returns-clause-told
+returns-clause-told c = λ x w.
+    let a = c.self.inside in
+    let o = c.args.observer in
+    let qs = queues_by a.roster in
+    let held_there = subst (λ (w : Watchers). has_queue w.queues o ≡ true) (sym c.self.view_is) c.requires.held in
+    let u = at a.table in
+    let v = at c.end_own.new.table in
+    let had = passing-there a.roster o c.get_mut-kept.result.now c.get_mut-kept.ensures.value in
+    let ended : (k : ℕ) → v k ≡ (if among k (slice_index_or (passing_by a.roster) o []) then left_by (TransientOf o) (u k) else u k) = λ k.
+    c.end_own.ensures.left k ∙ ap (λ ks. if among k ks then left_by (TransientOf o) (u k) else u k) (sym had) in
+    let left = told-left u v (listed a.nodes.entries) (lasting_by a.roster) (passing_by a.roster) a.fleeting.keys (has_queue qs) o c.self.invariant.1 ended in
+    let kept' : Observer = record c.get_mut-kept.result.now { passing = c.end_own.new.keys; queue = c.take.new.self } in
+    let queues : queues_by (slice_set a.roster o (Some kept')) ≡ slice_set qs o (Some []) = queues-set a.roster o kept' ∙ ap (λ q. slice_set qs o (Some q)) c.take.ensures.emptied in
+    let nodes' = registered_nodes c.end_own.new.table c.end_own.new.nodes.entries in
+    let seen : Watchers = record { nodes = registered_nodes a.table a.nodes.entries; queues = qs; pending = a.pending.keys } in
+    let shown = subst (λ (o : Watchers). Watches o x) (sym c.self.view_is) w in
+    let keep = spares (TransientOf o) in
+    let swept : (n : ℕ) → on n nodes' ≡ filter keep (on n (registered_nodes a.table a.nodes.entries)) = λ n.
+    on-registered_nodes c.end_own.new.table n c.end_own.new.nodes.entries
+    ∙ found-ended u v (TransientOf o) (listed a.nodes.entries) (listed c.end_own.new.nodes.entries) left c.end_own.ensures.swept n
+    ∙ ap (filter keep) (sym (on-registered_nodes a.table n a.nodes.entries)) in
+    let gone = watches-filtered seen x shown keep nodes' swept in
+    subst (λ (q : List (Option (List Record))). Watches (record { nodes = nodes'; queues = q; pending = a.pending.keys }) (observer_told o x)) (sym queues)
+    (watches-taken _ _ gone o held_there)
+
+pub returns-clause-records : goal.returns-clause-records
+returns-clause-records c = λ x w.
+    let shown = subst (λ (o : Watchers). Watches o x) (sym c.self.view_is) w in
+    c.take.ensures.records ∙ sym (ap (λ q. unwrap_or q []) (queue-there c.self.inside.roster c.args.observer c.get_mut-kept.result.now c.get_mut-kept.ensures.value)) ∙ shown.queues c.args.observer
+
+pub returns-clause-own : goal.returns-clause-own
+returns-clause-own c =
+    c.take.ensures.records ∙ sym (ap (λ q. unwrap_or q []) (queue-there c.self.inside.roster c.args.observer c.get_mut-kept.result.now c.get_mut-kept.ensures.value))
+    ∙ ap (λ (o : Watchers). records_at o.queues c.args.observer) c.self.view_is
+
+pub returns-clause-queues : goal.returns-clause-queues
+returns-clause-queues c =
+    let a = c.self.inside in
+    let o = c.args.observer in
+    let kept' : Observer = record c.get_mut-kept.result.now { passing = c.end_own.new.keys; queue = c.take.new.self } in
+    queues-set a.roster o kept' ∙ ap (λ q. slice_set (queues_by a.roster) o (Some q)) c.take.ensures.emptied
+    ∙ ap (λ (w : Watchers). slice_set w.queues o (Some [])) c.self.view_is
+
+pub returns-clause-names : goal.returns-clause-names
+returns-clause-names c =
+    let a = c.self.inside in
+    let o = c.args.observer in
+    let qs = queues_by a.roster in
+    let there = has_queue qs in
+    let held_there = subst (λ (w : Watchers). has_queue w.queues o ≡ true) (sym c.self.view_is) c.requires.held in
+    let u = at a.table in
+    let v = at c.end_own.new.table in
+    let lists = listed a.nodes.entries in
+    let lists' = listed c.end_own.new.nodes.entries in
+    let had = passing-there a.roster o c.get_mut-kept.result.now c.get_mut-kept.ensures.value in
+    let ended : (k : ℕ) → v k ≡ (if among k (slice_index_or (passing_by a.roster) o []) then left_by (TransientOf o) (u k) else u k) = λ k.
+    c.end_own.ensures.left k ∙ ap (λ ks. if among k ks then left_by (TransientOf o) (u k) else u k) (sym had) in
+    let left = told-left u v lists (lasting_by a.roster) (passing_by a.roster) a.fleeting.keys there o c.self.invariant.1 ended in
+    let kept' : Observer = record c.get_mut-kept.result.now { passing = c.end_own.new.keys; queue = c.take.new.self } in
+    let roster' = slice_set a.roster o (Some kept') in
+    let queues : queues_by roster' ≡ slice_set qs o (Some []) = queues-set a.roster o kept' ∙ ap (λ q. slice_set qs o (Some q)) c.take.ensures.emptied in
+    let stand = stand-ended u v (TransientOf o) lists lists' left c.end_own.ensures.swept there c.self.invariant.0.stand in
+    let kept = kept_table a.table a.nodes.entries qs a.pending.keys c.self.invariant.0 c.end_own.new.table c.end_own.new.nodes.entries c.end_own.ensures.unique stand (c.end_own.ensures.full c.self.invariant.0.full) in
+    let emptied = subst (λ q. IsKept c.end_own.new.table c.end_own.new.nodes.entries q a.pending.keys) (sym queues)
+    (kept-emptied c.end_own.new.table c.end_own.new.nodes.entries qs a.pending.keys kept o held_there) in
+    names-only a.table a.nodes.entries qs a.pending.keys c.args.self.now c.self.view_is c.end_own.new.table c.end_own.new.nodes.entries (queues_by roster') a.pending.keys emptied []
+    (λ p _ names tells. (none-ended p u v (TransientOf o) lists lists' left c.end_own.ensures.swept names, subst (TellsNone p) (sym queues) (tells-emptied p qs o held_there tells)))
+
+pub returns-clause-made : goal.returns-clause-made
+returns-clause-made c =
+    let a = c.self.inside in
+    let o = c.args.observer in
+    let qs = queues_by a.roster in
+    let held_there = subst (λ (w : Watchers). has_queue w.queues o ≡ true) (sym c.self.view_is) c.requires.held in
+    let kept' : Observer = record c.get_mut-kept.result.now { passing = c.end_own.new.keys; queue = c.take.new.self } in
+    let roster' = slice_set a.roster o (Some kept') in
+    let queues : queues_by roster' ≡ slice_set qs o (Some []) = queues-set a.roster o kept' ∙ ap (λ q. slice_set qs o (Some q)) c.take.ensures.emptied in
+    let new : Watchers = record { nodes = registered_nodes c.end_own.new.table c.end_own.new.nodes.entries; queues = queues_by roster'; pending = a.pending.keys } in
+    same-there c.args.self.now new qs (ap (λ (w : Watchers). w.queues) c.self.view_is)
+    (ap length queues ∙ length-set qs o (Some [])) (λ i. ap (λ q. has_queue q i) queues ∙ has-set qs o held_there [] i)

@@ -1,0 +1,128 @@
+//! The command line: `domserve [--line BYTES] [--numbers N]`.
+
+ghost use Rattle.std.specs.Prelude.{◌≡◌, ◌≤◌, [], IfErr, IfOk, codes, map};
+ghost use Rattle.clap.specs.Words.{app_of, found_of, kind_of, new_app, rows_of};
+ghost use Rattle.dom_options.specs.CommandLine.{IsInRange, IsRefusalOf, TellsOf, bounds_asked, bounds_at, bounds_in, faults_in, program_app, value_within, with_version};
+
+use clap::error::ErrorKind;
+use clap::{Arg, ArgAction, ArgMatches, Command, Error};
+use std::alloc::{AllocError, Global};
+use std::convert::AsStr;
+
+/// How many bytes a line may have where the words do not say.
+const LINE: u64 = 1048576;
+
+/// How many bytes a line may have at most.
+const LONGEST_LINE: u64 = 1073741824;
+
+/// How many numbers there are of each kind of object, at most, and where the words do not say.
+const NUMBERS: u64 = 4294967295;
+
+/// The limits that words ask for: how many numbers there are of each kind of object, and how many bytes a line may have.
+#[derive(Drop)]
+pub struct Asked {
+    pub numbers: u64,
+    pub line: u64,
+}
+
+/// Why the words give no limits, with clap's text.
+#[derive(Drop)]
+pub enum Refusal {
+    Memory,
+    Help(String),
+    Mistake(String),
+}
+
+/// The version that `--version` tells.
+const VERSION: &str = "0.1.0";
+
+/// The program with no options, and what it says of itself.
+fn program<'a>(alloc: Global) -> Command<'a>
+    ensures { app_of result ≡ with_version (new_app (codes "domserve")) }
+{
+    Command::new(alloc, "domserve")
+        .about(
+            "Keeps documents (DOM Standard): one JSON command a line in, one JSON reply a line out",
+        )
+        .version(VERSION)
+}
+
+fn command<'a>(alloc: Global) -> Result<Command<'a>, AllocError>
+    ensures { IfOk result (λ command. app_of command ≡ program_app) }
+{
+    let line = Arg::new(alloc, "line")
+        .long("line")
+        .value_name("BYTES")
+        .help("How many bytes a line may have")
+        .action(ArgAction::Set)
+        .value_parser(clap::value_parser!(u64).range(1..=1073741824))
+        .default_value("1048576");
+    let numbers = Arg::new(alloc, "numbers")
+        .long("numbers")
+        .value_name("N")
+        .help("How many numbers there are of each kind of object")
+        .action(ArgAction::Set)
+        .value_parser(clap::value_parser!(u64).range(1..=4294967295))
+        .default_value("4294967295");
+    program(alloc).arg(line)?.arg(numbers)
+}
+
+/// The value where it is in the range, which clap has tested, or else the other one.
+fn within(value: Option<u64>, most: u64, otherwise: u64) -> u64
+    requires least { 1 ≤ otherwise }
+    requires most { otherwise ≤ most }
+    ensures value { result ≡ value_within most otherwise value }
+    ensures least { 1 ≤ result }
+    ensures most { result ≤ most }
+{
+    match value {
+        Some(n) if 1 <= n && n <= most => n,
+        _ => otherwise,
+    }
+}
+
+fn asked_of(matches: &ArgMatches<'_>) -> Asked
+    ensures range { IsInRange (bounds_in result) }
+    ensures value { bounds_in result ≡ bounds_at (rows_of (found_of matches.now)) }
+{
+    let line = within(matches.get_one::<u64>("line"), LONGEST_LINE, LINE);
+    let numbers = within(matches.get_one::<u64>("numbers"), NUMBERS, NUMBERS);
+    Asked { numbers, line }
+}
+
+fn refusal_of(alloc: Global, error: &Error) -> Refusal
+    ensures { IsRefusalOf (kind_of error.now) result }
+{
+    if let ErrorKind::OutOfMemory = error.kind() {
+        return Refusal::Memory;
+    }
+    match error.to_string(alloc) {
+        Ok(text) => {
+            if error.use_stderr() {
+                Refusal::Mistake(text)
+            } else {
+                Refusal::Help(text)
+            }
+        }
+        Err(_) => Refusal::Memory,
+    }
+}
+
+/// The limits that the words ask for, the program's name first.
+pub fn asked_from<S: AsStr>(alloc: Global, words: &[S]) -> Result<Asked, Refusal>
+    ensures range { IfOk result (λ asked. IsInRange (bounds_in asked)) }
+    ensures asked { IfOk result (λ asked. bounds_in asked ≡ bounds_asked (map S.text words.now)) }
+
+    // Limits are given only for words in which clap finds no fault; help and mistakes come of faults.
+    ensures taken { IfOk result (λ _. faults_in (map S.text words.now) ≡ []) }
+    ensures told { IfErr result (TellsOf (faults_in (map S.text words.now))) }
+{
+    let command = match command(alloc) {
+        Ok(command) => command,
+        Err(AllocError) => return Err(Refusal::Memory),
+    };
+    match command.try_get_matches_from(words) {
+        Ok(matches) => Ok(asked_of(&matches)),
+        Err(error) => Err(refusal_of(alloc, &error)),
+    }
+}

@@ -1,0 +1,532 @@
+"""Causes of known differences, by name: what a player does in place of what is due, as far as the stream and both sides' answers tell it.
+
+A cause is asked of a difference that was shrunk, at the command that the difference comes from (judging.shown), and never of the command that shows
+it. What is due is the core's answers alone: a cause describes what is told beside them, and where it needs to know what other commands would have
+done, it asks the core. All that is told otherwise behind the command has to be explained, so that another fault of the same command is no such case.
+"""
+import re
+
+from judging.commands import COMMANDS, DOCUMENT, FRAGMENT, PI, TEXT
+from judging.judge import changes
+from judging.shown import left_out, same_records
+
+# XML's production Name.
+BEGINS = (
+    ":A-Z_a-z\u00c0-\u00d6\u00d8-\u00f6\u00f8-\u02ff\u0370-\u037d\u037f-\u1fff\u200c-\u200d\u2070-\u218f\u2c00-\u2fef\u3001-\ud7ff\uf900-\ufdcf\ufdf0-\ufffd"
+    "\U00010000-\U000effff"
+)
+XML_NAME = re.compile(f"[{BEGINS}][{BEGINS}\\-.0-9\u00b7\u0300-\u036f\u203f-\u2040]*")
+BY_CHARACTER = "InvalidCharacterError"
+BY_HIERARCHY = "HierarchyRequestError"
+EDITS = ("appendChild", "insertBefore", "replaceChild")
+
+
+def anything(shown):
+    """Whatever is told otherwise."""
+    return True
+
+
+# Names, texts and offsets.
+
+
+def name_that_xml_has_not(shown):
+    """A name that is none by XML's production is refused."""
+    return shown.refuses(BY_CHARACTER) and not XML_NAME.fullmatch(name_of(shown))
+
+
+def name_that_is_no_qname(shown):
+    """A name that is none by XML's production QName is refused: one or two names without a colon, with a colon between."""
+    parts = name_of(shown).split(":")
+    return shown.refuses(BY_CHARACTER) and (len(parts) > 2 or not all(map(XML_NAME.fullmatch, parts)))
+
+
+def name_beyond_ascii(shown):
+    """A name by XML's production that has a character beyond ASCII is refused."""
+    return shown.refuses(BY_CHARACTER) and bool(XML_NAME.fullmatch(name_of(shown))) and not name_of(shown).isascii()
+
+
+def name_with_a_colon(shown):
+    """A name that has a colon is refused."""
+    return shown.refuses("*") and ":" in name_of(shown)
+
+
+def any_name(shown):
+    """A name that is due to be refused is taken."""
+    return shown.accepts(BY_CHARACTER)
+
+
+def name_of(shown):
+    return next(it for it in shown.values if isinstance(it, str))
+
+
+def text_not_well_formed(shown):
+    """A text that has half of a surrogate pair is refused."""
+    return shown.refuses("*") and any(isinstance(it, list) for it in shown.values)
+
+
+def offset_at_the_end(shown):
+    """An offset that is the length of the data is refused; appending has no other."""
+    node, *values = shown.values
+    return shown.refuses("IndexSizeError") and (shown.name == "appendData" or values[0] == units_of(shown.before.data(node)))
+
+
+def units_of(data):
+    """How many units a text has as replies tell it."""
+    return len(data.encode("utf-16-le")) // 2 if isinstance(data, str) else len(data)
+
+
+def offset_past_the_end(shown):
+    """An offset beyond the length of the data is taken."""
+    return shown.accepts("IndexSizeError")
+
+
+def null_as_a_word(shown):
+    """Text content that is set to null becomes the word."""
+    return shown.name == "setTextContent" and shown.values[1] is None and all(question[0] in ("tree", "node", "children") for question, _, _ in shown.here)
+
+
+def missing_attribute_is_empty(shown):
+    """A missing attribute is told as the empty text."""
+    return shown.name == "getAttribute" and shown.is_at_end() and shown.due.get("ok", "") is None and shown.told.get("ok") == ""
+
+
+def missing_attribute_is_refused(shown):
+    """Taking out an attribute that is not there is refused."""
+    return shown.refuses("NotFoundError") and shown.name == "removeAttribute"
+
+
+# Nodes, and where they stand.
+
+
+def node_above_or_document(shown):
+    """What is due to be refused, since the node is the parent or stands above it or the parent is a Document, is done or finds the child missing."""
+    parent, _, _ = shown.edit()
+    other = shown.accepts(BY_HIERARCHY) or shown.gives(BY_HIERARCHY, "NotFoundError")
+    return other and (is_above(shown) or shown.kind(parent) == DOCUMENT)
+
+
+def node_above_the_parent(shown):
+    """What is due to be refused, since the node is the parent or stands above it, is done, or does not come back."""
+    return shown.gives(BY_HIERARCHY, None) and "error" not in shown.told and is_above(shown)
+
+
+def is_above(shown):
+    """Whether the node is the parent or stands above it."""
+    parent, node, _ = shown.edit()
+    return parent == node or shown.before.within(parent, node)
+
+
+def unasked_hierarchy(shown):
+    """What is due to be refused for where a node may stand is told otherwise."""
+    return shown.gives(BY_HIERARCHY, None)
+
+
+def node_taken_anywhere(shown):
+    """What is due to be refused for where a node may stand is done, or finds the child missing where the node stands above the parent."""
+    return shown.accepts(BY_HIERARCHY) or (shown.gives(BY_HIERARCHY, "NotFoundError") and is_above(shown))
+
+
+def document_into_itself(shown):
+    """A Document that is to stand in itself, beside what is no child of it, is refused for the child."""
+    parent, node, _ = shown.edit()
+    return shown.gives(BY_HIERARCHY, "NotFoundError") and parent == node and shown.kind(node) == DOCUMENT
+
+
+def kind_ahead_of_child(shown):
+    """Where the child is not the parent's, it is refused for the node's kind."""
+    return shown.gives("NotFoundError", BY_HIERARCHY)
+
+
+def child_of_another(shown):
+    """What is no child of the parent is taken out of it, or another node put in its place."""
+    return shown.accepts("NotFoundError")
+
+
+def nameless_refusal(shown):
+    """A refusal has no name of the standard's."""
+    return shown.gives(BY_HIERARCHY, "Error")
+
+
+def endless_in_its_own_place(shown):
+    """A node that is to stand before itself, or in its own place, never comes back."""
+    _, node, child = shown.edit()
+    return shown.told.get("fault") in ("hung", "died") and shown.is_at_end() and node == child
+
+
+def in_its_own_place(shown):
+    """A node is put in its own place."""
+    _, node, child = shown.edit()
+    return shown.name == "replaceChild" and node == child
+
+
+def links_that_stay(shown):
+    """A node that comes in, and was taken out with all children of its parent at once, brings a sibling from there along, or never comes back."""
+    node = shown.values[0] if shown.name == "adoptNode" else shown.values[1]
+    out = next((at for at in reversed(range(shown.place)) if shown.turns[at].command[0] == "setTextContent" and parted(shown, at, node)), None)
+    return out is not None and ("fault" in shown.told or any(question[0] in ("tree", "node", "children") for question, _, _ in shown.here))
+
+
+def parted(shown, at, node):
+    """Whether a node had a parent before a command, and siblings there, and has none after it."""
+    before, after = shown.state(at - 1), shown.state(at)
+    parent = before.parent.get(node)
+    return parent is not None and len(before.children[parent]) > 1 and after.parent.get(node) is None
+
+
+def nameless_instruction(shown):
+    """A processing instruction has no nodeName."""
+
+    def named(question, reply):
+        answer = reply.get("ok")
+        rows = [answer] if question[0] == "node" else answer
+        return [row if kind_in(row) != PI else without_name(row) for row in rows]
+
+    last = [shown.turns[-1].command, shown.due, shown.told]
+    return all(named(question, due) == named(question, told) for question, due, told in (shown.here or [last]))
+
+
+def kind_in(row):
+    return row["type"] if isinstance(row, dict) else row[2]
+
+
+def without_name(row):
+    return {**row, "name": None} if isinstance(row, dict) else [*row[:3], None, *row[4:]]
+
+
+def nothing_is_answered(shown):
+    """What is told is null, and not the child."""
+    return shown.gives("ok", "ok") and shown.told["ok"] is None
+
+
+def no_list_of_children(shown):
+    """What can have no children is asked for them, and is due to have an empty list."""
+    return shown.refuses("TypeError") and shown.due["ok"] == []
+
+
+def joined_to_empty_texts(shown):
+    """The trees are those that come where each Text is joined to the one ahead of it, whether that is empty or not, and no Text goes but by that."""
+    if shown.name != "normalize" or not shown.only("tree", "node", "children"):
+        return False
+    trees = [it for it in shown.here if it[0][0] == "tree"]
+    with shown.judge.core() as core:
+        for command in shown.commands(shown.place) + joins_to_any(shown.before, shown.values[0]):
+            core.play(command)
+        return all(core.reply(question) == told for question, _, told in trees)
+
+
+def joins_to_any(state, top):
+    """The commands that join each Text below a node to the one ahead of it."""
+    found, first = [], None
+    for number in descendants(state, top):
+        if state.kind(number) != TEXT:
+            first = None
+        elif first is not None and neighbours(state, first, number):
+            found += [["remove", number], ["appendData", first, state.data(number)]]
+        else:
+            first = number
+    return found
+
+
+def node_is_the_child(shown):
+    """A node that is to stand before itself, or in its own place, is not found."""
+    _, node, child = shown.edit()
+    return shown.refuses("NotFoundError") and node == child
+
+
+def node_beside_itself(shown):
+    """A node that is to stand before itself, or before its next sibling, is refused."""
+    _, node, child = shown.edit()
+    return shown.refuses("*") and child is not None and child in (node, shown.before.sibling(node, 1))
+
+
+def fragment_is_answered(shown):
+    """What is told is the fragment that came in, or none, and not the child."""
+    _, node, _ = shown.edit()
+    return shown.gives("ok", "ok") and shown.kind(node) == FRAGMENT and shown.told["ok"] in (node, None)
+
+
+def text_beside_text(shown):
+    """A Text comes to stand beside another, or a node comes in its own place, and trees alone are told otherwise."""
+    parent, node, child = shown.edit()
+    if "ok" not in shown.turns[shown.place].reply or not shown.is_at_end() and not shown.only("tree", "node", "children"):
+        return False
+    around = shown.after.children.get(parent, [])
+    return node == child or any(shown.after.kind(one) == shown.after.kind(other) == TEXT for one, other in zip(around, around[1:]))
+
+
+def refused_and_taken_out(shown):
+    """A refused edit has taken the node out of its old place."""
+    if shown.name not in EDITS or "error" not in shown.turns[shown.place].reply or shown.is_at_end():
+        return False
+    return not any(map(changes, shown.turns[shown.place :])) and shown.tells(shown.asked([["remove", shown.values[1]]]))
+
+
+def surrounded_half(shown):
+    """A refused surroundContents has done its steps up to the one that refuses."""
+    if shown.name != "surroundContents" or "error" not in shown.turns[shown.place].reply or any(map(changes, shown.turns[shown.place :])):
+        return False
+    number, node = shown.values
+    return shown.tells(shown.asked([["extractContents", number], ["replaceChildren", node, None], ["insertNode", number, node]]))
+
+
+# Filters, iterators and walkers.
+
+
+def filter_was_given(shown):
+    """A step of an iterator or a walker that has a filter throws."""
+    number = shown.values[0]
+    return shown.refuses("TypeError") and bool(shown.of("createWalker" if shown.name == "walk" else "createIterator")[number][3])
+
+
+def reference_outside_the_root(shown):
+    """References that are due to be their roots are told to stand outside of them."""
+
+    def fits(due, told):
+        root, reference, _ = due["ok"]
+        return reference == root and not shown.player.within(told["ok"][1], root)
+
+    return shown.only("iterator") and all(fits(due, told) for _, due, told in shown.here)
+
+
+def reference_left_in_removed(shown):
+    """Where all children of a node go at once, references are told to stand in what was removed."""
+
+    def fits(due, told):
+        root, _, _ = due["ok"]
+        return shown.before.within(told["ok"][1], root) and not shown.after.within(told["ok"][1], root)
+
+    return shown.only("iterator") and all(fits(due, told) for _, due, told in shown.here)
+
+
+# Records.
+
+
+def records_of_nothing(shown):
+    """What is told beside the due records are records of children in which nothing came and nothing went."""
+    due, told = shown.records
+    return shown.only("takeRecords") and same_records(due, something(told))
+
+
+def something(records):
+    """The records in which something came or went, or data or an attribute changed."""
+    return [it for it in records if it.type != "childList" or it.added or it.removed]
+
+
+def no_transients(shown):
+    """What is told is what comes where no transient registration stands, or lacks what the command did in nodes that it took out itself."""
+    if not shown.only("takeRecords"):
+        return False
+    standing = standing_at(shown)
+    anew = [["disconnect", it] for it in {it[1] for it in standing}] + standing
+    observed = lambda it, state: any(state.within(it.target, top) for _, observer, top, _ in standing if observer == it.observer)
+    taken_out = lambda it: observed(it, shown.before) and not observed(it, shown.after)
+    ahead = shown.commands(shown.place) + anew
+    return shown.records_are(shown.records_where([shown.cause], ahead)) or all_left_out(shown, taken_out)
+
+
+def standing_at(shown):
+    """The commands of the registrations that stand at the cause and are not transient."""
+    found = []
+    for turn in shown.turns[: shown.place]:
+        name, *values = turn.command
+        if name == "disconnect":
+            found = [it for it in found if it[1] != values[0]]
+        elif name == "observe" and "ok" in turn.reply:
+            found = [it for it in found if it[1:3] != values[:2]] + [turn.command]
+    return found
+
+
+def old_parent_is_silent(shown):
+    """What is not told is that the node which comes in went from its old parent."""
+    return all_left_out(shown, lambda it: it.type == "childList" and it.removed == [shown.values[1]] and not it.added)
+
+
+def transients_outlive_notify(shown):
+    """What is told beside the due records is what comes where notify ends the transients of those observers alone that it tells of."""
+    at = next((at for at in reversed(range(shown.place)) if shown.turns[at].command[0] == "notify"), None)
+    if at is None or not shown.only("takeRecords"):
+        return False
+    with shown.judge.core() as core:
+        for it in shown.turns[:at]:
+            core.play(it.command)
+        pending = core.ask("pending")
+    standing = [it.command for it in shown.turns[:at] if it.command[0] == "observe" and "ok" in it.reply and it.command[1] in pending]
+    instead = [["takeRecords", it] for it in pending] + [["disconnect", it] for it in pending] + standing
+    ahead = shown.commands(at) + instead + shown.commands(shown.place)[at + 1 :]
+    return shown.records_are(shown.records_where([shown.cause], ahead))
+
+
+def observers_by_age(shown):
+    """notify tells each observer its records, and the observers in the order in which they were made."""
+    return shown.name == "notify" and shown.gives("ok", "ok") and sorted(shown.due["ok"], key=lambda it: it[0]) == shown.told["ok"]
+
+
+def records_of_equal_data(shown):
+    """What is not told are records of data that stayed as it was."""
+    return all_left_out(shown, lambda it: it.type == "characterData" and shown.before.data(it.target) == shown.after.data(it.target))
+
+
+def all_left_out(shown, fits):
+    lost = left_out(*shown.records)
+    return shown.only("takeRecords") and bool(lost) and all(map(fits, lost))
+
+
+def joined_one_by_one(shown):
+    """The records are those that come where each Text is joined to the first by itself, with a record of the data each, and empty Texts just go."""
+    return shown.name == "normalize" and shown.records_are(shown.records_where(joins_of(shown.before, shown.values[0])))
+
+
+def joins_of(state, top):
+    """The commands that join the Texts below a node one by one."""
+    found, first = [], None
+    for number in descendants(state, top):
+        kind, data = state.kind(number), state.data(number)
+        if kind == TEXT and not data:
+            found.append(["remove", number])
+        elif kind == TEXT and first is not None and neighbours(state, first, number):
+            found += [["appendData", first, data], ["remove", number]]
+        else:
+            first = number if kind == TEXT else None
+    return found
+
+
+def descendants(state, top):
+    """The nodes below a node, in tree order."""
+    return [it for child in state.children.get(top, ()) for it in (child, *descendants(state, child))]
+
+
+def neighbours(state, one, other):
+    """Whether two siblings have nothing but Texts between them."""
+    around = state.children[state.parent[one]]
+    return other in around and all(state.kind(it) == TEXT for it in around[around.index(one) : around.index(other)])
+
+
+def taken_out_first(shown):
+    """What is told is what comes where the node is removed ahead of the command."""
+    parent, node, *child = shown.values
+    in_its_own_place = ["insertBefore", parent, node, shown.before.sibling(node, 1)]
+    return node is not None and shown.records_are(shown.records_where([["remove", node], in_its_own_place if child == [node] else shown.cause]))
+
+
+def data_ahead_of_the_new_text(shown):
+    """The record of the data that was split is told ahead of that of the new Text, and else all is as it is due."""
+    due, told = shown.records
+    split = shown.values[0] if shown.name == "splitText" else shown.before.ends[shown.values[0], 0][0]
+    found, at = list(told), 0
+    while at + 1 < len(found):
+        data, children = found[at : at + 2]
+        if data.type == "characterData" and data.target == split and children.type == "childList" and children.previous == split:
+            found[at : at + 2] = children, data
+            at += 1
+        at += 1
+    return shown.only("takeRecords") and same_records(due, found)
+
+
+def children_one_by_one(shown):
+    """Children of the new parent are told to go one by one, where they are due to go at once; records of nothing aside, the rest is as it is due."""
+    due, told = shown.records
+    return shown.only("takeRecords") and joined(due, shown.values[1]) == joined(something(told), shown.values[1])
+
+
+def joined(records, parent):
+    """Records in which children that went from a parent, one record behind another, are told by one."""
+    found = []
+    for it in records:
+        gone = (it.observer, sorted(it.removed)) if it.target == parent and it.removed and not it.added else None
+        if gone and found and len(found[-1]) == 2 and found[-1][0] == it.observer:
+            found[-1] = (it.observer, sorted(found[-1][1] + it.removed))
+        else:
+            found.append(gone or it)
+    return found
+
+
+def data_sooner(shown):
+    """Records of data are told sooner than they are due beside those of children, and each kind of them in its order."""
+    due, told = shown.records
+    kinds = [[[it for it in records if (it.type == "characterData") == data] for data in (True, False)] for records in (due, told)]
+    return shown.only("takeRecords") and all(same_records(*it) for it in zip(*kinds))
+
+
+# Ends of ranges. A cause is asked of each end that is told otherwise, and nothing else may be.
+
+
+def sent_into_the_parent(shown):
+    """Ends in other nodes are told in the parent of what came in, in which the other end stands, as if their offsets were places there. Where a range
+    for insertNode seems to be collapsed by that, its end is told behind the node.
+    """
+    offset = lambda it: it.due[1] if it.due[0] == it.before[0] else it.before[1]
+    sent = lambda it: it.before[0] != it.told[0] and it.told[0] in it.others and shown.after.kind(it.told[0]) != TEXT and it.told[1] > offset(it)
+    collapsed = lambda it: shown.name == "insertNode" and it.told == shown.player.behind(last_in(shown, shown.values[1]))
+    return shown.all_moved(lambda it: sent(it) or collapsed(it)) and any(map(sent, shown.moved))
+
+
+def last_in(shown, node):
+    """The last node that comes in with a node: a fragment's last child, or itself."""
+    return shown.before.children[node][-1] if shown.kind(node) == FRAGMENT else node
+
+
+def joined_end_in_the_parent(shown):
+    """Ends that are due in a Text which others were joined to are told in its parent."""
+    return shown.all_moved(lambda it: shown.after.kind(it.due[0]) == TEXT and shown.after.parent[it.due[0]] == it.told[0])
+
+
+def end_in_an_empty_text(shown):
+    """Ends that stood in an empty Text behind another, and are due in the one that it was joined to, are told in the parent."""
+
+    def fits(it):
+        ahead = shown.before.sibling(it.before[0], -1)
+        return shown.before.data(it.before[0]) == "" and shown.before.kind(ahead) == TEXT and it.told[0] == shown.before.parent[ahead]
+
+    return shown.all_moved(fits)
+
+
+def text_is_normalized(shown):
+    """A Text is normalized."""
+    return shown.name == "normalize" and shown.kind(shown.values[0]) == TEXT
+
+
+def end_in_the_new_text(shown):
+    """The Text that is split has no parent, and ends in it are told in the new one."""
+    text, made = shown.values[0], shown.turns[shown.place].reply["ok"]
+    return shown.before.parent[text] is None and shown.all_moved(lambda it: it.before[0] == it.due[0] == text and it.told[0] == made)
+
+
+def sibling_from_ahead(shown):
+    """A node that stands in the parent already, ahead of the place, is refused for the offset."""
+    return shown.refuses("IndexSizeError") and comes_from_ahead(shown)
+
+
+def comes_from_ahead(shown):
+    number, node = shown.values
+    start, offset = shown.before.ends[number, 0]
+    around = shown.before.children.get(shown.before.parent[node], [])
+    place = offset if start == shown.before.parent[node] else around.index(start)
+    return around.index(node) < place
+
+
+def end_one_too_far(shown):
+    """The node that is inserted stood in the parent ahead of the place, and the end is told one place too far."""
+    return comes_from_ahead(shown) and shown.all_moved(lambda it: it.told == (it.due[0], it.due[1] + 1))
+
+
+LISTED = (
+    (offset_past_the_end, null_as_a_word, child_of_another, nameless_refusal, endless_in_its_own_place, in_its_own_place, links_that_stay),
+    (document_into_itself, node_taken_anywhere, nameless_instruction, nothing_is_answered, no_list_of_children, joined_to_empty_texts),
+    (anything, name_that_xml_has_not, name_that_is_no_qname, name_beyond_ascii, name_with_a_colon, any_name, text_not_well_formed, offset_at_the_end),
+    (missing_attribute_is_empty, missing_attribute_is_refused, node_above_or_document, node_above_the_parent, unasked_hierarchy, kind_ahead_of_child),
+    (node_is_the_child, node_beside_itself, fragment_is_answered, text_beside_text, refused_and_taken_out, surrounded_half, filter_was_given),
+    (reference_outside_the_root, reference_left_in_removed, records_of_nothing, no_transients, old_parent_is_silent, transients_outlive_notify),
+    (observers_by_age, records_of_equal_data, joined_one_by_one, taken_out_first, data_ahead_of_the_new_text, children_one_by_one, data_sooner),
+    (sent_into_the_parent, joined_end_in_the_parent, end_in_an_empty_text, text_is_normalized, end_in_the_new_text, sibling_from_ahead, end_one_too_far),
+)
+CAUSES = {it.__name__.replace("_", " "): it for its in LISTED for it in its}
+
+
+def holds(entry, shown):
+    """Whether the cause of an entry holds; it does not where what it asks for is not there."""
+    if shown.name not in COMMANDS or shown.name not in entry.get("of", [shown.name]):
+        return False
+    try:
+        return bool(CAUSES[entry["cause"]](shown))
+    except (LookupError, TypeError, ValueError):
+        return False

@@ -1,0 +1,22 @@
+"""Which of several databases has a document.
+
+A name's place among so many databases is that of jump consistent hashing (Lamping and Veach, 2014): as they become one more, a name keeps its
+place or gets the new one. So a document that was made when there were fewer stands at one of a few places, and nothing is ever moved.
+"""
+
+from __future__ import annotations
+
+import hashlib
+from typing import List
+
+
+def jumps(name: str, count: int) -> List[int]:
+    """The places that a name had as the databases became `count`, the last first."""
+    key = int.from_bytes(hashlib.sha256(name.encode("utf-8", "surrogatepass")).digest()[:8], "little")
+    found, following = [0], 0
+    while True:
+        key = (key * 2862933555777941757 + 1) % 2**64
+        following = int((found[-1] + 1) * (2**31 / ((key >> 33) + 1)))
+        if following >= count:
+            return found[::-1]
+        found.append(following)

@@ -1,0 +1,88 @@
+#!/usr/bin/env python3
+"""Tests served documents against a PostgreSQL that each test starts in a folder of its own, on a socket there alone.
+
+Where this Python has no psycopg and Debian's has, they run over that one; where there is none, or no PostgreSQL, they are left out with a line
+that says so. --whole plays the test of losses with 4 workers, 200 documents, 200,000 lines and 20 clients, in place of a small form.
+"""
+import argparse
+import importlib.util
+import os
+import re
+import signal
+import subprocess
+import sys
+import unittest
+
+HERE = os.path.dirname(os.path.abspath(__file__))
+ROOT = os.path.dirname(HERE)
+DEBIAN = "/usr/bin/python3"
+PROGRAM = os.path.join(ROOT, "crates/domserve/out/domserve")
+LIBRARY = os.path.join(ROOT, "bindings/c/out/libhuckleport.so")
+sys.dont_write_bytecode = True
+
+
+def has_psycopg(python):
+    """Whether a Python has psycopg 3."""
+    if python == sys.executable:
+        return importlib.util.find_spec("psycopg") is not None
+    return os.path.exists(python) and subprocess.run([python, "-c", "import psycopg"], stderr=subprocess.DEVNULL, check=False).returncode == 0
+
+
+def lacking(given):
+    """What the tests can't be run without, where it is not there."""
+    sys.path.insert(0, HERE)
+    from huckleport_serving import trial
+
+    try:
+        trial.programs()
+        trial.user()
+    except trial.NoServer as fault:
+        return str(fault)
+    missing = [it for it in (given.program, LIBRARY) if not os.path.exists(it)]
+    return f"{missing[0]} is not there" if missing else None
+
+
+def counts(line):
+    """How many passed and failed, as the last line of other tests says it."""
+    found = re.fullmatch(r"(\d+) passed, (\d+) failed", line.strip())
+    if not found:
+        sys.exit(f"no last line of tests: {line}")
+    return int(found[1]), int(found[2])
+
+
+def tested(given):
+    """How many tests passed and failed."""
+    os.environ["HUCKLEPORT_PROGRAM"] = given.program
+    if given.whole:
+        os.environ["HUCKLEPORT_WHOLE"] = "1"
+    # (what the tests started ends with them)
+    signal.signal(signal.SIGTERM, lambda *_: sys.exit(1))
+    sys.path.insert(0, os.path.join(HERE, "tests"))
+    loader = unittest.TestLoader()
+    found = loader.loadTestsFromNames(given.only) if given.only else loader.discover(os.path.join(HERE, "tests"))
+    ran = unittest.TextTestRunner(verbosity=2 if given.only else 1).run(found)
+    failed = len({it.id() for it, _ in [*ran.failures, *ran.errors]})
+    return ran.testsRun - failed, failed
+
+
+def main():
+    parser = argparse.ArgumentParser(description=__doc__, formatter_class=argparse.RawDescriptionHelpFormatter)
+    parser.add_argument("--program", default=PROGRAM, help="the program (crates/domserve/out/domserve)")
+    parser.add_argument("--whole", action="store_true", help="the whole test of losses, which takes some minutes")
+    parser.add_argument("--after", metavar="LINE", default="0 passed, 0 failed", help="the last line of the tests before these")
+    parser.add_argument("only", nargs="*", metavar="NAME", help="only these tests, as unittest names them (test_losses, test_documents.Fences)")
+    given = parser.parse_args()
+    passed, failed = counts(given.after)
+    if not has_psycopg(sys.executable) and has_psycopg(DEBIAN):
+        os.execv(DEBIAN, [DEBIAN, *sys.argv])
+    why = lacking(given) if has_psycopg(sys.executable) else "there is no psycopg 3 (Debian has it as python3-psycopg)"
+    if why:
+        print(f"left out: served documents, since {why}\n{passed} passed, {failed} failed")
+        return 0
+    found = tested(given)
+    print(f"{passed + found[0]} passed, {failed + found[1]} failed")
+    return 1 if found[1] else 0
+
+
+if __name__ == "__main__":
+    sys.exit(main())

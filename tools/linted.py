@@ -1,0 +1,173 @@
+#!/usr/bin/env python3
+"""Tests the form of sources by the linters of each language, and that the man page and the completions of domserve have its options.
+
+The options are read from the source `options.rt` of their crate, with their bounds and defaults; --help and, where the source has a version, --version are
+clap's own. What this machine has no tool for is left out, with a line that says so. With --write it lays the sources in C out.
+"""
+import argparse
+import glob
+import os
+import re
+import shutil
+import subprocess
+import sys
+import tempfile
+
+from start import ROOT
+
+sys.dont_write_bytecode = True
+# The one file that has the options.
+OPTIONS = "crates/*/src/options.rt"
+SHARE = "release/share"
+MAN = f"{SHARE}/man/man1/domserve.1"
+COMPLETIONS = ("bash-completion/completions/domserve", "zsh/site-functions/_domserve", "fish/vendor_completions.d/domserve.fish")
+STYLE = "--style=file:bindings/c/.clang-format"
+# The oldest ESLint that reads its settings where they are.
+ESLINT = 9
+
+
+def text_of(file):
+    with open(f"{ROOT}/{file}", encoding="utf-8") as it:
+        return it.read()
+
+
+def said(*words, given=None):
+    """The faults that a tool tells, as lines; none where it passes."""
+    ran = subprocess.run(words, cwd=ROOT, input=given, stdout=subprocess.PIPE, stderr=subprocess.STDOUT, text=True, errors="replace", check=False)
+    return (ran.stdout.strip() or f"status {ran.returncode}").splitlines()[:20] if ran.returncode else []
+
+
+def files(*patterns):
+    found = [it for pattern in patterns for it in glob.glob(f"{ROOT}/{pattern}", recursive=True)]
+    return sorted(os.path.relpath(it, ROOT) for it in found if not re.search(r"/(out|build|target|node_modules)/", it))
+
+
+# ---- the options
+
+
+def source_of_options():
+    return "".join(text_of(it) for it in files(OPTIONS))
+
+
+def options():
+    """Each option that takes a value: its name, what the value is called, its greatest value and its default."""
+    text = source_of_options()
+    return re.findall(r'\.long\("(\w+)"\)\s*\.value_name\("(\w+)"\).*?\.range\(1\.\.=(\d+)\)\)\s*\.default_value\("(\d+)"\)', text, re.S)
+
+
+def long_names():
+    is_versioned = ".version(" in source_of_options()
+    return {*(name for name, *_ in options()), "help", *(["version"] if is_versioned else [])}
+
+
+def man_page():
+    """What the man page has otherwise than the source: its options, and the words, bounds and defaults of each."""
+    text = text_of(MAN)
+    found = set(re.findall(r"Fl Fl (\w+)", text))
+    wrong = [] if found == long_names() else [f"{MAN}: it has the options {sorted(found)}, where the program has {sorted(long_names())}"]
+    for name, value, most, default in options():
+        about = text.partition(f".It Fl Fl {name} Ar {value}\n")[2].partition("\n.It ")[0]
+        wrong += [f"{MAN}: --{name} has not {it}" for it in (f"from 1 to {most}", f"The default is {default}.") if it not in about]
+    return wrong
+
+
+def completions():
+    """The completions whose options are not those of the program."""
+    found = {it: set(re.findall(r"(?:--|-l )(\w+)", text_of(f"{SHARE}/{it}"))) for it in COMPLETIONS}
+    return [f"{SHARE}/{it}: it has the options {sorted(names)}" for it, names in found.items() if names != long_names()]
+
+
+# ---- the linters
+
+
+def c_form(write=False):
+    sources = files("bindings/c/**/*.[ch]", "release/**/*.c", "tools/*.c")
+    return said("clang-format", STYLE, *(["-i"] if write else ["--dry-run", "-Werror"]), *sources)
+
+
+def python():
+    sources = files("**/*.py") + ["tools/setup", "tools/release", "referee/referee"]
+    return said("ruff", "check", "--quiet", *sources) if shutil.which("ruff") else said("flake8", *sources)
+
+
+def rust():
+    crates = ("bindings/rust", "bindings/rust/tests/parsing")
+    return [line for it in crates for line in said("cargo", "fmt", "--check", "--manifest-path", f"{it}/Cargo.toml")]
+
+
+def shell():
+    return said("shellcheck", "--shell=bash", "--severity=warning", ".ci/run", "domserve", f"{SHARE}/{COMPLETIONS[0]}")
+
+
+def javascript():
+    return [line for it in files("bindings/**/*.js", "release/**/*.mjs", "referee/**/*.js") for line in said("node", "--check", it)]
+
+
+def eslint():
+    return said("eslint", "--max-warnings", "0", ".")
+
+
+def doxygen():
+    """What doxygen warns of in the header, which is made of the exports."""
+    with tempfile.TemporaryDirectory() as folder:
+        words = [sys.executable, "-c", "from exports import SOURCES, modules\nfrom header import header\nprint(header(modules(SOURCES)), end='')"]
+        made = subprocess.run(words, cwd=f"{ROOT}/bindings/c", stdout=subprocess.PIPE, check=True).stdout
+        with open(f"{folder}/huckleport.h", "wb") as it:
+            it.write(made)
+        return said("doxygen", "-", given=f"{text_of('bindings/c/Doxyfile')}\nINPUT = {folder}/huckleport.h\nOUTPUT_DIRECTORY = {folder}/pages\n")
+
+
+def mandoc():
+    return said("mandoc", "-T", "lint", "-W", "style", MAN)
+
+
+def major(tool):
+    """The first number of a tool's version; 0 where it tells none."""
+    ran = subprocess.run([tool, "--version"], stdout=subprocess.PIPE, stderr=subprocess.DEVNULL, text=True, check=False)
+    found = re.search(r"\d+", ran.stdout)
+    return int(found[0]) if found else 0
+
+
+def lacking(tools):
+    """Why a linter is not run here, or None: none of its tools is there, or it is too old."""
+    if tools == ("eslint",) and shutil.which("eslint") and major("eslint") < ESLINT:
+        return f"eslint is older than {ESLINT}"
+    return None if not tools or any(shutil.which(it) for it in tools) else f"there is no {' and no '.join(tools)}"
+
+
+# What each test is, the tools of which one is enough, and the test.
+TESTS = (
+    ("the man page has the options", (), man_page),
+    ("the completions have the options", (), completions),
+    ("the form of the man page", ("mandoc",), mandoc),
+    ("the form of sources in C", ("clang-format",), c_form),
+    ("the linter of Python", ("ruff", "flake8"), python),
+    ("the form of sources in Rust", ("rustfmt",), rust),
+    ("the linter of shell scripts", ("shellcheck",), shell),
+    ("sources in JavaScript are read", ("node",), javascript),
+    ("the linter of JavaScript", ("eslint",), eslint),
+    ("pages made of the header", ("doxygen",), doxygen),
+)
+
+
+def main():
+    words = argparse.ArgumentParser(description=__doc__, formatter_class=argparse.RawDescriptionHelpFormatter)
+    words.add_argument("--write", action="store_true", help="lay the sources in C out first")
+    if words.parse_args().write:
+        c_form(True)
+    wrong = ran = 0
+    for what, tools, test in TESTS:
+        why = lacking(tools)
+        if why:
+            print(f"left out: {what}, since {why}", flush=True)
+            continue
+        faults = test()
+        ran, wrong = ran + 1, wrong + bool(faults)
+        for it in faults:
+            print(f"{what}: {it}", flush=True)
+    print(f"{ran} linters, {wrong} with faults")
+    return 1 if wrong else 0
+
+
+if __name__ == "__main__":
+    sys.exit(main())

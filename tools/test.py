@@ -1,0 +1,125 @@
+#!/usr/bin/env python3
+"""Tests tools/setup, tools/gathered.py and tools/printed.py where nothing is installed, built or proved: apt is a script that notes how it was called."""
+import importlib.machinery
+import importlib.util
+import os
+import subprocess
+import sys
+import tempfile
+import unittest
+
+sys.dont_write_bytecode = True
+HERE = os.path.dirname(os.path.realpath(__file__))
+sys.path.insert(0, HERE)
+import gathered
+import printed
+
+APT = '#!/bin/sh\necho "$0 $@" >>{log}\nexit {status}\n'
+
+
+def script(name):
+    """A script without an ending, as a module."""
+    loader = importlib.machinery.SourceFileLoader(name, os.path.join(HERE, name))
+    found = importlib.util.module_from_spec(importlib.util.spec_from_loader(name, loader))
+    loader.exec_module(found)
+    return found
+
+
+class Setup(unittest.TestCase):
+    """What the script says and calls, with these tools on the path and no other."""
+
+    def run_with(self, tools, status=0, **variables):
+        with tempfile.TemporaryDirectory() as folder:
+            log = os.path.join(folder, "log")
+            for it in tools:
+                path = os.path.join(folder, it)
+                with open(path, "w", encoding="utf-8") as file:
+                    file.write(APT.format(log=log, status=status))
+                os.chmod(path, 0o755)
+            environment = {**os.environ, "PATH": folder, "LOG": log, **variables}
+            ran = subprocess.run([sys.executable, os.path.join(HERE, "setup")], env=environment, stdout=subprocess.PIPE, text=True, check=False)
+            calls = []
+            if os.path.exists(log):
+                with open(log, encoding="utf-8") as file:
+                    calls = file.read().split("\n")
+        self.assertEqual(ran.returncode, 0)
+        return ran.stdout, calls
+
+    def test_off(self):
+        said, calls = self.run_with(["apt-get", "apt-cache"], HUCKLEPORT_SETUP="off")
+        self.assertIn("setup: nothing is installed: HUCKLEPORT_SETUP is off\n", said)
+        self.assertIn("setup: no valgrind (Debian: valgrind), for runs that watch memory\n", said)
+        self.assertEqual(calls, [])
+
+    def test_no_apt(self):
+        said, _ = self.run_with([])
+        self.assertIn("setup: nothing is installed: there is no apt-get\n", said)
+
+    @unittest.skipIf(os.geteuid(), "only root installs")
+    def test_no_network(self):
+        said, calls = self.run_with(["apt-get", "apt-cache"], status=100)
+        self.assertIn("setup: nothing is installed: apt-get update failed", said)
+        self.assertEqual(len([it for it in calls if it]), 1)
+
+    @unittest.skipIf(os.geteuid(), "only root installs")
+    def test_installs_what_is_missing_at_once(self):
+        _, calls = self.run_with(["apt-get", "apt-cache", "valgrind"])
+        installs = [it for it in calls if " install " in it]
+        self.assertEqual(len(installs), 1)
+        self.assertIn(" shellcheck", installs[0])
+        self.assertNotIn(" valgrind", installs[0])
+        self.assertIn("--no-remove", installs[0])
+
+    def test_nothing_is_asked_where_all_is_there(self):
+        setup = script("setup")
+        setup.TOOLS = [it for it in setup.TOOLS if it not in setup.missing()]
+        setup.apt = setup.install = lambda *_: self.fail("apt was asked")
+        sys.argv = ["setup"]
+        self.assertEqual(setup.main(), 0)
+
+
+class Gathered(unittest.TestCase):
+    def said(self, program):
+        ran = subprocess.run([sys.executable, os.path.join(HERE, "gathered.py"), "sh", "-c", program], stdout=subprocess.PIPE, text=True, check=False)
+        return ran.returncode, ran.stdout.split("\n")
+
+    def test_list_stands_ahead_of_the_last_line(self):
+        status, lines = self.said("echo 'left out: a, since there is no b'; echo 'left out: c, since there is no b'; echo '3 passed, 0 failed'; exit 3")
+        due = ["left out, by what was missing:", "  there is no b: a; c", "3 passed, 0 failed", ""]
+        self.assertEqual((status, lines[2:]), (3, due))
+
+    def test_nothing(self):
+        self.assertEqual(self.said("echo 1 passed, 0 failed"), (0, ["nothing was left out", "1 passed, 0 failed", ""]))
+
+    def test_forms(self):
+        forms = {
+            "left out: the types, since there is no mypy": ("the types", "there is no mypy"),
+            "left out: jsdom: there is no jsdom": ("jsdom", "there is no jsdom"),
+            "left out: Python 3.8, which is not here": ("Python 3.8", "not here"),
+            "  ﹣ pages of XML (0.12ms) # saxes is not installed": ("pages of XML", "saxes is not installed"),
+            "test_a (x.Y.test_a) ... skipped 'left out, since there is no pip'": ("test_a (x.Y.test_a)", "there is no pip"),
+            "12 dialogues, 0 faults": None,
+        }
+        self.assertEqual({it: gathered.left_out(it) for it in forms}, forms)
+
+
+class Printed(unittest.TestCase):
+    def test_each_block_of_the_readme_is_saved_or_run(self):
+        found = list(printed.blocks(os.path.join(printed.ROOT, "README.md")))
+        with open(os.path.join(printed.ROOT, "README.md"), encoding="utf-8") as file:
+            text = file.read()
+        fences = text.count("\n```") // 2
+        self.assertLessEqual(len(text.split()), 900, "words")
+        shown = sum(it.shown is not None for it in found)
+        self.assertEqual(len(found) + shown, fences)
+        self.assertEqual([it.script for it in found if not it.file and printed.reason(it.script)[0]], [])
+
+    def test_a_block_is_compared(self):
+        with tempfile.TemporaryDirectory() as folder:
+            self.assertIsNone(printed.fault_of(printed.Block(None, "echo a\n", "a\n"), folder))
+            self.assertIn("it wrote\na\n", printed.fault_of(printed.Block(None, "echo a\n", "b\n"), folder))
+            self.assertIn("status 1", printed.fault_of(printed.Block(None, "false\n", None), folder))
+
+
+if __name__ == "__main__":
+    unittest.main()
