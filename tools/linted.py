@@ -22,8 +22,8 @@ SHARE = "release/share"
 MAN = f"{SHARE}/man/man1/domserve.1"
 COMPLETIONS = ("bash-completion/completions/domserve", "zsh/site-functions/_domserve", "fish/vendor_completions.d/domserve.fish")
 STYLE = "--style=file:bindings/c/.clang-format"
-# The oldest ESLint that reads its settings where they are.
-ESLINT = 9
+# Debian's packages for node are found by the one; by the other an ESLint from version 9 on reads .eslintrc.json too.
+ESLINT = {"NODE_PATH": "/usr/share/nodejs", "ESLINT_USE_FLAT_CONFIG": "false"}
 
 
 def text_of(file):
@@ -31,9 +31,10 @@ def text_of(file):
         return it.read()
 
 
-def said(*words, given=None):
+def said(*words, given=None, **variables):
     """The faults that a tool tells, as lines; none where it passes."""
-    ran = subprocess.run(words, cwd=ROOT, input=given, stdout=subprocess.PIPE, stderr=subprocess.STDOUT, text=True, errors="replace", check=False)
+    how = {"input": given, "env": {**os.environ, **variables}, "text": True, "errors": "replace"}
+    ran = subprocess.run(words, cwd=ROOT, stdout=subprocess.PIPE, stderr=subprocess.STDOUT, check=False, **how)
     return (ran.stdout.strip() or f"status {ran.returncode}").splitlines()[:20] if ran.returncode else []
 
 
@@ -100,11 +101,7 @@ def shell():
 
 
 def javascript():
-    return [line for it in files("bindings/**/*.js", "release/**/*.mjs", "referee/**/*.js") for line in said("node", "--check", it)]
-
-
-def eslint():
-    return said("eslint", "--max-warnings", "0", ".")
+    return said("eslint", "--max-warnings", "0", *files("bindings/**/*.js", "release/**/*.mjs", "referee/**/*.js"), **ESLINT)
 
 
 def doxygen():
@@ -121,17 +118,8 @@ def mandoc():
     return said("mandoc", "-T", "lint", "-W", "style", MAN)
 
 
-def major(tool):
-    """The first number of a tool's version; 0 where it tells none."""
-    ran = subprocess.run([tool, "--version"], stdout=subprocess.PIPE, stderr=subprocess.DEVNULL, text=True, check=False)
-    found = re.search(r"\d+", ran.stdout)
-    return int(found[0]) if found else 0
-
-
 def lacking(tools):
-    """Why a linter is not run here, or None: none of its tools is there, or it is too old."""
-    if tools == ("eslint",) and shutil.which("eslint") and major("eslint") < ESLINT:
-        return f"eslint is older than {ESLINT}"
+    """Why a linter is not run here, or None."""
     return None if not tools or any(shutil.which(it) for it in tools) else f"there is no {' and no '.join(tools)}"
 
 
@@ -144,8 +132,7 @@ TESTS = (
     ("the linter of Python", ("ruff", "flake8"), python),
     ("the form of sources in Rust", ("rustfmt",), rust),
     ("the linter of shell scripts", ("shellcheck",), shell),
-    ("sources in JavaScript are read", ("node",), javascript),
-    ("the linter of JavaScript", ("eslint",), eslint),
+    ("the linter of JavaScript", ("eslint",), javascript),
     ("pages made of the header", ("doxygen",), doxygen),
 )
 
