@@ -1,5 +1,5 @@
 #!/usr/bin/env python3
-"""Tests the Python package: that its made sources are those of the library, its types by mypy and stubtest where these are there, and all under tests.
+"""Tests the Python package: that its made sources are those of the library, its types by mypy and stubtest, its pages by Sphinx, and all under tests.
 
 The extension module is built first; where it can't be, the tests are left out. They run by pytest where a Python has it, and else by unittest:
 with the Python that runs this, with Debian's where that one has parsers that this one has not, and with the oldest that the module is for
@@ -12,6 +12,7 @@ import os
 import shutil
 import subprocess
 import sys
+import tempfile
 import unittest
 
 HERE = os.path.dirname(os.path.abspath(__file__))
@@ -43,6 +44,17 @@ def are_types_right():
         return True
     faults = fails(*mypy, "--strict", "huckleport")
     return not fails(*stubtest, "huckleport._core", env={**os.environ, "PYTHONPATH": HERE, "PYTHONDONTWRITEBYTECODE": "1"}) and not faults
+
+
+def are_pages_made():
+    """Whether Sphinx makes pages of the interface without a warning."""
+    python = next((it for it in (sys.executable, DEBIAN) if has(it, "sphinx")), None)
+    if not python:
+        print("left out: pages of the interface, since there is no Sphinx")
+        return True
+    with tempfile.TemporaryDirectory() as folder:
+        words = [python, "-m", "sphinx", "-q", "-W", "--keep-going", "-d", os.path.join(folder, "trees"), "pages", os.path.join(folder, "pages")]
+        return not fails(*words, env={**os.environ, "PYTHONDONTWRITEBYTECODE": "1"})
 
 
 def is_linted():
@@ -119,6 +131,7 @@ def main():
     if not has_extension():
         return 0 if done else 1
     done &= are_types_right()
+    done &= are_pages_made()
     seconds, more = (60, {"HUCKLEPORT_LARGE": "1", "HUCKLEPORT_LONG": "1"}) if given.long else (6, {})
     done &= not run_all(sys.executable, seconds, **more)
     for python in others():
