@@ -21,7 +21,12 @@ OPTIONS = "crates/*/src/options.rt"
 SHARE = "release/share"
 MAN = f"{SHARE}/man/man1/domserve.1"
 COMPLETIONS = ("bash-completion/completions/domserve", "zsh/site-functions/_domserve", "fish/vendor_completions.d/domserve.fish")
-STYLE = "--style=file:bindings/c/.clang-format"
+# The form of sources in C, and the sources, but for the one that is made.
+STYLES = {
+    "bindings/c/.clang-format": ("bindings/c/**/*.[ch]", "release/**/*.c", "tools/*.c"),
+    "bindings/.clang-format": ("bindings/python/core/*.[ch]", "bindings/web/**/*.[ch]"),
+}
+MADE = "bindings/python/core/calls.h"
 # Debian's packages for node are found by the one; by the other an ESLint from version 9 on reads .eslintrc.json too.
 ESLINT = {"NODE_PATH": "/usr/share/nodejs", "ESLINT_USE_FLAT_CONFIG": "false"}
 
@@ -82,8 +87,9 @@ def completions():
 
 
 def c_form(write=False):
-    sources = files("bindings/c/**/*.[ch]", "release/**/*.c", "tools/*.c")
-    return said("clang-format", STYLE, *(["-i"] if write else ["--dry-run", "-Werror"]), *sources)
+    words = ["-i"] if write else ["--dry-run", "-Werror"]
+    sources = {style: [it for it in files(*patterns) if it != MADE] for style, patterns in STYLES.items()}
+    return [line for style, its in sources.items() for line in said("clang-format", f"--style=file:{style}", *words, *its)]
 
 
 def python():
