@@ -27,7 +27,7 @@ STYLES = {
     "bindings/.clang-format": ("bindings/python/core/*.[ch]", "bindings/web/**/*.[ch]"),
 }
 MADE = "bindings/python/core/calls.h"
-# Debian's packages for node are found by the one; by the other an ESLint from version 9 on reads .eslintrc.json too.
+# Debian's packages for node are found by the one; by the other ESLint 9 reads .eslintrc.json too.
 ESLINT = {"NODE_PATH": "/usr/share/nodejs", "ESLINT_USE_FLAT_CONFIG": "false"}
 
 

@@ -153,11 +153,10 @@ def main():
     given = parser.parse_args()
     if given.within:
         return within()
-    done = are_sources_made() and is_linted()
+    done = all([are_sources_made(), is_linted(), are_pages_made()])
     if not has_extension():
         return 0 if done else 1
     done &= are_types_right()
-    done &= are_pages_made()
     seconds, more = (60, {"HUCKLEPORT_LARGE": "1", "HUCKLEPORT_LONG": "1"}) if given.long else (6, {})
     ran = [run_all(sys.executable, seconds, **more), *(run_all(python, 2) for python in others())]
     tell_skipped([skipped for _, skipped in ran])
