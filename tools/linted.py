@@ -36,11 +36,12 @@ def text_of(file):
         return it.read()
 
 
-def said(*words, given=None, **variables):
-    """The faults that a tool tells, as lines; none where it passes."""
+def said(*words, given=None, is_silent=False, **variables):
+    """The faults that a tool tells, as lines; none where it passes. One that is silent then has a fault where it says anything."""
     how = {"input": given, "env": {**os.environ, **variables}, "text": True, "errors": "replace"}
     ran = subprocess.run(words, cwd=ROOT, stdout=subprocess.PIPE, stderr=subprocess.STDOUT, check=False, **how)
-    return (ran.stdout.strip() or f"status {ran.returncode}").splitlines()[:20] if ran.returncode else []
+    is_wrong = ran.returncode or (is_silent and ran.stdout.strip())
+    return (ran.stdout.strip() or f"status {ran.returncode}").splitlines()[:20] if is_wrong else []
 
 
 def files(*patterns):
@@ -124,6 +125,16 @@ def mandoc():
     return said("mandoc", "-T", "lint", "-W", "style", MAN)
 
 
+def units():
+    """What systemd says of the units, in copies that start a program which is there, since it asks for that too."""
+    with tempfile.TemporaryDirectory() as folder:
+        made = {f"{folder}/{os.path.basename(it)}": re.sub(r"(?m)^ExecStart=\S+", "ExecStart=/bin/true", text_of(it)) for it in files("serving/units/*")}
+        for path, text in made.items():
+            with open(path, "w", encoding="utf-8") as it:
+                it.write(text)
+        return said("systemd-analyze", "verify", *made, is_silent=True)
+
+
 def lacking(tools):
     """Why a linter is not run here, or None."""
     return None if not tools or any(shutil.which(it) for it in tools) else f"there is no {' and no '.join(tools)}"
@@ -140,6 +151,7 @@ TESTS = (
     ("the linter of shell scripts", ("shellcheck",), shell),
     ("the linter of JavaScript", ("eslint",), javascript),
     ("pages made of the header", ("doxygen",), doxygen),
+    ("the form of the units for systemd", ("systemd-analyze",), units),
 )
 
 
