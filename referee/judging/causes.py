@@ -159,6 +159,27 @@ def in_its_own_place(shown):
     return shown.name == "replaceChild" and node == child
 
 
+def fragment_is_adopted(shown):
+    """A node is told as it comes where each fragment that is put in is adopted first, by the node document of its new parent."""
+    if shown.name != "node" or not shown.is_at_end():
+        return False
+    with shown.judge.core() as core:
+        for it in shown.turns[: shown.place]:
+            parent, node = put_in(core, it.command) if "ok" in it.reply else (None, None)
+            if node is not None and core.ask("node", node)["type"] == FRAGMENT:
+                core.play(["adoptNode", core.ask("node", parent)["document"], node])
+            core.play(it.command)
+        return shown.tells(core.reply(shown.cause))
+
+
+def put_in(core, command):
+    """The parent, or a node of its document, and the node that a command puts in; none where it puts none in."""
+    name, *values = command
+    if name == "insertNode":
+        return core.ask("range", values[0])[0], values[1]
+    return values[:2] if name in (*EDITS, "replaceChildren") else (None, None)
+
+
 def links_that_stay(shown):
     """A node that comes in, and was taken out with all children of its parent at once, brings a sibling from there along, or never comes back."""
     node = shown.values[0] if shown.name == "adoptNode" else shown.values[1]
@@ -510,7 +531,7 @@ def end_one_too_far(shown):
 
 
 LISTED = (
-    (offset_past_the_end, null_as_a_word, child_of_another, nameless_refusal, endless_in_its_own_place, in_its_own_place, links_that_stay),
+    (offset_past_the_end, null_as_a_word, child_of_another, nameless_refusal, endless_in_its_own_place, in_its_own_place, fragment_is_adopted, links_that_stay),
     (document_into_itself, node_taken_anywhere, nameless_instruction, nothing_is_answered, no_list_of_children, joined_to_empty_texts),
     (anything, name_that_xml_has_not, name_that_is_no_qname, name_beyond_ascii, name_with_a_colon, any_name, text_not_well_formed, offset_at_the_end),
     (missing_attribute_is_empty, missing_attribute_is_refused, node_above_or_document, node_above_the_parent, unasked_hierarchy, kind_ahead_of_child),
