@@ -475,10 +475,16 @@ def sent_into_the_parent(shown):
     """Ends in other nodes are told in the parent of what came in, in which the other end stands, as if their offsets were places there. Where a range
     for insertNode seems to be collapsed by that, its end is told behind the node.
     """
+    least = 0 if is_nothing_put_in(shown) else 1
     offset = lambda it: it.due[1] if it.due[0] == it.before[0] else it.before[1]
-    sent = lambda it: it.before[0] != it.told[0] and it.told[0] in it.others and shown.after.kind(it.told[0]) != TEXT and it.told[1] > offset(it)
+    sent = lambda it: it.before[0] != it.told[0] and it.told[0] in it.others and shown.after.kind(it.told[0]) != TEXT and it.told[1] >= offset(it) + least
     collapsed = lambda it: shown.name == "insertNode" and it.told == shown.player.behind(last_in(shown, shown.values[1]))
     return shown.all_moved(lambda it: sent(it) or collapsed(it)) and any(map(sent, shown.moved))
+
+
+def is_nothing_put_in(shown):
+    """Whether what comes in is a fragment without children."""
+    return shown.name in (*EDITS, "insertNode") and shown.kind(shown.values[1]) == FRAGMENT and not shown.before.children.get(shown.values[1])
 
 
 def last_in(shown, node):
