@@ -6,7 +6,7 @@ done, it asks the core. All that is told otherwise behind the command has to be 
 """
 import re
 
-from judging.commands import COMMANDS, DOCUMENT, FRAGMENT, PI, TEXT
+from judging.commands import COMMANDS, DOCUMENT, ELEMENT, FRAGMENT, PI, TEXT
 from judging.judge import changes
 from judging.shown import left_out, same_records
 
@@ -57,6 +57,12 @@ def any_name(shown):
 
 def name_of(shown):
     return next(it for it in shown.values if isinstance(it, str))
+
+
+def name_of_a_copy(shown):
+    """A copy of an element is refused for a name that has a colon or is xmlns."""
+    names = [row[1] for number, row in shown.before.rows.items() if shown.before.within(number, shown.values[-2]) and row[0] == ELEMENT]
+    return (shown.refuses("NamespaceError") or shown.refuses(BY_CHARACTER)) and any(":" in it or it == "xmlns" for it in names)
 
 
 def text_not_well_formed(shown):
@@ -538,7 +544,7 @@ def end_one_too_far(shown):
 
 LISTED = (
     (offset_past_the_end, null_as_a_word, child_of_another, nameless_refusal, endless_in_its_own_place, in_its_own_place, fragment_is_adopted, links_that_stay),
-    (document_into_itself, node_taken_anywhere, nameless_instruction, nothing_is_answered, no_list_of_children, joined_to_empty_texts),
+    (name_of_a_copy, document_into_itself, node_taken_anywhere, nameless_instruction, nothing_is_answered, no_list_of_children, joined_to_empty_texts),
     (anything, name_that_xml_has_not, name_that_is_no_qname, name_beyond_ascii, name_with_a_colon, any_name, text_not_well_formed, offset_at_the_end),
     (missing_attribute_is_empty, missing_attribute_is_refused, node_above_or_document, node_above_the_parent, unasked_hierarchy, kind_ahead_of_child),
     (node_is_the_child, node_beside_itself, fragment_is_answered, text_beside_text, refused_and_taken_out, surrounded_half, filter_was_given),
