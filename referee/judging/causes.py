@@ -6,7 +6,7 @@ done, it asks the core. All that is told otherwise behind the command has to be 
 """
 import re
 
-from judging.commands import COMMANDS, DOCUMENT, ELEMENT, FRAGMENT, PI, TEXT
+from judging.commands import COMMANDS, DOCTYPE, DOCUMENT, ELEMENT, FRAGMENT, PARENTS, PI, TEXT
 from judging.judge import changes
 from judging.shown import left_out, same_records
 
@@ -146,6 +146,18 @@ def kind_ahead_of_child(shown):
 def child_of_another(shown):
     """What is no child of the parent is taken out of it, or another node put in its place."""
     return shown.accepts("NotFoundError")
+
+
+def childless_parent_fails(shown):
+    """What is due to be refused, since the node is no child, fails otherwise where the parent can have no children."""
+    return shown.gives("NotFoundError", "TypeError") and shown.kind(shown.values[0]) not in PARENTS
+
+
+def doctype_without_an_element(shown):
+    """A doctype is refused beside or in place of a child of a Document that has no element."""
+    parent, node, child = shown.edit()
+    elements = [it for it in shown.before.children.get(parent, ()) if shown.kind(it) == ELEMENT]
+    return shown.refuses(BY_HIERARCHY) and shown.kind(parent) == DOCUMENT and shown.kind(node) == DOCTYPE and child is not None and not elements
 
 
 def nameless_refusal(shown):
@@ -544,7 +556,8 @@ def end_one_too_far(shown):
 
 LISTED = (
     (offset_past_the_end, null_as_a_word, child_of_another, nameless_refusal, endless_in_its_own_place, in_its_own_place, fragment_is_adopted, links_that_stay),
-    (name_of_a_copy, document_into_itself, node_taken_anywhere, nameless_instruction, nothing_is_answered, no_list_of_children, joined_to_empty_texts),
+    (name_of_a_copy, childless_parent_fails, doctype_without_an_element),
+    (document_into_itself, node_taken_anywhere, nameless_instruction, nothing_is_answered, no_list_of_children, joined_to_empty_texts),
     (anything, name_that_xml_has_not, name_that_is_no_qname, name_beyond_ascii, name_with_a_colon, any_name, text_not_well_formed, offset_at_the_end),
     (missing_attribute_is_empty, missing_attribute_is_refused, node_above_or_document, node_above_the_parent, unasked_hierarchy, kind_ahead_of_child),
     (node_is_the_child, node_beside_itself, fragment_is_answered, text_beside_text, refused_and_taken_out, surrounded_half, filter_was_given),
