@@ -21,9 +21,14 @@ OPTIONS = "crates/*/src/options.rt"
 SHARE = "release/share"
 MAN = f"{SHARE}/man/man1/domserve.1"
 COMPLETIONS = ("bash-completion/completions/domserve", "zsh/site-functions/_domserve", "fish/vendor_completions.d/domserve.fish")
-STYLE = "--style=file:bindings/c/.clang-format"
-# The oldest ESLint that reads its settings where they are.
-ESLINT = 9
+# The form of sources in C, and the sources, but for the one that is made.
+STYLES = {
+    "bindings/c/.clang-format": ("bindings/c/**/*.[ch]", "release/**/*.c", "tools/*.c"),
+    "bindings/.clang-format": ("bindings/python/core/*.[ch]", "bindings/web/**/*.[ch]"),
+}
+MADE = "bindings/python/core/calls.h"
+# Debian's packages for node are found by the one; by the other ESLint 9 reads .eslintrc.json too.
+ESLINT = {"NODE_PATH": "/usr/share/nodejs", "ESLINT_USE_FLAT_CONFIG": "false"}
 
 
 def text_of(file):
@@ -31,10 +36,12 @@ def text_of(file):
         return it.read()
 
 
-def said(*words, given=None):
-    """The faults that a tool tells, as lines; none where it passes."""
-    ran = subprocess.run(words, cwd=ROOT, input=given, stdout=subprocess.PIPE, stderr=subprocess.STDOUT, text=True, errors="replace", check=False)
-    return (ran.stdout.strip() or f"status {ran.returncode}").splitlines()[:20] if ran.returncode else []
+def said(*words, given=None, is_silent=False, **variables):
+    """The faults that a tool tells, as lines; none where it passes. One that is silent then has a fault where it says anything."""
+    how = {"input": given, "env": {**os.environ, **variables}, "text": True, "errors": "replace"}
+    ran = subprocess.run(words, cwd=ROOT, stdout=subprocess.PIPE, stderr=subprocess.STDOUT, check=False, **how)
+    is_wrong = ran.returncode or (is_silent and ran.stdout.strip())
+    return (ran.stdout.strip() or f"status {ran.returncode}").splitlines()[:20] if is_wrong else []
 
 
 def files(*patterns):
@@ -81,8 +88,9 @@ def completions():
 
 
 def c_form(write=False):
-    sources = files("bindings/c/**/*.[ch]", "release/**/*.c", "tools/*.c")
-    return said("clang-format", STYLE, *(["-i"] if write else ["--dry-run", "-Werror"]), *sources)
+    words = ["-i"] if write else ["--dry-run", "-Werror"]
+    sources = {style: [it for it in files(*patterns) if it != MADE] for style, patterns in STYLES.items()}
+    return [line for style, its in sources.items() for line in said("clang-format", f"--style=file:{style}", *words, *its)]
 
 
 def python():
@@ -100,11 +108,7 @@ def shell():
 
 
 def javascript():
-    return [line for it in files("bindings/**/*.js", "release/**/*.mjs", "referee/**/*.js") for line in said("node", "--check", it)]
-
-
-def eslint():
-    return said("eslint", "--max-warnings", "0", ".")
+    return said("eslint", "--max-warnings", "0", *files("bindings/**/*.js", "release/**/*.mjs", "referee/**/*.js"), **ESLINT)
 
 
 def doxygen():
@@ -121,17 +125,18 @@ def mandoc():
     return said("mandoc", "-T", "lint", "-W", "style", MAN)
 
 
-def major(tool):
-    """The first number of a tool's version; 0 where it tells none."""
-    ran = subprocess.run([tool, "--version"], stdout=subprocess.PIPE, stderr=subprocess.DEVNULL, text=True, check=False)
-    found = re.search(r"\d+", ran.stdout)
-    return int(found[0]) if found else 0
+def units():
+    """What systemd says of the units, in copies that start a program which is there, since it asks for that too."""
+    with tempfile.TemporaryDirectory() as folder:
+        made = {f"{folder}/{os.path.basename(it)}": re.sub(r"(?m)^ExecStart=\S+", "ExecStart=/bin/true", text_of(it)) for it in files("serving/units/*")}
+        for path, text in made.items():
+            with open(path, "w", encoding="utf-8") as it:
+                it.write(text)
+        return said("systemd-analyze", "verify", *made, is_silent=True)
 
 
 def lacking(tools):
-    """Why a linter is not run here, or None: none of its tools is there, or it is too old."""
-    if tools == ("eslint",) and shutil.which("eslint") and major("eslint") < ESLINT:
-        return f"eslint is older than {ESLINT}"
+    """Why a linter is not run here, or None."""
     return None if not tools or any(shutil.which(it) for it in tools) else f"there is no {' and no '.join(tools)}"
 
 
@@ -144,9 +149,9 @@ TESTS = (
     ("the linter of Python", ("ruff", "flake8"), python),
     ("the form of sources in Rust", ("rustfmt",), rust),
     ("the linter of shell scripts", ("shellcheck",), shell),
-    ("sources in JavaScript are read", ("node",), javascript),
-    ("the linter of JavaScript", ("eslint",), eslint),
+    ("the linter of JavaScript", ("eslint",), javascript),
     ("pages made of the header", ("doxygen",), doxygen),
+    ("the form of the units for systemd", ("systemd-analyze",), units),
 )
 
 

@@ -22,6 +22,7 @@ PACKAGES = {
     "css-select": "the page's selectors",
     "cssstyle": "the page's styles",
     "w3c-xmlserializer": "serializing XML",
+    "typescript": "comments of the declarations",
     "jsdom": "the page beside jsdom",
     "preact": "preact over a page",
     "react-dom": "react over a page",

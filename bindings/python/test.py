@@ -1,18 +1,21 @@
 #!/usr/bin/env python3
-"""Tests the Python package: that its made sources are those of the library, its types by mypy and stubtest where these are there, and all under tests.
+"""Tests the Python package: that its made sources are those of the library, its types by mypy and stubtest, its pages by Sphinx, and all under tests.
 
 The extension module is built first; where it can't be, the tests are left out. They run by pytest where a Python has it, and else by unittest:
 with the Python that runs this, with Debian's where that one has parsers that this one has not, and with the oldest that the module is for
-and the newest, where these are there.
+and the newest, where these are there. Left out is a test that none of them has run.
 """
 import argparse
 import glob
 import importlib.util
+import json
 import os
 import shutil
 import subprocess
 import sys
+import tempfile
 import unittest
+from xml.etree import ElementTree
 
 HERE = os.path.dirname(os.path.abspath(__file__))
 DEBIAN = "/usr/bin/python3"
@@ -21,12 +24,14 @@ OLDEST, NEWEST = "3.8", ("3.13", "3.12")
 KEPT = "~/.pyenv/versions/{}*/bin/python"
 # What some tests need.
 WANTED = ("html5_parser", "html5lib", "lxml")
+# Where a run writes down what it skipped, and why.
+SKIPPED = "HUCKLEPORT_SKIPPED"
 sys.dont_write_bytecode = True
 sys.path.insert(0, HERE)
 
 
 def fails(*words, **how):
-    return subprocess.run(words, cwd=HERE, **how).returncode != 0
+    return subprocess.run(words, **{"cwd": HERE, **how}).returncode != 0
 
 
 def are_sources_made():
@@ -45,13 +50,26 @@ def are_types_right():
     return not fails(*stubtest, "huckleport._core", env={**os.environ, "PYTHONPATH": HERE, "PYTHONDONTWRITEBYTECODE": "1"}) and not faults
 
 
-def is_linted():
-    """Whether ruff has nothing to say."""
-    ruff = [sys.executable, "-m", "ruff"] if importlib.util.find_spec("ruff") else [shutil.which("ruff") or ""]
-    if not ruff[-1]:
-        print("left out: ruff, which is not here")
+def are_pages_made():
+    """Whether Sphinx makes pages of the interface without a warning."""
+    python = next((it for it in (sys.executable, DEBIAN) if has(it, "sphinx")), None)
+    if not python:
+        print("left out: pages of the interface, since there is no Sphinx")
         return True
-    return not fails(*ruff, "check", ".")
+    with tempfile.TemporaryDirectory() as folder:
+        words = [python, "-m", "sphinx", "-q", "-W", "--keep-going", "-d", os.path.join(folder, "trees"), "pages", os.path.join(folder, "pages")]
+        return not fails(*words, env={**os.environ, "PYTHONDONTWRITEBYTECODE": "1"})
+
+
+def is_linted():
+    """Whether ruff has nothing to say, or flake8 where there is no ruff."""
+    ruff = [sys.executable, "-m", "ruff"] if importlib.util.find_spec("ruff") else [shutil.which("ruff") or ""]
+    if ruff[-1]:
+        return not fails(*ruff, "check", ".")
+    if not shutil.which("flake8"):
+        print("left out: the linter of the package, since there is no ruff and no flake8")
+        return True
+    return not fails("flake8", "bindings/python", cwd=os.path.dirname(os.path.dirname(HERE)))
 
 
 def has_extension():
@@ -67,14 +85,33 @@ def has(python, name):
     return os.path.exists(python) and not fails(python, "-c", found)
 
 
+def skipped_by(report):
+    """What a run skipped, by the name of the test, and why; nothing where it wrote no report."""
+    if not os.path.exists(report):
+        return {}
+    if report.endswith(".json"):
+        with open(report, encoding="utf-8") as file:
+            return json.load(file)
+    cases = ((it, it.find("skipped")) for it in ElementTree.parse(report).iter("testcase"))
+    return {f"{case.get('classname')}.{case.get('name')}": why.get("message") for case, why in cases if why is not None}
+
+
 def run_all(python, seconds, **environment):
-    """Runs all tests by a Python, with some variables."""
+    """Runs all tests by a Python, with some variables; answers whether that failed, and what was skipped."""
     print(f"-- by {python}", flush=True)
-    lacking = [it for it in WANTED if not has(python, it)]
-    if lacking:
-        print(f"left out: what needs {' and '.join(lacking)}, since {python} has them not", flush=True)
-    words = ["-m", "pytest", "-q", "-p", "no:cacheprovider", "tests"] if has(python, "pytest") else [os.path.abspath(__file__), "--within"]
-    return fails(python, *words, env={**os.environ, "PYTHONDONTWRITEBYTECODE": "1", "HUCKLEPORT_SECONDS": str(seconds), **environment})
+    with tempfile.TemporaryDirectory() as folder:
+        by_pytest = has(python, "pytest")
+        report = os.path.join(folder, "skipped.xml" if by_pytest else "skipped.json")
+        words = ["-m", "pytest", "-q", "-p", "no:cacheprovider", f"--junitxml={report}", "tests"] if by_pytest else [os.path.abspath(__file__), "--within"]
+        variables = {"PYTHONDONTWRITEBYTECODE": "1", "HUCKLEPORT_SECONDS": str(seconds), SKIPPED: report, **environment}
+        return fails(python, *words, env={**os.environ, **variables}), skipped_by(report)
+
+
+def tell_skipped(found):
+    """Says which tests each of some runs has skipped; those of a variable are run by hand."""
+    for name in sorted(set.intersection(*map(set, found))):
+        why = found[0][name]
+        print(f"{'by hand' if 'is not set' in why else 'left out'}: {name}, since {why}", flush=True)
 
 
 def kept(version):
@@ -99,8 +136,9 @@ def within():
     """The tests, in this process."""
     found = unittest.defaultTestLoader.discover(os.path.join(HERE, "tests"), top_level_dir=HERE)
     ran = unittest.TextTestRunner().run(found)
-    for test, why in ran.skipped:
-        print(f"{'by hand' if 'is not set' in why else 'left out'}: {test.id()}, since {why}", flush=True)
+    if SKIPPED in os.environ:
+        with open(os.environ[SKIPPED], "w", encoding="utf-8") as file:
+            json.dump({test.id(): why for test, why in ran.skipped}, file)
     return 0 if ran.wasSuccessful() else 1
 
 
@@ -115,15 +153,14 @@ def main():
     given = parser.parse_args()
     if given.within:
         return within()
-    done = are_sources_made() and is_linted()
+    done = all([are_sources_made(), is_linted(), are_pages_made()])
     if not has_extension():
         return 0 if done else 1
     done &= are_types_right()
     seconds, more = (60, {"HUCKLEPORT_LARGE": "1", "HUCKLEPORT_LONG": "1"}) if given.long else (6, {})
-    done &= not run_all(sys.executable, seconds, **more)
-    for python in others():
-        done &= not run_all(python, 2)
-    return 0 if done else 1
+    ran = [run_all(sys.executable, seconds, **more), *(run_all(python, 2) for python in others())]
+    tell_skipped([skipped for _, skipped in ran])
+    return 0 if done and not any(failed for failed, _ in ran) else 1
 
 
 if __name__ == "__main__":

@@ -32,15 +32,11 @@ fn folder() -> PathBuf {
     by_pkg_config().or_else(beside).unwrap_or_else(|| here.join("../c/out"))
 }
 
-/// The crate's page: beside the crate, as a release has it, or among the documents of the repository.
+/// The crate's page: among the documents of the repository, or beside the crate, as a release has it.
 fn page() -> PathBuf {
     let here = PathBuf::from(env::var_os("CARGO_MANIFEST_DIR").expect("cargo sets CARGO_MANIFEST_DIR"));
-    let beside = here.join("README.md");
-    if beside.is_file() {
-        beside
-    } else {
-        here.join("../../docs/rust.md")
-    }
+    let is_repository = here.join("../c/make.py").is_file();
+    here.join(if is_repository { "../../docs/rust.md" } else { "README.md" })
 }
 
 fn main() {

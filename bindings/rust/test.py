@@ -1,7 +1,7 @@
 #!/usr/bin/env python3
 """Builds and tests the library for Rust, without a network; says what it leaves out where cargo, or a part of it, is missing.
 
-- src/ffi.rs says what the exports say;
+- src/ffi.rs says what the exports say, and declares what bindgen reads in the header for C;
 - all tests and doc tests, the example, the documentation without a warning, and clippy;
 - all tests but those of comments once more by Debian's Rust, the oldest that the crate is for;
 - the feature html5ever in tests/parsing, with the crates of Debian.
@@ -20,6 +20,7 @@ PARSING = os.path.join(HERE, "tests/parsing")
 REGISTRY = "/usr/share/cargo/registry"
 PACKAGES = {"html5ever-0.26.0": "librust-html5ever-dev", "markup5ever_rcdom-0.2.0": "librust-markup5ever-rcdom-dev"}
 
+DECLARED = (("declare.py", "--check"), ("bound.py",))
 STEPS = (
     ("the tests", ["test", "--quiet"]),
     ("the example", ["run", "--quiet", "--example", "undo"]),
@@ -93,7 +94,7 @@ def parsing(environment):
 
 def main():
     argparse.ArgumentParser(description=__doc__, formatter_class=argparse.RawDescriptionHelpFormatter).parse_args()
-    passed = subprocess.run([sys.executable, os.path.join(HERE, "declare.py"), "--check"]).returncode == 0
+    passed = not any([subprocess.run([sys.executable, *it], cwd=HERE).returncode for it in DECLARED])
     if not shutil.which("cargo"):
         print("left out: the library for Rust, since there is no cargo")
         return int(not passed)

@@ -120,7 +120,7 @@ static unsigned char nothing;
 
 static room answered(unsigned char *at)
 {
-    return (room){at != NULL, at ? at : &nothing};
+    return (room){ at != NULL, at ? at : &nothing };
 }
 
 room rattle_alloc(size_t size, size_t align)

@@ -6,7 +6,7 @@ done, it asks the core. All that is told otherwise behind the command has to be 
 """
 import re
 
-from judging.commands import COMMANDS, DOCUMENT, FRAGMENT, PI, TEXT
+from judging.commands import COMMANDS, DOCTYPE, DOCUMENT, ELEMENT, FRAGMENT, PARENTS, PI, TEXT
 from judging.judge import changes
 from judging.shown import left_out, same_records
 
@@ -57,6 +57,12 @@ def any_name(shown):
 
 def name_of(shown):
     return next(it for it in shown.values if isinstance(it, str))
+
+
+def name_of_a_copy(shown):
+    """A copy of an element is refused for a name that has a colon or is xmlns."""
+    names = [row[1] for number, row in shown.before.rows.items() if shown.before.within(number, shown.values[-2]) and row[0] == ELEMENT]
+    return (shown.refuses("NamespaceError") or shown.refuses(BY_CHARACTER)) and any(":" in it or it == "xmlns" for it in names)
 
 
 def text_not_well_formed(shown):
@@ -142,6 +148,18 @@ def child_of_another(shown):
     return shown.accepts("NotFoundError")
 
 
+def childless_parent_fails(shown):
+    """What is due to be refused, since the node is no child, fails otherwise where the parent can have no children."""
+    return shown.gives("NotFoundError", "TypeError") and shown.kind(shown.values[0]) not in PARENTS
+
+
+def doctype_without_an_element(shown):
+    """A doctype is refused beside or in place of a child of a Document that has no element."""
+    parent, node, child = shown.edit()
+    elements = [it for it in shown.before.children.get(parent, ()) if shown.kind(it) == ELEMENT]
+    return shown.refuses(BY_HIERARCHY) and shown.kind(parent) == DOCUMENT and shown.kind(node) == DOCTYPE and child is not None and not elements
+
+
 def nameless_refusal(shown):
     """A refusal has no name of the standard's."""
     return shown.gives(BY_HIERARCHY, "Error")
@@ -157,6 +175,27 @@ def in_its_own_place(shown):
     """A node is put in its own place."""
     _, node, child = shown.edit()
     return shown.name == "replaceChild" and node == child
+
+
+def fragment_is_adopted(shown):
+    """A node is told as it comes where each fragment that is put in is adopted first, by the node document of its new parent."""
+    if shown.name != "node" or not shown.is_at_end():
+        return False
+    with shown.judge.core() as core:
+        for it in shown.turns[: shown.place]:
+            parent, node = put_in(core, it.command) if "ok" in it.reply else (None, None)
+            if node is not None and core.ask("node", node)["type"] == FRAGMENT:
+                core.play(["adoptNode", core.ask("node", parent)["document"], node])
+            core.play(it.command)
+        return shown.tells(core.reply(shown.cause))
+
+
+def put_in(core, command):
+    """The parent, or a node of its document, and the node that a command puts in; none where it puts none in."""
+    name, *values = command
+    if name == "insertNode":
+        return core.ask("range", values[0])[0], values[1]
+    return values[:2] if name in (*EDITS, "replaceChildren") else (None, None)
 
 
 def links_that_stay(shown):
@@ -454,10 +493,16 @@ def sent_into_the_parent(shown):
     """Ends in other nodes are told in the parent of what came in, in which the other end stands, as if their offsets were places there. Where a range
     for insertNode seems to be collapsed by that, its end is told behind the node.
     """
+    least = 0 if is_nothing_put_in(shown) else 1
     offset = lambda it: it.due[1] if it.due[0] == it.before[0] else it.before[1]
-    sent = lambda it: it.before[0] != it.told[0] and it.told[0] in it.others and shown.after.kind(it.told[0]) != TEXT and it.told[1] > offset(it)
+    sent = lambda it: it.before[0] != it.told[0] and it.told[0] in it.others and shown.after.kind(it.told[0]) != TEXT and it.told[1] >= offset(it) + least
     collapsed = lambda it: shown.name == "insertNode" and it.told == shown.player.behind(last_in(shown, shown.values[1]))
     return shown.all_moved(lambda it: sent(it) or collapsed(it)) and any(map(sent, shown.moved))
+
+
+def is_nothing_put_in(shown):
+    """Whether what comes in is a fragment without children."""
+    return shown.name in (*EDITS, "insertNode") and shown.kind(shown.values[1]) == FRAGMENT and not shown.before.children.get(shown.values[1])
 
 
 def last_in(shown, node):
@@ -510,7 +555,8 @@ def end_one_too_far(shown):
 
 
 LISTED = (
-    (offset_past_the_end, null_as_a_word, child_of_another, nameless_refusal, endless_in_its_own_place, in_its_own_place, links_that_stay),
+    (offset_past_the_end, null_as_a_word, child_of_another, nameless_refusal, endless_in_its_own_place, in_its_own_place, fragment_is_adopted, links_that_stay),
+    (name_of_a_copy, childless_parent_fails, doctype_without_an_element),
     (document_into_itself, node_taken_anywhere, nameless_instruction, nothing_is_answered, no_list_of_children, joined_to_empty_texts),
     (anything, name_that_xml_has_not, name_that_is_no_qname, name_beyond_ascii, name_with_a_colon, any_name, text_not_well_formed, offset_at_the_end),
     (missing_attribute_is_empty, missing_attribute_is_refused, node_above_or_document, node_above_the_parent, unasked_hierarchy, kind_ahead_of_child),

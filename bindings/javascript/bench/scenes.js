@@ -302,7 +302,9 @@ export const SCENES = {
       const parent = document.implementation.createHTMLDocument("").body;
       let root = render(table(rows), parent);
       const counted = (its) => its.map((row) => ({ ...row, count: row.count + 1 }));
-      const changes = [counted, (its) => [...its].reverse(), (its) => its.filter(({ key }) => key % 3), (its) => [...its, ...rows.filter(({ key }) => key % 3 === 0)], counted];
+      const others = (its) => its.filter(({ key }) => key % 3);
+      const withThirds = (its) => [...its, ...rows.filter(({ key }) => key % 3 === 0)];
+      const changes = [counted, (its) => [...its].reverse(), others, withThirds, counted];
       return () => {
         let now = rows;
         for (const change of changes) {

@@ -5,13 +5,11 @@ import { known } from "./webidl.js";
 import { arrived, documentOf, isNode, kindOf, numberOf, sessionOf, wrapChild, wrapMade } from "./wrappers.js";
 
 /** A call that changes the data of a node. */
-const changing =
-  (call) =>
-  (node, ...words) => {
-    const session = sessionOf(node);
-    check(native[call](session.index, numberOf(node), ...words));
-    session.changed();
-  };
+const changing = (call) => (node, ...words) => {
+  const session = sessionOf(node);
+  check(native[call](session.index, numberOf(node), ...words));
+  session.changed();
+};
 
 function length(node) {
   check(native.hp_length(sessionOf(node).index, numberOf(node)));

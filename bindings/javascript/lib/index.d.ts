@@ -24,16 +24,27 @@ export interface DOMException extends Error {
 }
 export const DOMException: {
   readonly prototype: DOMException;
+  /** Makes one that is not thrown yet; its name is "Error" where none is given. */
   new (message?: string, name?: string): DOMException;
+  /** An offset or index is past the end. */
   readonly INDEX_SIZE_ERR: 1;
+  /** The node may not stand there. */
   readonly HIERARCHY_REQUEST_ERR: 3;
+  /** The two belong to different trees or Documents. */
   readonly WRONG_DOCUMENT_ERR: 4;
+  /** The name has a character that it may not have. */
   readonly INVALID_CHARACTER_ERR: 5;
+  /** The object is not there. */
   readonly NOT_FOUND_ERR: 8;
+  /** The operation is not supported. */
   readonly NOT_SUPPORTED_ERR: 9;
+  /** The object is in a state that does not allow it. */
   readonly INVALID_STATE_ERR: 11;
+  /** The name and the namespace do not go together. */
   readonly NAMESPACE_ERR: 14;
+  /** A limit was reached. */
   readonly QUOTA_EXCEEDED_ERR: 22;
+  /** A node of this kind does not serve. */
   readonly INVALID_NODE_TYPE_ERR: 24;
 };
 
@@ -41,6 +52,7 @@ export const DOMException: {
 export interface NodeList<N extends Node = Node> extends Iterable<N> {
   /** How many there are. */
   readonly length: number;
+  /** The node at an index. */
   readonly [index: number]: N;
   /** What stands at an index, or null. */
   item(index: number): N | null;
@@ -59,6 +71,7 @@ export const NodeList: { readonly prototype: NodeList };
 export interface HTMLCollection extends Iterable<Element> {
   /** How many there are. */
   readonly length: number;
+  /** The element at an index. */
   readonly [index: number]: Element;
   /** What stands at an index, or null. */
   item(index: number): Element | null;
@@ -67,24 +80,43 @@ export interface HTMLCollection extends Iterable<Element> {
 }
 export const HTMLCollection: { readonly prototype: HTMLCollection };
 
+/** The kinds of nodes, and the bits in which `compareDocumentPosition` answers. */
 interface NodeConstants {
+  /** An element. */
   readonly ELEMENT_NODE: 1;
+  /** An attribute, which is no node here. */
   readonly ATTRIBUTE_NODE: 2;
+  /** A Text. */
   readonly TEXT_NODE: 3;
+  /** A CDATA section, which is not made here. */
   readonly CDATA_SECTION_NODE: 4;
+  /** Of earlier standards. */
   readonly ENTITY_REFERENCE_NODE: 5;
+  /** Of earlier standards. */
   readonly ENTITY_NODE: 6;
+  /** A ProcessingInstruction. */
   readonly PROCESSING_INSTRUCTION_NODE: 7;
+  /** A Comment. */
   readonly COMMENT_NODE: 8;
+  /** A Document. */
   readonly DOCUMENT_NODE: 9;
+  /** A doctype. */
   readonly DOCUMENT_TYPE_NODE: 10;
+  /** A fragment. */
   readonly DOCUMENT_FRAGMENT_NODE: 11;
+  /** Of earlier standards. */
   readonly NOTATION_NODE: 12;
+  /** The two stand in different trees. */
   readonly DOCUMENT_POSITION_DISCONNECTED: 1;
+  /** The other stands before this node. */
   readonly DOCUMENT_POSITION_PRECEDING: 2;
+  /** The other stands after this node. */
   readonly DOCUMENT_POSITION_FOLLOWING: 4;
+  /** The other has this node in it. */
   readonly DOCUMENT_POSITION_CONTAINS: 8;
+  /** The other is in this node. */
   readonly DOCUMENT_POSITION_CONTAINED_BY: 16;
+  /** The order is that of the package, where the standard leaves it open. */
   readonly DOCUMENT_POSITION_IMPLEMENTATION_SPECIFIC: 32;
 }
 
@@ -151,6 +183,7 @@ export interface Node extends NodeConstants {
 }
 export const Node: NodeConstants & { readonly prototype: Node };
 
+/** What stands under a parent. */
 interface ChildNode {
   /** Puts nodes and texts right before this one. */
   before(...nodes: (Node | string)[]): void;
@@ -162,6 +195,7 @@ interface ChildNode {
   remove(): void;
 }
 
+/** What has elements beside it. */
 interface Siblings {
   /** The nearest element before it among the siblings, or null. */
   readonly previousElementSibling: Element | null;
@@ -169,6 +203,7 @@ interface Siblings {
   readonly nextElementSibling: Element | null;
 }
 
+/** What has children. */
 interface ParentNode {
   /** The children that are elements, as a live list. */
   readonly children: HTMLCollection;
@@ -186,6 +221,7 @@ interface ParentNode {
   replaceChildren(...nodes: (Node | string)[]): void;
 }
 
+/** What finds elements below it. */
 interface ElementsBelow {
   /** The elements below with a qualified name, or all by "*", as a live list. */
   getElementsByTagName(qualifiedName: string): HTMLCollection;
@@ -199,6 +235,7 @@ interface ElementsBelow {
 export interface Document extends Node, ParentNode, ElementsBelow {
   /** What makes further Documents and doctypes. */
   readonly implementation: DOMImplementation;
+  /** The address. */
   readonly URL: string;
   /** The address. */
   readonly documentURI: string;
@@ -245,7 +282,11 @@ export interface Document extends Node, ParentNode, ElementsBelow {
   /** A walker over a node and what is below it. */
   createTreeWalker(root: Node, whatToShow?: number, filter?: NodeFilter | null): TreeWalker;
 }
-export const Document: { readonly prototype: Document; new (): Document };
+export const Document: {
+  readonly prototype: Document;
+  /** A Document of XML without children. */
+  new (): Document;
+};
 
 /** A Document of XML. */
 export interface XMLDocument extends Document {}
@@ -267,8 +308,13 @@ export interface DocumentFragment extends Node, ParentNode {
   /** The first element with an id, or null. */
   getElementById(id: string): Element | null;
 }
-export const DocumentFragment: { readonly prototype: DocumentFragment; new (): DocumentFragment };
+export const DocumentFragment: {
+  readonly prototype: DocumentFragment;
+  /** An empty fragment. */
+  new (): DocumentFragment;
+};
 
+/** Where to put something in: before the element, ahead of its children, behind them, or after the element. */
 type InsertPosition = "beforebegin" | "afterbegin" | "beforeend" | "afterend";
 
 /** An element. */
@@ -340,11 +386,19 @@ export interface Text extends CharacterData {
   /** Cuts the Text at an offset; the rest, a new Text right behind it, is answered. */
   splitText(offset: number): Text;
 }
-export const Text: { readonly prototype: Text; new (data?: string): Text };
+export const Text: {
+  readonly prototype: Text;
+  /** A Text without a parent. */
+  new (data?: string): Text;
+};
 
 /** A Comment. */
 export interface Comment extends CharacterData {}
-export const Comment: { readonly prototype: Comment; new (data?: string): Comment };
+export const Comment: {
+  readonly prototype: Comment;
+  /** A Comment without a parent. */
+  new (data?: string): Comment;
+};
 
 /** A ProcessingInstruction. */
 export interface ProcessingInstruction extends CharacterData {
@@ -381,12 +435,21 @@ export interface StaticRangeInit {
 }
 /** Two ends that follow no change. */
 export interface StaticRange extends AbstractRange {}
-export const StaticRange: { readonly prototype: StaticRange; new (init: StaticRangeInit): StaticRange };
+export const StaticRange: {
+  readonly prototype: StaticRange;
+  /** A static range with these ends. */
+  new (init: StaticRangeInit): StaticRange;
+};
 
+/** Which ends `compareBoundaryPoints` compares; the first word is the other range's end. */
 interface RangeConstants {
+  /** The other's start with this start. */
   readonly START_TO_START: 0;
+  /** The other's start with this end. */
   readonly START_TO_END: 1;
+  /** The other's end with this end. */
   readonly END_TO_END: 2;
+  /** The other's end with this start. */
   readonly END_TO_START: 3;
 }
 /** Two ends that follow each change. */
@@ -436,25 +499,52 @@ export interface Range extends AbstractRange, RangeConstants {
   /** The text of the range. */
   toString(): string;
 }
-export const Range: RangeConstants & { readonly prototype: Range; new (): Range };
+export const Range: RangeConstants & {
+  readonly prototype: Range;
+  /** A live range at the start of the window's Document. */
+  new (): Range;
+};
 
-export type NodeFilter = ((node: Node) => number) | { acceptNode(node: Node): number };
+/** Says of a node whether it is shown, with one of `FILTER_ACCEPT`, `FILTER_REJECT` and `FILTER_SKIP`. */
+export type NodeFilter =
+  | ((node: Node) => number)
+  | {
+      /** What the filter says of a node. */
+      acceptNode(node: Node): number;
+    };
+/** What a filter may say, and the bits of the kinds of nodes to show. */
 export const NodeFilter: {
+  /** The node is shown. */
   readonly FILTER_ACCEPT: 1;
+  /** It is not shown; a walker passes over all that is in it too. */
   readonly FILTER_REJECT: 2;
+  /** It is not shown; what is in it may be. */
   readonly FILTER_SKIP: 3;
+  /** Nodes of all kinds. */
   readonly SHOW_ALL: 0xffffffff;
+  /** Elements. */
   readonly SHOW_ELEMENT: 0x1;
+  /** Attributes, which stand in no tree. */
   readonly SHOW_ATTRIBUTE: 0x2;
+  /** Texts. */
   readonly SHOW_TEXT: 0x4;
+  /** CDATA sections. */
   readonly SHOW_CDATA_SECTION: 0x8;
+  /** Of earlier standards. */
   readonly SHOW_ENTITY_REFERENCE: 0x10;
+  /** Of earlier standards. */
   readonly SHOW_ENTITY: 0x20;
+  /** ProcessingInstructions. */
   readonly SHOW_PROCESSING_INSTRUCTION: 0x40;
+  /** Comments. */
   readonly SHOW_COMMENT: 0x80;
+  /** Documents. */
   readonly SHOW_DOCUMENT: 0x100;
+  /** Doctypes. */
   readonly SHOW_DOCUMENT_TYPE: 0x200;
+  /** Fragments. */
   readonly SHOW_DOCUMENT_FRAGMENT: 0x400;
+  /** Of earlier standards. */
   readonly SHOW_NOTATION: 0x800;
 };
 
@@ -557,40 +647,69 @@ export interface MutationObserver {
 }
 export const MutationObserver: {
   readonly prototype: MutationObserver;
+  /** An observer that watches nothing yet. */
   new (callback: (this: MutationObserver, records: MutationRecord[], observer: MutationObserver) => void): MutationObserver;
 };
 
 /** All interfaces of a realm of its own, and its Document. */
 export interface Window {
+  /** The realm's own AbstractRange. */
   readonly AbstractRange: typeof AbstractRange;
+  /** The realm's own CharacterData. */
   readonly CharacterData: typeof CharacterData;
+  /** The realm's own Comment. */
   readonly Comment: typeof Comment;
+  /** The realm's own Document. */
   readonly Document: typeof Document;
+  /** The realm's own DocumentFragment. */
   readonly DocumentFragment: typeof DocumentFragment;
+  /** The realm's own DocumentType. */
   readonly DocumentType: typeof DocumentType;
+  /** The realm's own DOMException. */
   readonly DOMException: typeof DOMException;
+  /** The realm's own DOMImplementation. */
   readonly DOMImplementation: typeof DOMImplementation;
+  /** The realm's own Element. */
   readonly Element: typeof Element;
+  /** The realm's own HTMLCollection. */
   readonly HTMLCollection: typeof HTMLCollection;
+  /** The realm's own MutationObserver. */
   readonly MutationObserver: typeof MutationObserver;
+  /** The realm's own MutationRecord. */
   readonly MutationRecord: typeof MutationRecord;
+  /** The realm's own Node. */
   readonly Node: typeof Node;
+  /** The realm's own NodeFilter. */
   readonly NodeFilter: typeof NodeFilter;
+  /** The realm's own NodeIterator. */
   readonly NodeIterator: typeof NodeIterator;
+  /** The realm's own NodeList. */
   readonly NodeList: typeof NodeList;
+  /** The realm's own ProcessingInstruction. */
   readonly ProcessingInstruction: typeof ProcessingInstruction;
+  /** The realm's own Range. */
   readonly Range: typeof Range;
+  /** The realm's own StaticRange. */
   readonly StaticRange: typeof StaticRange;
+  /** The realm's own Text. */
   readonly Text: typeof Text;
+  /** The realm's own TreeWalker. */
   readonly TreeWalker: typeof TreeWalker;
+  /** The realm's own XMLDocument. */
   readonly XMLDocument: typeof XMLDocument;
+  /** The window's Document. */
   readonly document: Document;
 }
 
 /** A session with its first Document, for a program that speaks in lines too. */
 export class Session {
-  /** How many numbers each kind of object has, and how many bytes a line may have. */
-  constructor(limits?: { numbers?: number; line?: number });
+  /** A session with limits. */
+  constructor(limits?: {
+    /** How many numbers each kind of object has. */
+    numbers?: number;
+    /** How many bytes a line may have. */
+    line?: number;
+  });
   /** The first Document. */
   readonly document: Document;
   /** Answers a line of JSON with the line of its reply. */
@@ -600,14 +719,35 @@ export class Session {
   /** The number of a node. */
   number(node: Node): number;
   /** How many objects of each kind the core has, with those that the package makes for itself (walkers, and an observer). */
-  inUse(): { nodes: number; ranges: number; staticRanges: number; iterators: number; walkers: number; observers: number; registrations: number };
+  inUse(): {
+    /** Nodes of all kinds. */
+    nodes: number;
+    /** Live ranges. */
+    ranges: number;
+    /** Static ranges. */
+    staticRanges: number;
+    /** Node iterators. */
+    iterators: number;
+    /** Tree walkers. */
+    walkers: number;
+    /** Observers. */
+    observers: number;
+    /** What all observers watch, with what they watch for a time only. */
+    registrations: number;
+  };
   /** Ends the session; what was in it is refused from then on. */
   close(): void;
 }
 
 /** A new Document, in a session of its own or in that of another Document. */
-export function createDocument(options?: { beside?: Document; xml?: boolean }): Document;
+export function createDocument(options?: {
+  /** A Document whose session is shared. */
+  beside?: Document;
+  /** Makes it one of XML. */
+  xml?: boolean;
+}): Document;
 
+/** What a window is made with. */
 export interface WindowOptions {
   /** The global object of a context, on which all is put and whose exceptions and arrays are used. */
   global?: object;
@@ -631,19 +771,37 @@ export interface WindowOptions {
 export function createWindow(options?: WindowOptions): Window;
 
 /** A Document of a page of HTML. Needs parse5. */
-export function parse(html: string, options?: { document?: Document }): Document;
+export function parse(
+  html: string,
+  options?: {
+    /** The Document that is filled, which has no child yet; a new one if not given. */
+    document?: Document;
+  },
+): Document;
 
 /** A fragment of a piece of HTML, as the content of an element or of a Document. Needs parse5. */
 export function parseFragment(html: string, context?: Element | Document): DocumentFragment;
 
 /** A Document of a text of XML. Needs saxes. */
-export function parseXML(xml: string, options?: { document?: Document }): Document;
+export function parseXML(
+  xml: string,
+  options?: {
+    /** The same of XML. */
+    document?: Document;
+  },
+): Document;
 
 /** A node and what is in it as HTML; of a Document and of a fragment what is in it. */
 export function serialize(node: Node): string;
 
-/** A node and what is in it as XML. What XML can't say is an error where `isStrict` is true. Needs w3c-xmlserializer. */
-export function serializeXML(node: Node, options?: { isStrict?: boolean }): string;
+/** A node and what is in it as XML. Needs w3c-xmlserializer. */
+export function serializeXML(
+  node: Node,
+  options?: {
+    /** Whether what XML can't say is an error. */
+    isStrict?: boolean;
+  },
+): string;
 
 /** Hands in libraries by their names, as they are imported: parse5, saxes, w3c-xmlserializer. In node they are found by themselves. */
 export function provide(libraries: Record<string, unknown>): void;

@@ -27,7 +27,6 @@ import {
   parentOf,
   plant,
   previousOf,
-  realmOf,
   replaced,
   rootOf,
   sessionOf,

@@ -100,13 +100,11 @@ function cloneRange(range) {
 }
 
 /** A call that sets ends. */
-const setting =
-  (call) =>
-  (range, node, ...words) => {
-    const its = rangeOf(range);
-    check(native[call](its.session.index, its.number, numberIn(its.session, node), ...words));
-    hold(its, node);
-  };
+const setting = (call) => (range, node, ...words) => {
+  const its = rangeOf(range);
+  check(native[call](its.session.index, its.number, numberIn(its.session, node), ...words));
+  hold(its, node);
+};
 
 function collapse(range, toStart) {
   const its = rangeOf(range);

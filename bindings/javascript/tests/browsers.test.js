@@ -60,7 +60,9 @@ describe("in a page", { skip: whyLeftOut() }, () => {
         assert.ok((await browser.value("Object.keys(dialogues).length")) > 80);
       });
 
-      test("a million nodes made and dropped leave memory level", { skip: name === "chromium" ? false : "its collector is not asked from a page" }, async () => {
+      // (a page can ask for a collection in Chromium alone)
+      if (name !== "chromium") return;
+      test("a million nodes made and dropped leave memory level", async () => {
         const levels = await browser.value("levels(10, 100000)");
         assert.ok(Math.max(...levels.slice(3)) < 2 * levels[2] + 1e6, `${levels}`);
       });

@@ -91,7 +91,7 @@ test("what is of the wrong type is a TypeError, and so is what is missing", () =
 });
 
 test("offsets are taken as numbers of 32 bits, texts as strings", () => {
-  const { document, first } = scene();
+  const { first } = scene();
   assert.equal(first.substringData(2 ** 32, "3"), "som");
   assert.equal(first.substringData(-(2 ** 32) + 1, -1), "ome ");
   first.data = null;

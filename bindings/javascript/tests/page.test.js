@@ -1,4 +1,4 @@
-// docs/javascript.md: its ten lines print what stands below them, and its table lists what there is, no more and no less.
+// docs/javascript.md and README.md: their lines print what stands beside them, and the former's table lists what there is, no more and no less.
 import assert from "node:assert/strict";
 import { spawnSync } from "node:child_process";
 import { readFileSync } from "node:fs";
@@ -22,6 +22,12 @@ test("the ten lines print what stands below them", () => {
   const [, program, due] = /```js\n(.*?)```\n\n```text\n(.*?)```/su.exec(page);
   const ran = spawnSync(process.execPath, ["--input-type=module", "-e", program], { cwd: PACKAGE, encoding: "utf8" });
   assert.equal(ran.stdout, due, ran.stderr);
+});
+
+test("the lines of the README print what stands beside them", () => {
+  const [, program] = /```js\n(.*?)```/su.exec(readFileSync(new URL("../README.md", import.meta.url), "utf8"));
+  const ran = spawnSync(process.execPath, ["--input-type=module", "-e", program], { cwd: PACKAGE, encoding: "utf8" });
+  assert.equal(ran.stdout, / \/\/ (.*\n)/u.exec(program)[1], ran.stderr);
 });
 
 test("each name that the table has is there", () => {

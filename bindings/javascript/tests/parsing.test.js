@@ -1,10 +1,13 @@
 // Documents in and out: what parse5 makes of a page and prints of it is the same by its own tree and by this one.
 import assert from "node:assert/strict";
+import { spawnSync } from "node:child_process";
 import { createRequire } from "node:module";
 import test from "node:test";
+import { fileURLToPath } from "node:url";
 
 import { createDocument, parse, parseFragment, parseXML, provide, serialize, serializeXML, XMLDocument } from "../lib/index.js";
 
+const PACKAGE = fileURLToPath(new URL("..", import.meta.url));
 const XLINK = "http://www.w3.org/1999/xlink";
 
 function installed(name) {
@@ -102,6 +105,11 @@ test("XML is parsed with its namespaces", withSaxes, () => {
   assert.throws(() => parseXML("<a><b></a>"), SyntaxError);
 });
 
-test("where a parser is missing, the fault names it", { skip: parse5 ? "parse5 is installed" : false }, () => {
-  assert.throws(() => parse("<p>"), /parse5/);
+test("where a parser is missing, the fault names it", () => {
+  const program = `import Module from "node:module";
+    Module._resolveFilename = () => { throw new Error("nothing is installed"); };
+    const { parse } = await import("./lib/index.js");
+    try { parse("<p>"); } catch (fault) { console.log(fault.message); }`;
+  const ran = spawnSync(process.execPath, ["--input-type=module", "-e", program], { cwd: PACKAGE, encoding: "utf8" });
+  assert.match(ran.stdout, /needs the package parse5/u, ran.stderr);
 });

@@ -120,7 +120,7 @@ test("a run can write what it found", { skip }, () => {
 const result = (...subtests) => ({ path: "a.html", status: 0, message: null, missing: [], subtests });
 
 test("each change shows", () => {
-  const expected = { subtests: 2, differs: { "names": ["b*"] } };
+  const expected = { subtests: 2, differs: { names: ["b*"] } };
   const failures = (...subtests) => judgeFile(result(...subtests), expected).filter((it) => it.as === "failed").map((it) => it.message);
   assert.deepEqual(failures(["a", 0], ["b1", 1, "no"]), []);
   assert.deepEqual(failures(["a", 0], ["b1", 0]), ["it passes, but is listed: names"]);

@@ -387,8 +387,8 @@ static PyObject *builder_add_lxml(PyObject *self, PyObject *words)
 {
     if (!is_counted(words, 2, "add_lxml"))
         return NULL;
-    Asked asked = { PyUnicode_FromString("tag"), PyUnicode_FromString("text"), PyUnicode_FromString("tail"), PyUnicode_FromString("items"),
-                    PyUnicode_FromString("getparent"), word(words, 1) };
+    Asked asked = { PyUnicode_FromString("tag"), PyUnicode_FromString("text"), PyUnicode_FromString("tail"), PyUnicode_FromString("items"), PyUnicode_FromString("getparent"),
+        word(words, 1) };
     bool done = asked.tag && asked.text && asked.tail && asked.items && asked.getparent;
     PyObject *nodes = done ? PyObject_CallMethod(word(words, 0), "iter", NULL) : NULL;
     done = nodes && add_all_of_lxml((Builder *)self, nodes, &asked);
@@ -404,8 +404,7 @@ static PyMethodDef builder_methods[] = {
     { "text", builder_text, METH_O, "text($self, data, /)\n--\n\nText, which may come in pieces." },
     { "comment", builder_comment, METH_O, "comment($self, data, /)\n--\n\nA comment." },
     { "instruction", builder_instruction, METH_VARARGS, "instruction($self, target, data, /)\n--\n\nA processing instruction." },
-    { "doctype", builder_doctype, METH_VARARGS,
-      "doctype($self, name, system_id, public_id, has_internal, /)\n--\n\nThe start of a doctype. What stands in it is left out." },
+    { "doctype", builder_doctype, METH_VARARGS, "doctype($self, name, system_id, public_id, has_internal, /)\n--\n\nThe start of a doctype. What stands in it is left out." },
     { "end_doctype", builder_end_doctype, METH_NOARGS, "end_doctype($self, /)\n--\n\nThe end of a doctype." },
     { "finish", builder_finish, METH_NOARGS, "finish($self, /)\n--\n\nEnds all open elements." },
     { "abandon", builder_abandon, METH_NOARGS, "abandon($self, /)\n--\n\nLets all go that is open." },

@@ -48,10 +48,11 @@ static PyMethodDef calls_by_hand[] = {
     { "read_attributes_of", calls_read_attributes_of, METH_O, "The attributes of many elements, a dict each." },
     { "read_records", calls_read_records, METH_VARARGS, "The records of a session and an observer, which are taken." },
     { "tell", calls_tell, METH_VARARGS, "Tells the observers of a session; the list takes what was told. Returns what was raised." },
+    /* clang-format off */
     CALLS_MADE
+    /* clang-format on */
     { NULL, NULL, 0, NULL },
 };
-
 
 static PyGetSetDef calls_gets[] = {
     { "is_open", calls_is_open, NULL, "Whether the session is open.", NULL },
@@ -92,9 +93,7 @@ static PyType_Slot thing_slots[] = {
     { 0, NULL },
 };
 
-static PyType_Spec thing_spec = {
-    "huckleport._core.Thing", sizeof(Thing), 0, Py_TPFLAGS_DEFAULT | Py_TPFLAGS_BASETYPE | Py_TPFLAGS_HAVE_GC, thing_slots
-};
+static PyType_Spec thing_spec = { "huckleport._core.Thing", sizeof(Thing), 0, Py_TPFLAGS_DEFAULT | Py_TPFLAGS_BASETYPE | Py_TPFLAGS_HAVE_GC, thing_slots };
 
 /* ---- what the package hands in and asks for */
 
@@ -306,8 +305,8 @@ static int module_fill(PyObject *module)
     *(Cell **)PyModule_GetState(module) = cell;
     tuple_new = tuple_maker();
     bool done = tuple_new && take_collector(state) && structs_made(module, state) && add_type(module, "Calls", &calls_spec, &state->calls_type) &&
-                add_type(module, "Thing", &thing_spec, &state->thing_type) && add_type(module, "Builder", &builder_spec, &state->builder_type) &&
-                add_type(module, "Walk", &walk_spec, &state->walk_type);
+        add_type(module, "Thing", &thing_spec, &state->thing_type) && add_type(module, "Builder", &builder_spec, &state->builder_type) &&
+        add_type(module, "Walk", &walk_spec, &state->walk_type);
     return done ? 0 : -1;
 }
 
@@ -345,8 +344,10 @@ enum { SLOT_EXEC = 2, SLOT_INTERPRETERS = 3 };
 static PyModuleDef_Slot slots_of_old[] = { { SLOT_EXEC, (void *)module_fill }, { 0, NULL } };
 static PyModuleDef_Slot slots[] = { { SLOT_EXEC, (void *)module_fill }, { SLOT_INTERPRETERS, (void *)2 }, { 0, NULL } };
 
-#define MODULE(slots)                                                                                                                        \
-    { PyModuleDef_HEAD_INIT, "huckleport._core", "The library's calls.", sizeof(Cell *), module_methods, slots, module_traverse, NULL, module_end }
+#define MODULE(slots)                                                                                                                               \
+    {                                                                                                                                               \
+        PyModuleDef_HEAD_INIT, "huckleport._core", "The library's calls.", sizeof(Cell *), module_methods, slots, module_traverse, NULL, module_end \
+    }
 
 static struct PyModuleDef module_of_old = MODULE(slots_of_old), module = MODULE(slots);
 
@@ -360,7 +361,8 @@ static bool is_before_3_12(void)
 #if defined(__GNUC__)
 __attribute__((visibility("default")))
 #endif
-PyMODINIT_FUNC PyInit__core(void)
+PyMODINIT_FUNC
+PyInit__core(void)
 {
     return PyModuleDef_Init(is_before_3_12() ? &module_of_old : &module);
 }

@@ -206,8 +206,10 @@ static bool is_held(Calls *it, uint32_t root, size_t *steps)
 typedef uint8_t Release(hp_session *, uint32_t);
 
 static Release *const RELEASES[FAMILIES] = {
-    [FAMILY_RANGE] = hp_release_range,          [FAMILY_STATIC_RANGE] = hp_release_static_range,
-    [FAMILY_NODE_ITERATOR] = hp_release_iterator, [FAMILY_TREE_WALKER] = hp_release_walker,
+    [FAMILY_RANGE] = hp_release_range,
+    [FAMILY_STATIC_RANGE] = hp_release_static_range,
+    [FAMILY_NODE_ITERATOR] = hp_release_iterator,
+    [FAMILY_TREE_WALKER] = hp_release_walker,
     [FAMILY_OBSERVER] = hp_release_observer,
 };
 

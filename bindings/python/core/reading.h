@@ -264,8 +264,7 @@ static bool is_named(hp_session *session, uint32_t node, const Slice *name)
 {
     hp_place place;
     hp_bytes found;
-    return hp_node(session, node, &place) == HP_OK && hp_node_name(session, 0, &found) == HP_OK && found.length == name->length &&
-           memcmp(found.bytes, name->at, name->length) == 0;
+    return hp_node(session, node, &place) == HP_OK && hp_node_name(session, 0, &found) == HP_OK && found.length == name->length && memcmp(found.bytes, name->at, name->length) == 0;
 }
 
 /* Whether the value of an attribute of an element is one. */
@@ -273,7 +272,7 @@ static bool is_valued(hp_session *session, uint32_t node, const Slice *name, con
 {
     hp_text_view found;
     return hp_get_attribute(session, node, name->at, name->length) == HP_OK && hp_text(session, &found) == HP_OK && found.length == value->length &&
-           (!found.length || memcmp(found.units, value->at, 2 * found.length) == 0);
+        (!found.length || memcmp(found.units, value->at, 2 * found.length) == 0);
 }
 
 /* Keeps of elements those of a name, or the first with a value of an attribute. */

@@ -161,13 +161,13 @@ static bool whole_of(PyObject *value, uint64_t most, uint64_t *to)
     return fits;
 }
 
-#define WHOLE(type, most)                                   \
-    static bool type##_of(PyObject *value, type##_t *to)    \
-    {                                                       \
-        uint64_t whole = 0;                                 \
-        bool fits = whole_of(value, most, &whole);          \
-        *to = (type##_t)whole;                              \
-        return fits;                                        \
+#define WHOLE(type, most)                                \
+    static bool type##_of(PyObject *value, type##_t *to) \
+    {                                                    \
+        uint64_t whole = 0;                              \
+        bool fits = whole_of(value, most, &whole);       \
+        *to = (type##_t)whole;                           \
+        return fits;                                     \
     }
 WHOLE(uint8, UINT8_MAX)
 WHOLE(uint32, UINT32_MAX)

@@ -183,9 +183,8 @@ static bool push_attributes(Writing *it, size_t at, size_t count)
     for (size_t pair = 0; pair < count; pair++) {
         hp_bytes name;
         hp_text_view value;
-        bool done = hp_row_attribute_name(it->session, at, pair, &name) == HP_OK && push(&it->written, " ", 1) && push_name(it, &name) &&
-                    push(&it->written, "=\"", 2) && hp_row_attribute_value(it->session, at, pair, &value) == HP_OK &&
-                    push_text(it, &value, &it->value) && push(&it->written, "\"", 1);
+        bool done = hp_row_attribute_name(it->session, at, pair, &name) == HP_OK && push(&it->written, " ", 1) && push_name(it, &name) && push(&it->written, "=\"", 2) &&
+            hp_row_attribute_value(it->session, at, pair, &value) == HP_OK && push_text(it, &value, &it->value) && push(&it->written, "\"", 1);
         if (!done)
             return false;
     }
@@ -314,7 +313,7 @@ static PyObject *parts_made(Writing *it)
         PyObject *text = PyUnicode_DecodeUTF8(it->written.at + from, (Py_ssize_t)(to - from), "surrogatepass");
         Copied *row = is_last ? NULL : &it->others.rows[at];
         PyObject *other = row ? Py_BuildValue("(iOOOO)", (int)row->row.type, row->names[0] ? row->names[0] : Py_None, row->text ? row->text : Py_None,
-                                              row->names[1] ? row->names[1] : Py_None, row->names[2] ? row->names[2] : Py_None)
+                                    row->names[1] ? row->names[1] : Py_None, row->names[2] ? row->names[2] : Py_None)
                               : NULL;
         bool done = text && PyList_Append(found, text) == 0 && (is_last || (other && PyList_Append(found, other) == 0));
         Py_XDECREF(text);
@@ -347,9 +346,9 @@ static PyObject *calls_read_markup(PyObject *self, PyObject *words)
     Writing it;
     bool is_plain_above = false;
     memset(&it, 0, sizeof(it));
-    if (!is_counted(words, 7, "read_markup") || !uint32_of(word(words, 0), &node) || !escapes_of(word(words, 1), &it.text) ||
-        !escapes_of(word(words, 2), &it.value) || !names_of(word(words, 3), &it.void_names) || !names_of(word(words, 4), &it.plain_names) ||
-        !bool_of(word(words, 5), &it.has_empty_tags) || !bool_of(word(words, 6), &is_plain_above))
+    if (!is_counted(words, 7, "read_markup") || !uint32_of(word(words, 0), &node) || !escapes_of(word(words, 1), &it.text) || !escapes_of(word(words, 2), &it.value) ||
+        !names_of(word(words, 3), &it.void_names) || !names_of(word(words, 4), &it.plain_names) || !bool_of(word(words, 5), &it.has_empty_tags) ||
+        !bool_of(word(words, 6), &is_plain_above))
         return NULL;
     it.session = session_at(self);
     it.names = PySet_New(NULL);

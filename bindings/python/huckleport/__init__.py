@@ -1,4 +1,4 @@
-"""Documents by the DOM Standard: trees, live ranges, iterators, walkers and mutation observers, over the library for C.
+"""Documents by the DOM Standard: trees, live ranges, iterators, walkers and mutation observers, over the library for C::
 
     with huckleport.Session() as session:
         document = session.document

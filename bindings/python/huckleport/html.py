@@ -1,5 +1,7 @@
 """HTML in and out: parsed by html5-parser or by html5lib, as the HTML Standard says, and written by its rules.
 
+A page, there and back::
+
     document = huckleport.html.parse("<p>some <b>text")
     huckleport.html.serialize(document)
 """

@@ -1,4 +1,4 @@
-"""docs/python.md: its examples print what stands below them, and each name that it lists is there."""
+"""docs/python.md and README.md: their examples print what stands beside them, and each name that the former lists is there."""
 import contextlib
 import io
 import os
@@ -7,7 +7,15 @@ import unittest
 
 import huckleport
 
-PAGE = os.path.join(os.path.dirname(os.path.abspath(__file__)), "..", "..", "..", "docs", "python.md")
+PACKAGE = os.path.dirname(os.path.dirname(os.path.abspath(__file__)))
+PAGE = os.path.join(PACKAGE, "..", "..", "docs", "python.md")
+
+
+def printed(program):
+    said = io.StringIO()
+    with contextlib.redirect_stdout(said):
+        exec(program, {"huckleport": huckleport})
+    return said.getvalue()
 
 
 class Page(unittest.TestCase):
@@ -21,10 +29,12 @@ class Page(unittest.TestCase):
         for program, due in found:
             if "html.parse" in program and not huckleport.html.PARSER:
                 continue
-            said = io.StringIO()
-            with contextlib.redirect_stdout(said):
-                exec(program, {"huckleport": huckleport})
-            self.assertEqual(said.getvalue(), due)
+            self.assertEqual(printed(program), due)
+
+    def test_readme(self):
+        with open(os.path.join(PACKAGE, "README.md"), encoding="utf-8") as file:
+            program = re.search(r"```python\n(.*?)```", file.read(), re.S)[1]
+        self.assertEqual(printed(program), re.search("  # (.*\n)", program)[1])
 
     def test_names(self):
         kinds = [it for it in vars(huckleport).values() if isinstance(it, type)]

@@ -92,7 +92,10 @@ pub use rows::{Attributes, Row, Rows};
 pub use session::{utf16, Counts, Session};
 pub use traversal::{IteratorPlace, Move, WalkerPlace};
 
-// The lines that the crate's page shows are tried as well; the build script says where it is.
+// The lines that the crate's pages show are tried as well; the build script says where the longer one is.
 #[cfg(doctest)]
 #[doc = include_str!(env!("HUCKLEPORT_PAGE"))]
 struct Page;
+#[cfg(doctest)]
+#[doc = include_str!("../README.md")]
+struct Readme;

@@ -45,7 +45,7 @@ async function draw(file) {
   try {
     await browser.goTo(`${address}#dialogue=${DIALOGUE}&step=${SET}`);
     for (const line of TYPED) await type(browser, line);
-    await browser.value('document.activeElement.blur()');
+    await browser.value("document.activeElement.blur()");
     writeFileSync(file, await browser.picture());
   } finally {
     await browser.close();

@@ -94,105 +94,105 @@ describe("over the module", { skip }, () => {
   });
 
   describe("as a page", { skip: noBundler }, () => {
-  let folder, address;
-  before(() => {
-    folder = mkdtempSync(join(tmpdir(), "huckleport-page-"));
-    address = `${pathToFileURL(make(folder))}`;
-  });
-  after(() => rmSync(folder, { recursive: true }));
-
-  test("the page is one file, which asks for nothing", () => {
-    assert.deepEqual(readdirSync(folder), ["index.html"]);
-    const text = readFileSync(join(folder, "index.html"), "utf8").replace(/<script>[^]*?<\/script>/u, "");
-    assert.doesNotMatch(text, /<(?:script|link|img)[^>]*(?:src|href)="(?!data:)/u);
-  });
-
-  describe("in firefox", { skip: missingFirefox() ?? false }, () => {
-    let browser;
-    before(async () => { browser = await Firefox.open(); });
-    after(() => browser?.close());
-
-    test("a dialogue is played, and what stands on the page is what the dialogue says", async () => {
-      for (const name of ["ranges/ends_after_split", "observers/two_told"]) {
-        await browser.goTo(`${address}?dialogue=${name}`);
-        const shown = (selector) => browser.value(`[...document.querySelectorAll(${JSON.stringify(selector)})].map((it) => it.textContent)`);
-        assert.deepEqual(await shown("#lines .command"), linesOf(name));
-        assert.deepEqual(await shown("#lines .reply"), replies(name));
-      }
+    let folder, address;
+    before(() => {
+      folder = mkdtempSync(join(tmpdir(), "huckleport-page-"));
+      address = `${pathToFileURL(make(folder))}`;
     });
-  });
+    after(() => rmSync(folder, { recursive: true }));
 
-  describe("in chromium", { skip: missing() ?? false }, () => {
-    let browser;
-    before(async () => { browser = await Browser.open(); });
-    after(() => browser?.close());
-
-    const shown = (selector) => browser.value(`[...document.querySelectorAll(${JSON.stringify(selector)})].map((it) => it.textContent)`);
-
-    test("a dialogue is played, and what stands on the page is what the dialogue says", async () => {
-      for (const name of ["ranges/ends_after_split", "observers/two_told", "bad_input/ranges_refused"]) {
-        await browser.goTo(`${address}?dialogue=${name}`);
-        assert.deepEqual(await shown("#lines .command"), linesOf(name));
-        assert.deepEqual(await shown("#lines .reply"), replies(name));
-      }
+    test("the page is one file, which asks for nothing", () => {
+      assert.deepEqual(readdirSync(folder), ["index.html"]);
+      const text = readFileSync(join(folder, "index.html"), "utf8").replace(/<script>[^]*?<\/script>/u, "");
+      assert.doesNotMatch(text, /<(?:script|link|img)[^>]*(?:src|href)="(?!data:)/u);
     });
 
-    test("a dialogue is chosen, and gone through step by step", async () => {
-      const [, , , [name, line]] = EXAMPLES;
-      await browser.goTo(address);
-      await browser.value(`(() => { const it = document.querySelector("#dialogue"); it.value = ${JSON.stringify(name)}; it.dispatchEvent(new Event("change")); })()`);
-      await browser.until(`document.querySelectorAll(".line").length === ${dialogue(name).lines.length}`);
-      await browser.click(`.line[data-step="${line}"]`);
-      assert.deepEqual(await shown('.text[data-root="1"]'), ['<p>"ab[0""c]0d"[1"e"]1</p>']);
-      await browser.click("#back");
-      assert.deepEqual(await shown('.text[data-root="1"]'), ['<p>"ab[0c]0d"[1"e"]1</p>']);
-      await browser.press("ArrowRight");
-      assert.deepEqual(await shown('.text[data-root="1"]'), ['<p>"ab[0""c]0d"[1"e"]1</p>']);
-      assert.deepEqual(await shown("#place"), [`${line} of ${dialogue(name).lines.length}`]);
+    describe("in firefox", { skip: missingFirefox() ?? false }, () => {
+      let browser;
+      before(async () => { browser = await Firefox.open(); });
+      after(() => browser?.close());
+
+      test("a dialogue is played, and what stands on the page is what the dialogue says", async () => {
+        for (const name of ["ranges/ends_after_split", "observers/two_told"]) {
+          await browser.goTo(`${address}?dialogue=${name}`);
+          const shown = (selector) => browser.value(`[...document.querySelectorAll(${JSON.stringify(selector)})].map((it) => it.textContent)`);
+          assert.deepEqual(await shown("#lines .command"), linesOf(name));
+          assert.deepEqual(await shown("#lines .reply"), replies(name));
+        }
+      });
     });
 
-    test("commands are typed and clicked", async () => {
-      await browser.goTo(address);
-      const enter = async (line, step) => {
-        await browser.click("#command");
-        await browser.type(line);
+    describe("in chromium", { skip: missing() ?? false }, () => {
+      let browser;
+      before(async () => { browser = await Browser.open(); });
+      after(() => browser?.close());
+
+      const shown = (selector) => browser.value(`[...document.querySelectorAll(${JSON.stringify(selector)})].map((it) => it.textContent)`);
+
+      test("a dialogue is played, and what stands on the page is what the dialogue says", async () => {
+        for (const name of ["ranges/ends_after_split", "observers/two_told", "bad_input/ranges_refused"]) {
+          await browser.goTo(`${address}?dialogue=${name}`);
+          assert.deepEqual(await shown("#lines .command"), linesOf(name));
+          assert.deepEqual(await shown("#lines .reply"), replies(name));
+        }
+      });
+
+      test("a dialogue is chosen, and gone through step by step", async () => {
+        const [, , , [name, line]] = EXAMPLES;
+        await browser.goTo(address);
+        await browser.value(`(() => { const it = document.querySelector("#dialogue"); it.value = ${JSON.stringify(name)}; it.dispatchEvent(new Event("change")); })()`);
+        await browser.until(`document.querySelectorAll(".line").length === ${dialogue(name).lines.length}`);
+        await browser.click(`.line[data-step="${line}"]`);
+        assert.deepEqual(await shown('.text[data-root="1"]'), ['<p>"ab[0""c]0d"[1"e"]1</p>']);
+        await browser.click("#back");
+        assert.deepEqual(await shown('.text[data-root="1"]'), ['<p>"ab[0c]0d"[1"e"]1</p>']);
+        await browser.press("ArrowRight");
+        assert.deepEqual(await shown('.text[data-root="1"]'), ['<p>"ab[0""c]0d"[1"e"]1</p>']);
+        assert.deepEqual(await shown("#place"), [`${line} of ${dialogue(name).lines.length}`]);
+      });
+
+      test("commands are typed and clicked", async () => {
+        await browser.goTo(address);
+        const enter = async (line, step) => {
+          await browser.click("#command");
+          await browser.type(line);
+          await browser.press("Enter");
+          await browser.until(`document.querySelectorAll(".line").length === ${step} && document.querySelector("#command").value === ""`);
+        };
+        await enter('["createElement",0,"p"]', 1);
+        await browser.click('[data-command="createText document text"]');
+        await browser.click(".typed button");
+        await browser.until('document.querySelectorAll(".line").length === 2 && document.querySelector("#command").value === ""');
+        await browser.value('(() => { const it = document.querySelector("#group"); it.value = "trees"; it.dispatchEvent(new Event("change")); })()');
+        await browser.click('[data-command="appendChild parent node"]');
+        await browser.click('.number[data-node="1"]');
+        await browser.click('.number[data-node="2"]');
         await browser.press("Enter");
-        await browser.until(`document.querySelectorAll(".line").length === ${step} && document.querySelector("#command").value === ""`);
-      };
-      await enter('["createElement",0,"p"]', 1);
-      await browser.click('[data-command="createText document text"]');
-      await browser.click(".typed button");
-      await browser.until('document.querySelectorAll(".line").length === 2 && document.querySelector("#command").value === ""');
-      await browser.value('(() => { const it = document.querySelector("#group"); it.value = "trees"; it.dispatchEvent(new Event("change")); })()');
-      await browser.click('[data-command="appendChild parent node"]');
-      await browser.click('.number[data-node="1"]');
-      await browser.click('.number[data-node="2"]');
-      await browser.press("Enter");
-      await browser.until('document.querySelectorAll(".line").length === 3');
-      assert.deepEqual(await shown("#lines .reply"), ['{"ok":1}', '{"ok":2}', '{"ok":2}']);
-      assert.deepEqual(await shown(".text"), ["<#document></#document>", '<p>"text"</p>']);
-    });
+        await browser.until('document.querySelectorAll(".line").length === 3');
+        assert.deepEqual(await shown("#lines .reply"), ['{"ok":1}', '{"ok":2}', '{"ok":2}']);
+        assert.deepEqual(await shown(".text"), ["<#document></#document>", '<p>"text"</p>']);
+      });
 
-    test("a link carries what was typed", async () => {
-      await browser.goTo(`${address}?dialogue=ranges/ends_after_split&step=2`);
-      await browser.click("#command");
-      await browser.type('["createComment",0,"mine"]');
-      await browser.press("Enter");
-      await browser.until('document.querySelectorAll(".line").length === 3');
-      const link = await browser.value('document.querySelector("#link").href');
-      await browser.call("Page.navigate", { url: "about:blank" });
-      await browser.until('location.href === "about:blank"');
-      await browser.goTo(link);
-      assert.deepEqual((await shown("#lines .command")).at(-1), '["createComment",0,"mine"]');
-      assert.deepEqual(await shown("#place"), ["3 of 3"]);
-    });
+      test("a link carries what was typed", async () => {
+        await browser.goTo(`${address}?dialogue=ranges/ends_after_split&step=2`);
+        await browser.click("#command");
+        await browser.type('["createComment",0,"mine"]');
+        await browser.press("Enter");
+        await browser.until('document.querySelectorAll(".line").length === 3');
+        const link = await browser.value('document.querySelector("#link").href');
+        await browser.call("Page.navigate", { url: "about:blank" });
+        await browser.until('location.href === "about:blank"');
+        await browser.goTo(link);
+        assert.deepEqual((await shown("#lines .command")).at(-1), '["createComment",0,"mine"]');
+        assert.deepEqual(await shown("#place"), ["3 of 3"]);
+      });
 
-    test("an observer's records stand there until they are taken", async () => {
-      await browser.goTo(`${address}?dialogue=observers/two_told&step=11`);
-      assert.deepEqual(await shown("#records .type"), ["attributes", "childList", "attributes"]);
-      await browser.goTo(`${address}?dialogue=observers/two_told&step=17`);
-      assert.deepEqual(await shown("#records .type"), []);
+      test("an observer's records stand there until they are taken", async () => {
+        await browser.goTo(`${address}?dialogue=observers/two_told&step=11`);
+        assert.deepEqual(await shown("#records .type"), ["attributes", "childList", "attributes"]);
+        await browser.goTo(`${address}?dialogue=observers/two_told&step=17`);
+        assert.deepEqual(await shown("#records .type"), []);
+      });
     });
-  });
   });
 });

@@ -1,4 +1,4 @@
-/** A window with a page of HTML over the core, whose names are those of TypeScript's own library "dom". */
+/** What a page is made with. */
 export interface PageOptions {
   /** Where the page is; "about:blank" if not given. */
   url?: string;
@@ -12,4 +12,5 @@ export interface PageOptions {
   handlers?: boolean;
 }
 
+/** A window with a page of HTML over the core, whose names are those of TypeScript's own library "dom". */
 export function createPage(html?: string, options?: PageOptions): Window & typeof globalThis;

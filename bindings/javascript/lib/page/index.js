@@ -25,7 +25,7 @@ const TABLES = [
 
 /** What the package's interfaces have besides. */
 function complete(realm) {
-  const { Node, Document, Element, Range, Text } = realm.interfaces;
+  const { Node, Document, Range, Text } = realm.interfaces;
   const add = (name, is, ...members) => members.forEach((it) => addMembers(realm, { name, is, ...it }));
   Object.setPrototypeOf(Node.prototype, realm.interfaces.EventTarget.prototype);
   Object.setPrototypeOf(Node, realm.interfaces.EventTarget);

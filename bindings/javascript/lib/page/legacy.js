@@ -78,8 +78,9 @@ class Traps {
     const its = this.#its;
     const found = this.#at(key);
     const value = found ? found.value : this.#visible(target, key);
-    if (value !== undefined) return { value, writable: Boolean(found ? its.setAt : its.setNamed), enumerable: Boolean(found || its.areNamesShown), configurable: true };
-    return found ? undefined : Reflect.getOwnPropertyDescriptor(target, key);
+    if (value === undefined) return found ? undefined : Reflect.getOwnPropertyDescriptor(target, key);
+    const [writable, enumerable] = [found ? its.setAt : its.setNamed, found || its.areNamesShown].map(Boolean);
+    return { value, writable, enumerable, configurable: true };
   }
 
   preventExtensions() {

@@ -48,7 +48,8 @@ const XML_FAULT = "the text is not well-formed";
 function declarations(element) {
   const found = new Map();
   for (let it = element; it && isElement(it); it = parentOf(it)) {
-    for (const { namespace, qualified } of attributeNames(it)) if (namespace === XMLNS && !found.has(qualified)) found.set(qualified, it.getAttribute(qualified));
+    const declared = attributeNames(it).filter(({ namespace, qualified }) => namespace === XMLNS && !found.has(qualified));
+    for (const { qualified } of declared) found.set(qualified, it.getAttribute(qualified));
   }
   if (!found.has("xmlns") && element.namespaceURI !== null && element.prefix === null) found.set("xmlns", element.namespaceURI);
   return [...found].map(([name, value]) => ` ${name}="${value.replace(/&/g, "&amp;").replace(/"/g, "&quot;").replace(/</g, "&lt;")}"`).join("");

@@ -109,7 +109,6 @@ class Selector {
   }
 }
 
-
 function compiled(node, text) {
   const { isHtml, isQuirky = false } = documentKnown(documentOf(node));
   const key = `${Number(isHtml)}${Number(isQuirky)}${text}`;

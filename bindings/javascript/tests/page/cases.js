@@ -59,7 +59,8 @@ const attributes = {
     const copy = attr.cloneNode(true);
     return [
       [attr.nodeType, attr.nodeName, attr.localName, attr.prefix, attr.namespaceURI, attr.specified, attr.parentNode, attr.firstChild, attr.ownerElement],
-      [attr instanceof Attr, attr instanceof Node, attr.ownerDocument === document, attr.isEqualNode(copy), attr.isSameNode(copy), copy.value, attr.childNodes.length],
+      [attr instanceof Attr, attr instanceof Node, attr.ownerDocument === document],
+      [attr.isEqualNode(copy), attr.isSameNode(copy), copy.value, attr.childNodes.length],
     ];
   },
   "attributes with namespaces"({ document }) {
@@ -633,7 +634,8 @@ const forms = {
   "a form, its controls, and what it sends"({ document, window }) {
     document.body.innerHTML = "<form id=f action='/to?x' method=POST><input name=a value=1><input type=checkbox name=b checked><input type=checkbox name=c><select name=d><option>2</select><textarea name=e>3</textarea><button name=g value=h>b</button></form><input form=f name=z value=9>";
     const form = document.querySelector("form");
-    return [form.elements.length, form.length, form.elements.a.value, form.method, form.elements[0].form === form, [...new window.FormData(form)], document.forms.length];
+    const { elements: its, length, method } = form;
+    return [its.length, length, its.a.value, method, its[0].form === form, [...new window.FormData(form)], document.forms.length];
   },
   "sending is told, and can be canceled"({ document }) {
     document.body.innerHTML = "<form><input required name=a><button>b</button></form>";
@@ -684,7 +686,8 @@ const elements = {
     return [
       made.map((it) => Object.prototype.toString.call(it)),
       made.map((it) => it.constructor.name),
-      [made[0] instanceof window.HTMLAnchorElement, made[0] instanceof window.HTMLElement, made[0] instanceof window.HTMLDivElement, made[1] instanceof window.Node],
+      [window.HTMLAnchorElement, window.HTMLElement, window.HTMLDivElement].map((it) => made[0] instanceof it),
+      made[1] instanceof window.Node,
       Object.prototype.toString.call(document.createElementNS("http://www.w3.org/2000/svg", "svg")),
       (() => {
         try {

@@ -1,4 +1,4 @@
-// Cases of what a page answers: a browser's answers decide, where Chromium is there; jsdom's have to be the same, but where a case is known to differ.
+// Cases of what a page answers: a browser's answers decide, where Chromium is there; jsdom's have to be the same. A case that is known to differ has to.
 import assert from "node:assert/strict";
 import test from "node:test";
 
@@ -20,19 +20,24 @@ async function answer(does, window) {
 
 const skip = skipWithout(...NEEDED);
 
+/** Tests a case: that both answers are the same, or differ where a reason is told. */
+function compared(t, name, reason, does, due) {
+  return t.test(reason ? `${name}, where it differs: ${reason}` : name, async () => {
+    const [ours, theirs] = [await answer(does, await WINDOWS.page()), await due()];
+    if (reason) assert.notEqual(ours, theirs);
+    else assert.equal(ours, theirs);
+  });
+}
+
 test("a page answers as jsdom does", { skip: skip || skipWithout("jsdom") }, async (t) => {
   for (const [name, does] of all) {
-    await t.test(name, { skip: DIFFERENCES.jsdom[name] && `jsdom: ${DIFFERENCES.jsdom[name]}` }, async () => {
-      assert.equal(await answer(does, await WINDOWS.page()), await answer(does, await WINDOWS.jsdom()));
-    });
+    await compared(t, name, DIFFERENCES.jsdom[name], does, async () => answer(does, await WINDOWS.jsdom()));
   }
 });
 
 test("a page answers as Chromium does", { skip: skip || (missing() ?? false) }, async (t) => {
   const due = await inChromium(all.map(([, does]) => does));
   for (const [at, [name, does]] of all.entries()) {
-    await t.test(name, { skip: DIFFERENCES.chromium[name] && `Chromium: ${DIFFERENCES.chromium[name]}` }, async () => {
-      assert.equal(await answer(does, await WINDOWS.page()), due[at]);
-    });
+    await compared(t, name, DIFFERENCES.chromium[name], does, () => due[at]);
   }
 });

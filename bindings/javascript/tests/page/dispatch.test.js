@@ -146,7 +146,7 @@ test("a handler's attribute is a text, where the page was not asked to run it", 
 
 test("handlers by attribute, where the page runs them", { skip }, () => {
   const window = createPage("<p onclick='said.push(this.localName, event.type); return false'>x</p>", { handlers: true });
-  globalThis.said = [];
+  const said = (globalThis.said = []);
   const element = window.document.querySelector("p");
   element.addEventListener("click", () => said.push("listener"));
   const event = new window.MouseEvent("click", { cancelable: true });

@@ -198,7 +198,13 @@ function dompurify({ window }, timed) {
   // (Debian's 2.4.1 reads a name that it has nowhere, and does nothing without it)
   globalThis.shadowNode = {};
   const purify = require("dompurify")(window);
-  const settings = [{}, { USE_PROFILES: { svg: true, mathMl: true, html: true } }, { SAFE_FOR_TEMPLATES: true }, { WHOLE_DOCUMENT: true, FORCE_BODY: true }, { IN_PLACE: false, SANITIZE_NAMED_PROPS: true }];
+  const settings = [
+    {},
+    { USE_PROFILES: { svg: true, mathMl: true, html: true } },
+    { SAFE_FOR_TEMPLATES: true },
+    { WHOLE_DOCUMENT: true, FORCE_BODY: true },
+    { IN_PLACE: false, SANITIZE_NAMED_PROPS: true },
+  ];
   let answers;
   for (let time = 0; time < TIMES; time++) timed("dompurify: attacks", () => void (answers = settings.map((its) => ATTACKS.map((it) => purify.sanitize(it, its)))));
   const fragment = purify.sanitize(ATTACKS.join(""), { RETURN_DOM_FRAGMENT: true });
@@ -206,7 +212,8 @@ function dompurify({ window }, timed) {
   const place = window.document.createElement("div");
   place.innerHTML = ATTACKS[3];
   purify.sanitize(place, { IN_PLACE: true });
-  return { isSupported: purify.isSupported, answers, fragment: fragment.childNodes.length, body: body.outerHTML, place: place.outerHTML, removed: purify.removed.length };
+  const { isSupported, removed } = purify;
+  return { isSupported, answers, fragment: fragment.childNodes.length, body: body.outerHTML, place: place.outerHTML, removed: removed.length };
 }
 
 function turndown({ document }) {
