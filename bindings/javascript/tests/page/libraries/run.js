@@ -1,9 +1,9 @@
-// Runs a scene over a window whose names are global, and prints what it answers and the milliseconds of processor time that its parts took, as JSON:
-// `node run.js PLAYER SCENE`.
+// Runs a scene over a window whose names are global, and prints what it answers and the milliseconds of processor time that its parts took at each turn, as
+// JSON: `node run.js PLAYER SCENE [TURNS]`. The part `ready` is what it took until there was a window.
 import { WINDOWS } from "../players.js";
 import { SCENES } from "./scenes.js";
 
-const [player, scene] = process.argv.slice(2);
+const [player, scene, turns = "6"] = process.argv.slice(2);
 
 /** What a library finds without saying `window.`, beside what node has. */
 const AS_GLOBAL = /^(?:[A-Z].*|document|navigator|location|history|getComputedStyle|getSelection|requestAnimationFrame|cancelAnimationFrame|innerHeight|innerWidth)$/;
@@ -18,15 +18,20 @@ function makeGlobal(window) {
 
 const times = {};
 
-/** Measures what is done; of several times, the quickest counts. */
+function took(name, before) {
+  const { user, system } = process.cpuUsage(before);
+  (times[name] ??= []).push((user + system) / 1000);
+}
+
 function timed(name, does) {
   const before = process.cpuUsage();
   does();
-  const { user, system } = process.cpuUsage(before);
-  times[name] = Math.min(times[name] ?? Infinity, (user + system) / 1000);
+  took(name, before);
 }
 
+const start = process.cpuUsage();
 const window = await WINDOWS[player]();
+took("ready", start);
 makeGlobal(window);
-const answer = await SCENES[scene][0](window, timed);
+const answer = await SCENES[scene][0](window, timed, Number(turns));
 process.stdout.write(JSON.stringify({ answer, times }), () => process.exit(0));
