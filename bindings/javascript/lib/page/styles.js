@@ -69,6 +69,14 @@ function displayOf(element) {
   return BLOCK.has(local) ? "block" : (OTHERS[local] ?? "inline");
 }
 
+/** Whether an element is shown at all: neither it nor what it is in is left out of what is displayed, nor is it invisible. */
+export function isShown(element) {
+  for (let it = element; it; it = it.parentElement) if ((it.hasAttribute("style") ? computedStyle(it).display : displayOf(it)) === "none") return false;
+  return !hasStyleAbove(element) || computedStyle(element).visibility === "visible";
+}
+
+const hasStyleAbove = (element) => element !== null && (element.hasAttribute("style") || hasStyleAbove(element.parentElement));
+
 /** What `getComputedStyle` answers: nothing is inherited but whether an element is visible. */
 export function computedStyle(element) {
   const { CSSStyleDeclaration } = wanted("cssstyle", "styles");

@@ -9,7 +9,7 @@ import { buttonClick, buttonMembers, fieldsetMembers, formMembers, labelClick, l
 import { boxes, inputMembers } from "./inputs.js";
 import { linkAttributes, linkOperations } from "./links.js";
 import { elementMembers } from "./members.js";
-import { flags, oneOf, text, texts, url, urls, whole } from "./reflect.js";
+import { flags, oneOf, text, textOrNull, texts, url, urls, whole } from "./reflect.js";
 import { optionMembers, selectMembers } from "./selects.js";
 import { formOf, isNamed } from "./states.js";
 import { cellMembers, rowMembers, sectionMembers, tableMembers } from "./tables.js";
@@ -25,7 +25,7 @@ const join = (...members) => ({
 const attributes = (...sets) => ({ attributes: Object.assign({}, ...sets) });
 const ofText = { text: { type: "DOMString", get: (element) => element.textContent, set: (element, value) => void (element.textContent = value) } };
 const LOADING = ["anonymous", "use-credentials"];
-const crossOrigin = { crossOrigin: { ...oneOf("crossorigin", LOADING, null), type: "any" } };
+const crossOrigin = { crossOrigin: { ...textOrNull("crossorigin"), get: oneOf("crossorigin", LOADING, null, "anonymous").get } };
 const media = join(attributes(urls("src"), texts("preload"), flags("autoplay", "controls", "loop"), crossOrigin, { defaultMuted: flags("muted").muted }));
 const sized = { width: whole("width"), height: whole("height") };
 const link = join({ attributes: linkAttributes, operations: linkOperations }, attributes(texts("target", "download", "ping", "rel", "referrerPolicy"), { relList: tokens("rel") }));
