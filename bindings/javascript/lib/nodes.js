@@ -13,6 +13,8 @@ import {
   documentIs,
   documentOf,
   firstChildOf,
+  forgetEnds,
+  isKnownEmpty,
   isNode,
   isOfParents,
   keepName,
@@ -115,9 +117,14 @@ function setTextContent(node, text) {
   const session = sessionOf(node);
   // (a Document keeps its children)
   const losesChildren = kindOf(node) === ELEMENT || kindOf(node) === FRAGMENT;
-  const gone = losesChildren ? childNumbers(node) : [];
+  const isEmpty = losesChildren && isKnownEmpty(node);
+  const gone = losesChildren && !isEmpty ? childNumbers(node) : [];
   check(native.hp_set_text_content(session.index, numberOf(node), text ?? ""));
   if (!losesChildren) return void session.changed();
+  if (isEmpty) {
+    forgetEnds(node);
+    return void session.moved();
+  }
   left(node, gone, documentOf(node));
   session.renewed();
 }
