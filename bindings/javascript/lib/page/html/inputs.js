@@ -20,6 +20,14 @@ const modeOf = (input) => MODES[typeOf(input)] ?? "value";
 
 const oneLine = (value) => value.replace(/[\n\r]/g, "");
 const trimmed = (value) => oneLine(value).replace(/^[\t\n\f\r ]+|[\t\n\f\r ]+$/g, "");
+const TIME = /^(?:[01]\d|2[0-3]):[0-5]\d(?::[0-5]\d(?:\.\d{1,3})?)?$/;
+
+/** Whether a text is a day that there is. */
+function isDay(text) {
+  const [, year, month, day] = (/^(\d{4,6})-(0[1-9]|1[0-2])-(0[1-9]|[12]\d|3[01])$/.exec(text) ?? []).map(Number);
+  return year > 0 && day <= new Date(Date.UTC(year, month, 0)).getUTCDate();
+}
+
 const fitting = (form) => (value) => (form.test(value) ? value : "");
 
 function inRange(value, input) {
@@ -35,11 +43,14 @@ const SANITIZED = {
   password: oneLine,
   url: trimmed,
   email: trimmed,
-  date: fitting(/^\d{4,}-(?:0[1-9]|1[0-2])-(?:0[1-9]|[12]\d|3[01])$/),
+  date: (value) => (isDay(value) ? value : ""),
   month: fitting(/^\d{4,}-(?:0[1-9]|1[0-2])$/),
   week: fitting(/^\d{4,}-W(?:0[1-9]|[1-4]\d|5[0-3])$/),
-  time: fitting(/^(?:[01]\d|2[0-3]):[0-5]\d(?::[0-5]\d(?:\.\d{1,3})?)?$/),
-  "datetime-local": (value) => fitting(/^\d{4,}-\d\d-\d\dT\d\d:\d\d(?::\d\d(?:\.\d{1,3})?)?$/)(value.replace(" ", "T")),
+  time: fitting(TIME),
+  "datetime-local": (value) => {
+    const [day, time] = value.split(/[ T]/);
+    return isDay(day) && TIME.test(time) ? `${day}T${time}` : "";
+  },
   number: (value) => (isNumber(value) ? value : ""),
   color: (value) => (/^#[\da-f]{6}$/i.test(value) ? value.toLowerCase() : "#000000"),
   range: inRange,
@@ -66,6 +77,15 @@ const VALUES = {
 };
 
 const value = { type: "DOMString or empty", get: (input) => VALUES[modeOf(input)].get(input), set: (input, its) => VALUES[modeOf(input)].set(input, its) };
+
+/** Follows a change of the type: where a value is an attribute from now on, what was typed becomes that attribute. */
+export function typeChanged(input) {
+  const state = stateOf(input);
+  const { value: typed } = state;
+  if (typed === null || modeOf(input) === "value") return;
+  state.value = null;
+  if (typed !== "" && modeOf(input) !== "file") input.setAttribute("value", typed);
+}
 
 // ---- Boxes.
 
@@ -105,8 +125,8 @@ export const boxes = {
     return before;
   },
   undo: (input, before) => before.forEach(([it, isOn, , indeterminate]) => Object.assign(stateOf(it), { isOn, indeterminate })),
-  after(input) {
-    if (!input.isConnected) return;
+  after(input, [[, , wasChecked]]) {
+    if (!input.isConnected || (typeOf(input) === "radio" && wasChecked)) return;
     const page = pageOf(input);
     page.tell(input, "Event", "input", { bubbles: true, composed: true });
     page.tell(input, "Event", "change", { bubbles: true });

@@ -28,7 +28,7 @@ const LOADING = ["anonymous", "use-credentials"];
 const crossOrigin = { crossOrigin: { ...textOrNull("crossorigin"), get: oneOf("crossorigin", LOADING, null, "anonymous").get } };
 const media = join(attributes(urls("src"), texts("preload"), flags("autoplay", "controls", "loop"), crossOrigin, { defaultMuted: flags("muted").muted }));
 const sized = { width: whole("width"), height: whole("height") };
-const link = join({ attributes: linkAttributes, operations: linkOperations }, attributes(texts("target", "download", "ping", "rel", "referrerPolicy"), { relList: tokens("rel") }));
+const link = join({ attributes: linkAttributes, operations: linkOperations }, attributes(texts("target", "download", "ping", "rel", "referrerPolicy"), { relList: tokens("rel", []) }));
 
 /** The interface by its short name: the elements' names, and its members. */
 const INTERFACES = {
@@ -76,7 +76,7 @@ const INTERFACES = {
   Legend: ["legend", attributes(texts("align"), { form: (legend) => (isNamed(legend.parentNode, "fieldset") ? formOf(legend.parentNode) : null) })],
   Link: [
     "link",
-    attributes(texts("rel", "media", "hreflang", "type", "as", "integrity", "referrerPolicy", "imageSrcset", "imageSizes", "charset", "rev", "target"), urls("href"), flags("disabled"), crossOrigin, { relList: tokens("rel") }),
+    attributes(texts("rel", "media", "hreflang", "type", "as", "integrity", "referrerPolicy", "imageSrcset", "imageSizes", "charset", "rev", "target"), urls("href"), flags("disabled"), crossOrigin, { relList: tokens("rel", []) }),
   ],
   Map: ["map", attributes(texts("name"))],
   Marquee: ["marquee", attributes(texts("behavior", "bgColor", "direction", "height", "width"), flags("trueSpeed"), { hspace: whole("hspace"), vspace: whole("vspace") })],
@@ -196,7 +196,7 @@ activate("input", {
   isFor: (input) => boxes.isFor(input) || buttonClick.isFor(input),
   before: (input) => boxes.isFor(input) && boxes.before(input),
   undo: (input, before) => before && boxes.undo(input, before),
-  after: (input) => (boxes.isFor(input) ? boxes.after(input) : buttonClick.after(input)),
+  after: (input, event, before) => (boxes.isFor(input) ? boxes.after(input, before) : buttonClick.after(input)),
 });
 activate("summary", {
   isFor: (summary) => isNamed(summary.parentNode, "details") && summary === [...summary.parentNode.children].find((it) => isNamed(it, "summary")),
