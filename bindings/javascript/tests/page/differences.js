@@ -16,7 +16,7 @@ export const DIFFERENCES = {
     "words that are selected and marked": "its range loses its place where Texts are joined",
     "turns: what comes before what": "its observers are told ahead of what was queued before the change",
     "choices: selects, radios, boxes": "it can not shorten a list of options that stand in a group",
-    "what is typed, and what is selected of it": "it puts the cursor at the end of a value that was never set, and has its own setRangeText",
+    "what is typed, and what is selected of it": "its setRangeText selects to the end of the text",
     "walks, comparisons and copies": "its filters that are functions throw",
     "attributes as a test asks for them": "it has no ARIA properties, no spellcheck and no loading",
     "what is computed of an element that is shown, and of one that is not": "it tells no display of elements that are inline",
