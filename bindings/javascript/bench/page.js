@@ -2,7 +2,8 @@
 // at the folder that has the libraries (Debian's: /usr/share/nodejs).
 //
 // Each scene of the page's tests is run a few times by each, in turn, and each time in a process of its own. Told are medians: of what it takes until there
-// is a window, of the first turn of a process, of the next few, and of the last ones, when the engine has compiled what runs.
+// is a window, of the first turn of a process, of the next few, and of the last ones, when the engine has compiled what runs. The time is that of the thread
+// that runs the program, which is what a test waits for; with --whole that of the process, with the engine's compiler and collector beside it.
 import { spawnSync } from "node:child_process";
 import { fileURLToPath } from "node:url";
 import { parseArgs } from "node:util";
@@ -14,6 +15,7 @@ const HELP = `Milliseconds of processor time that libraries take over a page and
 
   --times N     how many processes each scene has by each (5)
   --turns N     how many turns a process has (20)
+  --whole       the time of the whole process, and not of the thread that runs the program
   --scene NAME  only this scene: ${Object.keys(SCENES).join(", ")}
   --help        this text
 `;
@@ -22,6 +24,7 @@ const OPTIONS = {
   times: { type: "string", default: "5" },
   turns: { type: "string", default: "20" },
   scene: { type: "string" },
+  whole: { type: "boolean", default: false },
   help: { type: "boolean" },
 };
 
@@ -36,17 +39,17 @@ function median(numbers) {
 }
 
 /** The times of the parts of a scene, in one process. */
-function once(player, scene, turns) {
+function once(player, scene, { turns, whole }) {
   const env = { ...process.env, NODE_ENV: "production" };
   const ran = spawnSync(process.execPath, [RUN, player, scene, `${turns}`], { encoding: "utf8", env, maxBuffer: 2 ** 28 });
   if (ran.status !== 0) throw new Error(`${scene} over ${player}: ${ran.stderr}`);
-  return JSON.parse(ran.stdout).times;
+  return JSON.parse(ran.stdout)[whole ? "times" : "own"];
 }
 
 /** The times of all processes of a scene, by the player: those of each part. */
-function measured(scene, { times, turns }) {
+function measured(scene, given) {
   const all = { page: [], jsdom: [] };
-  for (let time = 0; time < times; time++) for (const player of PLAYERS) all[player].push(once(player, scene, turns));
+  for (let time = 0; time < given.times; time++) for (const player of PLAYERS) all[player].push(once(player, scene, given));
   return all;
 }
 
@@ -74,7 +77,7 @@ function main() {
     process.exit(2);
   }
   process.stdout.write(`| ms over the page / over jsdom = ratio | ${Object.keys(TOLD).join(" | ")} |\n|---|---|---|---|\n`);
-  for (const scene of scenes) process.stdout.write(isThere(scene) ? rows(scene, { times, turns }) : `left out: ${scene}, since a package is not installed\n`);
+  for (const scene of scenes) process.stdout.write(isThere(scene) ? rows(scene, { times, turns, whole: values.whole }) : `left out: ${scene}, since a package is not installed\n`);
   return undefined;
 }
 

@@ -95,9 +95,12 @@ const base = Element.operations;
 const FOLLOWED = /^(?:style$|type$|on)/i;
 const FOLLOWING = { style: styleChanged, type: (element) => isNamed(element, "input") && typeChanged(element) };
 
+/** The letters that such names begin with: most names need no further look. */
+const LETTERS = new Set([..."stoSTO"].map((it) => it.charCodeAt(0)));
+
 /** Tells the page that an attribute of a name has changed. */
 function changed(element, name) {
-  if (!FOLLOWED.test(name)) return;
+  if (!LETTERS.has(name.charCodeAt(0)) || !FOLLOWED.test(name)) return;
   const its = small(name);
   if (Object.hasOwn(FOLLOWING, its)) FOLLOWING[its](element);
   else pageOf(element)?.handlers.changed(element, its);

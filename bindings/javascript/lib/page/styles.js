@@ -2,6 +2,7 @@
 import { Element, HTML, keptOf, nameOf, wanted } from "./core.js";
 
 const [, setAttribute] = Element.operations.setAttribute;
+const [, hasAttribute] = Element.operations.hasAttribute;
 
 /** The style of one element, which writes what a program changes into the attribute, and reads the attribute where that has changed. */
 class Style {
@@ -11,7 +12,7 @@ class Style {
     this.element = element;
     const { CSSStyleDeclaration } = wanted("cssstyle", "styles");
     this.declaration = new CSSStyleDeclaration((text) => this.#write(text));
-    if (element.hasAttribute("style")) this.read();
+    if (hasAttribute(element, "style")) this.read();
   }
 
   read() {
