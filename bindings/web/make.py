@@ -30,7 +30,7 @@ sys.path[:0] = [HERE, os.path.join(ROOT, "bindings/c")]
 from exports import SOURCES, modules
 from glue import glue
 from header import header
-from retarget import TRIPLE, refuse, retarget
+from retarget import apart, TRIPLE, refuse, retarget
 from wasm import without_table
 
 CRATE = "dom_c"
@@ -39,6 +39,8 @@ MALLOC = ["/usr/share/emscripten/system/lib/dlmalloc.c", os.path.join(OUT, "dlma
 # What lime1 stands for, as binaryen names it.
 FEATURES = "memory64 bulk-memory mutable-globals sign-ext nontrapping-float-to-int multivalue simd".split()
 STACK = 1048576
+# How large a function may be that binaryen puts into the only one that calls it: an engine compiles functions whole, when they are called often.
+SMALL = 60
 # Compiled for: what node 20 has with memory of 32 bits.
 STRICT = ["-ffreestanding", "-fno-builtin", "-nostdinc", "-Wall", "-Wextra", "-Werror"]
 
@@ -172,7 +174,7 @@ class Tools:
         text = self.path("core.ll")
         call(self.clang, "--target=x86_64-unknown-linux-gnu", "--no-default-config", "-x", "ir", kept, "-S", "-emit-llvm", "-o", text)
         with open(text, encoding="utf-8") as file:
-            made = retarget(file.read())
+            made = apart(retarget(file.read()))
         with open(text, "w", encoding="utf-8") as file:
             file.write(made)
         words = ["-ffunction-sections", "-fdata-sections", "-mllvm", "-disable-machine-licm", "-x", "ir"]
@@ -203,7 +205,7 @@ class Tools:
             made = without_table(file.read())
         with open(self.path("bare.wasm"), "wb") as file:
             file.write(made)
-        call("wasm-opt", self.path("bare.wasm"), *(f"--enable-{it}" for it in FEATURES), "--memory64-lowering", "-O3", "-o", to)
+        call("wasm-opt", self.path("bare.wasm"), *(f"--enable-{it}" for it in FEATURES), "--memory64-lowering", "-O3", f"--one-caller-inline-max-function-size={SMALL}", "-o", to)
 
 
 def check(module, calls):

@@ -107,6 +107,7 @@ export class Session {
   documents = new Map();
   /** What marks and names mean (see names.js). */
   elementNames = new Map();
+  htmlNames = new Map();
   attributeNames = new Map();
   byNumber = [];
   attributesByNumber = [];

@@ -43,12 +43,21 @@ export function newDocument(session, its) {
 
 const isOf = (document) => documentIs(sessionOf(document), numberOf(document));
 
+const nameIn = (session, namespace, local) => elementName(session, markedElement(session, { namespace, local }));
+
+/** The name of an element of HTML by what a program calls it, which is kept. */
+function nameOfHtml(session, name) {
+  const known = session.htmlNames.get(name);
+  if (known !== undefined) return known;
+  const made = nameIn(session, HTML, small(name));
+  session.htmlNames.set(name, made);
+  return made;
+}
+
 function createElement(document, name) {
   const session = sessionOf(document);
   const { isHtml, contentType } = isOf(document);
-  const local = isHtml ? small(name) : name;
-  const namespace = isHtml || contentType === XHTML_TYPE ? HTML : null;
-  return createElementNamed(document, elementName(session, markedElement(session, { namespace, local })));
+  return createElementNamed(document, isHtml ? nameOfHtml(session, name) : nameIn(session, contentType === XHTML_TYPE ? HTML : null, name));
 }
 
 export function createElementNS(document, namespace, qualified) {

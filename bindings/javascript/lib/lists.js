@@ -2,7 +2,7 @@
 import { check, native, out } from "./core.js";
 import { HTML } from "./names.js";
 import { known } from "./webidl.js";
-import { firstChildOf, isOfParents, nextOf, numberOf, realmOf, sessionOf, wrap, wrapChild } from "./wrappers.js";
+import { firstChildOf, isKnownEmpty, isOfParents, knownChildAt, nextOf, numberOf, realmOf, sessionOf, wrap, wrapChild } from "./wrappers.js";
 
 /** Where the last question to a list by an index ended, of all lists: the next one goes on from there, where nothing has moved meanwhile. */
 const cursor = { list: null, structure: -1, index: -1, node: null };
@@ -57,6 +57,9 @@ class LiveIs {
   }
 }
 
+/** So far from the first child an index is looked for by links that are known already. */
+const NEAR = 16;
+
 /** The children of a node. How many there are is asked without reading all, and one index after another goes from child to child. */
 class ChildrenIs extends LiveIs {
   constructor(node, read) {
@@ -65,7 +68,7 @@ class ChildrenIs extends LiveIs {
 
   get length() {
     if (!this.isOld) return this.numbers.length;
-    if (!isOfParents(this.node)) return 0;
+    if (!isOfParents(this.node) || isKnownEmpty(this.node)) return 0;
     check(native.hp_length(this.session.index, numberOf(this.node)));
     return out[0];
   }
@@ -80,6 +83,8 @@ class ChildrenIs extends LiveIs {
   /** The child at an index, which the core finds from where it was last asked. */
   #asked(index) {
     if (!isOfParents(this.node)) return null;
+    const known = index < NEAR ? knownChildAt(this.node, index) : undefined;
+    if (known !== undefined) return known;
     const status = native.hp_child_at(this.session.index, numberOf(this.node), index);
     return status === native.HP_OK && out[0] !== native.HP_NONE ? wrapChild(this.node, out[0]) : null;
   }

@@ -13,6 +13,8 @@ import {
   documentIs,
   documentOf,
   firstChildOf,
+  forgetEnds,
+  isKnownEmpty,
   isNode,
   isOfParents,
   keepName,
@@ -110,10 +112,24 @@ export function setData(node, text) {
 
 const textContent = (node) => lent(content(sessionOf(node).index, numberOf(node)));
 
+/** Puts a text into a node that has no child: to observers and ranges it is the same as if all children were replaced. */
+function fill(node, text) {
+  if (text === "") return;
+  const session = sessionOf(node);
+  check(hp_create_text(session.index, numberOf(documentOf(node)), text));
+  const number = out[0];
+  const status = hp_append_child(session.index, numberOf(node), number);
+  if (status !== 0) session.leave(number);
+  check(status);
+  forgetEnds(node);
+  session.moved();
+}
+
 function setTextContent(node, text) {
   const session = sessionOf(node);
   // (a Document keeps its children)
   const losesChildren = kindOf(node) === ELEMENT || kindOf(node) === FRAGMENT;
+  if (losesChildren && isKnownEmpty(node)) return fill(node, text ?? "");
   const gone = losesChildren ? childNumbers(node) : [];
   check(native.hp_set_text_content(session.index, numberOf(node), text ?? ""));
   if (!losesChildren) return void session.changed();

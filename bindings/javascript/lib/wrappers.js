@@ -13,7 +13,7 @@ import { check, DOCUMENT, ELEMENT, FRAGMENT, native, NONE, OK, out, Refusal, Ses
 import { elementByNumber } from "./names.js";
 
 export let isNode, sessionOf, numberOf, kindOf, realmOf, keptOf, hasWrappedChildren, parentOf, rootOf, aboveOf;
-export let nextOf, previousOf, firstChildOf, lastChildOf, wrappedChildOf, nameKeptOf, keepName, valuesOf, forgetValues;
+export let nextOf, previousOf, firstChildOf, lastChildOf, wrappedChildOf, nameKeptOf, keepName, valuesOf, forgetValues, isKnownEmpty, forgetEnds, knownChildAt;
 let place, loosen, wrappedChildren, childOf, cameBefore, cameFrom, wentFrom, tookPlaceOf, clear, know, knowOnce, bare;
 
 const { hp_links } = native;
@@ -320,6 +320,17 @@ export class Wrapper {
       if ((node.#state & CHILD) !== 0) node.#leave();
       node.#values = null;
     };
+    /** Whether it is known, without asking, that a node has no child. */
+    isKnownEmpty = (node) => node.#stamp === node.#session.links && node.#first === null;
+    /** The child at an index, as far as the links to it are known; undefined where they are not. */
+    knownChildAt = (node, index) => {
+      const { links } = node.#session;
+      let it = node.#stamp === links ? node.#first : undefined;
+      for (let at = 0; at < index && it; at++) it = it.#stamp === links ? it.#next : undefined;
+      return it;
+    };
+    /** Forgets which child is the first and which the last, where one came in that is not known. */
+    forgetEnds = (node) => void (node.#first = node.#last = undefined);
     bare = (node) => {
       node.#stamp = node.#session.links;
       node.#first = node.#last = null;
