@@ -5,6 +5,7 @@
 #ifndef HUCKLEPORT_LEAVING_H
 #define HUCKLEPORT_LEAVING_H
 
+#include "labels.h"
 #include "table.h"
 
 /* Numbers of what may go. */
@@ -35,6 +36,7 @@ typedef struct {
     State *state;
     hp_session session;
     Table kept;
+    Labels labels;
     /* Counts what may have let nodes go: what is known of them is asked for anew then. */
     uint32_t epoch;
     /* What was noted, by families, and whether there is any; and the roots of trees that were held or in use when they were tried. */
@@ -112,7 +114,7 @@ static void leaving_end(Calls *it)
 /* The object of a number, without a reference. One that is going already is none. */
 static Thing *living(const Calls *it, uint32_t number, uint32_t family)
 {
-    PyObject *found = it->kept.entries ? entry_of(&it->kept, number, family)->object : NULL;
+    PyObject *found = table_at(&it->kept, number, family);
     return found && (uint32_t)Py_REFCNT(found) > 0 ? (Thing *)found : NULL;
 }
 

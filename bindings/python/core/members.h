@@ -78,10 +78,12 @@ static PyObject *placed(PyObject *node, PyObject *answer)
     return answer;
 }
 
-/* Counts that nodes may be gone. */
+/* Counts that nodes may be gone. A session that ended knows none. */
 static PyObject *let_go(Calls *calls, PyObject *answer)
 {
     calls->epoch++;
+    if (!calls->session.is_open)
+        labels_drop(&calls->labels);
     return answer;
 }
 
