@@ -4,6 +4,7 @@
 #ifndef HUCKLEPORT_BUILDING_H
 #define HUCKLEPORT_BUILDING_H
 
+#include "course.h"
 #include "members.h"
 
 /* Units that grow. */
@@ -19,8 +20,9 @@ typedef struct {
     uint32_t document, root;
     /* Whether attributes are left out that the library refuses. */
     bool is_lenient;
-    /* The elements that are open, each without a parent. */
+    /* The elements that are open, each without a parent; and the root with all that was made below it. */
     Numbers open;
+    Order order;
     /* The text that is not put in yet, and the value of an attribute or what else a call is handed. */
     Units text, value;
 } Builder;
@@ -131,9 +133,17 @@ static bool put_in(Builder *it, uint32_t node)
     return false;
 }
 
-static void learn_kind(Builder *it, uint32_t node, uint8_t kind)
+/* Learns what a node is and where it stands: nodes are made in tree order. */
+static bool learn_node(Builder *it, uint32_t node, uint8_t kind, unsigned label)
 {
-    learn(&it->calls->labels, &it->calls->session, node, label_of_kind(&it->calls->labels, kind));
+    learn(&it->calls->labels, &it->calls->session, node, label);
+    return order_push(&it->order, node, it->open.length + 1, kind);
+}
+
+/* Puts in a node that has nothing below it. */
+static bool put_in_leaf(Builder *it, uint32_t node, uint8_t kind)
+{
+    return learn_node(it, node, kind, label_of_kind(&it->calls->labels, kind)) && put_in(it, node);
 }
 
 /* Puts the text in that has come since the last node. */
@@ -146,8 +156,7 @@ static bool put_text(Builder *it)
     it->text.length = 0;
     if (status)
         return builder_refused(it, status, "create_text", it->document, NULL);
-    learn_kind(it, node, KIND_TEXT);
-    return put_in(it, node);
+    return put_in_leaf(it, node, KIND_TEXT);
 }
 
 /* Sets an attribute of the innermost open element. */
@@ -170,8 +179,7 @@ static bool start_element(Builder *it, const char *name)
     uint8_t status = hp_create_element(&calls->session, it->document, (const uint8_t *)name, length, &element);
     if (status)
         return name_refused(it, status, "create_element", it->document, name);
-    learn(&calls->labels, &calls->session, element, label_of_name(&calls->labels, KIND_ELEMENT, name, length));
-    if (numbers_push(&it->open, element))
+    if (learn_node(it, element, KIND_ELEMENT, label_of_name(&calls->labels, KIND_ELEMENT, name, length)) && numbers_push(&it->open, element))
         return true;
     note(calls, FAMILY_NODE, element);
     return false;
@@ -188,7 +196,7 @@ static bool add_comment(Builder *it, const char *data)
     if (!put_text(it) || !value_of(it, data))
         return false;
     uint8_t status = hp_create_comment(&it->calls->session, it->document, it->value.at, it->value.length, &node);
-    return status ? builder_refused(it, status, "create_comment", it->document, NULL) : put_in(it, node);
+    return status ? builder_refused(it, status, "create_comment", it->document, NULL) : put_in_leaf(it, node, KIND_COMMENT);
 }
 
 static bool add_instruction(Builder *it, const char *target, const char *data)
@@ -197,7 +205,7 @@ static bool add_instruction(Builder *it, const char *target, const char *data)
     if (!put_text(it) || !value_of(it, data))
         return false;
     uint8_t status = hp_create_pi(&it->calls->session, it->document, (const uint8_t *)target, strlen(target), it->value.at, it->value.length, &node);
-    return status ? name_refused(it, status, "create_pi", it->document, target) : put_in(it, node);
+    return status ? name_refused(it, status, "create_pi", it->document, target) : put_in_leaf(it, node, KIND_PROCESSING_INSTRUCTION);
 }
 
 /* A name and ids; null stands for an empty one. */
@@ -209,7 +217,30 @@ static bool add_doctype(Builder *it, const char *name, const char *public_id, co
     system_id = system_id ? system_id : "";
     uint8_t status = hp_create_doctype(&it->calls->session, it->document, (const uint8_t *)name, strlen(name), (const uint8_t *)public_id,
                                        strlen(public_id), (const uint8_t *)system_id, strlen(system_id), &node);
-    return status ? name_refused(it, status, "create_doctype", it->document, name) : put_in(it, node);
+    return status ? name_refused(it, status, "create_doctype", it->document, name) : put_in_leaf(it, node, KIND_DOCUMENT_TYPE);
+}
+
+/* ---- all of it */
+
+/* Begins to build, under a root that has nothing below it. */
+static bool building_begins(Builder *it)
+{
+    uint32_t child = HP_NONE;
+    let_go_noted(it->calls);
+    moved(it->calls);
+    hp_first_child(&it->calls->session, it->root, &child);
+    if (child == HP_NONE)
+        return order_push(&it->order, it->root, 0, kind_at(it->calls, it->root));
+    PyErr_SetString(PyExc_ValueError, "the root has children");
+    return false;
+}
+
+/* What was built is known from now on. */
+static void building_ends(Builder *it)
+{
+    moved(it->calls);
+    it->calls->order = it->order;
+    it->order = (Order){ NULL, 0, 0 };
 }
 
 /* ---- the object */
@@ -261,6 +292,7 @@ static void builder_dealloc(PyObject *self)
         abandon(it);
     Py_XDECREF((PyObject *)it->calls);
     numbers_drop(&it->open);
+    order_drop(&it->order);
     PyMem_Free(it->text.at);
     PyMem_Free(it->value.at);
     PyObject_Free(self);

@@ -1,4 +1,5 @@
-/* A course through a tree, in tree order, by the numbers of children: one call for those of each node that has any. */
+/* A course through a tree, in tree order, by the numbers of children: one call for those of each node that may have any. Where it has led is kept
+ * as long as nothing moves. */
 #ifndef HUCKLEPORT_COURSE_H
 #define HUCKLEPORT_COURSE_H
 
@@ -17,14 +18,6 @@ typedef struct {
     /* Whether memory was there all the way. */
     bool is_whole;
 } Course;
-
-/* A node that the course has come to: how deep it stands below the first level, what is known of it, and how many children it has. */
-typedef struct {
-    uint32_t number;
-    unsigned label;
-    uint8_t kind;
-    size_t depth, children;
-} Step;
 
 static bool has_children(uint8_t kind)
 {
@@ -68,27 +61,22 @@ static bool course_open(Course *it, size_t count)
     return true;
 }
 
-/* Puts the children of a node where the course goes on. Returns how many there are. */
-static size_t course_enter(Course *it, uint32_t node)
+/* Puts the children of a node where the course goes on. */
+static void course_enter(Course *it, uint32_t node)
 {
     enum { FIRST = 32 };
     size_t count = 0;
     if (!course_reserve(it, FIRST))
-        return 0;
+        return;
     uint32_t *end = it->waiting.at + it->waiting.length;
     hp_children_into(&it->calls->session, node, end, it->waiting.room - it->waiting.length, &count);
     if (count > it->waiting.room - it->waiting.length) {
         if (!course_reserve(it, count))
-            return 0;
+            return;
         hp_children_into(&it->calls->session, node, it->waiting.at + it->waiting.length, count, &count);
     }
-    return count && course_open(it, count) ? count : 0;
-}
-
-/* Leaves out what is below the node that it came to last, which has children. */
-static void course_leave(Course *it)
-{
-    it->waiting.length = it->levels[--it->depth].at;
+    if (count)
+        course_open(it, count);
 }
 
 /* A course that begins with one node. */
@@ -107,26 +95,22 @@ static void course_end(Course *it)
     PyMem_Free(it->levels);
 }
 
-/* The label of a node; what is not known is asked for, and learned. */
-static bool step_kind(Course *it, Step *to)
+/* The kind of a node, which is asked for where it is not known, and learned; or 0 where it is no more. */
+static uint8_t kind_at(Calls *calls, uint32_t node)
 {
-    Labels *labels = &it->calls->labels;
+    Labels *labels = &calls->labels;
+    unsigned label = label_place(labels, node);
     hp_node_links links;
-    to->label = label_place(labels, to->number);
-    if (to->label) {
-        to->kind = labels->at[to->label].kind;
-        return true;
-    }
-    if (hp_links(&it->calls->session, to->number, &links) != HP_OK)
-        return false;
-    to->kind = links.kind;
-    to->label = label_of_kind(labels, links.kind);
-    learn(labels, &it->calls->session, to->number, to->label);
-    return true;
+    if (label)
+        return labels->at[label].kind;
+    if (hp_links(&calls->session, node, &links) != HP_OK)
+        return 0;
+    learn(labels, &calls->session, node, label_of_kind(labels, links.kind));
+    return links.kind;
 }
 
 /* Goes to the next node, and below it after that. */
-static bool course_step(Course *it, Step *to)
+static bool course_step(Course *it, Order *to)
 {
     while (it->depth && it->levels[it->depth - 1].at == it->levels[it->depth - 1].end) {
         it->depth--;
@@ -134,14 +118,30 @@ static bool course_step(Course *it, Step *to)
     }
     if (!it->is_whole || !it->depth)
         return false;
-    to->number = it->waiting.at[it->levels[it->depth - 1].at++];
-    to->depth = it->depth - 1;
-    to->children = 0;
-    if (!step_kind(it, to))
-        return false;
-    if (has_children(to->kind))
-        to->children = course_enter(it, to->number);
+    uint32_t number = it->waiting.at[it->levels[it->depth - 1].at++];
+    uint8_t kind = kind_at(it->calls, number);
+    it->is_whole = order_push(to, number, it->depth - 1, kind);
+    if (it->is_whole && has_children(kind))
+        course_enter(it, number);
     return it->is_whole;
+}
+
+/* A node and all below it, as they stand; or null where memory is wanting. It lies there until something moves. */
+static const Order *order_below(Calls *calls, uint32_t node)
+{
+    Order *order = &calls->order;
+    Course course;
+    if (order->length && order->at[0].number == node)
+        return order;
+    order_drop(order);
+    course_begin(&course, calls, node);
+    while (course_step(&course, order)) {
+    }
+    course_end(&course);
+    if (course.is_whole)
+        return order;
+    order_drop(order);
+    return NULL;
 }
 
 /* Whether a name of a node was asked for, and is lent. */

@@ -146,9 +146,11 @@ static PyObject *builder_add_page(PyObject *self, PyObject *words)
     const TheirDoctype *doctype = document->doctype;
     if (doctype && is_exact && has_comment_first(document))
         return PyBool_FromLong(false);
-    let_go_noted(it->calls);
-    bool done = !doctype || add_doctype(it, doctype->name, doctype->public_id, doctype->system_id);
-    return done && add_below(it, (const Theirs *)document) ? PyBool_FromLong(true) : NULL;
+    bool done = building_begins(it) && (!doctype || add_doctype(it, doctype->name, doctype->public_id, doctype->system_id));
+    if (!done || !add_below(it, (const Theirs *)document))
+        return NULL;
+    building_ends(it);
+    return PyBool_FromLong(true);
 }
 
 /* Adds the nodes of a part of a page, which stand under the root. */
@@ -158,10 +160,10 @@ static PyObject *builder_add_part(PyObject *self, PyObject *capsule)
     const Theirs *root = document ? document->children : NULL;
     while (root && root->type != THEIR_ELEMENT)
         root = root->next;
-    if (!document)
+    if (!document || !building_begins((Builder *)self) || (root && !add_below((Builder *)self, root)))
         return NULL;
-    let_go_noted(((Builder *)self)->calls);
-    return !root || add_below((Builder *)self, root) ? none() : NULL;
+    building_ends((Builder *)self);
+    return none();
 }
 
 #endif

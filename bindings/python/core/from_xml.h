@@ -147,10 +147,12 @@ static bool add_xml(Builder *builder, const char *octets, size_t length, bool is
     expat->set_instruction(it.parser, on_instruction);
     expat->set_doctype(it.parser, on_doctype);
     expat->set_encodings(it.parser, expat->other_encoding, NULL);
-    let_go_noted(builder->calls);
-    bool is_done = is_parsed(&it, octets, length);
+    it.is_whole = building_begins(builder);
+    bool is_done = is_parsed(&it, octets, length) && it.is_whole;
     expat->end(it.parser);
-    return is_done && it.is_whole;
+    if (is_done)
+        building_ends(builder);
+    return is_done;
 }
 
 /* Adds the nodes of a document of XML. Returns False where it is not well-formed. */

@@ -162,6 +162,7 @@ static PyObject *calls_read_line(PyObject *self, PyObject *words)
     if (!is_counted(words, 1, "read_line") || !octets_of(word(words, 0), &line))
         return NULL;
     let_go_noted((Calls *)self);
+    moved((Calls *)self);
     uint8_t status = hp_line(session_at(self), line.at, line.length);
     ((Calls *)self)->epoch++;
     ((Calls *)self)->has_lines = true;

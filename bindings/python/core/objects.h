@@ -118,6 +118,7 @@ static void calls_dealloc(PyObject *self)
     hp_close(&it->session);
     table_drop(&it->kept);
     labels_drop(&it->labels);
+    order_drop(&it->order);
     leaving_end(it);
     if (it->state)
         state_let_go(it->state);

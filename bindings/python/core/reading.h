@@ -160,15 +160,10 @@ static bool row_of_siblings(Spots *to, Calls *calls, uint32_t at, Direction dire
 /* All nodes of some kinds below one, in tree order. */
 static bool all_below(Spots *to, Calls *calls, uint32_t root, KindBits bits)
 {
-    Course course;
-    Step step;
-    bool done = true;
-    course_begin(&course, calls, root);
-    course_step(&course, &step);
-    while (done && course_step(&course, &step))
-        done = !has_kind(bits, step.kind) || spots_push(to, step.number, step.kind);
-    done = done && course.is_whole;
-    course_end(&course);
+    const Order *order = order_below(calls, root);
+    bool done = order != NULL;
+    for (size_t at = 1; done && at < order->length; at++)
+        done = !has_kind(bits, order->at[at].kind) || spots_push(to, order->at[at].number, order->at[at].kind);
     return done;
 }
 

@@ -313,20 +313,20 @@ static bool close_to(Writing *it, size_t depth)
     return true;
 }
 
-/* Writes an element up to its children; one without children whole. What stands below an element without an end tag is left out. */
-static bool push_element(Writing *it, Step *step, Course *course)
+/* Writes an element up to its children; one without children whole. Of one without an end tag it tells that what stands below is hidden. */
+static bool push_element(Writing *it, uint32_t node, bool is_empty, bool *is_hidden)
 {
     hp_bytes name;
     uint8_t marks = 0;
-    if (!element_name(it->calls, step->number, &step->label, &name) || !marks_of(it, step->label, &name, &marks) || !push(&it->written, "<", 1))
+    unsigned label = label_place(&it->calls->labels, node);
+    if (!element_name(it->calls, node, &label, &name) || !marks_of(it, label, &name, &marks) || !push(&it->written, "<", 1))
         return false;
     const Open open = { { it->written.length, name.length }, !(marks & IS_VOID), marks & IS_PLAIN };
-    if (!push(&it->written, (const char *)name.bytes, name.length) || !push_attributes(it, step->number))
+    if (!push(&it->written, (const char *)name.bytes, name.length) || !push_attributes(it, node))
         return false;
-    if (!step->children)
+    if (is_empty)
         return it->has_empty_tags ? push(&it->written, "/>", 2) : push(&it->written, ">", 1) && push_end(it, &open);
-    if (!open.has_end)
-        course_leave(course);
+    *is_hidden = !open.has_end;
     return push(&it->written, ">", 1) && (!open.has_end || opens_push(&it->open, &open));
 }
 
@@ -346,7 +346,7 @@ static PyObject *other_data(Writing *it, uint32_t node)
 }
 
 /* Keeps a node of another kind for the package to write. */
-static bool push_other(Writing *it, const Step *step)
+static bool push_other(Writing *it, const Ranked *node)
 {
     if (it->others_count == it->others_room) {
         size_t room = 2 * it->others_room + 16;
@@ -357,46 +357,51 @@ static bool push_other(Writing *it, const Step *step)
         it->others_room = room;
     }
     Other *other = &it->others[it->others_count++];
-    *other = (Other){ step->kind, { NULL, NULL, NULL, NULL }, it->written.length };
-    if (has_data(step->kind))
-        other->parts[1] = other_data(it, step->number);
-    for (uint8_t part = 0; part < parts_of(step->kind) && !PyErr_Occurred(); part++)
-        other->parts[part ? part + 1 : 0] = other_name(it, step->number, part);
+    *other = (Other){ node->kind, { NULL, NULL, NULL, NULL }, it->written.length };
+    if (has_data(node->kind))
+        other->parts[1] = other_data(it, node->number);
+    for (uint8_t part = 0; part < parts_of(node->kind) && !PyErr_Occurred(); part++)
+        other->parts[part ? part + 1 : 0] = other_name(it, node->number, part);
     return !PyErr_Occurred();
 }
 
-static bool push_text_of(Writing *it, const Step *step, bool is_plain)
+static bool push_text_of(Writing *it, uint32_t node, bool is_plain)
 {
     hp_text_view text;
-    return hp_data(it->session, step->number) == HP_OK && hp_text(it->session, &text) == HP_OK && push_text(it, &text, is_plain ? NULL : &it->text);
+    return hp_data(it->session, node) == HP_OK && hp_text(it->session, &text) == HP_OK && push_text(it, &text, is_plain ? NULL : &it->text);
 }
 
 /* ---- all of it */
 
-static bool push_step(Writing *it, Step *step, Course *course, bool is_plain_above)
+/* Writes a node up to what is below it. */
+static bool push_node(Writing *it, const Ranked *node, bool is_empty, bool is_plain_above, bool *is_hidden)
 {
     const Open nothing = { { 0, 0 }, false, false };
-    if (step->kind == KIND_ELEMENT)
-        return push_element(it, step, course);
-    if (step->kind == KIND_TEXT)
-        return push_text_of(it, step, it->open.length ? it->open.at[it->open.length - 1].is_plain : is_plain_above);
-    if (has_children(step->kind))
-        return !step->children || opens_push(&it->open, &nothing);
-    return push_other(it, step);
+    if (node->kind == KIND_ELEMENT)
+        return push_element(it, node->number, is_empty, is_hidden);
+    if (node->kind == KIND_TEXT)
+        return push_text_of(it, node->number, it->open.length ? it->open.at[it->open.length - 1].is_plain : is_plain_above);
+    if (has_children(node->kind))
+        return is_empty || opens_push(&it->open, &nothing);
+    return push_other(it, node);
 }
 
-/* Writes a node and all below it. */
+/* Writes a node and all below it. (Nothing of Python runs here, so nothing moves.) */
 static bool push_tree(Writing *it, uint32_t node, bool is_plain_above)
 {
-    Course course;
-    Step step;
+    const Order *order = order_below(it->calls, node);
+    if (!order)
+        return false;
+    const Ranked *at = order->at, *end = order->at + order->length;
     bool done = true;
-    course_begin(&course, it->calls, node);
-    while (done && course_step(&course, &step))
-        done = close_to(it, step.depth) && push_step(it, &step, &course, is_plain_above);
-    done = done && course.is_whole && close_to(it, 0);
-    course_end(&course);
-    return done;
+    while (done && at < end) {
+        const Ranked *before = at++;
+        bool is_hidden = false;
+        done = close_to(it, before->depth) && push_node(it, before, at == end || at->depth <= before->depth, is_plain_above, &is_hidden);
+        while (is_hidden && at < end && at->depth > before->depth)
+            at++;
+    }
+    return done && close_to(it, 0);
 }
 
 static PyObject *other_made(const Other *it)
