@@ -46,6 +46,8 @@ MOVING = {
 }
 # Calls after which what is known of the order of a tree may be so no more.
 MOVES = set()
+# Calls after which an element may have other attributes; a line may change those of any.
+RESHAPING = {"hp_set_attribute", "hp_remove_attribute", "hp_toggle_attribute"}
 # What notes the nodes that a member may leave without a parent, though they have no object.
 LEAVING = {"hp_set_text_content": "note_children", "hp_normalize": "note_texts"}
 # The classes that a member makes, and their family.
@@ -150,6 +152,10 @@ def body(parts, reads, call, answer, refusal):
     first = [f"let_go_noted({calls});"] if name[3:] in LET_GO_FIRST else []
     if name in MOVES:
         first.append(f"moved({calls});")
+    if name in RESHAPING:
+        first.append(f"reshaped({calls}, {call.split(', ')[1]});")
+    if name == "hp_line":
+        first.append(f"labels_drop_pages(&({calls})->labels);")
     if name in LEAVING and "number_of(self)" in call:
         first.append(f"{LEAVING[name]}({calls}, number_of(self));")
     slices = [it.name for it in parts if it.kind == "slice"]

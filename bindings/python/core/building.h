@@ -23,6 +23,8 @@ typedef struct {
     /* The elements that are open, each without a parent; and the root with all that was made below it. */
     Numbers open;
     Order order;
+    /* The names of the attributes that the element has whose start tag is read. */
+    unsigned shape;
     /* The text that is not put in yet, and the value of an attribute or what else a call is handed. */
     Units text, value;
 } Builder;
@@ -163,12 +165,16 @@ static bool put_text(Builder *it)
 static bool add_attribute(Builder *it, const char *name)
 {
     uint32_t element = it->open.at[it->open.length - 1];
-    uint8_t status = hp_set_attribute(&it->calls->session, element, (const uint8_t *)name, strlen(name), it->value.at, it->value.length);
+    size_t length = strlen(name);
+    uint8_t status = hp_set_attribute(&it->calls->session, element, (const uint8_t *)name, length, it->value.at, it->value.length);
+    if (!status)
+        it->shape = shape_with(&it->calls->labels, it->shape, name, length);
     if (!status || (it->is_lenient && (status == HP_INVALID_CHARACTER_ERROR || status == HP_NOT_UTF8)))
         return true;
     return name_refused(it, status, "set_attribute", element, name);
 }
 
+/* An element, which gets its attributes next. */
 static bool start_element(Builder *it, const char *name)
 {
     Calls *calls = it->calls;
@@ -179,10 +185,17 @@ static bool start_element(Builder *it, const char *name)
     uint8_t status = hp_create_element(&calls->session, it->document, (const uint8_t *)name, length, &element);
     if (status)
         return name_refused(it, status, "create_element", it->document, name);
+    it->shape = BARE;
     if (learn_node(it, element, KIND_ELEMENT, label_of_name(&calls->labels, KIND_ELEMENT, name, length)) && numbers_push(&it->open, element))
         return true;
     note(calls, FAMILY_NODE, element);
     return false;
+}
+
+/* Tells that the innermost open element has all its attributes. */
+static void end_attributes(Builder *it)
+{
+    learn_shape(&it->calls->labels, &it->calls->session, it->open.at[it->open.length - 1], it->shape);
 }
 
 static bool end_element(Builder *it)

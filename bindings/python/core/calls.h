@@ -228,6 +228,7 @@ static PyObject *call_line(PyObject *self, PyObject *words)
     begin(&line);
     if (is_counted(words, 1, "line") && octets_of(word(words, 0), &line)) {
         moved((Calls *)self);
+        labels_drop_pages(&((Calls *)self)->labels);
         uint8_t status = hp_line(session_at(self), line.at, line.length);
         found = status ? refused(status, "line", self, words) : let_go((Calls *)self, none());
     }
@@ -1037,6 +1038,7 @@ static PyObject *call_set_attribute(PyObject *self, PyObject *words)
     begin(&name);
     begin(&value);
     if (is_counted(words, 3, "set_attribute") && uint32_of(word(words, 0), &element) && name_of(word(words, 1), &name) && text_of(word(words, 2), &value)) {
+        reshaped((Calls *)self, element);
         uint8_t status = hp_set_attribute(session_at(self), element, name.at, name.length, value.at, value.length);
         found = status ? refused(status, "set_attribute", self, words) : none();
     }
@@ -1081,6 +1083,7 @@ static PyObject *call_remove_attribute(PyObject *self, PyObject *words)
     PyObject *found = NULL;
     begin(&name);
     if (is_counted(words, 2, "remove_attribute") && uint32_of(word(words, 0), &element) && name_of(word(words, 1), &name)) {
+        reshaped((Calls *)self, element);
         uint8_t status = hp_remove_attribute(session_at(self), element, name.at, name.length);
         found = status ? refused(status, "remove_attribute", self, words) : none();
     }
@@ -1097,6 +1100,7 @@ static PyObject *call_toggle_attribute(PyObject *self, PyObject *words)
     PyObject *found = NULL;
     begin(&name);
     if (is_counted(words, 3, "toggle_attribute") && uint32_of(word(words, 0), &element) && name_of(word(words, 1), &name) && uint8_of(word(words, 2), &force)) {
+        reshaped((Calls *)self, element);
         uint8_t status = hp_toggle_attribute(session_at(self), element, name.at, name.length, force, &is_there);
         found = status ? refused(status, "toggle_attribute", self, words) : PyBool_FromLong(is_there);
     }
@@ -2181,6 +2185,7 @@ static PyObject *member_Element_set_attribute(PyObject *self, PyObject *words, P
     begin(&name);
     begin(&value);
     if (sort(words, named, names, 2, given, "set_attribute") && name_of(given[0], &name) && text_of(given[1], &value)) {
+        reshaped(((Thing *)self)->calls, number_of(self));
         uint8_t status = hp_set_attribute(session_of(self), number_of(self), name.at, name.length, value.at, value.length);
         found = status ? refused_of(status, "set_attribute", self, given, 2) : none();
     }
@@ -2213,6 +2218,7 @@ static PyObject *member_Element_remove_attribute(PyObject *self, PyObject *words
     PyObject *found = NULL;
     begin(&name);
     if (sort(words, named, names, 1, given, "remove_attribute") && name_of(given[0], &name)) {
+        reshaped(((Thing *)self)->calls, number_of(self));
         uint8_t status = hp_remove_attribute(session_of(self), number_of(self), name.at, name.length);
         found = status ? refused_of(status, "remove_attribute", self, given, 1) : none();
     }

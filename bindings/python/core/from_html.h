@@ -82,6 +82,8 @@ static bool add_their_attributes(Builder *it, const Theirs *attribute)
             done = !part->content || units_push(&it->value, part->content, strlen(part->content));
         done = done && (prefix ? add_prefixed(it, prefix, attribute->name) : add_attribute(it, attribute->name));
     }
+    if (done)
+        end_attributes(it);
     return done;
 }
 

@@ -53,6 +53,8 @@ static void on_start(void *data, const char *name, const char **attributes)
     it->is_whole = it->is_whole && start_element(it->builder, name);
     for (; it->is_whole && *attributes; attributes += 2)
         it->is_whole = value_of(it->builder, attributes[1]) && add_attribute(it->builder, attributes[0]);
+    if (it->is_whole)
+        end_attributes(it->builder);
 }
 
 static void on_end(void *data, const char *name)

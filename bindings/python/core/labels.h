@@ -1,5 +1,5 @@
-/* What never changes of a node, by its number: its kind, and its name where that is not long. It is learned as nodes are made and asked for, and
- * what is not known is asked for. */
+/* What is known of a node, by its number: its kind and its name, which never change, where the name is not long; and the names of its attributes
+ * until one is set or removed. It is learned as nodes are made and asked for, and what is not known is asked for. */
 #ifndef HUCKLEPORT_LABELS_H
 #define HUCKLEPORT_LABELS_H
 
@@ -14,13 +14,29 @@ typedef struct {
     char name[LABEL_ROOM];
 } Label;
 
-/* The labels, with an index by what they say; and for each number the place of its label, or 0 where it is not known. Numbers lie in pages. */
+/* The names of attributes in their order: those of another shape, and one more. */
+typedef struct {
+    uint16_t before, label, count;
+} Shape;
+
+/* The first shape stands for what is not known, the second has no name. */
+enum { UNKNOWN = 0, BARE = 1 };
+
+/* The places of a number's label and shape, or 0. */
+typedef struct {
+    uint16_t label, shape;
+} Known;
+
+/* The labels, with an index by what they say; the shapes, with an index; and what is known of each number. Numbers lie in pages. */
 typedef struct {
     Label *at;
     size_t length, room;
     uint16_t *index;
     size_t index_room;
-    uint16_t **pages;
+    Shape *shapes;
+    uint16_t *shapes_index;
+    size_t shapes_length;
+    Known **pages;
     size_t pages_length, pages_made;
 } Labels;
 
@@ -38,14 +54,29 @@ static void labels_drop(Labels *it)
     labels_drop_pages(it);
     PyMem_Free(it->at);
     PyMem_Free(it->index);
+    PyMem_Free(it->shapes);
+    PyMem_Free(it->shapes_index);
     memset(it, 0, sizeof(*it));
+}
+
+/* What is known of a number, or null. */
+static Known *known_of(const Labels *it, uint32_t number)
+{
+    size_t page = number >> PAGE_BITS;
+    return page < it->pages_length && it->pages[page] ? &it->pages[page][number & (PAGE - 1)] : NULL;
 }
 
 /* The place of the label of a number, or 0. */
 static unsigned label_place(const Labels *it, uint32_t number)
 {
-    size_t page = number >> PAGE_BITS;
-    return page < it->pages_length && it->pages[page] ? it->pages[page][number & (PAGE - 1)] : 0;
+    const Known *found = known_of(it, number);
+    return found ? found->label : 0;
+}
+
+static unsigned shape_place(const Labels *it, uint32_t number)
+{
+    const Known *found = known_of(it, number);
+    return found ? found->shape : UNKNOWN;
 }
 
 /* ---- labels by what they say */
@@ -115,7 +146,53 @@ static unsigned label_of_name(Labels *it, uint8_t kind, const void *name, size_t
     return found ? found : label_of_kind(it, kind);
 }
 
-/* ---- the labels of numbers */
+/* ---- shapes */
+
+enum { MOST_SHAPES = 1024 };
+
+static uint16_t *shape_slot(const Labels *it, unsigned before, unsigned label)
+{
+    size_t at = (before * 31 + label) * 2654435761u >> 7 & (2 * MOST_SHAPES - 1);
+    while (it->shapes_index[at] && (it->shapes[it->shapes_index[at]].before != before || it->shapes[it->shapes_index[at]].label != label))
+        at = (at + 1) & (2 * MOST_SHAPES - 1);
+    return &it->shapes_index[at];
+}
+
+static bool has_shapes(Labels *it)
+{
+    if (it->shapes_length)
+        return true;
+    it->shapes = it->shapes ? it->shapes : zeroed(MOST_SHAPES, sizeof(Shape));
+    it->shapes_index = it->shapes_index ? it->shapes_index : zeroed(2 * MOST_SHAPES, sizeof(uint16_t));
+    it->shapes_length = it->shapes && it->shapes_index ? BARE + 1 : 0;
+    return it->shapes_length;
+}
+
+/* Whether a shape has a name. */
+static bool shape_has(const Labels *it, unsigned shape, unsigned label)
+{
+    while (shape > BARE && it->shapes[shape].label != label)
+        shape = it->shapes[shape].before;
+    return shape > BARE;
+}
+
+/* The shape with a name more, or the unknown one where there is no room. */
+static unsigned shape_with(Labels *it, unsigned before, const void *name, size_t length)
+{
+    unsigned label = before && length <= LABEL_ROOM && has_shapes(it) ? label_of_name(it, KIND_ATTRIBUTE, name, length) : 0;
+    if (!label || !it->at[label].is_named)
+        return UNKNOWN;
+    if (shape_has(it, before, label))
+        return before;
+    uint16_t *slot = shape_slot(it, before, label);
+    if (!*slot && it->shapes_length < MOST_SHAPES) {
+        it->shapes[it->shapes_length] = (Shape){ (uint16_t)before, (uint16_t)label, (uint16_t)(it->shapes[before].count + 1) };
+        *slot = (uint16_t)it->shapes_length++;
+    }
+    return *slot;
+}
+
+/* ---- numbers and what is known of them */
 
 /* Whether the pages have far more numbers than there are nodes: then all of them go. */
 static bool is_sparse(const Labels *it, hp_session *session)
@@ -125,7 +202,7 @@ static bool is_sparse(const Labels *it, hp_session *session)
 }
 
 /* The page of a number, or null where memory is wanting. */
-static uint16_t *label_page(Labels *it, hp_session *session, size_t page)
+static Known *known_page(Labels *it, hp_session *session, size_t page)
 {
     if (page < it->pages_length && it->pages[page])
         return it->pages[page];
@@ -133,24 +210,39 @@ static uint16_t *label_page(Labels *it, hp_session *session, size_t page)
         labels_drop_pages(it);
     if (page >= it->pages_length) {
         size_t length = page + page / 2 + 8;
-        uint16_t **wider = PyMem_Realloc(it->pages, length * sizeof(*wider));
+        Known **wider = PyMem_Realloc(it->pages, length * sizeof(*wider));
         if (!wider)
             return NULL;
         memset(wider + it->pages_length, 0, (length - it->pages_length) * sizeof(*wider));
         it->pages = wider;
         it->pages_length = length;
     }
-    it->pages[page] = zeroed(PAGE, sizeof(uint16_t));
+    it->pages[page] = zeroed(PAGE, sizeof(Known));
     it->pages_made += it->pages[page] != NULL;
     return it->pages[page];
+}
+
+/* Where what is known of a number is put, or null where memory is wanting. */
+static Known *known_made(Labels *it, hp_session *session, uint32_t number)
+{
+    Known *page = known_page(it, session, number >> PAGE_BITS);
+    return page ? &page[number & (PAGE - 1)] : NULL;
 }
 
 /* Learns the label of a number. */
 static void learn(Labels *it, hp_session *session, uint32_t number, unsigned label)
 {
-    uint16_t *page = label ? label_page(it, session, number >> PAGE_BITS) : NULL;
-    if (page)
-        page[number & (PAGE - 1)] = (uint16_t)label;
+    Known *known = label ? known_made(it, session, number) : NULL;
+    if (known)
+        known->label = (uint16_t)label;
+}
+
+/* Learns the names of the attributes of an element. */
+static void learn_shape(Labels *it, hp_session *session, uint32_t element, unsigned shape)
+{
+    Known *known = shape ? known_made(it, session, element) : known_of(it, element);
+    if (known)
+        known->shape = (uint16_t)shape;
 }
 
 #endif

@@ -109,6 +109,12 @@ static void moved(Calls *it)
         order_drop(&it->order);
 }
 
+/* Tells that the attributes of an element may be others. */
+static void reshaped(Calls *it, uint32_t element)
+{
+    learn_shape(&it->labels, &it->session, element, UNKNOWN);
+}
+
 /* ---- numbers */
 
 /* Where memory is wanting a number is not taken down, and what it names stays until the session ends. */

@@ -163,6 +163,7 @@ static PyObject *calls_read_line(PyObject *self, PyObject *words)
         return NULL;
     let_go_noted((Calls *)self);
     moved((Calls *)self);
+    labels_drop_pages(&((Calls *)self)->labels);
     uint8_t status = hp_line(session_at(self), line.at, line.length);
     ((Calls *)self)->epoch++;
     ((Calls *)self)->has_lines = true;

@@ -24,7 +24,7 @@ typedef struct {
 } Piece;
 
 /* Names of elements. */
-enum { MOST_NAMES = 64 };
+enum { MOST_NAMES = 64, MOST_KNOWN = 64 };
 typedef struct {
     hp_bytes at[MOST_NAMES];
     size_t count;
@@ -227,11 +227,12 @@ static bool push_name(Writing *it, const uint8_t *name, size_t length)
     return push(&it->written, (const char *)name, length);
 }
 
-static bool push_attribute(Writing *it, uint32_t element, const uint8_t *name, size_t length)
+/* Writes the value of an attribute, behind its name. */
+static bool push_value(Writing *it, uint32_t element, const uint8_t *name, size_t length)
 {
     hp_text_view value;
-    return hp_get_attribute(it->session, element, name, length) == HP_OK && hp_text(it->session, &value) == HP_OK && push(&it->written, " ", 1) &&
-           push_name(it, name, length) && push(&it->written, "=\"", 2) && push_text(it, &value, &it->value) && push(&it->written, "\"", 1);
+    return hp_get_attribute(it->session, element, name, length) == HP_OK && hp_text(it->session, &value) == HP_OK && push(&it->written, "=\"", 2) &&
+           push_text(it, &value, &it->value) && push(&it->written, "\"", 1);
 }
 
 /* Copies the names of the attributes of an element, each with its length ahead. */
@@ -248,18 +249,52 @@ static bool list_names(Writing *it, size_t count)
     return true;
 }
 
-static bool push_attributes(Writing *it, uint32_t element)
+/* Asks for the names of the attributes of an element, writes the attributes, and learns the names. */
+static bool push_asked(Writing *it, uint32_t element)
 {
+    Labels *labels = &it->calls->labels;
     size_t count = 0, length = 0;
+    unsigned shape = BARE;
     if (hp_attribute_names(it->session, element) != HP_OK || hp_count(it->session, &count) != HP_OK || !list_names(it, count))
         return false;
     for (size_t at = 0; count && at < it->listed.length; at += length) {
         memcpy(&length, it->listed.at + at, sizeof(length));
         at += sizeof(length);
-        if (!push_attribute(it, element, (const uint8_t *)it->listed.at + at, length))
+        shape = shape_with(labels, shape, it->listed.at + at, length);
+        const uint8_t *name = (const uint8_t *)it->listed.at + at;
+        if (!push(&it->written, " ", 1) || !push_name(it, name, length) || !push_value(it, element, name, length))
             return false;
     }
+    learn_shape(labels, it->session, element, shape);
     return true;
+}
+
+/* Writes an attribute whose name is known. */
+static bool push_known(Writing *it, uint32_t element, unsigned label)
+{
+    const Label *name = &it->calls->labels.at[label];
+    if (!it->marks[label] && !add_to_names(it, (const uint8_t *)name->name, name->length))
+        return false;
+    it->marks[label] = IS_MARKED;
+    return push(&it->written, " ", 1) && push(&it->written, name->name, name->length) && push_value(it, element, (const uint8_t *)name->name, name->length);
+}
+
+static bool push_attributes(Writing *it, uint32_t element)
+{
+    const Labels *labels = &it->calls->labels;
+    unsigned shape = shape_place(labels, element);
+    uint16_t names[MOST_KNOWN];
+    if (shape == BARE)
+        return true;
+    size_t count = shape ? labels->shapes[shape].count : SIZE_MAX;
+    if (count > MOST_KNOWN)
+        return push_asked(it, element);
+    for (size_t at = count; at > 0; shape = labels->shapes[shape].before)
+        names[--at] = labels->shapes[shape].label;
+    bool done = true;
+    for (size_t at = 0; done && at < count; at++)
+        done = push_known(it, element, names[at]);
+    return done;
 }
 
 /* ---- elements */
@@ -282,11 +317,16 @@ static bool push_end(Writing *it, const Open *of)
 {
     if (!of->has_end)
         return true;
-    if (!reserve(&it->written, of->name.length + 3))
+    Buffer *to = &it->written;
+    const size_t length = of->name.length;
+    if (!reserve(to, length + 3))
         return false;
-    push(&it->written, "</", 2);
-    push(&it->written, it->written.at + of->name.at, of->name.length);
-    return push(&it->written, ">", 1);
+    char *at = to->at + to->length;
+    memcpy(at, "</", 2);
+    copy_few(at + 2, to->at + of->name.at, length);
+    at[length + 2] = '>';
+    to->length += length + 3;
+    return true;
 }
 
 static bool opens_push(Opens *it, const Open *open)
