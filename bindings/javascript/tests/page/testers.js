@@ -19,7 +19,10 @@ export const TESTERS = {
     user.value = "ann";
     user.dispatchEvent(new Event("input", { bubbles: true }));
     word.value = "abc";
-    said.push(word.validity.patternMismatch, word.validity.valid, form.checkValidity(), mail.validity.typeMismatch, word.willValidate, form.elements.token.willValidate);
+    said.push(
+      word.validity.patternMismatch, word.validity.valid, form.checkValidity(), mail.validity.typeMismatch, word.willValidate,
+      form.elements.token.willValidate,
+    );
     word.value = "abcd";
     mail.value = " a@b.c ";
     mail.setCustomValidity("taken");
@@ -243,7 +246,7 @@ export const TESTERS = {
     noscript.innerHTML = "<style>a > b {}</style><noscript><p>n</p></noscript><iframe><p></iframe><script>1 < 2</scr" + "ipt><plaintext>rest<p>";
     return [...said, noscript.innerHTML, noscript.querySelector("style").textContent, noscript.children.length];
   },
-  "choices: selects, radios, boxes"({ document, window, Option, Event }) {
+  "choices: selects, radios, boxes"({ document, window, Option }) {
     document.body.innerHTML = `<form><select id=s><optgroup label=g disabled><option value=1>one<option value=2>two</optgroup><option value=3>three</select><fieldset name=set><input type=radio name=r value=a><input type=radio name=r value=b checked><input type=radio name=q value=c></fieldset><input type=checkbox id=box value=v></form>`;
     const form = document.querySelector("form");
     const select = form.querySelector("select");
@@ -310,7 +313,10 @@ export const TESTERS = {
     const [body] = table.tBodies;
     const rows = [...body.rows].sort((one, other) => one.cells[0].textContent - other.cells[0].textContent);
     body.append(...rows);
-    const said = [[...body.rows].map((it) => it.textContent), rows[0].rowIndex, rows[0].sectionRowIndex, table.rows.length, table.tHead.rows[0].cells[0].localName, table.caption.textContent];
+    const said = [
+      [...body.rows].map((it) => it.textContent), rows[0].rowIndex, rows[0].sectionRowIndex, table.rows.length,
+      table.tHead.rows[0].cells[0].localName, table.caption.textContent,
+    ];
     const made = table.insertRow(-1);
     made.insertCell().append("4");
     made.insertCell(0).colSpan = 2;
@@ -338,7 +344,10 @@ export const TESTERS = {
     const said = [classes.length, paragraphs.length, children.length, still.length, children.namedItem("n")?.textContent ?? null, children.i.textContent, document.forms.f.elements.x.length, document.forms[0].elements.length, document.images.pic?.localName];
     document.body.append(document.createElement("p"));
     classes[0].className = "a";
-    said.push(classes.length, paragraphs.length, children.length, still.length, [...children].map((it) => it.localName), Array.from(still, (it) => it.textContent), classes[0] === children[1], classes.item(5), still[9] === undefined);
+    said.push(
+      classes.length, paragraphs.length, children.length, still.length, [...children].map((it) => it.localName),
+      Array.from(still, (it) => it.textContent), classes[0] === children[1], classes.item(5), still[9] === undefined,
+    );
     const names = [];
     still.forEach((it, at, all) => names.push(`${it.id}${at}${all === still}`));
     for (const [at, it] of still.entries()) names.push(`${at}${it.localName}`);
@@ -431,14 +440,20 @@ export const TESTERS = {
     const iterator = document.createNodeIterator(main, NodeFilter.SHOW_TEXT | NodeFilter.SHOW_COMMENT);
     for (let it = iterator.nextNode(); it; it = iterator.nextNode()) said.push(it.data);
     const [first, second] = main.querySelectorAll("p");
-    said.push(first.compareDocumentPosition(second), second.compareDocumentPosition(first), main.compareDocumentPosition(first), main.contains(first), first.contains(null), Node.DOCUMENT_POSITION_FOLLOWING);
+    said.push(
+      first.compareDocumentPosition(second), second.compareDocumentPosition(first), main.compareDocumentPosition(first), main.contains(first),
+      first.contains(null), Node.DOCUMENT_POSITION_FOLLOWING,
+    );
     const copy = main.cloneNode(true);
     said.push(copy.isEqualNode(main), copy.isSameNode(main), copy.isConnected, copy.getRootNode() === copy, main.getRootNode() === document);
     copy.firstChild.title = "t";
     first.append("1", "2", "");
     said.push(copy.isEqualNode(main), first.childNodes.length);
     first.normalize();
-    said.push(first.childNodes.length, first.lastChild.wholeText, first.nextElementSibling === second, second.previousElementSibling === first, main.firstChild.nextSibling.nodeType, main.childElementCount);
+    said.push(
+      first.childNodes.length, first.lastChild.wholeText, first.nextElementSibling === second, second.previousElementSibling === first,
+      main.firstChild.nextSibling.nodeType, main.childElementCount,
+    );
     const fragment = document.createDocumentFragment();
     fragment.append(...main.childNodes);
     said.push(main.hasChildNodes(), fragment.children.length, fragment.textContent, fragment.getElementById("x"), first.parentElement);
