@@ -43,12 +43,19 @@ export function newDocument(session, its) {
 
 const isOf = (document) => documentIs(sessionOf(document), numberOf(document));
 
+/** The name of an element of HTML as a program gives it, in a Document of HTML; it is kept as it was given. */
+function htmlName(session, given) {
+  const name = elementName(session, markedElement(session, { namespace: HTML, local: small(given) }));
+  session.htmlNames.set(given, name);
+  return name;
+}
+
 function createElement(document, name) {
   const session = sessionOf(document);
   const { isHtml, contentType } = isOf(document);
-  const local = isHtml ? small(name) : name;
-  const namespace = isHtml || contentType === XHTML_TYPE ? HTML : null;
-  return createElementNamed(document, elementName(session, markedElement(session, { namespace, local })));
+  if (isHtml) return createElementNamed(document, session.htmlNames.get(name) ?? htmlName(session, name));
+  const namespace = contentType === XHTML_TYPE ? HTML : null;
+  return createElementNamed(document, elementName(session, markedElement(session, { namespace, local: name })));
 }
 
 export function createElementNS(document, namespace, qualified) {
