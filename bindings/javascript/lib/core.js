@@ -256,7 +256,7 @@ export class Session {
     this.#found.push(holders);
     if (this.#found.length > 1) return;
     soon(() => {
-      for (const it of this.#found) it.found = null;
+      for (const it of this.#found) it.forget();
       this.#found = [];
     });
   }

@@ -22,7 +22,7 @@ import {
 import { createRange } from "./ranges.js";
 import { createNodeIterator, createTreeWalker } from "./traversal.js";
 import { known } from "./webidl.js";
-import { documentIs, isNode, keptOf, kindOf, makeThing, numberOf, realmOf, sessionOf, thingOf, wrap, wrapDocument } from "./wrappers.js";
+import { documentIs, isNode, keptOf, kindOf, makeThing, numberOf, realmOf, sessionOf, thingOf, wrapDocument } from "./wrappers.js";
 
 // ---- New Documents.
 

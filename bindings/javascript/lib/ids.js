@@ -18,20 +18,40 @@ export function holdersOf(session, root, name) {
   return found;
 }
 
-/** The elements of a session that have one id: their numbers, and what their objects know, which is kept until the program waits. */
+/** The elements of a session that have one id: their numbers, and, until the program waits, what their objects know and what was answered last. */
 class Holders {
   numbers = new Set();
-  found = null;
+  #found = null;
+  root = null;
+  structure = -1;
+  answer = null;
 
   change(call, number) {
     this.numbers[call](number);
-    this.found = null;
+    this.forget();
   }
 
-  find(session) {
-    this.found = Array.from(this.numbers, (number) => itsOf(wrap(session, number)));
+  forget() {
+    this.#found = this.root = this.answer = null;
+  }
+
+  #find(session) {
+    this.#found = Array.from(this.numbers, (number) => itsOf(wrap(session, number)));
     session.keepFound(this);
-    return this.found;
+    return this.#found;
+  }
+
+  /** The object of the first of them below a root, or null. */
+  firstBelow(root) {
+    const { session } = root;
+    let first = null;
+    for (const it of this.#found ?? this.#find(session)) {
+      if (it !== root && it.root() === root) first = first === null ? it : earlier(session, first, it);
+    }
+    this.root = root;
+    this.structure = session.structure;
+    this.answer = first && first.object;
+    return this.answer;
   }
 }
 
@@ -74,13 +94,7 @@ export function elementById(root, id) {
   if (session.hasSpoken) return readById(root, id);
   const there = session.ids.get(id);
   if (there === undefined) return null;
-  const found = there.found ?? there.find(session);
-  let first = null;
-  for (let at = 0; at < found.length; at++) {
-    const it = found[at];
-    if (it !== its && it.root() === its) first = first === null ? it : earlier(session, first, it);
-  }
-  return first === null ? null : first.object;
+  return there.root === its && there.structure === session.structure ? there.answer : there.firstBelow(its);
 }
 
 /** The same where lines were answered. */

@@ -28,7 +28,6 @@ import {
   parentOf,
   plant,
   previousOf,
-  realmOf,
   replaced,
   rootOf,
   sessionOf,
