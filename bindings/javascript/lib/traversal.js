@@ -99,7 +99,8 @@ class IteratorIs extends Traversal {
 
   /** Moves in the core by a call. */
   move(call) {
-    check(native[call](this.session.index, this.number));
+    const status = call(this.session.index, this.number);
+    if (status !== 0) check(status);
     return out[0];
   }
 
@@ -131,8 +132,8 @@ class IteratorIs extends Traversal {
 const iteratorOf = (it) => thingOf(it, IteratorIs);
 
 /** The courses of an iterator: its call, the node beside another one in tree order, and whether the reference itself comes first. */
-const FORTH = { call: "hp_next_node", beside: nodeAfter, isFirst: (its) => its.isBefore };
-const BACK = { call: "hp_previous_node", beside: nodeBefore, isFirst: (its) => !its.isBefore };
+const FORTH = { call: native.hp_next_node, beside: nodeAfter, isFirst: (its) => its.isBefore };
+const BACK = { call: native.hp_previous_node, beside: nodeBefore, isFirst: (its) => !its.isBefore };
 
 /** By the standard's steps: the pointer moves once the filter has taken a node. One that the filter removed is answered, and the pointer stays ahead of it. */
 function filtered(its, course) {
