@@ -45,19 +45,18 @@ const isOf = (document) => documentIs(sessionOf(document), numberOf(document));
 
 const nameIn = (session, namespace, local) => elementName(session, markedElement(session, { namespace, local }));
 
-/** The name of an element of HTML by what a program calls it, which is kept. */
-function nameOfHtml(session, name) {
-  const known = session.htmlNames.get(name);
-  if (known !== undefined) return known;
-  const made = nameIn(session, HTML, small(name));
-  session.htmlNames.set(name, made);
-  return made;
+/** The name of an element of HTML as a program gives it, in a Document of HTML; it is kept as it was given. */
+function htmlName(session, given) {
+  const name = nameIn(session, HTML, small(given));
+  session.htmlNames.set(given, name);
+  return name;
 }
 
 function createElement(document, name) {
   const session = sessionOf(document);
   const { isHtml, contentType } = isOf(document);
-  return createElementNamed(document, isHtml ? nameOfHtml(session, name) : nameIn(session, contentType === XHTML_TYPE ? HTML : null, name));
+  if (isHtml) return createElementNamed(document, session.htmlNames.get(name) ?? htmlName(session, name));
+  return createElementNamed(document, nameIn(session, contentType === XHTML_TYPE ? HTML : null, name));
 }
 
 export function createElementNS(document, namespace, qualified) {

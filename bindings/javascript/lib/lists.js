@@ -2,7 +2,7 @@
 import { check, native, out } from "./core.js";
 import { HTML } from "./names.js";
 import { known } from "./webidl.js";
-import { firstChildOf, isKnownEmpty, isOfParents, knownChildAt, nextOf, numberOf, realmOf, sessionOf, wrap, wrapChild } from "./wrappers.js";
+import { firstChildOf, isKnownEmpty, isOfParents, knownChildAt, nextOf, numberOf, realmOf, sessionOf, wrap, wrapChild, wrapNext } from "./wrappers.js";
 
 /** Where the last question to a list by an index ended, of all lists: the next one goes on from there, where nothing has moved meanwhile. */
 const cursor = { list: null, structure: -1, index: -1, node: null };
@@ -51,9 +51,16 @@ class LiveIs {
   }
 
   at(index) {
+    if (isAtCursor(this, index) && !this.isOld) return cursor.node;
     const { numbers } = this;
     if (index >= numbers.length) return null;
-    return this.areChildren ? wrapChild(this.node, numbers[index]) : wrap(this.session, numbers[index]);
+    return keepCursor(this, index, this.#wrapped(numbers[index]));
+  }
+
+  /** The object of a number; it often stands beside the one that was asked for before. */
+  #wrapped(number) {
+    if (this.areChildren) return wrapChild(this.node, number);
+    return cursor.list === this ? wrapNext(cursor.node, this.session, number) : wrap(this.session, number);
   }
 }
 
@@ -77,7 +84,7 @@ class ChildrenIs extends LiveIs {
     if (index === 0) return keepCursor(this, 0, firstChildOf(this.node));
     if (isAtCursor(this, index)) return cursor.node;
     if (isAtCursor(this, index - 1)) return keepCursor(this, index, cursor.node && nextOf(cursor.node));
-    return keepCursor(this, index, this.isOld ? this.#asked(index) : super.at(index));
+    return this.isOld ? keepCursor(this, index, this.#asked(index)) : super.at(index);
   }
 
   /** The child at an index, which the core finds from where it was last asked. */
@@ -194,7 +201,9 @@ class Named extends Indexed {
   }
 
   get(target, key, receiver) {
-    return this.#named(target, key) ?? super.get(target, key, receiver);
+    const index = indexOf(key);
+    if (index >= 0) return this.#its.at(index) ?? undefined;
+    return typeof key !== "string" || Reflect.has(target, key) ? Reflect.get(target, key, receiver) : (namedIn(this.#its, key) ?? undefined);
   }
 
   has(target, key) {

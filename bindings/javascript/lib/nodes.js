@@ -17,6 +17,7 @@ import {
   isKnownEmpty,
   isNode,
   isOfParents,
+  itsOf,
   keepName,
   keptOf,
   kindOf,
@@ -174,17 +175,18 @@ function isEqual(node, other) {
 // ---- Changes: each is a call of the module, and then the wrappers follow.
 
 export function insertBefore(parent, node, child) {
-  const session = sessionOf(parent);
-  check(hp_insert_before(session.index, numberOf(parent), numberIn(session, node), numberInOrNone(session, child)));
+  const { session, number } = itsOf(parent);
+  check(hp_insert_before(session.index, number, numberIn(session, node), numberInOrNone(session, child)));
   arrived(node, parent, child);
   session.moved();
   return node;
 }
 
 export function appendChild(parent, node) {
-  const session = sessionOf(parent);
-  check(hp_append_child(session.index, numberOf(parent), numberIn(session, node)));
-  arrived(node, parent, null);
+  const above = itsOf(parent);
+  const { session } = above;
+  check(hp_append_child(session.index, above.number, numberIn(session, node)));
+  itsOf(node).cameInto(above, null);
   session.moved();
   return node;
 }
@@ -198,8 +200,8 @@ export function replaceChild(parent, node, child) {
 }
 
 export function removeChild(parent, child) {
-  const session = sessionOf(parent);
-  check(hp_remove_child(session.index, numberOf(parent), numberIn(session, child)));
+  const { session, number } = itsOf(parent);
+  check(hp_remove_child(session.index, number, numberIn(session, child)));
   departed(child);
   session.moved();
   return child;
@@ -331,11 +333,7 @@ function created(document, kind, status, name) {
 const indexOf = (document) => sessionOf(document).index;
 
 /** An element of a name that the session knows. */
-export function createElementNamed(document, name) {
-  const made = created(document, ELEMENT, element(indexOf(document), numberOf(document), name.number), name);
-  keepName(made, name);
-  return made;
-}
+export const createElementNamed = (document, name) => created(document, ELEMENT, element(indexOf(document), numberOf(document), name.number), name);
 
 export const createElementMarked = (document, core) => createElementNamed(document, elementName(sessionOf(document), core));
 export const createText = (document, text) => created(document, TEXT, hp_create_text(indexOf(document), numberOf(document), text));
