@@ -379,8 +379,11 @@ class Reports(unittest.TestCase):
         return subprocess.run(["/usr/bin/python3", "-c", block], stdout=subprocess.PIPE, text=True, timeout=seconds, check=True).stdout.splitlines()
 
     def never_comes_back(self, call, block):
-        with self.subTest(block.splitlines()[-1]), self.assertRaises(subprocess.TimeoutExpired):
-            call(block)
+        """A block that never comes back ends by its time; where it fills node's memory sooner, node ends itself."""
+        with self.subTest(block.splitlines()[-1]):
+            with self.assertRaises((subprocess.TimeoutExpired, subprocess.CalledProcessError)) as raised:
+                call(block)
+            self.assertEqual(getattr(raised.exception, "returncode", -signal.SIGABRT), -signal.SIGABRT)
 
     def test_in_node(self):
         for name, module in self.IN_NODE.items():
