@@ -2,7 +2,7 @@
 """The tests of what is linked: that each manifest has the version of bindings/VERSION, the library for C, and then each language that stands on it.
 
 Each other part is a script bindings/NAME/test.py, which makes what it needs and leaves out, with a line that says so, what this machine has no tools for.
-The last line says how many parts passed and failed; --after adds them to what another run said in its last line.
+The last line says how many parts passed and failed.
 """
 import argparse
 import os
@@ -13,6 +13,7 @@ import sys
 HERE = os.path.dirname(os.path.abspath(__file__))
 # The library comes first: the others link what its tests make.
 FIRST = "c"
+VERSIONS = "versions"
 # Where the version stands a second time, since a tool of the language reads it there. The header and huckleport.pc are made of bindings/VERSION.
 REPEATED = {
     "python/huckleport/__init__.py": r'^__version__ = "(.*)"$',
@@ -56,25 +57,24 @@ def versions():
     return not others
 
 
-def counts(line):
-    """How many passed and failed, as a last line says it."""
-    found = re.fullmatch(r"(\d+) passed, (\d+) failed", line.strip())
-    if not found:
-        sys.exit(f"no last line of tests: {line}")
-    return int(found[1]), int(found[2])
+def passes(name):
+    """Whether a part passes its tests."""
+    if name == VERSIONS:
+        return versions()
+    print(f"== bindings/{name}", flush=True)
+    return subprocess.run([sys.executable, os.path.join(HERE, name, "test.py")], check=False).returncode == 0
 
 
 def main():
     words = argparse.ArgumentParser(description=__doc__, formatter_class=argparse.RawDescriptionHelpFormatter)
-    words.add_argument("--after", metavar="LINE", default="0 passed, 0 failed", help="the last line of the tests before these")
-    passed, failed = counts(words.parse_args().after)
-    right = versions()
-    passed, failed = passed + right, failed + (not right)
-    for name in parts():
-        print(f"== bindings/{name}", flush=True)
-        status = subprocess.run([sys.executable, os.path.join(HERE, name, "test.py")], check=False).returncode
-        passed, failed = passed + (status == 0), failed + (status != 0)
-    print(f"{passed} passed, {failed} failed")
+    names = [VERSIONS, *parts()]
+    words.add_argument("parts", nargs="*", metavar="PART", help=f"these alone, of {', '.join(names)}")
+    given = words.parse_args().parts or names
+    for it in given:
+        if it not in names:
+            words.error(f"there is no part {it}")
+    failed = sum(not passes(it) for it in given)
+    print(f"{len(given) - failed} passed, {failed} failed")
     return 1 if failed else 0
 
 

@@ -379,11 +379,11 @@ class Reports(unittest.TestCase):
         return subprocess.run(["/usr/bin/python3", "-c", block], stdout=subprocess.PIPE, text=True, timeout=seconds, check=True).stdout.splitlines()
 
     def never_comes_back(self, call, block):
-        """A block that never comes back ends by its time; where it fills node's memory sooner, node ends itself."""
+        """A block has to be ended from outside: after some seconds, or as it takes more memory than it may."""
         with self.subTest(block.splitlines()[-1]):
-            with self.assertRaises((subprocess.TimeoutExpired, subprocess.CalledProcessError)) as raised:
+            with self.assertRaises((subprocess.TimeoutExpired, subprocess.CalledProcessError)) as ended:
                 call(block)
-            self.assertEqual(getattr(raised.exception, "returncode", -signal.SIGABRT), -signal.SIGABRT)
+            self.assertIn(getattr(ended.exception, "returncode", -signal.SIGABRT), [-signal.SIGABRT])
 
     def test_in_node(self):
         for name, module in self.IN_NODE.items():
@@ -426,31 +426,21 @@ class Reports(unittest.TestCase):
                 self.check([it], [self.in_python(it)])
 
 
-def counts(line):
-    """How many passed and failed, as the last line of other tests says it."""
-    found = re.fullmatch(r"(\d+) passed, (\d+) failed", line.strip())
-    if not found:
-        sys.exit(f"no last line of tests: {line}")
-    return int(found[1]), int(found[2])
-
-
 def main():
     words = argparse.ArgumentParser(description=__doc__, formatter_class=argparse.RawDescriptionHelpFormatter)
     words.add_argument("--program", default=GIVEN.program, help="the program (crates/domserve/out/domserve)")
     words.add_argument("--library", default=GIVEN.library, metavar="FOLDER", help="the folder of libhuckleport.so (bindings/c/out)")
-    words.add_argument("--after", metavar="LINE", default="0 passed, 0 failed", help="the last line of the tests before these")
     words.add_argument("only", nargs="*", metavar="NAME", help="only these tests, as unittest names them")
     given = words.parse_args()
     GIVEN.program, GIVEN.library = os.path.abspath(given.program), os.path.abspath(given.library)
-    passed, failed = counts(given.after)
     if not os.access(GIVEN.program, os.X_OK):
-        print(f"left out: the referee, since {given.program} is not built\n{passed} passed, {failed} failed")
+        print(f"left out: the referee, since {given.program} is not built\n0 passed, 0 failed")
         return 0
     names = given.only or [it.__name__ for it in (Words, Lines, Itself, Kept, Bodies, Players, Reports)]
     found = unittest.defaultTestLoader.loadTestsFromNames(names, sys.modules[__name__])
     ran = unittest.TextTestRunner(verbosity=1).run(found)
     wrong_ones = len({getattr(test, "test_case", test).id() for test, _ in [*ran.failures, *ran.errors]})
-    print(f"{passed + ran.testsRun - wrong_ones} passed, {failed + wrong_ones} failed")
+    print(f"{ran.testsRun - wrong_ones} passed, {wrong_ones} failed")
     return 0 if ran.wasSuccessful() else 1
 
 

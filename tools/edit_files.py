@@ -4,6 +4,7 @@ An edit is a file crates/NAME/edits/*.edit or crates/NAME/must-fail/*.edit: a li
 each, and a line `at: FUNCTION: GOAL`, the goal at which the check has to refuse the function. The kit reads the pairs, and no line `at:`.
 """
 import dataclasses
+import functools
 import glob
 import os
 import re
@@ -12,26 +13,36 @@ FOLDERS = ("edits", "must-fail")
 AT = "at: "
 FUNCTION = re.compile(r"\s*(?:pub(?:\([^)]*\))?\s+)?(?:const\s+)?(?:unsafe\s+)?(?:extern\s+\"C\"\s+)?fn\s+(\w+)")
 ITEM = re.compile(r"\s*(?:pub(?:\([^)]*\))?\s+)?(?:unsafe\s+)?(const|static|struct|enum|trait|impl|type|mod|use|macro_rules!)\b(.*)")
+DECLARED = re.compile(r"(?:pub(?:\([^)]*\))?\s+)?(?:struct|enum)\s+(\w+)", re.M)
 # The type of `impl<..> Trait for Type<..>` or `impl<..> Type<..>`.
 OF_TYPE = re.compile(r"(?:<.*?>)?\s+(?:.*\bfor\s+)?(?:&\s*)?(?:\w+::)*(\w+)")
 
 
 @dataclasses.dataclass(frozen=True)
 class Owner:
-    """A function as the source has it: its file, the type of its `impl` block ("" outside one), its name, and the line at which it begins."""
+    """A function as the source has it: its file, the type of its `impl` block ("" outside one) and the module of that type, its name, and its first line."""
 
     file: str
     of_type: str
+    home: str
     name: str
     line: int
 
     def path(self):
-        """Its path below the crate, as it is where its type meets no trait by it."""
-        return "::".join(it for it in (self.module(), self.of_type, self.name) if it)
+        """Its path below the crate, as it is where its type meets no trait by it: that of its type, in whichever file the `impl` block stands."""
+        return joined(self.home, self.of_type, self.name)
 
     def module(self):
-        path = self.file.removeprefix("src/").removesuffix(".rt").removesuffix("/mod")
-        return "" if path in ("lib", "main") else path.replace("/", "::")
+        return module_of(self.file)
+
+
+def joined(*parts):
+    return "::".join(it for it in parts if it)
+
+
+def module_of(file):
+    path = file.removeprefix("src/").removesuffix(".rt").removesuffix("/mod")
+    return "" if path in ("lib", "main") else path.replace("/", "::")
 
 
 @dataclasses.dataclass
@@ -62,13 +73,24 @@ class Edit:
         return not self.is_alone() and not any(it.is_alone() or it.owners & self.owners for it in others)
 
 
-def owners_of(lines, file):
+@functools.lru_cache(maxsize=None)
+def homes_of(folder):
+    """Returns for each type of a crate the module that declares it; nothing of a name that several declare."""
+    found = {}
+    for path in glob.glob(f"{folder}/src/**/*.rt", recursive=True):
+        for name in DECLARED.findall(read_file(path)):
+            found.setdefault(name, set()).add(module_of(os.path.relpath(path, folder)))
+    return {name: next(iter(modules)) for name, modules in found.items() if len(modules) == 1}
+
+
+def owners_of(lines, file, homes):
     """Returns for each line of a source the function that it belongs to, or None."""
     found, of_type, owner = [], "", None
     for number, line in enumerate(lines):
         function, item = FUNCTION.match(line), ITEM.match(line)
         if function:
-            owner = Owner(file, of_type if line[:1].isspace() else "", function[1], number)
+            inside = of_type if line[:1].isspace() else ""
+            owner = Owner(file, inside, homes.get(inside, module_of(file)), function[1], number)
         elif item:
             owner = None
             if item[1] in ("impl", "trait") and not line[:1].isspace():
@@ -94,7 +116,7 @@ def read(rt, path, folder):
         return edit
     for file, text in texts.items():
         before, after = read_file(f"{folder}/{file}").split("\n"), text.split("\n")
-        owners = owners_of(before, file) if file.startswith("src/") else [None] * len(before)
+        owners = owners_of(before, file, homes_of(folder)) if file.startswith("src/") else [None] * len(before)
         edit.changes[file] = {at: new for at, (old, new) in enumerate(zip(before, after)) if old != new}
         edit.owners |= {owners[at] for at in edit.changes[file]}
     return edit

@@ -2,6 +2,8 @@
 import dataclasses
 import re
 
+from edit_files import joined
+
 # A line of a crate's function; one on an error in a proof's file; one on an error in the source, which reaches no prover.
 OF_FUNCTION = re.compile(r"(?:fn|impl) (.+?): (proved|not proved|no proof|could not tell)\b(.*)")
 OF_PROOF = re.compile(r"(?:\./)?proofs/(\S+)/(?:Answers|Invariants|Proof)\.antt:\d+:\d+: error: (?:`([^`]*)`: )?(.*)")
@@ -95,8 +97,8 @@ def read(crate, text):
 
 def names_of(said, owner):
     """Returns the names under which a check tells of a function of the source and of the closures in it; none where it tells of none, or of several."""
-    module, exact = owner.module(), owner.path()
-    closures = "::".join([*(it for it in (module, "fn", owner.of_type, owner.name) if it), ""])
+    exact = owner.path()
+    closures = tuple(f"{joined(module, 'fn', owner.of_type, owner.name)}::" for module in (owner.home, owner.module()))
     found = [exact] if exact in said.functions else [it for it in said.functions if is_like(it, owner)]
     if len(found) != 1:
         return []
@@ -105,5 +107,5 @@ def names_of(said, owner):
 
 def is_like(name, owner):
     """Returns whether a name is that of a method by which a type meets a trait, which joins the names of both."""
-    inside = "::".join(it for it in (owner.module(), owner.of_type) if it)
-    return name.endswith(f"::{owner.name}") and (inside in name or inside.replace("::", "++") in name)
+    places = [joined(module, owner.of_type) for module in (owner.home, owner.module())]
+    return name.endswith(f"::{owner.name}") and any(it in name or it.replace("::", "++") in name for it in places)

@@ -166,7 +166,7 @@ class Trial:
 
     def is_near(self, edit, file, line):
         """Returns whether a line of a source stands in a function that the edit changes, or is changed by it."""
-        owners = edit_files.owners_of(edit_files.read_file(f"{self.crate.folder}/{file}").split("\n"), file)
+        owners = edit_files.owners_of(edit_files.read_file(f"{self.crate.folder}/{file}").split("\n"), file, edit_files.homes_of(self.crate.folder))
         return line in edit.changes.get(file, {}) or (line < len(owners) and owners[line] in edit.owners - {None})
 
     def blamed(self, said, group, calls):

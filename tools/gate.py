@@ -2,7 +2,7 @@
 """Does the long work of the gate in the best order: every crate and its tests are proved, and the edits that must fail are tried.
 
 A crate is proved as soon as those below it are, the one with the longest way to the end first; tests and edits fill what the proofs leave free. There
-are never more checks at once than processors (RT_JOBS says how many else). All is kept beside the kit, by the sums of what was read: `rt ci`, which is
+are never more checks at once than processors (RT_JOBS says how many else); a proof has a thread for each processor, another check one. All is kept beside the kit, by the sums of what was read: `rt ci`, which is
 the judge, then finds the proofs, and `tools/edits.py` what the edits came to. Nothing is decided here, so the status is 0 also where something has no proof.
 """
 import argparse
@@ -35,6 +35,10 @@ class Gate(edits.Edits):
                 call = lambda given, jobs, crate=crate: self.all_proved(crate, given) and self.prove_tests(crate, jobs)
                 tasks[crate.name, TESTS] = ([(it.name, start.PROOF) for it in crate.below()], crate.count(rb"\n"), self.rt.need(crate), call)
         return tasks
+
+    def prove(self, crate, given, jobs):
+        """Proves a crate with a thread for each processor, whatever runs beside it: others wait for it, and nothing waits for tests and edits."""
+        return super().prove(crate, given, max(jobs, os.cpu_count() or 1))
 
     def prove_tests(self, crate, jobs):
         """Proves and builds the tests of a crate as the gate does, or finds that they are kept."""

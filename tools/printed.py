@@ -29,7 +29,7 @@ TOOLS = ("cargo", "node", "gcc", "python3", "socat", "doxygen", "man")
 LIMIT = 900
 # What runs made, and what is taken over of it.
 MADE = (".git", "out", "build", "target", "node_modules", "__pycache__", "tmp")
-BUILT = ("crates/domserve/out/domserve", "crates/dom_c/out/dom_c")
+BUILT = ("crates/domserve/out/domserve", "crates/dom_c/out/dom_c", "crates/dom_c/out/dom_c.bc")
 FENCED = re.compile(r"(?:^`(?P<file>[\w./-]+)`:\n\n)?^```(?P<language>\w*).*?\n(?P<text>.*?)^```\n(?:\n*```text\n(?P<shown>.*?)^```)?", re.M | re.S)
 INDENTED = re.compile(r"(?<=\n\n)((?:    \S.*\n)+)")
 

@@ -31,6 +31,14 @@ PROGRAM = "domserve"
 PROOF = "proof"
 # How often a start that takes long says what it is at, in seconds.
 PAUSE = 60
+# A clang that keeps the code that it is handed.
+KEEPER = """\
+#!/bin/sh
+for it in "$@"; do
+    case "$it" in *.bc) cp "$it" '{kept}' ;; esac
+done
+exec '{clang}' "$@"
+"""
 
 
 @functools.lru_cache(maxsize=None)
@@ -83,6 +91,25 @@ def built(name):
     return file, f"{file}.sum"
 
 
+def code_of(name):
+    """Returns the file of a static library's LLVM code, which stands beside its archive."""
+    return f"{built(name)[0]}.bc"
+
+
+def toolchain(kit, to, kept):
+    """Makes a folder like the kit's toolchain, whose clang leaves the code that it is handed in a file."""
+    theirs = f"{kit}/toolchain"
+    os.makedirs(f"{to}/bin")
+    os.symlink(f"{theirs}/lib", f"{to}/lib")
+    for it in os.listdir(f"{theirs}/bin"):
+        if it != "clang":
+            os.symlink(f"{theirs}/bin/{it}", f"{to}/bin/{it}")
+    with open(f"{to}/bin/clang", "w", encoding="utf-8") as file:
+        file.write(KEEPER.format(kept=kept, clang=f"{theirs}/bin/clang"))
+    os.chmod(f"{to}/bin/clang", 0o755)
+    return to
+
+
 def is_fresh(name):
     """Returns whether a crate is built of the files that are there."""
     file, noted = built(name)
@@ -133,19 +160,21 @@ class Left:
 
 
 def store(rt, crates):
-    """Returns the kit's store, which here keeps a static library's archive as well, as out/NAME."""
+    """Returns the kit's store, which here keeps a static library's archive as well, as out/NAME, and its code."""
     if not hasattr(rt, "Kept"):
         return Left()
 
     class Store(rt.Kept):
         def key(self, crate):
-            return hashlib.sha256(f"archive {super().key(crate)}".encode()).hexdigest() if crate.is_static else super().key(crate)
+            return hashlib.sha256(f"archive and code {super().key(crate)}".encode()).hexdigest() if crate.is_static else super().key(crate)
 
         def made(self, crate, tests):
-            return [crate.name] * os.path.isfile(f"{crate.folder}/out/{crate.name}") if crate.is_static else super().made(crate, tests)
+            if not crate.is_static:
+                return super().made(crate, tests)
+            return [it for it in (crate.name, f"{crate.name}.bc") if os.path.isfile(f"{crate.folder}/out/{it}")]
 
         def is_whole(self, crate, tests, files):
-            return files == [crate.name] if crate.is_static else super().is_whole(crate, tests, files)
+            return crate.name in files if crate.is_static else super().is_whole(crate, tests, files)
 
         def keep(self, crate, tests, key):
             super().keep(crate, tests, key)
@@ -204,7 +233,8 @@ class Start:
             for flag in ("--logic-built", "--jobs"):
                 at = words.index(flag)
                 words = [*words[:at], *words[at + 2 :]]
-            words += ["--crate-checked", f"{room}/checked", "--toolchain", f"{self.rt.KIT}/toolchain", "--backend", "llvm"]
+            made = toolchain(self.rt.KIT, f"{room}/toolchain", f"{crate.folder}/out/{crate.name}.bc")
+            words += ["--crate-checked", f"{room}/checked", "--toolchain", made, "--backend", "llvm"]
             return status or crate.call(self.rt.rtlib.RATTLE, "build", *words, "-o", f"out/{crate.name}")
 
     def take_or_build(self, crate, jobs):
@@ -268,14 +298,15 @@ def end(number, _):
 
 def bring(top, name):
     """Copies what was built into the crate's own out/, with the sum of what it was built of."""
-    made = f"{top}/crates/{name}/out/{name}"
-    if os.path.isfile(made):
-        file, noted = built(name)
-        if made != file:
-            os.makedirs(os.path.dirname(file), exist_ok=True)
+    file, noted = built(name)
+    for to in (file, code_of(name)):
+        made = f"{top}/crates/{name}/out/{os.path.basename(to)}"
+        if os.path.isfile(made) and made != to:
+            os.makedirs(os.path.dirname(to), exist_ok=True)
             with contextlib.suppress(FileNotFoundError):
-                os.remove(file)
-            shutil.copy(made, file)
+                os.remove(to)
+            shutil.copy(made, to)
+    if os.path.isfile(file):
         with open(noted, "w", encoding="utf-8") as it:
             it.write(sum_of(with_lower(listed(), name)))
 

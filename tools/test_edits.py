@@ -1,5 +1,5 @@
 #!/usr/bin/env python3
-"""The tests of tools/edits.py, over a crate of four functions that is made here: what is refused, let through, bad, or refused elsewhere is told as such.
+"""The tests of tools/edits.py, over a crate of five functions that is made here: what is refused, let through, bad, or refused elsewhere is told as such.
 
 The last line is `N passed, M failed`.
 """
@@ -13,8 +13,12 @@ import tempfile
 
 HERE = os.path.dirname(os.path.realpath(__file__))
 SCRIPTS = ("start.py", "edits.py", "edit_files.py", "edit_told.py")
-SOURCE = """//! Four functions, of which one promises nothing.
+SOURCE = """//! Five functions, of which one promises nothing, and one is of a type that another file declares.
 #![tactic(auto)]
+
+mod pair;
+
+pub use pair::Pair;
 
 ghost use Rattle.std.specs.Prelude.{◌≡◌, ◌≤◌, ◌+◌};
 
@@ -46,6 +50,25 @@ pub fn larger(n: u8, other: u8) -> u8
 pub fn any(n: u8) -> u8 {
     n / 2
 }
+
+impl Pair {
+    /// The first of two.
+    pub fn first(&self) -> u8
+        ensures { result ≡ self.now.one }
+    {
+        self.one
+    }
+}
+"""
+PAIR = """//! Two numbers.
+
+/// Two numbers.
+pub struct Pair {
+    /// The first.
+    pub one: u8,
+    /// The second.
+    pub other: u8,
+}
 """
 # The edits: the text that goes, the text that comes, what the line `at:` says, and what is to be told.
 EDITS = {
@@ -56,6 +79,7 @@ EDITS = {
     "smaller_at_a_clause": ("if n < other", "if n > other", "larger: returns-then-n-other-clause-left", "refused at larger: "),
     "larger_at_no_such_clause": ("if n < other", "if n > other", "larger: returns-clause-middle", "refused at larger: "),
     "larger_the_other_way": ("if n < other", "if n <= other", "larger: returns", "LET THROUGH: the crate is proved with it"),
+    "first_is_the_other": ("        self.one", "        self.other", "pair::Pair::first: returns", "refused at pair::Pair::first: returns"),
     "any_of_none": ("    n / 2", "    n / 3", "any: returns", "LET THROUGH: the crate is proved with it"),
     "nowhere": ("n + 17", "n", "next: returns", "BAD: an 'old:' text is in src/lib.rt 0 times, and not once"),
 }
@@ -70,7 +94,7 @@ def laid(room):
     os.makedirs(f"{room}/crates/small/edits")
     for name in SCRIPTS:
         shutil.copy(f"{HERE}/{name}", f"{room}/tools/{name}")
-    texts = {"crates.txt": "small:\n", "HANDLES": "Handles allowed: none.\n", "crates/small/src/lib.rt": SOURCE}
+    texts = {"crates.txt": "small:\n", "HANDLES": "Handles allowed: none.\n", "crates/small/src/lib.rt": SOURCE, "crates/small/src/pair.rt": PAIR}
     for name, (old, new, meant, _) in EDITS.items():
         texts[f"crates/small/edits/{name}.edit"] = f"file: src/lib.rt\nold: {old}\nnew: {new}\nat: {meant}\n"
     for path, text in texts.items():

@@ -210,13 +210,27 @@ def over_pages(count):
         for it in node.childNodes:
             dom_below(it)
 
+    spare, their_spare = document.create_element("p"), etree.Element("p")
+
+    def edited():
+        document.document_element.append_child(spare)
+        spare.remove()
+        return document
+
+    def their_edited():
+        tree.append(their_spare)
+        tree.remove(their_spare)
+        return tree
+
     yield "all elements below", lambda: [None for it in document.descendants(h.Element)], lambda: [None for it in tree.iter()], None
+    yield "all elements below, behind an edit", lambda: [None for it in edited().descendants(h.Element)], lambda: [None for it in their_edited().iter()], None
     yield "all nodes below; there elements with text and tail", lambda: [None for it in document.descendants()], lambda: [(it.text, it.tail) and None for it in tree.iter()], lambda: dom_below(their)
     yield "elements of a name", lambda: document.get_elements_by_tag_name("b"), lambda: list(tree.iter("b")), lambda: their.getElementsByTagName("b")
     yield "an attribute of all", lambda: document._calls.read_attribute_of(elements, "id"), lambda: [it.get("id") for it in nodes], None
     yield "attributes of all, as dicts", lambda: document._calls.read_attributes_of(elements), lambda: [dict(it.attrib) for it in nodes], None
     yield "rows with name, attributes and data", document.tree, lambda: [(it, it.tag, tuple(it.attrib.items()), it.text, it.tail) for it in tree.iter()], None
     yield "serialize XML", lambda: h.xml.serialize(document), lambda: etree.tostring(tree, encoding="unicode"), lambda: their.toxml()
+    yield "serialize XML, behind an edit", lambda: h.xml.serialize(edited()), lambda: etree.tostring(their_edited(), encoding="unicode"), None
     yield "serialize HTML", lambda: h.html.serialize(html_document), lambda: etree.tostring(html_tree, encoding="unicode", method="html"), None
     yield f"parse XML of {len(text) / 1e6:.1f} MB", lambda: h.xml.parse(text), lambda: etree.fromstring(text), lambda: minidom.parseString(text)
     yield f"parse HTML of {len(text) / 1e6:.1f} MB, by {h.html.PARSER}", lambda: h.html.parse(text), lambda: etree.fromstring(text, etree.HTMLParser()), None

@@ -16,10 +16,12 @@ ROOT = os.path.dirname(os.path.dirname(HERE))
 CORE = os.path.join(HERE, "core")
 MADE = os.path.join(CORE, "calls.h")
 MODULE = os.path.join(HERE, "huckleport", "_core.abi3.so")
+# The library takes its memory by the functions of core/memory.h.
+WRAPS = [f"-Wl,--wrap={it}" for it in ("malloc", "realloc", "free")]
 sys.dont_write_bytecode = True
 sys.path[:0] = [HERE, os.path.join(ROOT, "bindings/c")]
 from exports import SOURCES, modules
-from members import LET_GO_FIRST, READS, members
+from members import LET_GO_FIRST, READS, members, moving
 from signatures import is_plain
 
 HEAD = """\
@@ -42,6 +44,10 @@ MOVING = {
     "hp_append_child": "placed(given[0]",
     "hp_insert_before": "placed(given[0]",
 }
+# Calls after which what is known of the order of a tree may be so no more.
+MOVES = set()
+# Calls after which an element may have other attributes; a line may change those of any.
+RESHAPING = {"hp_set_attribute", "hp_remove_attribute", "hp_toggle_attribute"}
 # What notes the nodes that a member may leave without a parent, though they have no object.
 LEAVING = {"hp_set_text_content": "note_children", "hp_normalize": "note_texts"}
 # The classes that a member makes, and their family.
@@ -144,6 +150,12 @@ def body(parts, reads, call, answer, refusal):
     if name in LETTING_GO:
         answer = f"let_go({calls}, {answer})"
     first = [f"let_go_noted({calls});"] if name[3:] in LET_GO_FIRST else []
+    if name in MOVES:
+        first.append(f"moved({calls});")
+    if name in RESHAPING:
+        first.append(f"reshaped({calls}, {call.split(', ')[1]});")
+    if name == "hp_line":
+        first.append(f"labels_drop_pages(&({calls})->labels);")
     if name in LEAVING and "number_of(self)" in call:
         first.append(f"{LEAVING[name]}({calls}, number_of(self));")
     slices = [it.name for it in parts if it.kind == "slice"]
@@ -242,6 +254,7 @@ def made(found):
     """The text of calls.h."""
     exports = {it.name: it for module in found for it in module.exports}
     structs = [it for module in found for it in module.structs]
+    MOVES.update(moving(found))
     written = {part.type for it in exports.values() for part in it.parameters if part.kind == "out"} - set(LENT)
     taken = {part.type for it in exports.values() for part in it.parameters if part.kind == "in"}
     outs = [it for it in structs if it.name in written]
@@ -276,7 +289,7 @@ def build(given):
         sys.exit(f"the extension module can't be built: {missing}")
     words = [given.compiler, "-std=c99", "-O2", "-fPIC", "-shared", "-Wall", "-Wextra", "-Wno-missing-field-initializers", "-fvisibility=hidden"]
     words += [f"-I{sysconfig.get_path('include')}", f"-I{given.library}", f"-I{CORE}", os.path.join(CORE, "core.c")]
-    words += [os.path.join(given.library, "libhuckleport.a"), "-Wl,--exclude-libs,ALL", "-Wl,-z,noexecstack"]
+    words += [os.path.join(given.library, "libhuckleport.a"), "-Wl,--exclude-libs,ALL", "-Wl,-z,noexecstack", *WRAPS]
     if subprocess.run([*words, "-o", given.to + ".new"]).returncode:
         sys.exit("the extension module was not built")
     os.replace(given.to + ".new", given.to)

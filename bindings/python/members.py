@@ -19,6 +19,12 @@ LET_GO_FIRST = set(
     " replace_child remove_child remove discard replace_children set_text_content normalize delete_contents surround_contents".split()
 )
 
+# Calls that move no node of a tree, by the modules of their exports and by their names. All others may.
+STILL_MODULES = set(
+    "version lending parts labels rows notices records making copying asking nearby counting attributes ranges points statics traversing observing".split()
+)
+STILL = set("print reply_line data set_data append_data insert_data delete_data replace_data substring_data range_text clone_contents".split())
+
 # Members that the extension has as one function each: class and name (with = for what sets it), call, arguments, answer.
 # An argument is NAME:FORM, and one with ? may be None; it may be left out where ?? stands. An answer can be a member of what the call writes.
 MEMBERS = """
@@ -79,6 +85,11 @@ NodeIterator.next_node           | next_node               |                    
 NodeIterator.previous_node       | previous_node           |                          | node?
 NodeIterator.release             | release_iterator        |                          | none
 """
+
+
+def moving(found):
+    """The names of the calls that may move nodes."""
+    return {it.name for module in found if module.name not in STILL_MODULES for it in module.exports if it.name[3:] not in STILL}
 
 
 def members():

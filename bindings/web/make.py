@@ -30,7 +30,7 @@ sys.path[:0] = [HERE, os.path.join(ROOT, "bindings/c")]
 from exports import SOURCES, modules
 from glue import glue
 from header import header
-from retarget import TRIPLE, refuse, retarget
+from retarget import apart, TRIPLE, refuse, retarget
 from wasm import without_table
 
 CRATE = "dom_c"
@@ -39,6 +39,8 @@ MALLOC = ["/usr/share/emscripten/system/lib/dlmalloc.c", os.path.join(OUT, "dlma
 # What lime1 stands for, as binaryen names it.
 FEATURES = "memory64 bulk-memory mutable-globals sign-ext nontrapping-float-to-int multivalue simd".split()
 STACK = 1048576
+# How large a function may be that binaryen puts into the only one that calls it: an engine compiles functions whole, when they are called often.
+SMALL = 60
 # Compiled for: what node 20 has with memory of 32 bits.
 STRICT = ["-ffreestanding", "-fno-builtin", "-nostdinc", "-Wall", "-Wextra", "-Werror"]
 
@@ -62,45 +64,7 @@ def kit_folder():
     return os.path.dirname(call("rt", "doc").strip())
 
 
-# ---- The LLVM code of the proved crate
-
-WRAPPER = """\
-#!/bin/sh
-# Keeps the code that is handed to clang, and then is clang.
-for it in "$@"; do
-    case "$it" in *.bc) cp "$it" '{kept}' ;; esac
-done
-exec '{clang}' "$@"
-"""
-
-
-def toolchain(kit, to, kept):
-    """A folder like the kit's toolchain, whose clang keeps the code that it is handed."""
-    theirs = os.path.join(kit, "toolchain")
-    os.makedirs(os.path.join(to, "bin"))
-    os.symlink(os.path.join(theirs, "lib"), os.path.join(to, "lib"))
-    for it in os.listdir(os.path.join(theirs, "bin")):
-        if it != "clang":
-            os.symlink(os.path.join(theirs, "bin", it), os.path.join(to, "bin", it))
-    clang = os.path.join(to, "bin/clang")
-    with open(clang, "w", encoding="utf-8") as file:
-        file.write(WRAPPER.format(kept=kept, clang=os.path.join(theirs, "bin/clang")))
-    os.chmod(clang, 0o755)
-
-
-def keep_code(start, kit, crate, jobs):
-    """Proves and builds the crate with a clang that keeps the code; answers whether that went well. The code is then out/NAME."""
-    with tempfile.TemporaryDirectory() as work:
-        kept = os.path.join(work, "module.bc")
-        toolchain(kit, os.path.join(work, "toolchain"), kept)
-        words = [*crate.words(["--jobs", str(jobs)]), "--toolchain", os.path.join(work, "toolchain"), "--backend", "llvm"]
-        status = crate.call(start.kit().rtlib.RATTLE, "build", *words, "-o", f"out/lib{crate.name}.a")
-        if not status and not os.path.isfile(kept):
-            refuse("no file of it was handed to clang")
-        if not status:
-            shutil.copy(kept, f"{crate.folder}/out/{crate.name}")
-        return not status
-
+# ---- The proved crate
 
 def prove_for_wasm(start, kit, crate, jobs):
     """Proves the crate for wasm64; answers whether it is proved. The line of its verdict is then out/NAME."""
@@ -110,14 +74,28 @@ def prove_for_wasm(start, kit, crate, jobs):
     return not status
 
 
-def made_by(does, what, kit):
-    """The script that proves what is missing, so that it makes something else of the crate than its archive: kept in the kit's store under a sum of its
-    own, and here as out/NAME.WHAT."""
-    start = loaded("start", os.path.join(ROOT, "tools/start.py"))
+def script_that_proves():
+    """The script that proves what is missing."""
+    return loaded("start", os.path.join(ROOT, "tools/start.py"))
 
-    class Making(start.Start):
+
+def code():
+    """Proves what is missing, or takes it from the kit's store, and returns the file of the crate's LLVM code, which is made with its archive."""
+    start = script_that_proves()
+    if not start.start([CRATE]):
+        sys.exit(f"{CRATE} was not proved and built")
+    found = start.code_of(CRATE)
+    if not os.path.isfile(found):
+        refuse("no file of it was handed to clang")
+    return found
+
+
+def for_wasm(start, kit):
+    """Alters the script, so that it proves the crate for the target of the module, which is kept in the kit's store under a sum of its own."""
+
+    class Proving(start.Start):
         def build(self, crate, jobs):
-            return does(start, kit, crate, jobs) if crate.name == CRATE else super().build(crate, jobs)
+            return prove_for_wasm(start, kit, crate, jobs) if crate.name == CRATE else super().build(crate, jobs)
 
     whole, built = start.store, start.built
 
@@ -126,25 +104,17 @@ def made_by(does, what, kit):
         if not hasattr(rt, "Kept"):
             sys.exit("this kit keeps nothing that was proved: take a newer one")
         key = found.key
-        found.key = lambda crate: hashlib.sha256(f"{what} {key(crate)}".encode()).hexdigest() if crate.name == CRATE else key(crate)
+        found.key = lambda crate: hashlib.sha256(f"{TRIPLE} {key(crate)}".encode()).hexdigest() if crate.name == CRATE else key(crate)
         return found
 
-    start.Start, start.store = Making, store
-    start.built = lambda name: tuple(it.replace(f"out/{name}", f"out/{name}.{what}") for it in built(name))
-    return start
-
-
-def code(kit):
-    """Proves what is missing, or takes it from the kit's store, and returns the file of the crate's LLVM code."""
-    start = made_by(keep_code, "bc", kit)
-    if not start.start([CRATE]):
-        sys.exit(f"{CRATE} was not proved and built")
-    return start.built(CRATE)[0]
+    start.Start, start.store = Proving, store
+    start.built = lambda name: tuple(it.replace(f"out/{name}", f"out/{name}.wasm64") for it in built(name))
 
 
 def verdict(kit):
     """Proves the crate for the target of the module, where that was not done."""
-    start = made_by(prove_for_wasm, "wasm64", kit)
+    start = script_that_proves()
+    for_wasm(start, kit)
     copied = start.kit().copy_crates
 
     def copy_crates(top, to):
@@ -204,7 +174,7 @@ class Tools:
         text = self.path("core.ll")
         call(self.clang, "--target=x86_64-unknown-linux-gnu", "--no-default-config", "-x", "ir", kept, "-S", "-emit-llvm", "-o", text)
         with open(text, encoding="utf-8") as file:
-            made = retarget(file.read())
+            made = apart(retarget(file.read()))
         with open(text, "w", encoding="utf-8") as file:
             file.write(made)
         words = ["-ffunction-sections", "-fdata-sections", "-mllvm", "-disable-machine-licm", "-x", "ir"]
@@ -235,7 +205,7 @@ class Tools:
             made = without_table(file.read())
         with open(self.path("bare.wasm"), "wb") as file:
             file.write(made)
-        call("wasm-opt", self.path("bare.wasm"), *(f"--enable-{it}" for it in FEATURES), "--memory64-lowering", "-O3", "-o", to)
+        call("wasm-opt", self.path("bare.wasm"), *(f"--enable-{it}" for it in FEATURES), "--memory64-lowering", "-O3", f"--one-caller-inline-max-function-size={SMALL}", "-o", to)
 
 
 def check(module, calls):
@@ -260,7 +230,7 @@ def make(given):
     kit = kit_folder()
     found = modules(given.sources)
     in_c, in_script = glue(found)
-    kept = os.path.abspath(given.code) if given.code else code(kit)
+    kept = os.path.abspath(given.code) if given.code else code()
     os.makedirs(given.to, exist_ok=True)
     to = os.path.join(os.path.abspath(given.to), "huckleport.wasm")
     with tempfile.TemporaryDirectory() as work:

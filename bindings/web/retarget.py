@@ -13,6 +13,8 @@ KNOWN_TRIPLE = "x86_64-unknown-linux-gnu"
 # Attributes of functions that speak of the processor, or of how its stack is grown.
 PROCESSOR = r' "(?:probe-stack|stack-probe-size|stack-protector-buffer-size|target-cpu|target-features|tune-cpu|frame-pointer)"="[^"]*"'
 SHUFFLE = "llvm.x86.ssse3.pshuf.b.128"
+# The function that hands each command to the part that answers it.
+ANSWERING = '"dom_session::answering::answered"'
 
 
 def refuse(what):
@@ -41,6 +43,14 @@ def shuffle():
         ]
     body = "\n".join(lines)
     return f"\ndefine internal <16 x i8> @shuffled(<16 x i8> %a, <16 x i8> %b) alwaysinline {{\n{body}\n  ret <16 x i8> %r16\n}}\n"
+
+
+def apart(text):
+    """Has the parts that answer commands stay functions of their own: an engine compiles a function whole, and what a page does needs few of them."""
+    whole = re.search(rf"(?ms)^define [^\n]*@{re.escape(ANSWERING)}\(.*?^}}$", text)
+    if not whole:
+        return text
+    return text[: whole.start()] + re.sub(r'(?m)(\bcall [^\n]*@"dom_[^\n]*\))$', r"\1 noinline", whole[0]) + text[whole.end() :]
 
 
 def retarget(text):

@@ -10,7 +10,8 @@ async function loaded(name) {
   try {
     return require(name);
   } catch (fault) {
-    if (fault.code !== "ERR_REQUIRE_ESM") throw fault;
+    // (the second is what a node says that reads modules in this way, of one that waits for something)
+    if (!["ERR_REQUIRE_ESM", "ERR_REQUIRE_ASYNC_MODULE"].includes(fault.code)) throw fault;
     return import(pathToFileURL(require.resolve(name)));
   }
 }

@@ -227,7 +227,9 @@ def attempt(given: argparse.Namespace) -> int:
     server.make()
     server.start()
     workers: List[subprocess.Popen[bytes]] = []
-    signal.signal(signal.SIGTERM, signal.default_int_handler)
+    # (SIGINT as well, which a shell has what it starts in the background ignore)
+    for it in (signal.SIGTERM, signal.SIGINT):
+        signal.signal(it, signal.default_int_handler)
     try:
         create_tables(server.conninfo)
         words = [sys.executable, *started_as(), "--database", server.conninfo, "worker"]

@@ -293,6 +293,7 @@ export const SCENES = {
   updates: {
     says: "a row of a table of three columns, updated five times by preact",
     share: 0.05,
+    needsPage: true,
     ready({ document }, count) {
       globalThis.document = document;
       const { h, render } = createRequire(import.meta.url)("preact");

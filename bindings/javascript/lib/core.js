@@ -107,6 +107,7 @@ export class Session {
   documents = new Map();
   /** What marks and names mean (see names.js). */
   elementNames = new Map();
+  htmlNames = new Map();
   attributeNames = new Map();
   byNumber = [];
   attributesByNumber = [];
@@ -125,6 +126,7 @@ export class Session {
   // The wrappers that can be found by number, held weakly: roots, and what was asked for by a number alone. A new root is held until the program waits.
   #known = new Map();
   #young = [];
+  #found = [];
   #wrappers = new FinalizationRegistry((number) => this.#lose(number));
   #releases = new Map();
   #walker = NONE;
@@ -247,6 +249,16 @@ export class Session {
     const young = this.#young;
     this.#young = [];
     for (const it of young) Session.settle(it);
+  }
+
+  /** Has what was found of an id be forgotten once the program waits, so that nothing is held by it for longer. */
+  keepFound(holders) {
+    this.#found.push(holders);
+    if (this.#found.length > 1) return;
+    soon(() => {
+      for (const it of this.#found) it.forget();
+      this.#found = [];
+    });
   }
 
   /** How a wrapper that was held is kept (wrappers.js says it). */

@@ -43,12 +43,20 @@ export function newDocument(session, its) {
 
 const isOf = (document) => documentIs(sessionOf(document), numberOf(document));
 
+const nameIn = (session, namespace, local) => elementName(session, markedElement(session, { namespace, local }));
+
+/** The name of an element of HTML as a program gives it, in a Document of HTML; it is kept as it was given. */
+function htmlName(session, given) {
+  const name = nameIn(session, HTML, small(given));
+  session.htmlNames.set(given, name);
+  return name;
+}
+
 function createElement(document, name) {
   const session = sessionOf(document);
   const { isHtml, contentType } = isOf(document);
-  const local = isHtml ? small(name) : name;
-  const namespace = isHtml || contentType === XHTML_TYPE ? HTML : null;
-  return createElementNamed(document, elementName(session, markedElement(session, { namespace, local })));
+  if (isHtml) return createElementNamed(document, session.htmlNames.get(name) ?? htmlName(session, name));
+  return createElementNamed(document, nameIn(session, contentType === XHTML_TYPE ? HTML : null, name));
 }
 
 export function createElementNS(document, namespace, qualified) {

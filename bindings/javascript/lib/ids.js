@@ -1,7 +1,7 @@
 /** Elements by their ids: which elements of a session have which id, kept by what changes tell. */
 import { native, OK, textFrom, words, out } from "./core.js";
 import { Session } from "./core.js";
-import { rootOf, sessionOf, numberOf, wrap } from "./wrappers.js";
+import { itsOf, sessionOf, numberOf, wrap } from "./wrappers.js";
 
 const ID = "id";
 
@@ -18,20 +18,57 @@ export function holdersOf(session, root, name) {
   return found;
 }
 
+/** The elements of a session that have one id: their numbers, and, until the program waits, what their objects know and what was answered last. */
+class Holders {
+  numbers = new Set();
+  #found = null;
+  root = null;
+  structure = -1;
+  answer = null;
+
+  change(call, number) {
+    this.numbers[call](number);
+    this.forget();
+  }
+
+  forget() {
+    this.#found = this.root = this.answer = null;
+  }
+
+  #find(session) {
+    this.#found = Array.from(this.numbers, (number) => itsOf(wrap(session, number)));
+    session.keepFound(this);
+    return this.#found;
+  }
+
+  /** The object of the first of them below a root, or null. */
+  firstBelow(root) {
+    const { session } = root;
+    let first = null;
+    for (const it of this.#found ?? this.#find(session)) {
+      if (it !== root && it.root() === root) first = first === null ? it : earlier(session, first, it);
+    }
+    this.root = root;
+    this.structure = session.structure;
+    this.answer = first && first.object;
+    return this.answer;
+  }
+}
+
 /** Notes that an element has an id in place of another one; null is none. */
 export function noteId(session, number, before, after) {
   if (before === after) return;
   if (before !== null) forget(session, number, before);
   if (after === null || after === "") return;
-  const there = session.ids.get(after);
-  if (there) there.add(number);
-  else session.ids.set(after, new Set([number]));
+  let there = session.ids.get(after);
+  if (there === undefined) session.ids.set(after, (there = new Holders()));
+  there.change("add", number);
 }
 
 function forget(session, number, id) {
   const there = session.ids.get(id);
-  there?.delete(number);
-  if (there?.size === 0) session.ids.delete(id);
+  there?.change("delete", number);
+  if (there?.numbers.size === 0) session.ids.delete(id);
 }
 
 /** Notes the ids of a tree that has just been made. */
@@ -46,29 +83,23 @@ Session.forgetIds = (session, root) => {
 
 /** Which of two nodes of a tree comes first. */
 function earlier(session, one, other) {
-  if (one === null) return other;
-  native.hp_compare_position(session.index, numberOf(one), numberOf(other));
+  native.hp_compare_position(session.index, one.number, other.number);
   return out[0] & 4 ? one : other;
-}
-
-function inTree(root, numbers) {
-  const session = sessionOf(root);
-  let first = null;
-  for (const number of numbers) {
-    const it = wrap(session, number);
-    if (it !== root && rootOf(it) === root) first = earlier(session, first, it);
-  }
-  return first;
 }
 
 /** The first element below a root that has an id, or null. */
 export function elementById(root, id) {
+  const its = itsOf(root);
+  const { session } = its;
+  if (session.hasSpoken) return readById(root, id);
+  const there = session.ids.get(id);
+  if (there === undefined) return null;
+  return there.root === its && there.structure === session.structure ? there.answer : there.firstBelow(its);
+}
+
+/** The same where lines were answered. */
+function readById(root, id) {
   const session = sessionOf(root);
-  if (id === "") return null;
-  if (!session.hasSpoken) {
-    const there = session.ids.get(id);
-    return there === undefined ? null : inTree(root, there);
-  }
-  const found = holdersOf(session, numberOf(root), ID).find(([, its]) => its === id);
+  const found = id === "" ? undefined : holdersOf(session, numberOf(root), ID).find(([, its]) => its === id);
   return found ? wrap(session, found[0]) : null;
 }

@@ -2,7 +2,7 @@
 import { check, native, out } from "./core.js";
 import { HTML } from "./names.js";
 import { known } from "./webidl.js";
-import { firstChildOf, isOfParents, nextOf, numberOf, realmOf, sessionOf, wrap, wrapChild } from "./wrappers.js";
+import { firstChildOf, isKnownEmpty, isOfParents, knownChildAt, nextOf, numberOf, realmOf, sessionOf, wrap, wrapChild, wrapNext } from "./wrappers.js";
 
 /** Where the last question to a list by an index ended, of all lists: the next one goes on from there, where nothing has moved meanwhile. */
 const cursor = { list: null, structure: -1, index: -1, node: null };
@@ -51,11 +51,21 @@ class LiveIs {
   }
 
   at(index) {
+    if (isAtCursor(this, index) && !this.isOld) return cursor.node;
     const { numbers } = this;
     if (index >= numbers.length) return null;
-    return this.areChildren ? wrapChild(this.node, numbers[index]) : wrap(this.session, numbers[index]);
+    return keepCursor(this, index, this.#wrapped(numbers[index]));
+  }
+
+  /** The object of a number; it often stands beside the one that was asked for before. */
+  #wrapped(number) {
+    if (this.areChildren) return wrapChild(this.node, number);
+    return cursor.list === this ? wrapNext(cursor.node, this.session, number) : wrap(this.session, number);
   }
 }
+
+/** So far from the first child an index is looked for by links that are known already. */
+const NEAR = 16;
 
 /** The children of a node. How many there are is asked without reading all, and one index after another goes from child to child. */
 class ChildrenIs extends LiveIs {
@@ -65,7 +75,7 @@ class ChildrenIs extends LiveIs {
 
   get length() {
     if (!this.isOld) return this.numbers.length;
-    if (!isOfParents(this.node)) return 0;
+    if (!isOfParents(this.node) || isKnownEmpty(this.node)) return 0;
     check(native.hp_length(this.session.index, numberOf(this.node)));
     return out[0];
   }
@@ -74,12 +84,14 @@ class ChildrenIs extends LiveIs {
     if (index === 0) return keepCursor(this, 0, firstChildOf(this.node));
     if (isAtCursor(this, index)) return cursor.node;
     if (isAtCursor(this, index - 1)) return keepCursor(this, index, cursor.node && nextOf(cursor.node));
-    return keepCursor(this, index, this.isOld ? this.#asked(index) : super.at(index));
+    return this.isOld ? keepCursor(this, index, this.#asked(index)) : super.at(index);
   }
 
   /** The child at an index, which the core finds from where it was last asked. */
   #asked(index) {
     if (!isOfParents(this.node)) return null;
+    const known = index < NEAR ? knownChildAt(this.node, index) : undefined;
+    if (known !== undefined) return known;
     const status = native.hp_child_at(this.session.index, numberOf(this.node), index);
     return status === native.HP_OK && out[0] !== native.HP_NONE ? wrapChild(this.node, out[0]) : null;
   }
@@ -189,7 +201,9 @@ class Named extends Indexed {
   }
 
   get(target, key, receiver) {
-    return this.#named(target, key) ?? super.get(target, key, receiver);
+    const index = indexOf(key);
+    if (index >= 0) return this.#its.at(index) ?? undefined;
+    return typeof key !== "string" || Reflect.has(target, key) ? Reflect.get(target, key, receiver) : (namedIn(this.#its, key) ?? undefined);
   }
 
   has(target, key) {

@@ -38,7 +38,8 @@ function read(session, given, plain) {
   const found = core.includes(MARK) ? MARKED.exec(core) : null;
   const [, local = core, namespace, prefix = null] = found ?? [];
   const qualified = prefix === null ? local : `${prefix}:${local}`;
-  return { core, number, namespace: found ? session.namespaces[namespace] : plain, prefix, local, qualified, capital: capital(qualified) };
+  // (what is written of it as HTML is kept here once it is asked for, see serializing.js)
+  return { core, number, namespace: found ? session.namespaces[namespace] : plain, prefix, local, qualified, capital: capital(qualified), html: null };
 }
 
 function known(session, names, core, plain) {

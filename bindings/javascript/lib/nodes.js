@@ -13,8 +13,11 @@ import {
   documentIs,
   documentOf,
   firstChildOf,
+  forgetEnds,
+  isKnownEmpty,
   isNode,
   isOfParents,
+  itsOf,
   keepName,
   keptOf,
   kindOf,
@@ -110,10 +113,24 @@ export function setData(node, text) {
 
 const textContent = (node) => lent(content(sessionOf(node).index, numberOf(node)));
 
+/** Puts a text into a node that has no child: to observers and ranges it is the same as if all children were replaced. */
+function fill(node, text) {
+  if (text === "") return;
+  const session = sessionOf(node);
+  check(hp_create_text(session.index, numberOf(documentOf(node)), text));
+  const number = out[0];
+  const status = hp_append_child(session.index, numberOf(node), number);
+  if (status !== 0) session.leave(number);
+  check(status);
+  forgetEnds(node);
+  session.moved();
+}
+
 function setTextContent(node, text) {
   const session = sessionOf(node);
   // (a Document keeps its children)
   const losesChildren = kindOf(node) === ELEMENT || kindOf(node) === FRAGMENT;
+  if (losesChildren && isKnownEmpty(node)) return fill(node, text ?? "");
   const gone = losesChildren ? childNumbers(node) : [];
   check(native.hp_set_text_content(session.index, numberOf(node), text ?? ""));
   if (!losesChildren) return void session.changed();
@@ -158,17 +175,18 @@ function isEqual(node, other) {
 // ---- Changes: each is a call of the module, and then the wrappers follow.
 
 export function insertBefore(parent, node, child) {
-  const session = sessionOf(parent);
-  check(hp_insert_before(session.index, numberOf(parent), numberIn(session, node), numberInOrNone(session, child)));
+  const { session, number } = itsOf(parent);
+  check(hp_insert_before(session.index, number, numberIn(session, node), numberInOrNone(session, child)));
   arrived(node, parent, child);
   session.moved();
   return node;
 }
 
 export function appendChild(parent, node) {
-  const session = sessionOf(parent);
-  check(hp_append_child(session.index, numberOf(parent), numberIn(session, node)));
-  arrived(node, parent, null);
+  const above = itsOf(parent);
+  const { session } = above;
+  check(hp_append_child(session.index, above.number, numberIn(session, node)));
+  itsOf(node).cameInto(above, null);
   session.moved();
   return node;
 }
@@ -182,8 +200,8 @@ export function replaceChild(parent, node, child) {
 }
 
 export function removeChild(parent, child) {
-  const session = sessionOf(parent);
-  check(hp_remove_child(session.index, numberOf(parent), numberIn(session, child)));
+  const { session, number } = itsOf(parent);
+  check(hp_remove_child(session.index, number, numberIn(session, child)));
   departed(child);
   session.moved();
   return child;
@@ -315,11 +333,7 @@ function created(document, kind, status, name) {
 const indexOf = (document) => sessionOf(document).index;
 
 /** An element of a name that the session knows. */
-export function createElementNamed(document, name) {
-  const made = created(document, ELEMENT, element(indexOf(document), numberOf(document), name.number), name);
-  keepName(made, name);
-  return made;
-}
+export const createElementNamed = (document, name) => created(document, ELEMENT, element(indexOf(document), numberOf(document), name.number), name);
 
 export const createElementMarked = (document, core) => createElementNamed(document, elementName(sessionOf(document), core));
 export const createText = (document, text) => created(document, TEXT, hp_create_text(indexOf(document), numberOf(document), text));

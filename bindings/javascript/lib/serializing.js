@@ -1,10 +1,10 @@
 /** Documents out: nodes as HTML, by the standard's steps over rows that are read at once, and as XML, by w3c-xmlserializer. */
-import { COMMENT, DOCTYPE, DOCUMENT, ELEMENT, FRAGMENT, INSTRUCTION, TEXT } from "./core.js";
+import { check, COMMENT, DOCUMENT, ELEMENT, FRAGMENT, INSTRUCTION, native, NONE, out, Refusal, TEXT, textFrom, TOO_LONG, words } from "./core.js";
 import { wanted } from "./libraries.js";
-import { HTML, SVG, XML, XMLNS } from "./names.js";
+import { attributeByNumber, elementByNumber, HTML, SVG, XML, XMLNS } from "./names.js";
 import { contentsOf, firstChildOf, nextOf } from "./nodes.js";
 import { Rows } from "./rows.js";
-import { isNode, kindOf, sessionOf, wrap } from "./wrappers.js";
+import { isNode, kindOf, numberOf, sessionOf, wrap } from "./wrappers.js";
 
 const XLINK = "http://www.w3.org/1999/xlink";
 const MATHML = "http://www.w3.org/1998/Math/MathML";
@@ -36,78 +36,135 @@ function childrenOf(node) {
   return found;
 }
 
-class Writer {
-  #parts = [];
-  // The elements that are open: what ends each, at its depth.
-  #open = [];
+/** What is written of an element by its name: where its start tag begins, its end tag, and what is in it. A name keeps this. */
+function tagsOf(name) {
+  const tag = tagOf(name);
+  const isOfHtml = name.namespace === HTML;
+  const isVoid = isOfHtml && VOID.has(tag);
+  return { start: `<${tag}`, end: isVoid ? "" : `</${tag}>`, isVoid, isRaw: isOfHtml && RAW.has(tag), isTemplate: isOfHtml && tag === "template" };
+}
 
-  constructor(session) {
-    this.session = session;
+const writtenTags = (name) => (name.html ??= tagsOf(name));
+const writtenAttribute = (name) => (name.html ??= ` ${attributeName(name)}="`);
+
+/** So many rows are written by one call, so that an engine compiles the call once, and not anew for each text. */
+const PIECE = 64;
+/** The words of the row of a Document or a fragment. */
+const TOP = 6;
+const DEEPEST = 4294967295;
+
+/** Writes the rows of a node (see base.h of the module). */
+class Writer {
+  session;
+  html = "";
+  at;
+  end;
+  base = 0;
+  // The elements that are open, and how deep what is written may stand: what is in a template or in a void element is left out.
+  open = [];
+  shut = DEEPEST;
+  // What stands ahead of the contents of each template, and its number.
+  templates = [];
+
+  constructor(node) {
+    this.session = sessionOf(node);
+    check(native.rows(this.session.index, numberOf(node)));
+    this.at = out[0] >>> 2;
+    this.end = this.at + out[1];
+    if (kindOf(node) !== DOCUMENT && kindOf(node) !== FRAGMENT) return;
+    this.base = 1;
+    this.at += TOP;
+  }
+
+  /** Writes some rows; answers whether there are more. */
+  some() {
+    for (let count = 0; count < PIECE; count++) {
+      if (this.at >= this.end) return false;
+      this.row();
+    }
+    return true;
+  }
+
+  row() {
+    const at = this.at;
+    const depth = words[at] - this.base;
+    const isLeft = depth > this.shut;
+    if (!isLeft) {
+      this.close(depth);
+      this.shut = DEEPEST;
+    }
+    this.at = at + 5;
+    if (words[at + 2] === ELEMENT) return this.element(words[at + 4], words[at + 3], isLeft, words[at + 1], depth);
+    const data = this.data(words[at + 2], words[at + 4]);
+    if (!isLeft) this.html += data;
   }
 
   /** Ends what is open from a depth on. */
   close(depth) {
-    while (this.#open.length > depth) this.#parts.push(this.#open.pop().end);
+    const open = this.open;
+    while (open.length > depth) this.html += open.pop().end;
   }
 
-  element({ depth, name, attributes, number }, base) {
-    const tag = tagOf(name);
-    let text = `<${tag}`;
-    for (let at = 0; at < attributes.length; at += 2) text += ` ${attributeName(attributes[at])}="${inValue(attributes[at + 1])}"`;
-    this.#parts.push(text, ">");
-    const isOfHtml = name.namespace === HTML;
-    const isVoid = isOfHtml && VOID.has(tag);
-    const hasContents = isOfHtml && tag === "template" && this.session.hasContents;
-    this.#open[depth - base] = { end: isVoid ? "" : `</${tag}>`, isRaw: isOfHtml && RAW.has(tag), isShut: isVoid || hasContents };
-    if (hasContents) this.contents(number);
+  text() {
+    const length = words[this.at++];
+    if (length === NONE) return "";
+    const text = textFrom(4 * this.at, length);
+    if (text === TOO_LONG) throw new Refusal(TOO_LONG);
+    this.at += (length + 1) >>> 1;
+    return text;
   }
 
-  /** The contents of a template, in place of its children; where it has none, these. */
-  contents(number) {
-    this.templates ??= [];
-    this.templates.push({ at: this.#parts.length, number });
-    this.#parts.push("");
-  }
-
-  text(data) {
-    this.#parts.push(this.#open.at(-1)?.isRaw ? data : inText(data));
-  }
-
-  row(row, base) {
-    this.close(row.depth - base);
-    if (this.#open.at(-1)?.isShut) return;
-    switch (row.kind) {
-      case ELEMENT:
-        return void this.element(row, base);
-      case TEXT:
-        return void this.text(row.data);
-      case COMMENT:
-        return void this.#parts.push(`<!--${row.data}-->`);
-      case INSTRUCTION:
-        return void this.#parts.push(`<?${row.name} ${row.data}>`);
-      case DOCTYPE:
-        return void this.#parts.push(`<!DOCTYPE ${row.name}>`);
+  element(number, count, isLeft, node, depth) {
+    const tags = writtenTags(elementByNumber(this.session, number));
+    let html = tags.start;
+    this.at++;
+    for (let each = 0; each < count; each++) {
+      html += writtenAttribute(attributeByNumber(this.session, words[this.at++]));
+      html += `${inValue(this.text())}"`;
     }
+    if (isLeft) return;
+    this.html += `${html}>`;
+    this.open.push(tags);
+    if (tags.isVoid) this.shut = depth;
+    else if (tags.isTemplate && this.session.hasContents) this.template(node, depth);
+  }
+
+  /** The contents of a template come in place of its children; where it has none, these. */
+  template(number, depth) {
+    this.templates.push({ before: this.html, number });
+    this.html = "";
+    this.shut = depth;
+  }
+
+  /** What is written of a node that is no element. */
+  data(kind, name) {
+    const data = this.text();
+    const within = this.open.length === 0 ? null : this.open[this.open.length - 1];
+    if (kind === TEXT) return within !== null && within.isRaw ? data : inText(data);
+    if (kind === COMMENT) return `<!--${data}-->`;
+    if (kind === INSTRUCTION) return `<?${native.nameOf(name)} ${data}>`;
+    // (behind a doctype are its two ids)
+    this.at += 2;
+    return `<!DOCTYPE ${native.nameOf(name)}>`;
   }
 
   whole() {
     this.close(0);
-    for (const { at, number } of this.templates ?? []) {
+    let whole = "";
+    for (const { before, number } of this.templates) {
       const template = wrap(this.session, number);
       const contents = contentsOf(template);
-      this.#parts[at] = contents ? serialize(contents) : childrenOf(template).map(serialize).join("");
+      whole += before + (contents ? serialize(contents) : childrenOf(template).map(serialize).join(""));
     }
-    return this.#parts.join("");
+    return whole + this.html;
   }
 }
 
 /** A node and what is in it as HTML: of a Document and a fragment what is in it. */
 export function serialize(node) {
   if (!isNode(node)) throw new TypeError("this is no node");
-  const writer = new Writer(sessionOf(node));
-  const rows = new Rows(node);
-  const base = kindOf(node) === DOCUMENT || kindOf(node) === FRAGMENT ? 1 : 0;
-  for (let count = 0; rows.next(); count++) if (count >= base) writer.row(rows, base);
+  const writer = new Writer(node);
+  while (writer.some());
   return writer.whole();
 }
 

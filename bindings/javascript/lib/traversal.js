@@ -8,7 +8,7 @@
 import { check, native, NONE, out, Refusal } from "./core.js";
 import { firstChildOf, lastChildOf, nextOf, parentOf, previousOf } from "./nodes.js";
 import { known, refuseType } from "./webidl.js";
-import { kindOf, makeThing, numberIn, numberOf, realmOf, rootOf, sessionOf, thingOf, wrap } from "./wrappers.js";
+import { kindOf, makeThing, numberIn, numberOf, realmOf, sessionOf, thingOf, wrap } from "./wrappers.js";
 
 const NO_BYTES = new Uint8Array(0);
 const NO_NUMBERS = new Uint32Array(0);
@@ -69,7 +69,7 @@ const NEAR = 32;
 /** The object of a number that an iterator came to, sought from where it was before. */
 function sought(its, number, course) {
   if (number === NONE) return null;
-  let node = cursor.iterator === its && rootOf(cursor.node) === rootOf(its.root) ? cursor.node : null;
+  let node = cursor.iterator === its ? cursor.node : null;
   for (let count = 0; node && count < NEAR && numberOf(node) !== number; count++) node = course.beside(node, its.root);
   const found = node && numberOf(node) === number ? node : wrap(its.session, number);
   cursor.iterator = its;
@@ -99,7 +99,8 @@ class IteratorIs extends Traversal {
 
   /** Moves in the core by a call. */
   move(call) {
-    check(native[call](this.session.index, this.number));
+    const status = call(this.session.index, this.number);
+    if (status !== 0) check(status);
     return out[0];
   }
 
@@ -131,8 +132,8 @@ class IteratorIs extends Traversal {
 const iteratorOf = (it) => thingOf(it, IteratorIs);
 
 /** The courses of an iterator: its call, the node beside another one in tree order, and whether the reference itself comes first. */
-const FORTH = { call: "hp_next_node", beside: nodeAfter, isFirst: (its) => its.isBefore };
-const BACK = { call: "hp_previous_node", beside: nodeBefore, isFirst: (its) => !its.isBefore };
+const FORTH = { call: native.hp_next_node, beside: nodeAfter, isFirst: (its) => its.isBefore };
+const BACK = { call: native.hp_previous_node, beside: nodeBefore, isFirst: (its) => !its.isBefore };
 
 /** By the standard's steps: the pointer moves once the filter has taken a node. One that the filter removed is answered, and the pointer stays ahead of it. */
 function filtered(its, course) {

@@ -115,7 +115,7 @@ function named(made, name, length) {
   return made;
 }
 
-/** An operation without arguments, with one, with two, or with any others: what comes in is converted in its order. */
+/** An operation without arguments, with one, two or three, or with any others: what comes in is converted in its order. */
 const FORMS = [
   (realm, test, does) => ({
     operation() {
@@ -144,6 +144,17 @@ const FORMS = [
       if (arguments.length < required) throw realm.tooFew(required);
       try {
         return does(this, one.convert(first), two.convert(second));
+      } catch (fault) {
+        throw realm.thrown(fault);
+      }
+    },
+  }),
+  (realm, test, does, required, [one, two, three]) => ({
+    operation(first, second, third) {
+      if (!test(this)) throw realm.wrongThis();
+      if (arguments.length < required) throw realm.tooFew(required);
+      try {
+        return does(this, one.convert(first), two.convert(second), three.convert(third));
       } catch (fault) {
         throw realm.thrown(fault);
       }

@@ -1,6 +1,8 @@
 /**
  * The objects that stand for nodes and for what watches them: the same object for the same node as long as a program can reach it.
  *
+ * A wrapper has one field: what it knows, a NodeIs, which is of one form for all interfaces, so that an engine reads them all in the same way.
+ *
  * A wrapper's parent has a wrapper too, and the two hold each other: so what a program keeps on a node lives as long as it holds any node of the
  * tree. A root holds its Document. The session holds roots alone, weakly, and lets a tree go when its root's wrapper is gone; any other wrapper is
  * found from its parent's.
@@ -12,11 +14,10 @@
 import { check, DOCUMENT, ELEMENT, FRAGMENT, native, NONE, OK, out, Refusal, Session } from "./core.js";
 import { elementByNumber } from "./names.js";
 
-export let isNode, sessionOf, numberOf, kindOf, realmOf, keptOf, hasWrappedChildren, parentOf, rootOf, aboveOf;
-export let nextOf, previousOf, firstChildOf, lastChildOf, wrappedChildOf, nameKeptOf, keepName, valuesOf, forgetValues;
-let place, loosen, wrappedChildren, childOf, cameBefore, cameFrom, wentFrom, tookPlaceOf, clear, know, knowOnce, bare;
+export let isNode, itsOf;
 
 const { hp_links } = native;
+const PARENT_AT = 2;
 const PREVIOUS_AT = 3;
 const NEXT_AT = 4;
 const FIRST_AT = 5;
@@ -31,305 +32,401 @@ const HELD = 4;
 
 const mayHaveChildren = (kind) => kind === ELEMENT || kind === DOCUMENT || kind === FRAGMENT;
 
-export class Wrapper {
-  #session;
-  #number;
-  #kind;
-  #realm;
-  // The parent's wrapper, or the Document's of a root.
-  #above = null;
-  // Whether it is a child, whether the session finds it by its number, and whether it holds it until the program waits: a bit each.
-  #state = 0;
-  // The wrapped children in no order: the first, for each the one behind it and the one ahead of it, and the table of many.
-  #below = null;
-  #behind = null;
-  #ahead = null;
-  #table = null;
-  // The links to wrappers beside it, and the count of the session at which they hold.
-  #stamp = -1;
-  #first;
-  #last;
-  #next;
-  #previous;
-  // What an element's name says (see names.js), and the values of attributes by the names that were asked for.
-  #name = null;
-  #values = null;
-  #kept = null;
-
+/** What a node's object knows. Other nodes are here by what theirs know. */
+class NodeIs {
   constructor(session, number, kind, realm) {
-    this.#session = session;
-    this.#number = number;
-    this.#kind = kind;
-    this.#realm = realm;
+    this.session = session;
+    this.number = number;
+    this.kind = kind;
+    this.realm = realm;
+    this.object = null;
+    // The parent, or the Document of a root.
+    this.above = null;
+    // Whether it is a child, whether the session finds it by its number, and whether it holds it until the program waits: a bit each.
+    this.state = 0;
+    // The wrapped children in no order: the first, for each the one behind it and the one ahead of it, and the table of many.
+    this.below = null;
+    this.behind = null;
+    this.ahead = null;
+    this.table = null;
+    // The links to what stands beside it, and the count of the session at which they hold.
+    this.stamp = -1;
+    this.first = undefined;
+    this.last = undefined;
+    this.next = undefined;
+    this.previous = undefined;
+    // What an element's name says (see names.js), and the values of attributes by the names that were asked for.
+    this.name = null;
+    this.values = null;
+    this.kept = null;
     session.marks.add(number);
   }
 
   // ---- The wrapped children of a parent.
 
-  #leave() {
-    const parent = this.#above;
-    if (this.#ahead) this.#ahead.#behind = this.#behind;
-    else parent.#below = this.#behind;
-    if (this.#behind) this.#behind.#ahead = this.#ahead;
-    parent.#table?.delete(this.#number);
-    this.#ahead = this.#behind = this.#above = null;
-    this.#state &= ~CHILD;
+  leave() {
+    const { above, ahead, behind } = this;
+    if (ahead) ahead.behind = behind;
+    else above.below = behind;
+    if (behind) behind.ahead = ahead;
+    if (above.table !== null) above.table.delete(this.number);
+    this.ahead = this.behind = this.above = null;
+    this.state &= ~CHILD;
   }
 
-  #enter(parent) {
-    const first = parent.#below;
-    this.#behind = first;
-    if (first) first.#ahead = this;
-    parent.#below = this;
-    parent.#table?.set(this.#number, this);
-    this.#above = parent;
-    this.#state |= CHILD;
+  enter(parent) {
+    const first = parent.below;
+    this.behind = first;
+    if (first) first.ahead = this;
+    parent.below = this;
+    if (parent.table !== null) parent.table.set(this.number, this);
+    this.above = parent;
+    this.state |= CHILD;
   }
 
-  /** The wrapper of a child by its number, or undefined. */
-  #child(number) {
-    if (this.#table) return this.#table.get(number);
-    let it = this.#below;
-    for (let count = 0; it && count < FEW; it = it.#behind, count++) if (it.#number === number) return it;
-    if (!it) return undefined;
-    this.#table = new Map();
-    for (it = this.#below; it; it = it.#behind) this.#table.set(it.#number, it);
-    return this.#table.get(number);
+  place(parent) {
+    if ((this.state & CHILD) !== 0) {
+      if (this.above === parent) return;
+      this.leave();
+    }
+    this.enter(parent);
+  }
+
+  /** Makes a root of it, of a Document. */
+  loosen(document) {
+    if ((this.state & CHILD) !== 0) this.leave();
+    this.above = document;
+    if ((this.state & (KNOWN | HELD)) !== 0) return;
+    this.state |= HELD;
+    this.session.hold(this);
+  }
+
+  /** Has the session find it by its number. */
+  know() {
+    if ((this.state & KNOWN) !== 0) return;
+    this.state |= KNOWN;
+    this.session.know(this.object, this.number);
+  }
+
+  /** What is known of a child by its number, or undefined. */
+  child(number) {
+    if (this.table !== null) return this.table.get(number);
+    let it = this.below;
+    for (let count = 0; it !== null && count < FEW; it = it.behind, count++) if (it.number === number) return it;
+    if (it === null) return undefined;
+    this.table = new Map();
+    for (it = this.below; it !== null; it = it.behind) this.table.set(it.number, it);
+    return this.table.get(number);
+  }
+
+  /** The same; the child's wrapper is made where there is none. */
+  childOf(number) {
+    const { session } = this;
+    const found = session.marks.has(number) ? this.child(number) : undefined;
+    if (found !== undefined) return found;
+    // (the number was marked where its wrapper is gone, or stands elsewhere, which only a session that has spoken can have)
+    const made = makeOf(session, number, this.realm);
+    made.enter(this);
+    return made;
+  }
+
+  root() {
+    let it = this;
+    while ((it.state & CHILD) !== 0) it = it.above;
+    return it;
+  }
+
+  document() {
+    const root = this.root();
+    return root.kind === DOCUMENT ? root : root.above;
   }
 
   // ---- Links.
 
   /** Has the links be those of now. */
-  #fresh() {
-    const { links } = this.#session;
-    if (this.#stamp === links) return;
-    this.#stamp = links;
-    this.#first = this.#last = this.#next = this.#previous = undefined;
+  fresh() {
+    const { links } = this.session;
+    if (this.stamp === links) return;
+    this.stamp = links;
+    this.first = this.last = this.next = this.previous = undefined;
   }
 
   /** Keeps that a sibling follows this one. */
-  #link(next) {
-    this.#fresh();
-    next.#fresh();
-    this.#next = next;
-    next.#previous = this;
+  link(next) {
+    this.fresh();
+    next.fresh();
+    this.next = next;
+    next.previous = this;
   }
 
   /** Keeps that this is the first child of its parent, or the last. */
-  #lead() {
-    this.#fresh();
-    this.#above.#fresh();
-    this.#above.#first = this;
-    this.#previous = null;
+  lead() {
+    this.fresh();
+    this.above.fresh();
+    this.above.first = this;
+    this.previous = null;
   }
 
-  #trail() {
-    this.#fresh();
-    this.#above.#fresh();
-    this.#above.#last = this;
-    this.#next = null;
+  trail() {
+    this.fresh();
+    this.above.fresh();
+    this.above.last = this;
+    this.next = null;
   }
 
-  /** Asks the module for a link, and answers the wrapper: a child of the parent that is given. */
-  #ask(at, parent) {
-    check(hp_links(this.#session.index, this.#number));
+  /** Asks the module for a link: a child of the parent that is given. */
+  ask(at, parent) {
+    check(hp_links(this.session.index, this.number));
     const number = out[at];
-    return number === NONE ? null : childOf(parent, number);
+    return number === NONE ? null : parent.childOf(number);
   }
 
-  #askNext() {
-    if ((this.#state & CHILD) === 0) return null;
-    const next = this.#ask(NEXT_AT, this.#above);
-    if (next) this.#link(next);
-    else this.#trail();
+  askNext() {
+    if ((this.state & CHILD) === 0) return null;
+    const next = this.ask(NEXT_AT, this.above);
+    if (next) this.link(next);
+    else this.trail();
     return next;
   }
 
-  #askPrevious() {
-    if ((this.#state & CHILD) === 0) return null;
-    const previous = this.#ask(PREVIOUS_AT, this.#above);
-    if (previous) previous.#link(this);
-    else this.#lead();
+  askPrevious() {
+    if ((this.state & CHILD) === 0) return null;
+    const previous = this.ask(PREVIOUS_AT, this.above);
+    if (previous) previous.link(this);
+    else this.lead();
     return previous;
   }
 
   /** Keeps that there is no child, where there is none. */
-  #isEmpty(found) {
+  isEmpty(found) {
     if (found) return false;
-    this.#fresh();
-    this.#first = this.#last = null;
+    this.fresh();
+    this.first = this.last = null;
     return true;
   }
 
-  #askFirst() {
-    if (!mayHaveChildren(this.#kind)) return null;
-    const first = this.#ask(FIRST_AT, this);
-    if (!this.#isEmpty(first)) first.#lead();
+  askFirst() {
+    if (!mayHaveChildren(this.kind)) return null;
+    const first = this.ask(FIRST_AT, this);
+    if (!this.isEmpty(first)) first.lead();
     return first;
   }
 
-  #askLast() {
-    if (!mayHaveChildren(this.#kind)) return null;
-    const last = this.#ask(LAST_AT, this);
-    if (!this.#isEmpty(last)) last.#trail();
+  askLast() {
+    if (!mayHaveChildren(this.kind)) return null;
+    const last = this.ask(LAST_AT, this);
+    if (!this.isEmpty(last)) last.trail();
     return last;
   }
 
-  /** Forgets the links to a wrapper that leaves its place, and joins its neighbours where both are known. */
-  #unlink() {
-    if ((this.#state & CHILD) === 0 || this.#stamp !== this.#session.links) return;
-    const parent = this.#above;
-    const previous = this.#previous;
-    const next = this.#next;
-    if (previous && next) previous.#link(next);
+  /** Forgets the links to one that leaves its place, and joins its neighbours where both are known. */
+  unlink() {
+    if ((this.state & CHILD) === 0 || this.stamp !== this.session.links) return;
+    const { above: parent, previous, next } = this;
+    if (previous && next) previous.link(next);
     else {
       const isAlone = previous === null && next === null;
-      if (previous) previous.#next = next === null ? null : undefined;
-      else if (previous === null) parent.#first = isAlone ? null : next;
-      if (next) next.#previous = previous === null ? null : undefined;
-      else if (next === null) parent.#last = isAlone ? null : previous;
+      if (previous) previous.next = next === null ? null : undefined;
+      else if (previous === null) parent.first = isAlone ? null : next;
+      if (next) next.previous = previous === null ? null : undefined;
+      else if (next === null) parent.last = isAlone ? null : previous;
     }
-    this.#previous = this.#next = undefined;
+    this.previous = this.next = undefined;
   }
 
-  /** Keeps that a new child stands between two, as far as they are known: wrappers, null for none, undefined for what is not known. */
-  #between(previous, next) {
-    if (previous) previous.#link(this);
-    else if (previous === null) this.#lead();
-    if (next) this.#link(next);
-    else if (next === null) this.#trail();
+  /** Keeps that a new child stands between two, as far as they are known: null for none, undefined for what is not known. */
+  between(previous, next) {
+    if (previous) previous.link(this);
+    else if (previous === null) this.lead();
+    if (next) this.link(next);
+    else if (next === null) this.trail();
   }
 
   /** Forgets what is kept of a seam, in which something came that is not known. */
-  #forgetSeam(previous, next) {
-    if (previous) previous.#next = undefined;
-    else if (previous === null) this.#first = undefined;
-    if (next) next.#previous = undefined;
-    else if (next === null) this.#last = undefined;
+  forgetSeam(previous, next) {
+    if (previous) previous.next = undefined;
+    else if (previous === null) this.first = undefined;
+    if (next) next.previous = undefined;
+    else if (next === null) this.last = undefined;
+  }
+
+  // ---- What a change has moved.
+
+  /** It came into a parent ahead of a child, or at the end. */
+  cameInto(parent, child) {
+    if (this.kind === FRAGMENT) this.cameFrom(parent, child);
+    else if (child === null && (this.state & CHILD) === 0) this.cameLast(parent);
+    else this.cameBefore(parent, child);
+  }
+
+  /** A root came behind the last child, which is done at once, as it is most of what building a tree does. */
+  cameLast(parent) {
+    parent.fresh();
+    this.fresh();
+    this.enter(parent);
+    const { last } = parent;
+    if (last === undefined) return;
+    if (last === null) parent.first = this;
+    else last.next = this;
+    this.previous = last;
+    this.next = null;
+    parent.last = this;
+  }
+
+  cameBefore(parent, child) {
+    this.unlink();
+    this.place(parent);
+    parent.fresh();
+    if (child !== null) child.fresh();
+    this.fresh();
+    this.between(child === null ? parent.last : child.previous, child);
+  }
+
+  /** The children of this fragment came into a parent. */
+  cameFrom(parent, child) {
+    parent.fresh();
+    if (child !== null) child.fresh();
+    this.fresh();
+    for (const it of this.wrapped()) {
+      it.fresh();
+      if (it.previous === null) it.previous = undefined;
+      if (it.next === null) it.next = undefined;
+      it.place(parent);
+    }
+    this.first = this.last = null;
+    parent.forgetSeam(child === null ? parent.last : child.previous, child);
+  }
+
+  wentFrom(document) {
+    this.unlink();
+    this.loosen(document);
+  }
+
+  tookPlaceOf(parent, child) {
+    this.unlink();
+    child.fresh();
+    parent.fresh();
+    const { previous, next } = child;
+    child.wentFrom(parent.document());
+    if (this.kind === FRAGMENT) {
+      this.cameFrom(parent, null);
+      parent.first = parent.last = undefined;
+      parent.forgetSeam(previous, next);
+      return;
+    }
+    this.place(parent);
+    this.fresh();
+    parent.forgetSeam(previous, next);
+    this.between(previous, next);
+  }
+
+  /** The wrapped children. */
+  wrapped() {
+    const found = [];
+    for (let it = this.below; it !== null; it = it.behind) found.push(it);
+    return found;
+  }
+
+  clear() {
+    if ((this.state & CHILD) !== 0) this.leave();
+    this.values = null;
+  }
+
+  /** Keeps that it has no child. */
+  bare() {
+    this.stamp = this.session.links;
+    this.first = this.last = null;
+  }
+}
+
+Session.settle = (its) => {
+  its.state &= ~HELD;
+  if ((its.state & CHILD) === 0) its.know();
+};
+
+/** An object of a node, of whatever interface: a class of a realm stands between. */
+export class Wrapper {
+  #its;
+
+  constructor(its) {
+    this.#its = its;
+    its.object = this;
   }
 
   static {
-    isNode = (it) => typeof it === "object" && it !== null && #number in it;
-    sessionOf = (node) => node.#session;
-    numberOf = (node) => node.#number;
-    kindOf = (node) => node.#kind;
-    realmOf = (node) => node.#realm;
-    keptOf = (node) => (node.#kept ??= {});
-    hasWrappedChildren = (node) => node.#below !== null;
-    /** The parent's wrapper, or null. */
-    parentOf = (node) => ((node.#state & CHILD) !== 0 ? node.#above : null);
-    /** The wrapper of the root. */
-    rootOf = (node) => {
-      let it = node;
-      while ((it.#state & CHILD) !== 0) it = it.#above;
-      return it;
-    };
-    /** The Document's wrapper of a root, or null for a Document. */
-    aboveOf = (root) => root.#above;
-    place = (node, parent) => {
-      if ((node.#state & CHILD) !== 0) {
-        if (node.#above === parent) return;
-        node.#leave();
-      }
-      node.#enter(parent);
-    };
-    loosen = (node, document) => {
-      if ((node.#state & CHILD) !== 0) node.#leave();
-      node.#above = document;
-      if ((node.#state & (KNOWN | HELD)) !== 0) return;
-      node.#state |= HELD;
-      node.#session.hold(node);
-    };
-    Session.settle = (node) => {
-      node.#state &= ~HELD;
-      if ((node.#state & (KNOWN | CHILD)) === 0) know(node);
-    };
-    know = (node) => {
-      node.#state |= KNOWN;
-      node.#session.know(node, node.#number);
-    };
-    knowOnce = (node) => {
-      if ((node.#state & KNOWN) === 0) know(node);
-      return node;
-    };
-    wrappedChildren = (node) => {
-      const found = [];
-      for (let it = node.#below; it; it = it.#behind) found.push(it);
-      return found;
-    };
-    /** The wrapper of a child of a node by its number, or undefined. */
-    wrappedChildOf = (parent, number) => parent.#child(number);
-    /** The same; it is made where there is none. */
-    childOf = (parent, number) => {
-      const session = parent.#session;
-      const found = session.marks.has(number) ? parent.#child(number) : undefined;
-      if (found) return found;
-      // (the number was marked where its wrapper is gone, or stands elsewhere, which only a session that has spoken can have)
-      const made = makeOf(session, number, parent.#realm);
-      made.#enter(parent);
-      return made;
-    };
-    nextOf = (node) => (node.#stamp === node.#session.links && node.#next !== undefined ? node.#next : node.#askNext());
-    previousOf = (node) => (node.#stamp === node.#session.links && node.#previous !== undefined ? node.#previous : node.#askPrevious());
-    firstChildOf = (node) => (node.#stamp === node.#session.links && node.#first !== undefined ? node.#first : node.#askFirst());
-    lastChildOf = (node) => (node.#stamp === node.#session.links && node.#last !== undefined ? node.#last : node.#askLast());
-    cameBefore = (node, parent, child) => {
-      node.#unlink();
-      place(node, parent);
-      parent.#fresh();
-      child?.#fresh();
-      node.#fresh();
-      node.#between(child ? child.#previous : parent.#last, child);
-    };
-    cameFrom = (fragment, parent, child) => {
-      parent.#fresh();
-      child?.#fresh();
-      fragment.#fresh();
-      for (const it of wrappedChildren(fragment)) {
-        it.#fresh();
-        if (it.#previous === null) it.#previous = undefined;
-        if (it.#next === null) it.#next = undefined;
-        place(it, parent);
-      }
-      fragment.#first = fragment.#last = null;
-      parent.#forgetSeam(child ? child.#previous : parent.#last, child);
-    };
-    wentFrom = (node, document) => {
-      node.#unlink();
-      loosen(node, document);
-    };
-    tookPlaceOf = (node, parent, child) => {
-      node.#unlink();
-      child.#fresh();
-      parent.#fresh();
-      const previous = child.#previous;
-      const next = child.#next;
-      wentFrom(child, documentOf(parent));
-      if (node.#kind === FRAGMENT) {
-        cameFrom(node, parent, null);
-        parent.#first = parent.#last = undefined;
-        parent.#forgetSeam(previous, next);
-        return;
-      }
-      place(node, parent);
-      node.#fresh();
-      parent.#forgetSeam(previous, next);
-      node.#between(previous, next);
-    };
-    clear = (node) => {
-      if ((node.#state & CHILD) !== 0) node.#leave();
-      node.#values = null;
-    };
-    bare = (node) => {
-      node.#stamp = node.#session.links;
-      node.#first = node.#last = null;
-    };
-    nameKeptOf = (element) => element.#name;
-    keepName = (element, name) => void (element.#name = name);
-    valuesOf = (element) => (element.#values ??= new Map());
-    forgetValues = (element) => void (element.#values = null);
+    isNode = (it) => typeof it === "object" && it !== null && #its in it;
+    itsOf = (node) => node.#its;
   }
 }
+
+const objectOf = (its) => (its === null ? null : its.object);
+
+export const sessionOf = (node) => itsOf(node).session;
+export const numberOf = (node) => itsOf(node).number;
+export const kindOf = (node) => itsOf(node).kind;
+export const realmOf = (node) => itsOf(node).realm;
+export const keptOf = (node) => (itsOf(node).kept ??= {});
+
+/** The parent's wrapper, or null. */
+export function parentOf(node) {
+  const its = itsOf(node);
+  return (its.state & CHILD) !== 0 ? its.above.object : null;
+}
+
+/** The wrapper of the root. */
+export const rootOf = (node) => itsOf(node).root().object;
+
+/** The Document of a node. */
+export const documentOf = (node) => itsOf(node).document().object;
+
+export function nextOf(node) {
+  const its = itsOf(node);
+  return objectOf(its.stamp === its.session.links && its.next !== undefined ? its.next : its.askNext());
+}
+
+export function previousOf(node) {
+  const its = itsOf(node);
+  return objectOf(its.stamp === its.session.links && its.previous !== undefined ? its.previous : its.askPrevious());
+}
+
+export function firstChildOf(node) {
+  const its = itsOf(node);
+  return objectOf(its.stamp === its.session.links && its.first !== undefined ? its.first : its.askFirst());
+}
+
+export function lastChildOf(node) {
+  const its = itsOf(node);
+  return objectOf(its.stamp === its.session.links && its.last !== undefined ? its.last : its.askLast());
+}
+
+/** Whether it is known, without asking, that a node has no child. */
+export function isKnownEmpty(node) {
+  const its = itsOf(node);
+  return its.stamp === its.session.links && its.first === null;
+}
+
+/** The child at an index, as far as the links to it are known; undefined where they are not. */
+export function knownChildAt(node, index) {
+  const its = itsOf(node);
+  const { links } = its.session;
+  let it = its.stamp === links ? its.first : undefined;
+  for (let at = 0; at < index && it; at++) it = it.stamp === links ? it.next : undefined;
+  return it && it.object;
+}
+
+/** Forgets which child is the first and which the last, where one came in that is not known. */
+export function forgetEnds(node) {
+  const its = itsOf(node);
+  its.first = its.last = undefined;
+}
+
+/** The wrapper of a child of a node by its number, or undefined. */
+export const wrappedChildOf = (parent, number) => itsOf(parent).child(number)?.object;
+
+export const nameKeptOf = (element) => itsOf(element).name;
+export const keepName = (element, name) => void (itsOf(element).name = name);
+export const valuesOf = (element) => (itsOf(element).values ??= new Map());
+export const forgetValues = (element) => void (itsOf(element).values = null);
 
 /** What the name of an element says, which may be known already. */
 function nameAsked(session, number) {
@@ -343,17 +440,20 @@ function makerOf(session, number, kind, realm, name) {
   return kind === DOCUMENT && documentIs(session, number).isXMLDocument ? realm.makers.XMLDocument : realm.kinds[kind];
 }
 
+/** A new wrapper of a node; what it knows is answered. */
 function make(session, number, kind, realm, name) {
   const Maker = makerOf(session, number, kind, realm, name);
-  return new Maker(session, number, kind, realm);
+  const its = new NodeIs(session, number, kind, realm);
+  new Maker(its);
+  return its;
 }
 
-/** A new wrapper for a node that has none, of whatever kind it is. */
+/** The same for a node that has none, of whatever kind it is. */
 function makeOf(session, number, realm) {
   check(hp_links(session.index, number));
   const isEmpty = out[FIRST_AT] === NONE;
   const made = make(session, number, out[0], realm);
-  if (isEmpty) bare(made);
+  if (isEmpty) made.bare();
   return made;
 }
 
@@ -371,6 +471,18 @@ export function wrapNear(node, number) {
   return wrap(sessionOf(node), number);
 }
 
+/** The object of a node, which may be a sibling of another one that has an object. */
+function wrapBeside(node, number) {
+  const its = itsOf(node);
+  const { session, above } = its;
+  if ((its.state & CHILD) === 0) return wrap(session, number);
+  check(hp_links(session.index, number));
+  return out[PARENT_AT] === above.number ? above.childOf(number).object : wrap(session, number);
+}
+
+/** The same where there may be no such node. */
+export const wrapNext = (node, session, number) => (node === null || sessionOf(node) !== session ? wrap(session, number) : wrapBeside(node, number));
+
 /** What the session knows of a Document. One that a line has made is as the first. */
 export function documentIs(session, number) {
   const its = session.documents.get(number);
@@ -387,60 +499,62 @@ function wayTo(session, number) {
     const found = session.known(at);
     if (found) return { way, above: found };
     check(hp_links(session.index, at));
-    if (out[2] === NONE) return { way, above: makeRoot(session, at, out[0], out[1]) };
+    if (out[PARENT_AT] === NONE) return { way, above: makeRoot(session, at, out[0], out[1]) };
     way.push(at);
-    at = out[2];
+    at = out[PARENT_AT];
   }
 }
 
 function makeRoot(session, number, kind, document) {
   const made = make(session, number, kind, documentIs(session, document).realm);
-  knowOnce(made);
-  if (kind !== DOCUMENT) loosen(made, wrap(session, document));
-  return made;
+  made.know();
+  if (kind !== DOCUMENT) made.loosen(itsOf(wrap(session, document)));
+  return made.object;
 }
 
 /** Goes from the root, or from what is kept, down to the node. */
 function wrapAnew(session, number) {
   const { way, above } = wayTo(session, number);
-  let it = above;
-  while (way.length > 0) it = childOf(it, way.pop());
-  return knowOnce(it);
+  let it = itsOf(above);
+  while (way.length > 0) it = it.childOf(way.pop());
+  it.know();
+  return it.object;
 }
 
 /** The object of a child of a node by its number. */
-export const wrapChild = (parent, number) => childOf(parent, number);
+export const wrapChild = (parent, number) => itsOf(parent).childOf(number).object;
 
 /** The object of a node that was just made for a Document, and has no parent. */
-export function wrapMade(document, number, kind, name) {
-  const made = make(sessionOf(document), number, kind, realmOf(document), name);
-  loosen(made, document);
-  return made;
+export function wrapMade(document, number, kind) {
+  const above = itsOf(document);
+  const made = make(above.session, number, kind, above.realm);
+  made.loosen(above);
+  return made.object;
 }
 
-/** The same, of a node that has no child either. */
-export function wrapBare(document, number, kind, name) {
-  const made = wrapMade(document, number, kind, name);
-  bare(made);
-  return made;
+/** The same, of a node that has no child either; of an element with what its name says. */
+export function wrapBare(document, number, kind, name = null) {
+  const above = itsOf(document);
+  const made = make(above.session, number, kind, above.realm, name);
+  made.name = name;
+  made.bare();
+  made.loosen(above);
+  return made.object;
 }
 
 /** Says what a new Document is, and answers its object. */
 export function wrapDocument(session, number, its) {
   session.documents.set(number, its);
-  return knowOnce(make(session, number, DOCUMENT, its.realm));
-}
-
-/** The Document of a node. */
-export function documentOf(node) {
-  const root = rootOf(node);
-  return kindOf(root) === DOCUMENT ? root : aboveOf(root);
+  const made = make(session, number, DOCUMENT, its.realm);
+  made.know();
+  return made.object;
 }
 
 /** A node's number for a call of a session, which knows its own nodes alone. */
 export function numberIn(session, node) {
-  if (sessionOf(node) !== session) throw new Refusal(native.HP_NOT_SUPPORTED_ERROR, "the node is of another session");
-  return numberOf(node);
+  const its = itsOf(node);
+  if (its.session !== session) throw new Refusal(native.HP_NOT_SUPPORTED_ERROR, "the node is of another session");
+  return its.number;
 }
 
 export const numberInOrNone = (session, node) => (node === null ? NONE : numberIn(session, node));
@@ -449,19 +563,18 @@ export const numberInOrNone = (session, node) => (node === null ? NONE : numberI
 
 /** A node came into a parent ahead of a child, or at the end. */
 export function arrived(node, parent, child) {
-  if (node === child) return;
-  if (kindOf(node) === FRAGMENT) cameFrom(node, parent, child);
-  else cameBefore(node, parent, child);
+  if (node !== child) itsOf(node).cameInto(itsOf(parent), child === null ? null : itsOf(child));
 }
 
 /** A node left its parent; its Document is that of the tree that it was in. */
 export function departed(node) {
-  wentFrom(node, documentOf(node));
+  const its = itsOf(node);
+  its.wentFrom(its.document());
 }
 
 /** A node came into the place of a child. */
 export function replaced(node, parent, child) {
-  if (node !== child) tookPlaceOf(node, parent, child);
+  if (node !== child) itsOf(node).tookPlaceOf(itsOf(parent), itsOf(child));
 }
 
 /** Puts a wrapper where the core says that its node stands. Links are not mended: `renewed` of the session has to be said. */
@@ -470,32 +583,32 @@ export function settle(node) {
   check(native.hp_node(session.index, numberOf(node)));
   const document = out[0];
   const parent = out[3];
-  if (parent !== NONE) place(node, wrap(session, parent));
-  else loosen(node, kindOf(node) === DOCUMENT ? null : wrap(session, document));
+  if (parent !== NONE) itsOf(node).place(itsOf(wrap(session, parent)));
+  else itsOf(node).loosen(kindOf(node) === DOCUMENT ? null : itsOf(wrap(session, document)));
 }
 
 /** Makes roots of wrappers that have left their parents for good. Links are not mended here either. */
 export function uproot(nodes, document) {
-  for (const it of nodes) loosen(it, document);
+  for (const it of nodes) itsOf(it).loosen(itsOf(document));
 }
 
 /** Puts wrappers under a parent. Links are not mended here either. */
 export function plant(nodes, parent) {
-  for (const it of nodes) place(it, parent);
+  for (const it of nodes) itsOf(it).place(itsOf(parent));
 }
 
 /** Makes roots of wrappers that have left their parents; where they came is said afterwards, by `settle`. */
 export function detach(nodes, document) {
   for (const it of nodes) {
-    loosen(it, document);
-    knowOnce(it);
+    itsOf(it).loosen(itsOf(document));
+    itsOf(it).know();
   }
 }
 
 /** A wrapper and all wrappers below it. */
 export function wrappedBelow(node) {
   const found = [node];
-  for (let at = 0; at < found.length; at++) if (hasWrappedChildren(found[at])) found.push(...wrappedChildren(found[at]));
+  for (let at = 0; at < found.length; at++) for (let it = itsOf(found[at]).below; it !== null; it = it.behind) found.push(it.object);
   return found;
 }
 
@@ -504,14 +617,14 @@ export function settleAll(session) {
   const all = new Set();
   for (const root of session.everyKnown()) for (const it of wrappedBelow(root)) all.add(it);
   for (const it of all) {
-    clear(it);
-    knowOnce(it);
+    itsOf(it).clear();
+    itsOf(it).know();
   }
   for (const it of all) if (native.hp_root(session.index, numberOf(it)) === OK) settle(it);
 }
 
 /** The wrapped children of a node. */
-export const childrenOf = (node) => (hasWrappedChildren(node) ? wrappedChildren(node) : []);
+export const childrenOf = (node) => itsOf(node).wrapped().map(objectOf);
 
 export const isOfParents = (node) => mayHaveChildren(kindOf(node));
 

@@ -130,6 +130,46 @@ test("lists of children are live, and their indices are properties", () => {
   assert.deepEqual(seen, [0, first, 1, second, 2, third]);
 });
 
+test("a text that is set in an element without children is its only child", () => {
+  const { document, paragraph } = scene();
+  const [one, other] = ["b", "i"].map((name) => paragraph.appendChild(document.createElement(name)));
+  one.textContent = "one";
+  const text = one.firstChild;
+  assert.deepEqual([text.data, text.parentNode, text.previousSibling, text.nextSibling], ["one", one, null, null]);
+  assert.deepEqual([one.lastChild, one.childNodes.length, one.childNodes[0], one.nextSibling], [text, 1, text, other]);
+  const behind = one.appendChild(document.createTextNode("two"));
+  assert.deepEqual([text.nextSibling, behind.previousSibling, one.lastChild, one.textContent], [behind, text, behind, "onetwo"]);
+  one.textContent = "three";
+  assert.deepEqual([text.parentNode, text.nextSibling, behind.parentNode, one.firstChild.data, one.childNodes.length], [null, null, null, "three", 1]);
+  other.textContent = "";
+  assert.deepEqual([other.firstChild, other.lastChild, other.childNodes.length], [null, null, 0]);
+  other.textContent = "four";
+  other.appendChild(document.createTextNode("five"));
+  assert.deepEqual([...other.childNodes].map((it) => it.data), ["four", "five"]);
+});
+
+test("a child is found by its index, also behind changes of one node and of several", () => {
+  const { document, paragraph, first } = scene();
+  const made = (count) => Array.from({ length: count }, () => document.createElement("b"));
+  const children = [...paragraph.childNodes];
+  const found = () => children.map((_, at) => paragraph.childNodes[children.length - 1 - at]).reverse();
+  const change = (at, gone, ...come) => (children.splice(at, gone, ...come), assert.deepEqual(found(), children));
+  const many = made(20);
+  for (const it of many) paragraph.appendChild(it);
+  change(2, 0, ...many);
+  const [ahead] = made(1);
+  paragraph.insertBefore(ahead, first);
+  change(0, 0, ahead);
+  const some = made(3);
+  many[0].before(...some);
+  change(3, 0, ...some);
+  paragraph.normalize();
+  change(2, 1);
+  paragraph.removeChild(some[1]);
+  change(3, 1);
+  assert.equal(paragraph.childNodes[children.length], undefined);
+});
+
 test("several nodes at once are composed as the standard does", () => {
   const { document, paragraph, first, second } = scene();
   const made = document.createElement("b");

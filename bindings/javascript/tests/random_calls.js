@@ -127,6 +127,7 @@ const ASKING = [
   agrees,
   agrees,
   agrees,
+  filled,
 ];
 
 /** What a node's parent and siblings say of each other. */
@@ -142,14 +143,14 @@ function fits() {
 
 const numberOrNone = (it) => (it === null ? native.HP_NONE : numberOf(it));
 
-/** What a node's object says of those beside it is what the core says. */
-function agrees() {
-  const it = node();
-  const { parentNode, previousSibling, nextSibling, firstChild, lastChild, childNodes } = it;
-  const said = [parentNode, previousSibling, nextSibling, firstChild, lastChild].map(numberOrNone);
+/** What a node's object says of those beside it is what the core says; a child by its index is asked for ahead of what may be known by it. */
+function agrees(it = node()) {
+  const { childNodes } = it;
   const { length } = childNodes;
   const some = length ? below(length) : 0;
   const child = numberOrNone(childNodes[some] ?? null);
+  const { parentNode, previousSibling, nextSibling, firstChild, lastChild } = it;
+  const said = [parentNode, previousSibling, nextSibling, firstChild, lastChild].map(numberOrNone);
   const { index } = sessionOf(it);
   assert.equal(native.hp_links(index, numberOf(it)), native.HP_OK);
   assert.deepEqual([...out.subarray(2, 7)], said);
@@ -159,6 +160,13 @@ function agrees() {
     assert.equal(out[0], child);
   }
   assert.equal((native.hp_root(index, numberOf(it)), out[0]), numberOf(it.getRootNode()));
+}
+
+/** A text that is set in a node, which may be known to have no child, agrees at once. */
+function filled() {
+  const it = any([node(), document.createElement("p")]);
+  it.textContent = any(TEXTS);
+  agrees(it);
 }
 
 const GROUPS = [MAKING, CHANGING, CHANGING, RANGING, WATCHING, ASKING];

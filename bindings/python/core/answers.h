@@ -42,7 +42,7 @@ static bool numbers_ask(Numbers *it, Calls *calls)
         return PyErr_NoMemory() != NULL;
     for (size_t at = 0; at < it->length; at++) {
         hp_node_links links;
-        bool is_known = it->at[at] == HP_NONE || (calls->kept.entries && entry_of(&calls->kept, it->at[at], FAMILY_NODE)->object);
+        bool is_known = it->at[at] == HP_NONE || table_at(&calls->kept, it->at[at], FAMILY_NODE);
         if (!is_known && hp_links(&calls->session, it->at[at], &links) == HP_OK)
             it->kinds[at] = links.kind;
     }

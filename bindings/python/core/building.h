@@ -1,32 +1,123 @@
 /* A tree that parsers build: each event is a call of the library, without an object of Python for what is made.
  *
- * An element comes under its parent when it ends, while that one stands under none itself: so the depth costs nothing. */
+ * An element comes under its parent when it ends, while that one stands under none itself: so the depth costs nothing. What parsers tell is UTF-8. */
 #ifndef HUCKLEPORT_BUILDING_H
 #define HUCKLEPORT_BUILDING_H
 
+#include "course.h"
 #include "members.h"
+
+/* Units that grow. */
+typedef struct {
+    uint16_t *at;
+    size_t length, room;
+} Units;
 
 typedef struct {
     PyObject_HEAD
     Calls *calls;
     /* The document of what is made, and the node under which it comes. */
     uint32_t document, root;
-    /* Whether attributes are left out that the library refuses, and whether this is within a doctype, of which nothing is kept. */
-    bool is_lenient, is_in_doctype;
-    /* The elements that are open, each without a parent. */
+    /* Whether attributes are left out that the library refuses. */
+    bool is_lenient;
+    /* The elements that are open, each without a parent; and the root with all that was made below it. */
     Numbers open;
-    /* The text that is not put in yet, as units. */
-    uint16_t *units;
-    size_t length, room;
+    Order order;
+    /* The names of the attributes that the element has whose start tag is read. */
+    unsigned shape;
+    /* The text that is not put in yet, and the value of an attribute or what else a call is handed. */
+    Units text, value;
 } Builder;
 
-static PyObject *builder_refused(Builder *it, uint8_t status, const char *call, uint32_t first, PyObject *second)
+/* ---- UTF-8 as units */
+
+/* The character that some bytes begin with; what is no UTF-8 is U+FFFD, a byte each. Returns how many bytes it has. */
+static size_t character_of(const uint8_t *octets, size_t length, Py_UCS4 *to)
+{
+    static const Py_UCS4 least[] = { 0, 0, 0x80, 0x800, 0x10000 };
+    uint8_t first = octets[0];
+    size_t size = first >= 0xF0 && first < 0xF8 ? 4 : first >= 0xE0 ? 3 : first >= 0xC0 ? 2 : 1;
+    Py_UCS4 found = first & (size == 1 ? 0x7F : 0xFF >> (size + 1));
+    bool fits = first < 0x80 || (size > 1 && first < 0xF8 && size <= length);
+    for (size_t at = 1; fits && at < size; at++) {
+        fits = (octets[at] & 0xC0) == 0x80;
+        found = found << 6 | (octets[at] & 0x3F);
+    }
+    fits = fits && found >= least[size] && found < 0x110000 && (found & 0xFFFFF800) != 0xD800;
+    *to = fits ? found : 0xFFFD;
+    return fits ? size : 1;
+}
+
+/* Characters below 128 as units, up to the first other. */
+static size_t push_narrow(uint16_t *to, const uint8_t *octets, size_t length)
+{
+    size_t at = 0;
+    for (; at + 8 <= length; at += 8) {
+        uint64_t eight;
+        memcpy(&eight, octets + at, 8);
+        if (eight & 0x8080808080808080u)
+            break;
+        for (int part = 0; part < 8; part++)
+            to[at + part] = octets[at + part];
+    }
+    while (at < length && octets[at] < 0x80) {
+        to[at] = octets[at];
+        at++;
+    }
+    return at;
+}
+
+/* Adds UTF-8, which has no more units than bytes. */
+static bool units_push(Units *it, const char *from, size_t length)
+{
+    const uint8_t *octets = (const uint8_t *)from;
+    if (it->room - it->length < length) {
+        size_t room = 2 * it->room + length + 256;
+        uint16_t *wider = PyMem_Realloc(it->at, room * sizeof(uint16_t));
+        if (!wider)
+            return PyErr_NoMemory() != NULL;
+        it->at = wider;
+        it->room = room;
+    }
+    for (size_t at = 0; at < length;) {
+        size_t narrow = push_narrow(it->at + it->length, octets + at, length - at);
+        Py_UCS4 character;
+        it->length += narrow;
+        at += narrow;
+        if (at == length)
+            break;
+        at += character_of(octets + at, length - at, &character);
+        it->length = (size_t)((uint16_t *)push_units((uint8_t *)(it->at + it->length), &character, 1) - it->at);
+    }
+    return true;
+}
+
+/* What a call is handed: UTF-8 that ends with a zero, or null for none, as units. */
+static bool value_of(Builder *it, const char *from)
+{
+    it->value.length = 0;
+    return !from || units_push(&it->value, from, strlen(from));
+}
+
+/* ---- calls */
+
+/* Raises what a status says of a call, with the number or the name that it was handed. */
+static bool builder_refused(Builder *it, uint8_t status, const char *call, uint32_t first, PyObject *second)
 {
     PyObject *words = Py_BuildValue("(kO)", (unsigned long)first, second ? second : Py_None);
     if (words)
         refused(status, call, (PyObject *)it->calls, words);
     Py_XDECREF(words);
-    return NULL;
+    return false;
+}
+
+static bool name_refused(Builder *it, uint8_t status, const char *call, uint32_t first, const char *name)
+{
+    PyObject *second = PyUnicode_DecodeUTF8(name, (Py_ssize_t)strlen(name), "replace");
+    if (second)
+        builder_refused(it, status, call, first, second);
+    Py_XDECREF(second);
+    return false;
 }
 
 /* Puts a node behind what the innermost open element has. */
@@ -44,216 +135,135 @@ static bool put_in(Builder *it, uint32_t node)
     return false;
 }
 
+/* Learns what a node is and where it stands: nodes are made in tree order. */
+static bool learn_node(Builder *it, uint32_t node, uint8_t kind, unsigned label)
+{
+    learn(&it->calls->labels, &it->calls->session, node, label);
+    return order_push(&it->order, node, it->open.length + 1, kind);
+}
+
+/* Puts in a node that has nothing below it. */
+static bool put_in_leaf(Builder *it, uint32_t node, uint8_t kind)
+{
+    return learn_node(it, node, kind, label_of_kind(&it->calls->labels, kind)) && put_in(it, node);
+}
+
 /* Puts the text in that has come since the last node. */
 static bool put_text(Builder *it)
 {
     uint32_t node = 0;
-    if (!it->length)
+    if (!it->text.length)
         return true;
-    uint8_t status = hp_create_text(&it->calls->session, it->document, it->units, it->length, &node);
-    it->length = 0;
+    uint8_t status = hp_create_text(&it->calls->session, it->document, it->text.at, it->text.length, &node);
+    it->text.length = 0;
     if (status)
-        return builder_refused(it, status, "create_text", it->document, NULL) != NULL;
-    return put_in(it, node);
+        return builder_refused(it, status, "create_text", it->document, NULL);
+    return put_in_leaf(it, node, KIND_TEXT);
 }
 
-static bool add_text(Builder *it, PyObject *text)
+/* Sets an attribute of the innermost open element. */
+static bool add_attribute(Builder *it, const char *name)
 {
-    if (!PyUnicode_Check(text))
-        return is_not_due("str", text);
-    Py_ssize_t length = PyUnicode_GetLength(text);
-    if (length <= 0)
-        return length == 0;
-    if (it->room - it->length < 2 * (size_t)length) {
-        size_t room = 2 * it->room + 2 * (size_t)length + 256;
-        uint16_t *wider = PyMem_Realloc(it->units, room * sizeof(uint16_t));
-        if (!wider)
-            return PyErr_NoMemory() != NULL;
-        it->units = wider;
-        it->room = room;
-    }
-    uint8_t *end = push_all(text, length, (uint8_t *)(it->units + it->length), push_units);
-    if (end)
-        it->length = (size_t)((uint16_t *)end - it->units);
-    return end != NULL;
+    uint32_t element = it->open.at[it->open.length - 1];
+    size_t length = strlen(name);
+    uint8_t status = hp_set_attribute(&it->calls->session, element, (const uint8_t *)name, length, it->value.at, it->value.length);
+    if (!status)
+        it->shape = shape_with(&it->calls->labels, it->shape, name, length);
+    if (!status || (it->is_lenient && (status == HP_INVALID_CHARACTER_ERROR || status == HP_NOT_UTF8)))
+        return true;
+    return name_refused(it, status, "set_attribute", element, name);
 }
 
-static bool add_attribute(Builder *it, uint32_t element, PyObject *name, PyObject *value)
+/* An element, which gets its attributes next. */
+static bool start_element(Builder *it, const char *name)
 {
-    Slice key, text;
-    begin(&text);
-    bool done = name_of(name, &key) && text_of(value, &text);
-    uint8_t status = done ? hp_set_attribute(&it->calls->session, element, key.at, key.length, text.at, text.length) : HP_OK;
-    if (status && !(it->is_lenient && (status == HP_INVALID_CHARACTER_ERROR || status == HP_NOT_UTF8)))
-        done = builder_refused(it, status, "set_attribute", element, name) != NULL;
-    drop(&key);
-    drop(&text);
-    return done;
-}
-
-/* Adds attributes of a list: names and values by turns, or pairs of these. */
-static bool add_attributes(Builder *it, uint32_t element, PyObject *list)
-{
-    Py_ssize_t count = PyList_Check(list) ? PyList_Size(list) : -1, at = 0;
-    bool done = count >= 0 || is_not_due("list", list);
-    while (done && at < count) {
-        PyObject *first = PyList_GetItem(list, at);
-        bool is_pair = PyTuple_Check(first) && PyTuple_Size(first) == 2;
-        if (!is_pair && at + 1 == count) {
-            PyErr_SetString(PyExc_ValueError, "an attribute has no value");
-            return false;
-        }
-        PyObject *name = is_pair ? PyTuple_GetItem(first, 0) : first, *value = is_pair ? PyTuple_GetItem(first, 1) : PyList_GetItem(list, at + 1);
-        done = add_attribute(it, element, name, value);
-        at += is_pair ? 1 : 2;
-    }
-    return done;
-}
-
-static bool start_element(Builder *it, PyObject *name, PyObject *attributes)
-{
-    Slice slice;
+    Calls *calls = it->calls;
+    size_t length = strlen(name);
     uint32_t element = 0;
-    let_go_noted(it->calls);
     if (!put_text(it))
         return false;
-    bool done = name_of(name, &slice);
-    uint8_t status = done ? hp_create_element(&it->calls->session, it->document, slice.at, slice.length, &element) : HP_OK;
-    drop(&slice);
-    if (!done || status)
-        return status && builder_refused(it, status, "create_element", it->document, name);
-    if (add_attributes(it, element, attributes) && numbers_push(&it->open, element))
+    uint8_t status = hp_create_element(&calls->session, it->document, (const uint8_t *)name, length, &element);
+    if (status)
+        return name_refused(it, status, "create_element", it->document, name);
+    it->shape = BARE;
+    if (learn_node(it, element, KIND_ELEMENT, label_of_name(&calls->labels, KIND_ELEMENT, name, length)) && numbers_push(&it->open, element))
         return true;
-    note(it->calls, FAMILY_NODE, element);
+    note(calls, FAMILY_NODE, element);
     return false;
+}
+
+/* Tells that the innermost open element has all its attributes. */
+static void end_attributes(Builder *it)
+{
+    learn_shape(&it->calls->labels, &it->calls->session, it->open.at[it->open.length - 1], it->shape);
 }
 
 static bool end_element(Builder *it)
 {
-    if (!put_text(it))
-        return false;
-    if (!it->open.length) {
-        PyErr_SetString(PyExc_ValueError, "no element is open");
-        return false;
-    }
-    return put_in(it, it->open.at[--it->open.length]);
+    return put_text(it) && put_in(it, it->open.at[--it->open.length]);
 }
 
-static bool add_comment(Builder *it, PyObject *data)
+static bool add_comment(Builder *it, const char *data)
 {
-    Slice text;
     uint32_t node = 0;
-    if (!put_text(it))
+    if (!put_text(it) || !value_of(it, data))
         return false;
-    bool done = text_of(data, &text);
-    uint8_t status = done ? hp_create_comment(&it->calls->session, it->document, text.at, text.length, &node) : HP_OK;
-    drop(&text);
-    if (!done || status)
-        return status && builder_refused(it, status, "create_comment", it->document, NULL);
-    return put_in(it, node);
+    uint8_t status = hp_create_comment(&it->calls->session, it->document, it->value.at, it->value.length, &node);
+    return status ? builder_refused(it, status, "create_comment", it->document, NULL) : put_in_leaf(it, node, KIND_COMMENT);
 }
 
-static bool add_instruction(Builder *it, PyObject *target, PyObject *data)
+static bool add_instruction(Builder *it, const char *target, const char *data)
 {
-    Slice name, text;
     uint32_t node = 0;
-    begin(&text);
-    if (!put_text(it))
+    if (!put_text(it) || !value_of(it, data))
         return false;
-    bool done = name_of(target, &name) && text_of(data, &text);
-    uint8_t status = done ? hp_create_pi(&it->calls->session, it->document, name.at, name.length, text.at, text.length, &node) : HP_OK;
-    drop(&name);
-    drop(&text);
-    if (!done || status)
-        return status && builder_refused(it, status, "create_pi", it->document, target);
-    return put_in(it, node);
+    uint8_t status = hp_create_pi(&it->calls->session, it->document, (const uint8_t *)target, strlen(target), it->value.at, it->value.length, &node);
+    return status ? name_refused(it, status, "create_pi", it->document, target) : put_in_leaf(it, node, KIND_PROCESSING_INSTRUCTION);
 }
 
-static bool add_doctype(Builder *it, PyObject *name, PyObject *system_id, PyObject *public_id)
+/* A name and ids; null stands for an empty one. */
+static bool add_doctype(Builder *it, const char *name, const char *public_id, const char *system_id)
 {
-    Slice first, system, public;
     uint32_t node = 0;
-    begin(&system);
-    begin(&public);
-    bool done = name_of(name, &first) && (system_id == Py_None || name_of(system_id, &system)) && (public_id == Py_None || name_of(public_id, &public));
-    uint8_t status = HP_OK;
-    if (done)
-        status = hp_create_doctype(&it->calls->session, it->document, first.at, first.length, public.at, public.length, system.at, system.length, &node);
-    drop(&first);
-    drop(&system);
-    drop(&public);
-    if (!done || status)
-        return status && builder_refused(it, status, "create_doctype", it->document, name);
-    return put_in(it, node);
+    name = name ? name : "";
+    public_id = public_id ? public_id : "";
+    system_id = system_id ? system_id : "";
+    uint8_t status = hp_create_doctype(&it->calls->session, it->document, (const uint8_t *)name, strlen(name), (const uint8_t *)public_id, strlen(public_id),
+        (const uint8_t *)system_id, strlen(system_id), &node);
+    return status ? name_refused(it, status, "create_doctype", it->document, name) : put_in_leaf(it, node, KIND_DOCUMENT_TYPE);
 }
 
-/* ---- methods, which expat may call by itself */
+/* ---- all of it */
 
-static PyObject *done_or_null(bool done)
+/* Begins to build, under a root that has nothing below it. */
+static bool building_begins(Builder *it)
 {
-    return done ? none() : NULL;
+    uint32_t child = HP_NONE;
+    let_go_noted(it->calls);
+    moved(it->calls);
+    hp_first_child(&it->calls->session, it->root, &child);
+    if (child == HP_NONE)
+        return order_push(&it->order, it->root, 0, kind_at(it->calls, it->root));
+    PyErr_SetString(PyExc_ValueError, "the root has children");
+    return false;
 }
 
-static PyObject *builder_start(PyObject *self, PyObject *words)
+/* What was built is known from now on. */
+static void building_ends(Builder *it)
 {
-    return is_counted(words, 2, "start") ? done_or_null(start_element((Builder *)self, word(words, 0), word(words, 1))) : NULL;
+    moved(it->calls);
+    it->calls->order = it->order;
+    it->order = (Order){ NULL, 0, 0 };
 }
 
-static PyObject *builder_end(PyObject *self, PyObject *words)
-{
-    (void)words;
-    return done_or_null(end_element((Builder *)self));
-}
-
-static PyObject *builder_text(PyObject *self, PyObject *text)
-{
-    return done_or_null(add_text((Builder *)self, text));
-}
-
-static PyObject *builder_comment(PyObject *self, PyObject *data)
-{
-    return done_or_null(((Builder *)self)->is_in_doctype || add_comment((Builder *)self, data));
-}
-
-static PyObject *builder_instruction(PyObject *self, PyObject *words)
-{
-    if (!is_counted(words, 2, "instruction"))
-        return NULL;
-    return done_or_null(((Builder *)self)->is_in_doctype || add_instruction((Builder *)self, word(words, 0), word(words, 1)));
-}
-
-static PyObject *builder_doctype(PyObject *self, PyObject *words)
-{
-    if (!is_counted(words, 4, "doctype"))
-        return NULL;
-    bool done = add_doctype((Builder *)self, word(words, 0), word(words, 1), word(words, 2));
-    ((Builder *)self)->is_in_doctype = true;
-    return done_or_null(done);
-}
-
-static PyObject *builder_end_doctype(PyObject *self, PyObject *nothing)
-{
-    (void)nothing;
-    ((Builder *)self)->is_in_doctype = false;
-    return none();
-}
-
-static PyObject *builder_finish(PyObject *self, PyObject *nothing)
-{
-    (void)nothing;
-    Builder *it = (Builder *)self;
-    bool done = put_text(it);
-    while (done && it->open.length)
-        done = end_element(it);
-    return done_or_null(done);
-}
+/* ---- the object */
 
 /* Notes what is open, so that it is let go. */
 static void abandon(Builder *it)
 {
     for (size_t at = 0; at < it->open.length; at++)
         note(it->calls, FAMILY_NODE, it->open.at[at]);
-    it->open.length = it->length = 0;
+    it->open.length = it->text.length = 0;
 }
 
 static PyObject *builder_abandon(PyObject *self, PyObject *nothing)
@@ -295,131 +305,11 @@ static void builder_dealloc(PyObject *self)
         abandon(it);
     Py_XDECREF((PyObject *)it->calls);
     numbers_drop(&it->open);
-    PyMem_Free(it->units);
+    order_drop(&it->order);
+    PyMem_Free(it->text.at);
+    PyMem_Free(it->value.at);
     PyObject_Free(self);
     Py_DECREF(type);
 }
-
-/* ---- a tree of lxml */
-
-/* The names of what is asked of it, and the function that tells a name without its namespace. */
-typedef struct {
-    PyObject *tag, *text, *tail, *items, *getparent, *qualified;
-} Asked;
-
-static bool add_member_text(Builder *it, PyObject *node, PyObject *member)
-{
-    PyObject *text = PyObject_GetAttr(node, member);
-    bool done = text && (text == Py_None || add_text(it, text));
-    Py_XDECREF(text);
-    return done;
-}
-
-/* Ends open elements until one is the last, and adds the text behind each. */
-static bool end_to(Builder *it, PyObject *open, PyObject *last, const Asked *asked)
-{
-    bool done = true;
-    for (Py_ssize_t at = PyList_Size(open); done && at > 0 && PyList_GetItem(open, at - 1) != last; at--) {
-        PyObject *node = same(PyList_GetItem(open, at - 1));
-        done = end_element(it) && (at == 1 || add_member_text(it, node, asked->tail)) && PyList_SetSlice(open, at - 1, at, NULL) == 0;
-        Py_DECREF(node);
-    }
-    return done;
-}
-
-/* Puts names without namespaces in place of others. */
-static bool qualify(PyObject *pairs, const Asked *asked)
-{
-    bool done = true;
-    for (Py_ssize_t at = 0; done && at < PyList_Size(pairs); at++) {
-        PyObject *pair = PyList_GetItem(pairs, at), *name = PyTuple_Check(pair) ? PyTuple_GetItem(pair, 0) : NULL;
-        if (!name || !PyUnicode_Check(name) || !PyUnicode_GetLength(name) || PyUnicode_ReadChar(name, 0) != '{')
-            continue;
-        PyObject *told = PyObject_CallFunctionObjArgs(asked->qualified, name, NULL);
-        PyObject *both = told ? PyTuple_Pack(2, told, PyTuple_GetItem(pair, 1)) : NULL;
-        Py_XDECREF(told);
-        done = both && PyList_SetItem(pairs, at, both) == 0;
-    }
-    return done;
-}
-
-static bool add_element_of_lxml(Builder *it, PyObject *open, PyObject *node, PyObject *tag, const Asked *asked)
-{
-    PyObject *pairs = PyObject_CallMethodObjArgs(node, asked->items, NULL);
-    bool done = pairs && PyList_Check(pairs) && qualify(pairs, asked) && start_element(it, tag, pairs) && PyList_Append(open, node) == 0;
-    Py_XDECREF(pairs);
-    return done && add_member_text(it, node, asked->text);
-}
-
-static bool add_comment_of_lxml(Builder *it, PyObject *node, const Asked *asked)
-{
-    PyObject *text = PyObject_GetAttr(node, asked->text);
-    bool done = text && add_comment(it, text) && add_member_text(it, node, asked->tail);
-    Py_XDECREF(text);
-    return done;
-}
-
-static bool add_node_of_lxml(Builder *it, PyObject *open, PyObject *node, const Asked *asked)
-{
-    PyObject *parent = PyList_Size(open) ? PyObject_CallMethodObjArgs(node, asked->getparent, NULL) : none();
-    PyObject *tag = parent && end_to(it, open, parent, asked) ? PyObject_GetAttr(node, asked->tag) : NULL;
-    bool done = tag && (PyUnicode_Check(tag) ? add_element_of_lxml(it, open, node, tag, asked) : add_comment_of_lxml(it, node, asked));
-    Py_XDECREF(parent);
-    Py_XDECREF(tag);
-    return done;
-}
-
-static bool add_all_of_lxml(Builder *it, PyObject *nodes, const Asked *asked)
-{
-    PyObject *open = PyList_New(0), *node = NULL;
-    bool done = open != NULL;
-    while (done && (node = PyIter_Next(nodes)) != NULL) {
-        done = add_node_of_lxml(it, open, node, asked);
-        Py_DECREF(node);
-    }
-    done = done && !PyErr_Occurred() && end_to(it, open, NULL, asked);
-    Py_XDECREF(open);
-    return done;
-}
-
-/* Adds an element of lxml with all below it: elements and comments. */
-static PyObject *builder_add_lxml(PyObject *self, PyObject *words)
-{
-    if (!is_counted(words, 2, "add_lxml"))
-        return NULL;
-    Asked asked = { PyUnicode_FromString("tag"), PyUnicode_FromString("text"), PyUnicode_FromString("tail"), PyUnicode_FromString("items"), PyUnicode_FromString("getparent"),
-        word(words, 1) };
-    bool done = asked.tag && asked.text && asked.tail && asked.items && asked.getparent;
-    PyObject *nodes = done ? PyObject_CallMethod(word(words, 0), "iter", NULL) : NULL;
-    done = nodes && add_all_of_lxml((Builder *)self, nodes, &asked);
-    PyObject *const names[] = { asked.tag, asked.text, asked.tail, asked.items, asked.getparent, nodes };
-    for (size_t at = 0; at < sizeof(names) / sizeof(*names); at++)
-        Py_XDECREF(names[at]);
-    return done_or_null(done);
-}
-
-static PyMethodDef builder_methods[] = {
-    { "start", builder_start, METH_VARARGS, "start($self, name, attributes, /)\n--\n\nThe start tag of an element: a list of names and values, or of pairs." },
-    { "end", builder_end, METH_VARARGS, "end($self, /, *name)\n--\n\nThe end of the innermost open element." },
-    { "text", builder_text, METH_O, "text($self, data, /)\n--\n\nText, which may come in pieces." },
-    { "comment", builder_comment, METH_O, "comment($self, data, /)\n--\n\nA comment." },
-    { "instruction", builder_instruction, METH_VARARGS, "instruction($self, target, data, /)\n--\n\nA processing instruction." },
-    { "doctype", builder_doctype, METH_VARARGS, "doctype($self, name, system_id, public_id, has_internal, /)\n--\n\nThe start of a doctype. What stands in it is left out." },
-    { "end_doctype", builder_end_doctype, METH_NOARGS, "end_doctype($self, /)\n--\n\nThe end of a doctype." },
-    { "finish", builder_finish, METH_NOARGS, "finish($self, /)\n--\n\nEnds all open elements." },
-    { "abandon", builder_abandon, METH_NOARGS, "abandon($self, /)\n--\n\nLets all go that is open." },
-    { "add_lxml", builder_add_lxml, METH_VARARGS, "add_lxml($self, element, qualified, /)\n--\n\nAdds an element of lxml with all below it." },
-    { NULL, NULL, 0, NULL },
-};
-
-static PyType_Slot builder_slots[] = {
-    { Py_tp_doc, "Builds a tree under a node as a parser goes: Builder(calls, document, root, is_lenient)." },
-    { Py_tp_new, builder_new },
-    { Py_tp_dealloc, builder_dealloc },
-    { Py_tp_methods, builder_methods },
-    { 0, NULL },
-};
-
-static PyType_Spec builder_spec = { "huckleport._core.Builder", sizeof(Builder), 0, Py_TPFLAGS_DEFAULT, builder_slots };
 
 #endif

@@ -203,6 +203,7 @@ static PyObject *call_open(PyObject *self, PyObject *words)
     size_t line = 0;
     PyObject *found = NULL;
     if (is_counted(words, 2, "open") && uint64_of(word(words, 0), &numbers) && size_of(word(words, 1), &line)) {
+        moved((Calls *)self);
         uint8_t status = hp_open(session_at(self), numbers, line);
         found = status ? refused(status, "open", self, words) : none();
     }
@@ -213,6 +214,7 @@ static PyObject *call_close(PyObject *self, PyObject *words)
 {
     PyObject *found = NULL;
     if (is_counted(words, 0, "close")) {
+        moved((Calls *)self);
         uint8_t status = hp_close(session_at(self));
         found = status ? refused(status, "close", self, words) : let_go((Calls *)self, none());
     }
@@ -225,6 +227,8 @@ static PyObject *call_line(PyObject *self, PyObject *words)
     PyObject *found = NULL;
     begin(&line);
     if (is_counted(words, 1, "line") && octets_of(word(words, 0), &line)) {
+        moved((Calls *)self);
+        labels_drop_pages(&((Calls *)self)->labels);
         uint8_t status = hp_line(session_at(self), line.at, line.length);
         found = status ? refused(status, "line", self, words) : let_go((Calls *)self, none());
     }
@@ -574,6 +578,7 @@ static PyObject *call_insert_before(PyObject *self, PyObject *words)
     uint32_t child = 0;
     PyObject *found = NULL;
     if (is_counted(words, 3, "insert_before") && uint32_of(word(words, 0), &parent) && uint32_of(word(words, 1), &node) && uint32_of(word(words, 2), &child)) {
+        moved((Calls *)self);
         uint8_t status = hp_insert_before(session_at(self), parent, node, child);
         found = status ? refused(status, "insert_before", self, words) : none();
     }
@@ -586,6 +591,7 @@ static PyObject *call_append_child(PyObject *self, PyObject *words)
     uint32_t node = 0;
     PyObject *found = NULL;
     if (is_counted(words, 2, "append_child") && uint32_of(word(words, 0), &parent) && uint32_of(word(words, 1), &node)) {
+        moved((Calls *)self);
         uint8_t status = hp_append_child(session_at(self), parent, node);
         found = status ? refused(status, "append_child", self, words) : none();
     }
@@ -598,6 +604,7 @@ static PyObject *call_adopt_node(PyObject *self, PyObject *words)
     uint32_t node = 0;
     PyObject *found = NULL;
     if (is_counted(words, 2, "adopt_node") && uint32_of(word(words, 0), &document) && uint32_of(word(words, 1), &node)) {
+        moved((Calls *)self);
         uint8_t status = hp_adopt_node(session_at(self), document, node);
         found = status ? refused(status, "adopt_node", self, words) : none();
     }
@@ -612,6 +619,7 @@ static PyObject *call_replace_child(PyObject *self, PyObject *words)
     PyObject *found = NULL;
     if (is_counted(words, 3, "replace_child") && uint32_of(word(words, 0), &parent) && uint32_of(word(words, 1), &node) && uint32_of(word(words, 2), &child)) {
         let_go_noted((Calls *)self);
+        moved((Calls *)self);
         uint8_t status = hp_replace_child(session_at(self), parent, node, child);
         found = status ? refused(status, "replace_child", self, words) : none();
     }
@@ -625,6 +633,7 @@ static PyObject *call_remove_child(PyObject *self, PyObject *words)
     PyObject *found = NULL;
     if (is_counted(words, 2, "remove_child") && uint32_of(word(words, 0), &parent) && uint32_of(word(words, 1), &child)) {
         let_go_noted((Calls *)self);
+        moved((Calls *)self);
         uint8_t status = hp_remove_child(session_at(self), parent, child);
         found = status ? refused(status, "remove_child", self, words) : none();
     }
@@ -637,6 +646,7 @@ static PyObject *call_remove(PyObject *self, PyObject *words)
     PyObject *found = NULL;
     if (is_counted(words, 1, "remove") && uint32_of(word(words, 0), &node)) {
         let_go_noted((Calls *)self);
+        moved((Calls *)self);
         uint8_t status = hp_remove(session_at(self), node);
         found = status ? refused(status, "remove", self, words) : none();
     }
@@ -650,6 +660,7 @@ static PyObject *call_replace_children(PyObject *self, PyObject *words)
     PyObject *found = NULL;
     if (is_counted(words, 2, "replace_children") && uint32_of(word(words, 0), &parent) && uint32_of(word(words, 1), &node)) {
         let_go_noted((Calls *)self);
+        moved((Calls *)self);
         uint8_t status = hp_replace_children(session_at(self), parent, node);
         found = status ? refused(status, "replace_children", self, words) : none();
     }
@@ -662,6 +673,7 @@ static PyObject *call_normalize(PyObject *self, PyObject *words)
     PyObject *found = NULL;
     if (is_counted(words, 1, "normalize") && uint32_of(word(words, 0), &node)) {
         let_go_noted((Calls *)self);
+        moved((Calls *)self);
         uint8_t status = hp_normalize(session_at(self), node);
         found = status ? refused(status, "normalize", self, words) : none();
     }
@@ -676,6 +688,7 @@ static PyObject *call_set_text_content(PyObject *self, PyObject *words)
     begin(&text);
     if (is_counted(words, 2, "set_text_content") && uint32_of(word(words, 0), &node) && text_of(word(words, 1), &text)) {
         let_go_noted((Calls *)self);
+        moved((Calls *)self);
         uint8_t status = hp_set_text_content(session_at(self), node, text.at, text.length);
         found = status ? refused(status, "set_text_content", self, words) : none();
     }
@@ -689,6 +702,7 @@ static PyObject *call_discard(PyObject *self, PyObject *words)
     PyObject *found = NULL;
     if (is_counted(words, 1, "discard") && uint32_of(word(words, 0), &node)) {
         let_go_noted((Calls *)self);
+        moved((Calls *)self);
         uint8_t status = hp_discard(session_at(self), node);
         found = status ? refused(status, "discard", self, words) : let_go((Calls *)self, none());
     }
@@ -1008,6 +1022,7 @@ static PyObject *call_split_text(PyObject *self, PyObject *words)
     PyObject *found = NULL;
     if (is_counted(words, 2, "split_text") && uint32_of(word(words, 0), &text) && uint32_of(word(words, 1), &offset)) {
         let_go_noted((Calls *)self);
+        moved((Calls *)self);
         uint8_t status = hp_split_text(session_at(self), text, offset, &rest);
         found = status ? refused(status, "split_text", self, words) : PyLong_FromUnsignedLong(rest);
     }
@@ -1023,6 +1038,7 @@ static PyObject *call_set_attribute(PyObject *self, PyObject *words)
     begin(&name);
     begin(&value);
     if (is_counted(words, 3, "set_attribute") && uint32_of(word(words, 0), &element) && name_of(word(words, 1), &name) && text_of(word(words, 2), &value)) {
+        reshaped((Calls *)self, element);
         uint8_t status = hp_set_attribute(session_at(self), element, name.at, name.length, value.at, value.length);
         found = status ? refused(status, "set_attribute", self, words) : none();
     }
@@ -1067,6 +1083,7 @@ static PyObject *call_remove_attribute(PyObject *self, PyObject *words)
     PyObject *found = NULL;
     begin(&name);
     if (is_counted(words, 2, "remove_attribute") && uint32_of(word(words, 0), &element) && name_of(word(words, 1), &name)) {
+        reshaped((Calls *)self, element);
         uint8_t status = hp_remove_attribute(session_at(self), element, name.at, name.length);
         found = status ? refused(status, "remove_attribute", self, words) : none();
     }
@@ -1083,6 +1100,7 @@ static PyObject *call_toggle_attribute(PyObject *self, PyObject *words)
     PyObject *found = NULL;
     begin(&name);
     if (is_counted(words, 3, "toggle_attribute") && uint32_of(word(words, 0), &element) && name_of(word(words, 1), &name) && uint8_of(word(words, 2), &force)) {
+        reshaped((Calls *)self, element);
         uint8_t status = hp_toggle_attribute(session_at(self), element, name.at, name.length, force, &is_there);
         found = status ? refused(status, "toggle_attribute", self, words) : PyBool_FromLong(is_there);
     }
@@ -1383,6 +1401,7 @@ static PyObject *call_delete_contents(PyObject *self, PyObject *words)
     PyObject *found = NULL;
     if (is_counted(words, 1, "delete_contents") && uint32_of(word(words, 0), &range)) {
         let_go_noted((Calls *)self);
+        moved((Calls *)self);
         uint8_t status = hp_delete_contents(session_at(self), range);
         found = status ? refused(status, "delete_contents", self, words) : none();
     }
@@ -1396,6 +1415,7 @@ static PyObject *call_extract_contents(PyObject *self, PyObject *words)
     PyObject *found = NULL;
     if (is_counted(words, 1, "extract_contents") && uint32_of(word(words, 0), &range)) {
         let_go_noted((Calls *)self);
+        moved((Calls *)self);
         uint8_t status = hp_extract_contents(session_at(self), range, &fragment);
         found = status ? refused(status, "extract_contents", self, words) : PyLong_FromUnsignedLong(fragment);
     }
@@ -1421,6 +1441,7 @@ static PyObject *call_insert_node(PyObject *self, PyObject *words)
     uint32_t node = 0;
     PyObject *found = NULL;
     if (is_counted(words, 2, "insert_node") && uint32_of(word(words, 0), &range) && uint32_of(word(words, 1), &node)) {
+        moved((Calls *)self);
         uint8_t status = hp_insert_node(session_at(self), range, node);
         found = status ? refused(status, "insert_node", self, words) : none();
     }
@@ -1434,6 +1455,7 @@ static PyObject *call_surround_contents(PyObject *self, PyObject *words)
     PyObject *found = NULL;
     if (is_counted(words, 2, "surround_contents") && uint32_of(word(words, 0), &range) && uint32_of(word(words, 1), &parent)) {
         let_go_noted((Calls *)self);
+        moved((Calls *)self);
         uint8_t status = hp_surround_contents(session_at(self), range, parent);
         found = status ? refused(status, "surround_contents", self, words) : none();
     }
@@ -2032,6 +2054,7 @@ static PyObject *member_Node_append_child(PyObject *self, PyObject *words, PyObj
     uint32_t node = 0;
     PyObject *found = NULL;
     if (sort(words, named, names, 1, given, "append_child") && node_of(self, given[0], &node)) {
+        moved(((Thing *)self)->calls);
         uint8_t status = hp_append_child(session_of(self), number_of(self), node);
         found = status ? refused_of(status, "append_child", self, given, 1) : placed(given[0], same(given[0]));
     }
@@ -2046,6 +2069,7 @@ static PyObject *member_Node_insert_before(PyObject *self, PyObject *words, PyOb
     uint32_t child = HP_NONE;
     PyObject *found = NULL;
     if (sort(words, named, names, 1, given, "insert_before") && node_of(self, given[0], &node) && node_or_none_of(self, given[1], &child)) {
+        moved(((Thing *)self)->calls);
         uint8_t status = hp_insert_before(session_of(self), number_of(self), node, child);
         found = status ? refused_of(status, "insert_before", self, given, 2) : placed(given[0], same(given[0]));
     }
@@ -2061,6 +2085,7 @@ static PyObject *member_Node_replace_child(PyObject *self, PyObject *words, PyOb
     PyObject *found = NULL;
     if (sort(words, named, names, 2, given, "replace_child") && node_of(self, given[0], &node) && node_of(self, given[1], &child)) {
         let_go_noted(((Thing *)self)->calls);
+        moved(((Thing *)self)->calls);
         uint8_t status = hp_replace_child(session_of(self), number_of(self), node, child);
         found = status ? refused_of(status, "replace_child", self, given, 2) : taken_out(given[1], same(given[1]));
     }
@@ -2075,6 +2100,7 @@ static PyObject *member_Node_remove_child(PyObject *self, PyObject *words, PyObj
     PyObject *found = NULL;
     if (sort(words, named, names, 1, given, "remove_child") && node_of(self, given[0], &child)) {
         let_go_noted(((Thing *)self)->calls);
+        moved(((Thing *)self)->calls);
         uint8_t status = hp_remove_child(session_of(self), number_of(self), child);
         found = status ? refused_of(status, "remove_child", self, given, 1) : taken_out(given[0], same(given[0]));
     }
@@ -2085,6 +2111,7 @@ static PyObject *member_Node_normalize(PyObject *self, PyObject *nothing)
 {
     (void)nothing;
     let_go_noted(((Thing *)self)->calls);
+    moved(((Thing *)self)->calls);
     note_texts(((Thing *)self)->calls, number_of(self));
     uint8_t status = hp_normalize(session_of(self), number_of(self));
     return status ? refused_of(status, "normalize", self, NULL, 0) : none();
@@ -2094,6 +2121,7 @@ static PyObject *member_Node_discard(PyObject *self, PyObject *nothing)
 {
     (void)nothing;
     let_go_noted(((Thing *)self)->calls);
+    moved(((Thing *)self)->calls);
     uint8_t status = hp_discard(session_of(self), number_of(self));
     return status ? refused_of(status, "discard", self, NULL, 0) : let_go(((Thing *)self)->calls, none());
 }
@@ -2114,6 +2142,7 @@ static PyObject *member_Node_text_content_set(PyObject *self, PyObject *words, P
     begin(&text);
     if (sort(words, named, names, 0, given, "text_content") && text_or_none_of(given[0], &text)) {
         let_go_noted(((Thing *)self)->calls);
+        moved(((Thing *)self)->calls);
         note_children(((Thing *)self)->calls, number_of(self));
         uint8_t status = hp_set_text_content(session_of(self), number_of(self), text.at, text.length);
         found = status ? refused_of(status, "set_text_content", self, given, 1) : none();
@@ -2126,6 +2155,7 @@ static PyObject *member_ChildNode_remove(PyObject *self, PyObject *nothing)
 {
     (void)nothing;
     let_go_noted(((Thing *)self)->calls);
+    moved(((Thing *)self)->calls);
     uint8_t status = hp_remove(session_of(self), number_of(self));
     return status ? refused_of(status, "remove", self, NULL, 0) : taken_out(self, none());
 }
@@ -2155,6 +2185,7 @@ static PyObject *member_Element_set_attribute(PyObject *self, PyObject *words, P
     begin(&name);
     begin(&value);
     if (sort(words, named, names, 2, given, "set_attribute") && name_of(given[0], &name) && text_of(given[1], &value)) {
+        reshaped(((Thing *)self)->calls, number_of(self));
         uint8_t status = hp_set_attribute(session_of(self), number_of(self), name.at, name.length, value.at, value.length);
         found = status ? refused_of(status, "set_attribute", self, given, 2) : none();
     }
@@ -2187,6 +2218,7 @@ static PyObject *member_Element_remove_attribute(PyObject *self, PyObject *words
     PyObject *found = NULL;
     begin(&name);
     if (sort(words, named, names, 1, given, "remove_attribute") && name_of(given[0], &name)) {
+        reshaped(((Thing *)self)->calls, number_of(self));
         uint8_t status = hp_remove_attribute(session_of(self), number_of(self), name.at, name.length);
         found = status ? refused_of(status, "remove_attribute", self, given, 1) : none();
     }
@@ -2308,6 +2340,7 @@ static PyObject *member_Text_split_text(PyObject *self, PyObject *words, PyObjec
     PyObject *found = NULL;
     if (sort(words, named, names, 1, given, "split_text") && uint32_of(given[0], &offset)) {
         let_go_noted(((Thing *)self)->calls);
+        moved(((Thing *)self)->calls);
         uint8_t status = hp_split_text(session_of(self), number_of(self), offset, &rest);
         found = status ? refused_of(status, "split_text", self, given, 1) : own(made_at(self, KIND_TEXT, FAMILY_NODE, rest));
     }
@@ -2401,6 +2434,7 @@ static PyObject *member_Document_adopt_node(PyObject *self, PyObject *words, PyO
     uint32_t node = 0;
     PyObject *found = NULL;
     if (sort(words, named, names, 1, given, "adopt_node") && node_of(self, given[0], &node)) {
+        moved(((Thing *)self)->calls);
         uint8_t status = hp_adopt_node(session_of(self), number_of(self), node);
         found = status ? refused_of(status, "adopt_node", self, given, 1) : taken_out(given[0], same(given[0]));
     }

@@ -3,10 +3,12 @@
  * Each function makes its call, copies the answer, and only then makes Python's objects of it; the lock of the interpreter is held all the
  * while. calls.h is written by bindings/python/extension.py from the exports. */
 #include "core.h"
+#include "memory.h"
 #include "members.h"
 #include "writing.h"
 #include "reading.h"
-#include "building.h"
+#include "from_xml.h"
+#include "from_html.h"
 #include "calls.h"
 
 static PyMethodDef members_by_hand[] = {
@@ -48,11 +50,27 @@ static PyMethodDef calls_by_hand[] = {
     { "read_attributes_of", calls_read_attributes_of, METH_O, "The attributes of many elements, a dict each." },
     { "read_records", calls_read_records, METH_VARARGS, "The records of a session and an observer, which are taken." },
     { "tell", calls_tell, METH_VARARGS, "Tells the observers of a session; the list takes what was told. Returns what was raised." },
-    /* clang-format off */
-    CALLS_MADE
-    /* clang-format on */
+    CALLS_MADE{ NULL, NULL, 0, NULL },
+};
+
+static PyMethodDef builder_methods[] = {
+    { "add_xml", builder_add_xml, METH_O, "add_xml($self, source, /)\n--\n\nAdds the nodes of a document of XML; False where it is not well-formed." },
+    { "add_page", builder_add_page, METH_VARARGS,
+        "add_page($self, page, is_exact, /)\n--\n\nAdds the nodes of a page of html5-parser; False where it is to be exact and can't be." },
+    { "add_part", builder_add_part, METH_O, "add_part($self, page, /)\n--\n\nAdds what stands under the root of a page of html5-parser." },
+    { "abandon", builder_abandon, METH_NOARGS, "abandon($self, /)\n--\n\nLets all go that is open." },
     { NULL, NULL, 0, NULL },
 };
+
+static PyType_Slot builder_slots[] = {
+    { Py_tp_doc, "Builds a tree under a node: Builder(calls, document, root, is_lenient)." },
+    { Py_tp_new, builder_new },
+    { Py_tp_dealloc, builder_dealloc },
+    { Py_tp_methods, builder_methods },
+    { 0, NULL },
+};
+
+static PyType_Spec builder_spec = { "huckleport._core.Builder", sizeof(Builder), 0, Py_TPFLAGS_DEFAULT, builder_slots };
 
 static PyGetSetDef calls_gets[] = {
     { "is_open", calls_is_open, NULL, "Whether the session is open.", NULL },

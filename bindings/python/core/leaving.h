@@ -5,6 +5,7 @@
 #ifndef HUCKLEPORT_LEAVING_H
 #define HUCKLEPORT_LEAVING_H
 
+#include "labels.h"
 #include "table.h"
 
 /* Numbers of what may go. */
@@ -29,12 +30,27 @@ typedef struct Waiting {
     struct Waiting *next, *previous;
 } Waiting;
 
+/* A node in a tree: how deep it stands below the root, and its kind. */
+typedef struct {
+    uint32_t number;
+    uint32_t depth : 28, kind : 4;
+} Ranked;
+
+/* All nodes of a tree in tree order. */
+typedef struct {
+    Ranked *at;
+    size_t length, room;
+} Order;
+
 /* A session, and the objects of it that live. */
 typedef struct {
     PyObject_HEAD
     State *state;
     hp_session session;
     Table kept;
+    Labels labels;
+    /* The tree that was gone through last. It is kept as long as nothing moves in the session. */
+    Order order;
     /* Counts what may have let nodes go: what is known of them is asked for anew then. */
     uint32_t epoch;
     /* What was noted, by families, and whether there is any; and the roots of trees that were held or in use when they were tried. */
@@ -63,6 +79,41 @@ typedef struct {
     /* Whether its end is noted: of what a call of Python made, and among nodes of those that may be roots. */
     char is_own;
 } Thing;
+
+/* ---- the order of a tree */
+
+static void order_drop(Order *it)
+{
+    PyMem_Free(it->at);
+    *it = (Order){ NULL, 0, 0 };
+}
+
+static bool order_push(Order *it, uint32_t number, size_t depth, uint8_t kind)
+{
+    if (it->length == it->room) {
+        size_t room = it->room ? 2 * it->room : 32;
+        Ranked *wider = depth < 1 << 28 ? PyMem_Realloc(it->at, room * sizeof(Ranked)) : NULL;
+        if (!wider)
+            return PyErr_NoMemory() != NULL;
+        it->at = wider;
+        it->room = room;
+    }
+    it->at[it->length++] = (Ranked){ number, (uint32_t)depth, kind };
+    return true;
+}
+
+/* Tells that nodes may move. */
+static void moved(Calls *it)
+{
+    if (it->order.at)
+        order_drop(&it->order);
+}
+
+/* Tells that the attributes of an element may be others. */
+static void reshaped(Calls *it, uint32_t element)
+{
+    learn_shape(&it->labels, &it->session, element, UNKNOWN);
+}
 
 /* ---- numbers */
 
@@ -112,7 +163,7 @@ static void leaving_end(Calls *it)
 /* The object of a number, without a reference. One that is going already is none. */
 static Thing *living(const Calls *it, uint32_t number, uint32_t family)
 {
-    PyObject *found = it->kept.entries ? entry_of(&it->kept, number, family)->object : NULL;
+    PyObject *found = table_at(&it->kept, number, family);
     return found && (uint32_t)Py_REFCNT(found) > 0 ? (Thing *)found : NULL;
 }
 
@@ -233,6 +284,7 @@ static void discard_noted(Calls *it, uint32_t node)
     size_t steps = 0;
     if (is_found_again(it, node, FAMILY_NODE) || hp_links(&it->session, node, &links) != HP_OK || links.parent != HP_NONE)
         return;
+    moved(it);
     if (is_held(it, node, &steps) || hp_discard(&it->session, node) == HP_IN_USE) {
         leaving_push(&it->held, node);
         it->steps += steps;

@@ -78,10 +78,12 @@ static PyObject *placed(PyObject *node, PyObject *answer)
     return answer;
 }
 
-/* Counts that nodes may be gone. */
+/* Counts that nodes may be gone. A session that ended knows none. */
 static PyObject *let_go(Calls *calls, PyObject *answer)
 {
     calls->epoch++;
+    if (!calls->session.is_open)
+        labels_drop(&calls->labels);
     return answer;
 }
 
@@ -160,6 +162,8 @@ static PyObject *calls_read_line(PyObject *self, PyObject *words)
     if (!is_counted(words, 1, "read_line") || !octets_of(word(words, 0), &line))
         return NULL;
     let_go_noted((Calls *)self);
+    moved((Calls *)self);
+    labels_drop_pages(&((Calls *)self)->labels);
     uint8_t status = hp_line(session_at(self), line.at, line.length);
     ((Calls *)self)->epoch++;
     ((Calls *)self)->has_lines = true;

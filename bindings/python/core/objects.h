@@ -116,7 +116,9 @@ static void calls_dealloc(PyObject *self)
     PyTypeObject *type = Py_TYPE(self);
     Calls *it = (Calls *)self;
     hp_close(&it->session);
-    PyMem_Free(it->kept.entries);
+    table_drop(&it->kept);
+    labels_drop(&it->labels);
+    order_drop(&it->order);
     leaving_end(it);
     if (it->state)
         state_let_go(it->state);

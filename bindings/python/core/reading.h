@@ -2,7 +2,7 @@
 #ifndef HUCKLEPORT_READING_H
 #define HUCKLEPORT_READING_H
 
-#include "answers.h"
+#include "course.h"
 #include "members.h"
 
 /* ---- nodes with their kinds, of which objects are made once all are found */
@@ -157,23 +157,13 @@ static bool row_of_siblings(Spots *to, Calls *calls, uint32_t at, Direction dire
     return done;
 }
 
-/* All nodes below one, in tree order. Each is asked once: what stands behind those that are open is kept. */
+/* All nodes of some kinds below one, in tree order. */
 static bool all_below(Spots *to, Calls *calls, uint32_t root, KindBits bits)
 {
-    Numbers behind = { NULL, NULL, 0, 0 };
-    hp_node_links links;
-    bool done = true;
-    uint32_t at = HP_NONE;
-    hp_first_child(&calls->session, root, &at);
-    while (done && at != HP_NONE && hp_links(&calls->session, at, &links) == HP_OK) {
-        done = !has_kind(bits, links.kind) || spots_push(to, at, links.kind);
-        if (done && links.next != HP_NONE && links.first_child != HP_NONE)
-            done = numbers_push(&behind, links.next);
-        at = links.first_child != HP_NONE ? links.first_child : links.next;
-        if (at == HP_NONE && behind.length)
-            at = behind.at[--behind.length];
-    }
-    numbers_drop(&behind);
+    const Order *order = order_below(calls, root);
+    bool done = order != NULL;
+    for (size_t at = 1; done && at < order->length; at++)
+        done = !has_kind(bits, order->at[at].kind) || spots_push(to, order->at[at].number, order->at[at].kind);
     return done;
 }
 
@@ -259,12 +249,12 @@ static PyObject *node_descendants(PyObject *self, PyObject *words, PyObject *nam
 
 /* ---- what elements have, among those below a node */
 
-/* Whether a node's name is one. */
-static bool is_named(hp_session *session, uint32_t node, const Slice *name)
+/* Whether an element's name is one. */
+static bool is_named(Calls *calls, uint32_t node, const Slice *name)
 {
-    hp_place place;
     hp_bytes found;
-    return hp_node(session, node, &place) == HP_OK && hp_node_name(session, 0, &found) == HP_OK && found.length == name->length && memcmp(found.bytes, name->at, name->length) == 0;
+    unsigned label = label_place(&calls->labels, node);
+    return element_name(calls, node, &label, &found) && found.length == name->length && memcmp(found.bytes, name->at, name->length) == 0;
 }
 
 /* Whether the value of an attribute of an element is one. */
@@ -276,12 +266,12 @@ static bool is_valued(hp_session *session, uint32_t node, const Slice *name, con
 }
 
 /* Keeps of elements those of a name, or the first with a value of an attribute. */
-static void sift(Spots *it, hp_session *session, const Slice *name, const Slice *value)
+static void sift(Spots *it, Calls *calls, const Slice *name, const Slice *value)
 {
     size_t kept = 0;
     for (size_t at = 0; at < it->length && !(value && kept); at++) {
         uint32_t node = it->at[at].number;
-        if (value ? is_valued(session, node, name, value) : is_named(session, node, name))
+        if (value ? is_valued(&calls->session, node, name, value) : is_named(calls, node, name))
             it->at[kept++] = it->at[at];
     }
     it->length = kept;
@@ -296,7 +286,7 @@ static PyObject *elements_found(PyObject *self, const Slice *name, const Slice *
         return NULL;
     bool is_whole = all_below(&found, it->calls, it->number, (KindBits)1 << KIND_ELEMENT), is_any = name->length == 1 && *(const char *)name->at == '*';
     if (is_whole && (value || !is_any))
-        sift(&found, &it->calls->session, name, value);
+        sift(&found, it->calls, name, value);
     return spots_made(&found, is_whole, it->session, it->calls);
 }
 

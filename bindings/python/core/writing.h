@@ -2,31 +2,37 @@
 #ifndef HUCKLEPORT_WRITING_H
 #define HUCKLEPORT_WRITING_H
 
-#include "answers.h"
+#include "course.h"
 #include "members.h"
 
-/* What is written in place of each unit below 256, or null for itself. */
+/* What is written in place of each unit below 256, or null for itself; and whether a unit is one byte that is written as it is. */
 typedef struct {
     const char *at[256];
     size_t length[256];
+    bool is_plain[128];
 } Escapes;
 
-/* UTF-8 that grows, and how many bytes of it were cut off by what stands between. */
+/* UTF-8 that grows. */
 typedef struct {
     char *at;
     size_t length, room;
 } Buffer;
 
+/* A part of the markup that was written. */
+typedef struct {
+    size_t at, length;
+} Piece;
+
 /* Names of elements. */
-enum { MOST_NAMES = 64 };
+enum { MOST_NAMES = 64, MOST_KNOWN = 64 };
 typedef struct {
     hp_bytes at[MOST_NAMES];
     size_t count;
 } Names;
 
-/* A row that is open: what ends it, and how Texts under it are written. */
+/* A node that is open: the name in its start tag, whether there is an end tag, and how Texts under it are written. */
 typedef struct {
-    hp_bytes name;
+    Piece name;
     bool has_end, is_plain;
 } Open;
 
@@ -35,32 +41,40 @@ typedef struct {
     size_t length, room;
 } Opens;
 
+/* A node of another kind, with its name, data and ids, and where in the markup it stands. */
+typedef struct {
+    uint8_t kind;
+    PyObject *parts[4];
+    size_t place;
+} Other;
+
+/* What is known of a name of elements. */
+enum { IS_MARKED = 1, IS_VOID = 2, IS_PLAIN = 4 };
+
 /* How a tree is written, and where it has got to. */
 typedef struct {
+    Calls *calls;
     hp_session *session;
     Escapes text, value;
-    /* The names of elements that have no end tag, and of those whose Texts are written as they are. */
+    /* The names of elements that have no end tag, and of those whose Texts are written as they are; and these as marks, by labels. */
     Names void_names, plain_names;
+    uint8_t marks[MOST_LABELS];
     /* Whether an element without children ends in its start tag. */
     bool has_empty_tags;
     Buffer written;
     Opens open;
-    /* All names of elements and attributes. */
+    /* All names of elements and attributes; those of attributes that were written last; and those of the attributes of an element. */
     PyObject *names;
-    hp_bytes seen[64];
+    Piece seen[64];
+    Buffer listed;
     /* Whether a unit was written that XML may not have: a control character, a surrogate that stands alone, U+FFFE, U+FFFF. */
     bool is_doubtful;
-    /* Rows of other kinds, and where in the markup each stands. */
-    Rows others;
-    size_t others_room;
-    size_t *places;
+    Other *others;
+    size_t others_count, others_room;
 } Writing;
 
-/* Room for so many bytes more. */
-static bool reserve(Buffer *to, size_t length)
+static bool widen(Buffer *to, size_t length)
 {
-    if (to->room - to->length >= length)
-        return true;
     size_t room = 2 * to->room + length + 4096;
     char *wider = PyMem_Realloc(to->at, room);
     if (!wider)
@@ -70,21 +84,45 @@ static bool reserve(Buffer *to, size_t length)
     return true;
 }
 
-static bool push(Buffer *to, const char *from, size_t length)
+/* Room for so many bytes more. */
+static inline bool reserve(Buffer *to, size_t length)
+{
+    return to->room - to->length >= length || widen(to, length);
+}
+
+/* Copies a few bytes without a call. */
+static inline void copy_few(char *to, const char *from, size_t length)
+{
+    if (length > 16) {
+        memcpy(to, from, length);
+    } else if (length >= 8) {
+        memcpy(to, from, 8);
+        memcpy(to + length - 8, from + length - 8, 8);
+    } else if (length >= 4) {
+        memcpy(to, from, 4);
+        memcpy(to + length - 4, from + length - 4, 4);
+    } else if (length) {
+        to[0] = from[0];
+        to[length / 2] = from[length / 2];
+        to[length - 1] = from[length - 1];
+    }
+}
+
+static inline bool push(Buffer *to, const char *from, size_t length)
 {
     if (!reserve(to, length))
         return false;
-    memcpy(to->at + to->length, from, length);
+    copy_few(to->at + to->length, from, length);
     to->length += length;
     return true;
 }
 
 /* Units up to the first that is not written as one byte of its own. */
-static size_t push_plain(Buffer *to, const uint16_t *units, size_t length, const Escapes *escapes)
+static size_t push_plain(Buffer *to, const uint16_t *units, size_t length, const bool *is_plain)
 {
     char *out = to->at + to->length;
     size_t at = 0;
-    while (at < length && units[at] < 0x80 && units[at] >= 0x20 && !(escapes && escapes->at[units[at]])) {
+    while (at < length && units[at] < 0x80 && is_plain[units[at]]) {
         out[at] = (char)units[at];
         at++;
     }
@@ -97,7 +135,6 @@ static size_t push_unit(Writing *it, const hp_text_view *text, size_t at, const 
 {
     Buffer *to = &it->written;
     Py_UCS4 unit = text->units[at];
-    uint8_t octets[4];
     bool has_two = is_pair(text->units, at, text->length);
     if (escapes && unit < 256 && escapes->at[unit]) {
         *done = push(to, escapes->at[unit], escapes->length[unit]);
@@ -106,18 +143,22 @@ static size_t push_unit(Writing *it, const hp_text_view *text, size_t at, const 
     it->is_doubtful |= (unit < 0x20 && unit != 9 && unit != 10 && unit != 13) || unit >= 0xFFFE || ((unit & 0xF800) == 0xD800 && !has_two);
     if (has_two)
         unit = 0x10000 + ((unit & 0x3FF) << 10) + (text->units[at + 1] & 0x3FF);
-    *done = push(to, (const char *)octets, (size_t)(push_octets(octets, &unit, 1) - octets));
+    *done = reserve(to, 4);
+    if (*done)
+        to->length = (size_t)((char *)push_octets((uint8_t *)to->at + to->length, &unit, 1) - to->at);
     return has_two ? 2 : 1;
 }
 
 /* Units as UTF-8, with what is written in their place. */
 static bool push_text(Writing *it, const hp_text_view *text, const Escapes *escapes)
 {
+    static const bool none_is_plain[128];
+    const bool *is_plain = escapes ? escapes->is_plain : none_is_plain;
     bool done = true;
     for (size_t at = 0; done && at < text->length;) {
         done = reserve(&it->written, text->length - at);
         if (done)
-            at += push_plain(&it->written, text->units + at, text->length - at, escapes);
+            at += push_plain(&it->written, text->units + at, text->length - at, is_plain);
         if (done && at < text->length)
             at += push_unit(it, text, at, escapes, &done);
     }
@@ -134,6 +175,8 @@ static bool escapes_of(PyObject *table, Escapes *to)
             return false;
         to->at[at] = octets;
         to->length[at] = (size_t)length;
+        if (at < 128)
+            to->is_plain[at] = !octets && (at >= 0x20 || at == '\t' || at == '\n' || at == '\r');
     }
     return true;
 }
@@ -162,33 +205,111 @@ static bool is_among(const Names *names, const hp_bytes *name)
     return false;
 }
 
-/* Writes a name, and puts it among all names where it was not the last of its sort. */
-static bool push_name(Writing *it, const hp_bytes *name)
+static bool add_to_names(Writing *it, const uint8_t *name, size_t length)
 {
-    size_t mark = name->length * 7 + (name->length ? name->bytes[0] + 3u * name->bytes[name->length - 1] : 0);
-    hp_bytes *seen = &it->seen[mark % 64];
-    if (!seen->bytes || seen->length != name->length || memcmp(seen->bytes, name->bytes, name->length)) {
-        PyObject *found = name_from(name->bytes, name->length);
-        bool is_added = found && PySet_Add(it->names, found) == 0;
-        Py_XDECREF(found);
-        if (!is_added)
-            return false;
-        *seen = *name;
-    }
-    return push(&it->written, (const char *)name->bytes, name->length);
+    PyObject *found = name_from(name, length);
+    bool done = found && PySet_Add(it->names, found) == 0;
+    Py_XDECREF(found);
+    return done;
 }
 
-static bool push_attributes(Writing *it, size_t at, size_t count)
+/* ---- attributes */
+
+/* Writes the name of an attribute, and puts it among all names where it was not the last of its sort. */
+static bool push_name(Writing *it, const uint8_t *name, size_t length)
 {
-    for (size_t pair = 0; pair < count; pair++) {
-        hp_bytes name;
-        hp_text_view value;
-        bool done = hp_row_attribute_name(it->session, at, pair, &name) == HP_OK && push(&it->written, " ", 1) && push_name(it, &name) && push(&it->written, "=\"", 2) &&
-            hp_row_attribute_value(it->session, at, pair, &value) == HP_OK && push_text(it, &value, &it->value) && push(&it->written, "\"", 1);
+    size_t mark = length * 7 + (length ? name[0] + 3u * name[length - 1] : 0);
+    Piece *seen = &it->seen[mark % 64];
+    bool is_new = seen->length != length || memcmp(it->written.at + seen->at, name, length) != 0;
+    if (is_new && !add_to_names(it, name, length))
+        return false;
+    *seen = (Piece){ it->written.length, length };
+    return push(&it->written, (const char *)name, length);
+}
+
+/* Writes the value of an attribute, behind its name. */
+static bool push_value(Writing *it, uint32_t element, const uint8_t *name, size_t length)
+{
+    hp_text_view value;
+    return hp_get_attribute(it->session, element, name, length) == HP_OK && hp_text(it->session, &value) == HP_OK && push(&it->written, "=\"", 2) &&
+        push_text(it, &value, &it->value) && push(&it->written, "\"", 1);
+}
+
+/* Copies the names of the attributes of an element, each with its length ahead. */
+static bool list_names(Writing *it, size_t count)
+{
+    hp_bytes name;
+    it->listed.length = 0;
+    for (size_t at = 0; at < count; at++) {
+        bool done = hp_name_at(it->session, at, &name) == HP_OK && push(&it->listed, (const char *)&name.length, sizeof(name.length)) &&
+            push(&it->listed, (const char *)name.bytes, name.length);
         if (!done)
             return false;
     }
     return true;
+}
+
+/* Asks for the names of the attributes of an element, writes the attributes, and learns the names. */
+static bool push_asked(Writing *it, uint32_t element)
+{
+    Labels *labels = &it->calls->labels;
+    size_t count = 0, length = 0;
+    unsigned shape = BARE;
+    if (hp_attribute_names(it->session, element) != HP_OK || hp_count(it->session, &count) != HP_OK || !list_names(it, count))
+        return false;
+    for (size_t at = 0; count && at < it->listed.length; at += length) {
+        memcpy(&length, it->listed.at + at, sizeof(length));
+        at += sizeof(length);
+        shape = shape_with(labels, shape, it->listed.at + at, length);
+        const uint8_t *name = (const uint8_t *)it->listed.at + at;
+        if (!push(&it->written, " ", 1) || !push_name(it, name, length) || !push_value(it, element, name, length))
+            return false;
+    }
+    learn_shape(labels, it->session, element, shape);
+    return true;
+}
+
+/* Writes an attribute whose name is known. */
+static bool push_known(Writing *it, uint32_t element, unsigned label)
+{
+    const Label *name = &it->calls->labels.at[label];
+    if (!it->marks[label] && !add_to_names(it, (const uint8_t *)name->name, name->length))
+        return false;
+    it->marks[label] = IS_MARKED;
+    return push(&it->written, " ", 1) && push(&it->written, name->name, name->length) && push_value(it, element, (const uint8_t *)name->name, name->length);
+}
+
+static bool push_attributes(Writing *it, uint32_t element)
+{
+    const Labels *labels = &it->calls->labels;
+    unsigned shape = shape_place(labels, element);
+    uint16_t names[MOST_KNOWN];
+    if (shape == BARE)
+        return true;
+    size_t count = shape ? labels->shapes[shape].count : SIZE_MAX;
+    if (count > MOST_KNOWN)
+        return push_asked(it, element);
+    for (size_t at = count; at > 0; shape = labels->shapes[shape].before)
+        names[--at] = labels->shapes[shape].label;
+    bool done = true;
+    for (size_t at = 0; done && at < count; at++)
+        done = push_known(it, element, names[at]);
+    return done;
+}
+
+/* ---- elements */
+
+/* What is known of a name of elements, which is put among all names when it comes first. */
+static bool marks_of(Writing *it, unsigned label, const hp_bytes *name, uint8_t *to)
+{
+    bool is_kept = label && it->calls->labels.at[label].is_named;
+    *to = is_kept ? it->marks[label] : 0;
+    if (*to)
+        return true;
+    *to = IS_MARKED | (is_among(&it->void_names, name) ? IS_VOID : 0) | (is_among(&it->plain_names, name) ? IS_PLAIN : 0);
+    if (is_kept)
+        it->marks[label] = *to;
+    return add_to_names(it, name->bytes, name->length);
 }
 
 /* Writes an end tag, where there is one. */
@@ -196,59 +317,16 @@ static bool push_end(Writing *it, const Open *of)
 {
     if (!of->has_end)
         return true;
-    return push(&it->written, "</", 2) && push(&it->written, (const char *)of->name.bytes, of->name.length) && push(&it->written, ">", 1);
-}
-
-/* Writes an element up to its children; one without children whole. */
-static bool push_element(Writing *it, size_t at, const hp_row *row, bool is_empty, const Open *of)
-{
-    if (!push(&it->written, "<", 1) || !push_name(it, &of->name) || !push_attributes(it, at, row->attributes))
+    Buffer *to = &it->written;
+    const size_t length = of->name.length;
+    if (!reserve(to, length + 3))
         return false;
-    if (!is_empty || !it->has_empty_tags)
-        return push(&it->written, ">", 1) && (!is_empty || push_end(it, of));
-    return push(&it->written, "/>", 2);
-}
-
-/* Keeps a row of another kind for the package to write. */
-static bool push_other(Writing *it, size_t at)
-{
-    if (it->others.count == it->others_room) {
-        size_t room = 2 * it->others_room + 16;
-        Copied *rows = PyMem_Realloc(it->others.rows, room * sizeof(Copied));
-        it->others.rows = rows ? rows : it->others.rows;
-        size_t *places = rows ? PyMem_Realloc(it->places, room * sizeof(size_t)) : NULL;
-        it->places = places ? places : it->places;
-        if (!places)
-            return PyErr_NoMemory() != NULL;
-        it->others_room = room;
-    }
-    Copied *row = &it->others.rows[it->others.count];
-    memset(row, 0, sizeof(Copied));
-    it->places[it->others.count++] = it->written.length;
-    return row_copy(&it->others, row, it->session, at);
-}
-
-/* What ends a row, and how Texts under it are written. A Document and a fragment end with nothing. */
-static bool open_of(Writing *it, size_t at, const hp_row *row, Open *to)
-{
-    *to = (Open){ { NULL, 0 }, false, false };
-    if (row->type != KIND_ELEMENT)
-        return true;
-    if (hp_row_name(it->session, at, 0, &to->name))
-        return false;
-    to->has_end = !is_among(&it->void_names, &to->name);
-    to->is_plain = is_among(&it->plain_names, &to->name);
+    char *at = to->at + to->length;
+    memcpy(at, "</", 2);
+    copy_few(at + 2, to->at + of->name.at, length);
+    at[length + 2] = '>';
+    to->length += length + 3;
     return true;
-}
-
-static bool push_row(Writing *it, size_t at, const hp_row *row, bool is_empty, const Open *of, bool is_plain)
-{
-    hp_text_view text;
-    if (row->type == KIND_ELEMENT)
-        return push_element(it, at, row, is_empty, of);
-    if (row->type != KIND_TEXT)
-        return row->type == KIND_DOCUMENT || row->type == KIND_DOCUMENT_FRAGMENT || push_other(it, at);
-    return hp_row_text(it->session, at, &text) == HP_OK && push_text(it, &text, is_plain ? NULL : &it->text);
 }
 
 static bool opens_push(Opens *it, const Open *open)
@@ -265,7 +343,7 @@ static bool opens_push(Opens *it, const Open *open)
     return true;
 }
 
-/* Ends all open rows down to a depth. */
+/* Ends all open nodes down to a depth. */
 static bool close_to(Writing *it, size_t depth)
 {
     while (it->open.length > depth) {
@@ -275,47 +353,116 @@ static bool close_to(Writing *it, size_t depth)
     return true;
 }
 
-/* Writes all rows of the last answer. What stands below an element without an end tag is left out. */
-static bool push_rows(Writing *it, bool is_plain_above)
+/* Writes an element up to its children; one without children whole. Of one without an end tag it tells that what stands below is hidden. */
+static bool push_element(Writing *it, uint32_t node, bool is_empty, bool *is_hidden)
 {
-    size_t count = 0, hidden = SIZE_MAX;
-    hp_row row, next = { 0 };
-    Open open;
-    hp_count(it->session, &count);
-    for (size_t at = 0; at < count; at++) {
-        row = next;
-        if (at == 0 && hp_row_at(it->session, 0, &row))
-            return false;
-        bool has_next = at + 1 < count && hp_row_at(it->session, at + 1, &next) == HP_OK;
-        bool is_empty = !has_next || next.depth <= row.depth;
-        if (row.depth > hidden)
-            continue;
-        hidden = SIZE_MAX;
-        if (!close_to(it, row.depth) || !open_of(it, at, &row, &open))
-            return false;
-        bool is_plain = it->open.length ? it->open.at[it->open.length - 1].is_plain : is_plain_above;
-        if (!push_row(it, at, &row, is_empty, &open, is_plain) || (!is_empty && !opens_push(&it->open, &open)))
-            return false;
-        if (!is_empty && row.type == KIND_ELEMENT && !open.has_end)
-            hidden = row.depth;
-    }
-    return close_to(it, 0);
+    hp_bytes name;
+    uint8_t marks = 0;
+    unsigned label = label_place(&it->calls->labels, node);
+    if (!element_name(it->calls, node, &label, &name) || !marks_of(it, label, &name, &marks) || !push(&it->written, "<", 1))
+        return false;
+    const Open open = { { it->written.length, name.length }, !(marks & IS_VOID), marks & IS_PLAIN };
+    if (!push(&it->written, (const char *)name.bytes, name.length) || !push_attributes(it, node))
+        return false;
+    if (is_empty)
+        return it->has_empty_tags ? push(&it->written, "/>", 2) : push(&it->written, ">", 1) && push_end(it, &open);
+    *is_hidden = !open.has_end;
+    return push(&it->written, ">", 1) && (!open.has_end || opens_push(&it->open, &open));
 }
 
-/* The markup up to each row of another kind, and that row, as parts of a list. */
+/* ---- what is no element */
+
+/* A part of the name of a node, or its data, or null where there is none; or null with an exception. */
+static PyObject *other_name(Writing *it, uint32_t node, uint8_t part)
+{
+    hp_bytes name;
+    return is_name_lent(it->calls, node, part, &name) ? name_from(name.bytes, name.length) : NULL;
+}
+
+static PyObject *other_data(Writing *it, uint32_t node)
+{
+    hp_text_view text;
+    return hp_data(it->session, node) == HP_OK && hp_text(it->session, &text) == HP_OK ? text_from(text.units, text.length) : NULL;
+}
+
+/* Keeps a node of another kind for the package to write. */
+static bool push_other(Writing *it, const Ranked *node)
+{
+    if (it->others_count == it->others_room) {
+        size_t room = 2 * it->others_room + 16;
+        Other *wider = PyMem_Realloc(it->others, room * sizeof(Other));
+        if (!wider)
+            return PyErr_NoMemory() != NULL;
+        it->others = wider;
+        it->others_room = room;
+    }
+    Other *other = &it->others[it->others_count++];
+    *other = (Other){ node->kind, { NULL, NULL, NULL, NULL }, it->written.length };
+    if (has_data(node->kind))
+        other->parts[1] = other_data(it, node->number);
+    for (uint8_t part = 0; part < parts_of(node->kind) && !PyErr_Occurred(); part++)
+        other->parts[part ? part + 1 : 0] = other_name(it, node->number, part);
+    return !PyErr_Occurred();
+}
+
+static bool push_text_of(Writing *it, uint32_t node, bool is_plain)
+{
+    hp_text_view text;
+    return hp_data(it->session, node) == HP_OK && hp_text(it->session, &text) == HP_OK && push_text(it, &text, is_plain ? NULL : &it->text);
+}
+
+/* ---- all of it */
+
+/* Writes a node up to what is below it. */
+static bool push_node(Writing *it, const Ranked *node, bool is_empty, bool is_plain_above, bool *is_hidden)
+{
+    const Open nothing = { { 0, 0 }, false, false };
+    if (node->kind == KIND_ELEMENT)
+        return push_element(it, node->number, is_empty, is_hidden);
+    if (node->kind == KIND_TEXT)
+        return push_text_of(it, node->number, it->open.length ? it->open.at[it->open.length - 1].is_plain : is_plain_above);
+    if (has_children(node->kind))
+        return is_empty || opens_push(&it->open, &nothing);
+    return push_other(it, node);
+}
+
+/* Writes a node and all below it. (Nothing of Python runs here, so nothing moves.) */
+static bool push_tree(Writing *it, uint32_t node, bool is_plain_above)
+{
+    const Order *order = order_below(it->calls, node);
+    if (!order)
+        return false;
+    const Ranked *at = order->at, *end = order->at + order->length;
+    bool done = true;
+    while (done && at < end) {
+        const Ranked *before = at++;
+        bool is_hidden = false;
+        done = close_to(it, before->depth) && push_node(it, before, at == end || at->depth <= before->depth, is_plain_above, &is_hidden);
+        while (is_hidden && at < end && at->depth > before->depth)
+            at++;
+    }
+    return done && close_to(it, 0);
+}
+
+static PyObject *other_made(const Other *it)
+{
+    const PyObject *parts[4];
+    for (int at = 0; at < 4; at++)
+        parts[at] = it->parts[at] ? it->parts[at] : Py_None;
+    return Py_BuildValue("(iOOOO)", (int)it->kind, parts[0], parts[1], parts[2], parts[3]);
+}
+
+/* The markup up to each node of another kind, and what it has, as parts of a list. */
 static PyObject *parts_made(Writing *it)
 {
     PyObject *found = PyList_New(0);
     size_t from = 0;
-    for (size_t at = 0; found && at <= it->others.count; at++) {
-        bool is_last = at == it->others.count;
-        size_t to = is_last ? it->written.length : it->places[at];
+    for (size_t at = 0; found && at <= it->others_count; at++) {
+        const Other *next = at < it->others_count ? &it->others[at] : NULL;
+        size_t to = next ? next->place : it->written.length;
         PyObject *text = PyUnicode_DecodeUTF8(it->written.at + from, (Py_ssize_t)(to - from), "surrogatepass");
-        Copied *row = is_last ? NULL : &it->others.rows[at];
-        PyObject *other = row ? Py_BuildValue("(iOOOO)", (int)row->row.type, row->names[0] ? row->names[0] : Py_None, row->text ? row->text : Py_None,
-                                    row->names[1] ? row->names[1] : Py_None, row->names[2] ? row->names[2] : Py_None)
-                              : NULL;
-        bool done = text && PyList_Append(found, text) == 0 && (is_last || (other && PyList_Append(found, other) == 0));
+        PyObject *other = next ? other_made(next) : NULL;
+        bool done = text && PyList_Append(found, text) == 0 && (!next || (other && PyList_Append(found, other) == 0));
         Py_XDECREF(text);
         Py_XDECREF(other);
         from = to;
@@ -325,21 +472,42 @@ static PyObject *parts_made(Writing *it)
     return found;
 }
 
-static PyObject *written(Writing *it, bool is_plain_above)
+static void writing_end(Writing *it)
 {
-    PyObject *parts = push_rows(it, is_plain_above) ? parts_made(it) : NULL;
+    for (size_t at = 0; at < it->others_count; at++) {
+        for (int part = 0; part < 4; part++)
+            Py_XDECREF(it->others[at].parts[part]);
+    }
+    PyMem_Free(it->others);
+    PyMem_Free(it->written.at);
+    PyMem_Free(it->listed.at);
+    PyMem_Free(it->open.at);
+    Py_XDECREF(it->names);
+}
+
+static PyObject *written(Writing *it, uint32_t node, bool is_plain_above)
+{
+    PyObject *parts = it->names && push_tree(it, node, is_plain_above) ? parts_made(it) : NULL;
     PyObject *found = parts ? PyTuple_Pack(3, parts, it->names, it->is_doubtful ? Py_True : Py_False) : NULL;
     Py_XDECREF(parts);
-    PyMem_Free(it->written.at);
-    PyMem_Free(it->places);
-    PyMem_Free(it->open.at);
-    rows_drop(&it->others);
     if (!found && !PyErr_Occurred())
-        PyErr_SetString(PyExc_RuntimeError, "a row is not there");
+        PyErr_SetString(PyExc_RuntimeError, "a node is not there");
     return found;
 }
 
-/* A node and all below it as markup: a list of texts, with rows of other kinds between, the set of all names, and whether it is doubtful in XML. */
+/* Raises where a node of a number is no more. */
+static bool is_there(PyObject *self, PyObject *words, uint32_t node)
+{
+    hp_node_links links;
+    uint8_t status = hp_links(session_at(self), node, &links);
+    PyObject *asked = status ? PyTuple_GetSlice(words, 0, 1) : NULL;
+    if (asked)
+        refused(status, "tree", self, asked);
+    Py_XDECREF(asked);
+    return status == HP_OK;
+}
+
+/* A node and all below it as markup: a list of texts, with nodes of other kinds between, the set of all names, and whether it is doubtful in XML. */
 static PyObject *calls_read_markup(PyObject *self, PyObject *words)
 {
     uint32_t node = 0;
@@ -348,17 +516,13 @@ static PyObject *calls_read_markup(PyObject *self, PyObject *words)
     memset(&it, 0, sizeof(it));
     if (!is_counted(words, 7, "read_markup") || !uint32_of(word(words, 0), &node) || !escapes_of(word(words, 1), &it.text) || !escapes_of(word(words, 2), &it.value) ||
         !names_of(word(words, 3), &it.void_names) || !names_of(word(words, 4), &it.plain_names) || !bool_of(word(words, 5), &it.has_empty_tags) ||
-        !bool_of(word(words, 6), &is_plain_above))
+        !bool_of(word(words, 6), &is_plain_above) || !is_there(self, words, node))
         return NULL;
+    it.calls = (Calls *)self;
     it.session = session_at(self);
     it.names = PySet_New(NULL);
-    PyObject *asked = it.names ? PyTuple_GetSlice(words, 0, 1) : NULL, *found = NULL;
-    if (asked) {
-        uint8_t status = hp_tree(it.session, node);
-        found = status ? refused(status, "tree", self, asked) : written(&it, is_plain_above);
-    }
-    Py_XDECREF(asked);
-    Py_XDECREF(it.names);
+    PyObject *found = written(&it, node, is_plain_above);
+    writing_end(&it);
     return found;
 }
 

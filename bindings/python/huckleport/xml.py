@@ -6,16 +6,13 @@ Names are kept as they are written, with their prefixes, and declarations of nam
 from __future__ import annotations
 
 import re
-from typing import TYPE_CHECKING, Optional, Union
+from typing import Optional, Union
 
 from ._calls import Builder
 from ._writing import COMMENT, INSTRUCTION, Style, markup, table
 from .documents import Document
 from .nodes import Node
 from .session import Session
-
-if TYPE_CHECKING:
-    from xml.parsers.expat import XMLParserType
 
 __all__ = ["parse", "serialize"]
 
@@ -25,34 +22,26 @@ NAME_START = ":A-Z_a-z\xc0-\xd6\xd8-\xf6\xf8-\u02ff\u0370-\u037d\u037f-\u1fff\u2
 NAME = re.compile(f"[{NAME_START}][{NAME_START}.0-9\xb7\u0300-\u036f\u203f-\u2040-]*")
 
 
-def _parser(builder: Builder) -> XMLParserType:
-    """An expat that hands each event on to a builder."""
+def _refuse(source: Union[str, bytes]) -> None:
+    """Raises what expat says of a document that is not well-formed."""
     # (in 3.12 an interpreter with a lock of its own has no expat, and all else of the package)
     from xml.parsers import expat
 
-    parser = expat.ParserCreate()
-    parser.ordered_attributes = True
-    parser.buffer_text = True
-    parser.StartElementHandler = builder.start
-    parser.EndElementHandler = builder.end
-    parser.CharacterDataHandler = builder.text
-    parser.CommentHandler = builder.comment
-    parser.ProcessingInstructionHandler = builder.instruction
-    parser.StartDoctypeDeclHandler = builder.doctype
-    parser.EndDoctypeDeclHandler = builder.end_doctype
-    return parser
+    expat.ParserCreate().Parse(source, True)
+    raise MemoryError
 
 
-def parse(source: Union[str, bytes], session: Optional[Session] = None) -> Document:
+def parse(source: Union[str, bytes, bytearray, memoryview], session: Optional[Session] = None) -> Document:
     """The Document of XML, in a session or in a new one. What is not well-formed raises ``xml.parsers.expat.ExpatError``.
 
     Entities of the document itself are put in; others, and what stands outside, are not read.
     """
+    given = source if isinstance(source, (str, bytes)) else bytes(memoryview(source))
     document = Session().document if session is None else session.create_document()
     builder = Builder(document._calls, document.number, document.number, False)
     try:
-        _parser(builder).Parse(source, True)
-        builder.finish()
+        if not builder.add_xml(given):
+            _refuse(given)
     except BaseException:
         # (of what is refused nothing stays in the session)
         builder.abandon()

@@ -47,6 +47,9 @@ XML = {
     "doctype": "<!DOCTYPE note SYSTEM 'note.dtd'><note>t</note>",
     "ids": '<!DOCTYPE html PUBLIC "-//W3C//DTD XHTML 1.0 Strict//EN" "http://www.w3.org/TR/xhtml1/DTD/xhtml1-strict.dtd"><html/>',
     "internal": "<!DOCTYPE a [<!ENTITY e 'put in'><!-- within --><?within it?>]><a>&e; and &e;</a>",
+    "subset": """<!DOCTYPE a [<!ENTITY e '>'><!ENTITY f "<!-- no -->]>"><!-- a > b --><?within >?><!ATTLIST a c (x|y) #IMPLIED>
+        <!ELEMENT a ANY><!NOTATION n SYSTEM 'x>y'><!ENTITY % p '<!ELEMENT b ANY><!-- in it -->'>%p;<!-- last --> ] ><!-- behind --><a>&e;</a><?end?>""",
+    "empty subset": "<!-- a --><!DOCTYPE a SYSTEM 'b>c' []><!-- behind --><?behind?><a/>",
     "comments": "<!-- a --><a><!-- b --></a><!-- c -->",
     "instructions": "<?one two three?><a><?four?>x</a><?five six?>",
     "sections": "<a>x<![CDATA[ <raw> & ]]>y</a>",

@@ -6,6 +6,7 @@ import time
 import unittest
 from unittest import mock
 from xml.dom import minidom
+from xml.parsers import expat
 from xml.parsers.expat import ExpatError
 
 import huckleport as h
@@ -184,6 +185,35 @@ class Xml(unittest.TestCase):
                 self.assertEqual(ours(document), theirs)
                 again = h.xml.serialize(document)
                 self.assertEqual(of_minidom(minidom.parseString(again.encode())), theirs, again)
+
+    def test_bytes(self):
+        for coding in ("utf-16", "iso-8859-1", "koi8-r", "us-ascii"):
+            text = f"""<?xml version='1.0' encoding='{coding}'?><!DOCTYPE a [<!ENTITY e '{'>' * 3000}"'><!-- within -->]><!-- x --><a b='c'>t&e;</a>"""
+            raw = text.encode(coding)
+            theirs = of_minidom(minidom.parseString(raw))
+            for source in (raw, bytearray(raw), memoryview(raw)):
+                self.assertEqual(ours(h.xml.parse(source)), theirs, coding)
+        latin = "<?xml version='1.0' encoding='iso-8859-1'?><a>\u00e9</a>"
+        self.assertEqual(h.xml.parse(latin.encode("iso-8859-1")).document_element.text_content, "\u00e9")
+        self.assertEqual(h.xml.parse(latin).document_element.text_content, "\u00e9")
+
+    def test_what_is_no_source(self):
+        for source in (None, 7, "<a>\ud800</a>", b"<?xml version='1.0' encoding='none such'?><a/>", b"<?xml version='1.0' encoding='none-such'?><a/>", b"<?xml version='1.0' encoding='gb2312'?><a/>"):
+            with self.subTest(source), h.Session() as session:
+                with self.assertRaises(Exception) as theirs:
+                    expat.ParserCreate().Parse(source, True)
+                self.assertRaises(type(theirs.exception), h.xml.parse, source, session)
+                self.assertEqual(session.in_use().nodes, 1)
+
+    def test_faults_are_those_of_expat(self):
+        for text in pages.BROKEN:
+            with self.subTest(text):
+                with self.assertRaises(ExpatError) as theirs:
+                    expat.ParserCreate().Parse(text, True)
+                with self.assertRaises(ExpatError) as mine:
+                    h.xml.parse(text)
+                for name in ("args", "code", "lineno", "offset"):
+                    self.assertEqual(getattr(mine.exception, name), getattr(theirs.exception, name))
 
     def test_broken(self):
         for text in pages.BROKEN:

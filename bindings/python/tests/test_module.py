@@ -9,10 +9,10 @@ from huckleport._calls import core
 # What the headers of 3.8 declare where Py_LIMITED_API is 0x03080000, and its library has: of it all that the module takes.
 STABLE = set(
     """
-    PyArg_ParseTuple PyBool_FromLong PyBytes_AsStringAndSize PyBytes_FromStringAndSize PyCapsule_GetPointer PyCapsule_New PyDescr_NewGetSet
+    PyArg_ParseTuple PyBool_FromLong PyBytes_AsStringAndSize PyBytes_FromStringAndSize PyCapsule_GetPointer PyCapsule_Import PyCapsule_New PyDescr_NewGetSet
     PyDescr_NewMethod PyDict_DelItem PyDict_GetItem PyDict_GetItemString PyDict_New PyDict_SetItem PyDict_Size PyErr_Clear
     PyErr_ExceptionMatches PyErr_Fetch PyErr_Format PyErr_NoMemory PyErr_NormalizeException PyErr_Occurred PyErr_SetObject PyErr_SetString
-    PyExc_AttributeError PyExc_Exception PyExc_KeyError PyExc_OverflowError PyExc_RuntimeError PyExc_TypeError PyExc_ValueError
+    PyExc_AttributeError PyExc_Exception PyExc_ImportError PyExc_KeyError PyExc_OverflowError PyExc_RuntimeError PyExc_TypeError PyExc_ValueError
     PyException_SetTraceback PyImport_ImportModule PyIter_Next PyList_Append PyList_GetItem PyList_New PyList_SetItem PyList_SetSlice
     PyList_Size PyLong_AsUnsignedLong PyLong_AsUnsignedLongLong PyLong_FromLong PyLong_FromSize_t PyLong_FromUnsignedLong PyMem_Free
     PyMem_Malloc PyMem_Realloc PyModuleDef_Init PyModule_AddObject PyModule_GetState PyNumber_Index PyObject_CallFunction
@@ -20,7 +20,7 @@ STABLE = set(
     PyObject_GetAttrString PyObject_GetIter PyObject_IsSubclass PyObject_IsTrue PyObject_SelfIter PyObject_SetAttrString PySequence_GetItem
     PySequence_List PySequence_Size PySet_Add PySet_New PyStructSequence_New PyStructSequence_NewType PyStructSequence_SetItem
     PyTuple_GetItem PyTuple_GetSlice PyTuple_New PyTuple_Pack PyTuple_SetItem PyTuple_Size PyTuple_Type PyType_FromSpec PyType_GenericAlloc
-    PyType_GetFlags PyType_GetSlot PyType_IsSubtype PyType_Type PyUnicode_AsUCS4 PyUnicode_DecodeLatin1 PyUnicode_DecodeUTF16
+    PyType_GetFlags PyType_GetSlot PyType_IsSubtype PyType_Type PyUnicode_AsUCS4 PyUnicode_AsUTF8String PyUnicode_DecodeLatin1 PyUnicode_DecodeUTF16
     PyUnicode_DecodeUTF8 PyUnicode_FromString PyUnicode_FromWideChar PyUnicode_GetLength PyUnicode_ReadChar PyUnicode_Substring
     Py_BuildValue Py_GetVersion _PyArg_ParseTuple_SizeT _PyObject_CallFunction_SizeT _PyObject_CallMethod_SizeT _Py_BuildValue_SizeT
     _Py_Dealloc _Py_FalseStruct _Py_NoneStruct _Py_TrueStruct

@@ -6,6 +6,7 @@ import random
 import unittest
 
 import huckleport as h
+from tests.editing import Editor
 
 PACKAGE = os.path.dirname(os.path.abspath(h.__file__))
 
@@ -116,6 +117,75 @@ class Reading(unittest.TestCase):
         for read in (element.descendants, element.next_siblings, lambda: list(element), lambda: element.children, lambda: element.get_element_by_id("x")):
             with self.assertRaises(h.NoSuchObject):
                 read()
+
+
+def written(node):
+    """A node and what is below it as HTML, by single calls."""
+    if isinstance(node, h.Text):
+        return node.data.replace("&", "&amp;").replace("<", "&lt;")
+    if isinstance(node, h.Comment):
+        return f"<!--{node.data}-->"
+    pairs = "".join(f' {name}="{node.get_attribute(name)}"' for name in node.get_attribute_names())
+    return f"<{node.tag_name}{pairs}>{''.join(written(it) for it in node.child_nodes)}</{node.tag_name}>"
+
+
+class Kept(unittest.TestCase):
+    """What is kept of a walk and of attributes is what single calls tell, whatever was edited between."""
+
+    def check(self, root):
+        self.assertEqual(list(root.descendants()), list(below(root)))
+        self.assertEqual(root.get_elements_by_tag_name("x"), [it for it in below(root) if isinstance(it, h.Element) and it.tag_name == "x"])
+        self.assertEqual(h.html.serialize(root), written(root))
+
+    def test_edits(self):
+        for seed in range(30):
+            document = h.xml.parse("<root><x a='1' b='2'>one<y/>&lt;</x><!--two--><z c='3'>three</z></root>")
+            root, session = document.document_element, document.session
+            editor, history = Editor(document, root, [document.create_range() for _ in range(2)], seed), h.History(root)
+            for found in editor.ranges:
+                found.select_node_contents(root)
+            for _ in range(40):
+                with history.group():
+                    editor.edit()
+                self.check(root)
+            while history.undo():
+                self.check(root)
+            self.assertEqual(session.closed, False)
+
+    def test_lines(self):
+        document = h.xml.parse("<root><x a='1'/><y/></root>")
+        root, session = document.document_element, document.session
+        x, y = root.child_nodes
+        for line in (
+            f'["setAttribute",{y.number},"b","2"]',
+            f'["removeAttribute",{x.number},"a"]',
+            f'["toggleAttribute",{x.number},"c",null]',
+            f'["appendChild",{x.number},{y.number}]',
+            f'["setTextContent",{y.number},"t"]',
+            f'["normalize",{root.number}]',
+            f'["remove",{y.number}]',
+        ):
+            self.check(root)
+            self.assertIn(b'"ok"', session.line(line.encode()), line)
+            self.check(root)
+
+    def test_a_tree_within_another(self):
+        document = h.xml.parse(f"<root>{'<x><y>t</y></x>' * 100}</root>")
+        for it in document.document_element:
+            self.check(it)
+        self.check(document.document_element)
+        document.document_element.first_child.append("u", document.create_element("v"))
+        for it in document.document_element:
+            self.check(it)
+
+    def test_many_names(self):
+        """There is room for some thousands of names; the others are asked for."""
+        text = "".join(f"<n{at} a{at}='{at}' {'b' * 60}='{at}'>{at}</n{at}><{'c' * 70}/>" for at in range(5000))
+        document = h.xml.parse(f"<r>{text}</r>")
+        self.assertEqual([it.tag_name for it in document.descendants(h.Element)][1:3], ["n0", "c" * 70])
+        self.assertEqual(len(document.get_elements_by_tag_name("n4999")), 1)
+        self.assertEqual(h.xml.serialize(document), f"<r>{text}</r>".replace("'", '"'))
+        self.assertEqual(h.xml.serialize(document), f"<r>{text}</r>".replace("'", '"'))
 
 
 class Moves(unittest.TestCase):

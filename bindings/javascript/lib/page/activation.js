@@ -5,7 +5,7 @@ const byName = new Map();
 
 /**
  * Says what elements of a name do when they are clicked: `isFor` tells whether this one does it, `before` runs ahead of all listeners and answers what
- * `undo` needs where somebody canceled the event, and `after` runs behind them else.
+ * `undo` gets where somebody canceled the event, and `after`, behind them, else.
  */
 export function activate(name, activation) {
   byName.set(name, activation);

@@ -18,6 +18,8 @@ import {
   stillNodeList,
   thingOf,
 } from "./core.js";
+import { typeChanged } from "./html/inputs.js";
+import { isNamed } from "./html/states.js";
 import { borrow, knownOf, makeLegacy } from "./legacy.js";
 import { styleChanged } from "./styles.js";
 import { alsoTarget } from "./targets.js";
@@ -89,15 +91,19 @@ const orNull = (element, name) => (name ? attrFor(element, name) : null);
 
 const base = Element.operations;
 
-/** Which attributes something of the page follows: styles and handlers. */
-const STYLE = "style";
-const FOLLOWED = /^(?:style$|on)/i;
+/** Which attributes something of the page follows: styles, types of inputs, handlers. */
+const FOLLOWED = /^(?:style$|type$|on)/i;
+const FOLLOWING = { style: styleChanged, type: (element) => isNamed(element, "input") && typeChanged(element) };
+
+/** The letters that such names begin with: most names need no further look. */
+const LETTERS = new Set([..."stoSTO"].map((it) => it.charCodeAt(0)));
 
 /** Tells the page that an attribute of a name has changed. */
 function changed(element, name) {
-  if (!FOLLOWED.test(name)) return;
-  if (name.length === STYLE.length && small(name) === STYLE) styleChanged(element);
-  else pageOf(element)?.handlers.changed(element, small(name));
+  if (!LETTERS.has(name.charCodeAt(0)) || !FOLLOWED.test(name)) return;
+  const its = small(name);
+  if (Object.hasOwn(FOLLOWING, its)) FOLLOWING[its](element);
+  else pageOf(element)?.handlers.changed(element, its);
 }
 
 function setAttribute(element, qualified, value) {

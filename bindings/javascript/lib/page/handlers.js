@@ -20,7 +20,7 @@ const OF_WINDOWS = words(`afterprint beforeprint beforeunload hashchange languag
 /** What a body's handlers mean at the window. */
 const OF_BODIES = new Set([...OF_WINDOWS, "blur", "error", "focus", "load", "resize", "scroll"]);
 
-/** The handler of one name at one target. */
+/** The handler of one name at one target, which listens by itself. */
 class Handler {
   value = null;
   isActive = false;
@@ -28,10 +28,9 @@ class Handler {
   constructor(target, type) {
     this.target = target;
     this.type = type;
-    this.listener = (event) => this.#handle(event);
   }
 
-  #handle(event) {
+  handleEvent(event) {
     const its = eventOf(event);
     const { value, target, type } = this;
     if (typeof value !== "function") return;
@@ -45,15 +44,15 @@ class Handler {
 
   set(value) {
     this.value = value;
-    if (value !== null && !this.isActive) addListener(this.target, this.type, this.listener);
-    if (value === null && this.isActive) removeListener(this.target, this.type, this.listener);
+    if (value !== null && !this.isActive) addListener(this.target, this.type, this);
+    if (value === null && this.isActive) removeListener(this.target, this.type, this);
     this.isActive = value !== null;
   }
 }
 
 /** The handlers of a page. `compile` makes a function of an attribute's text; without it such texts are texts. */
 export class Handlers {
-  #ofWindow = new Map();
+  #ofWindow = [];
   #read = new WeakMap();
 
   constructor(compile) {
@@ -61,19 +60,24 @@ export class Handlers {
   }
 
   #all(target) {
-    return isNode(target) ? (keptOf(target).handlers ??= new Map()) : this.#ofWindow;
+    return isNode(target) ? (keptOf(target).handlers ??= []) : this.#ofWindow;
+  }
+
+  #found(target, type) {
+    return this.#all(target).find((it) => it.type === type);
   }
 
   of(target, type) {
-    const its = this.#all(target);
-    let found = its.get(type);
-    if (!found) its.set(type, (found = new Handler(target, type)));
-    return found;
+    const found = this.#found(target, type);
+    if (found) return found;
+    const made = new Handler(target, type);
+    this.#all(target).push(made);
+    return made;
   }
 
   get(target, type) {
     this.wake(target, type);
-    return this.#all(target).get(type)?.value ?? null;
+    return this.#found(target, type)?.value ?? null;
   }
 
   set(target, type, value) {

@@ -1,6 +1,6 @@
 /** Selectors, by css-select over the package's interfaces. What an id, a class or a name alone means is asked of the package. */
-import { DOCUMENT, documentKnown, documentOf, HTML, isElement, isOfKind, pageOf, parentOf, realmOf, refuse, small, stillNodeList, wanted } from "./core.js";
-import { isDisabled, isNamed } from "./html/states.js";
+import { DOCUMENT, documentKnown, documentOf, HTML, isElement, isOfKind, parentOf, realmOf, refuse, small, stillNodeList, wanted } from "./core.js";
+import { pseudos } from "./pseudos.js";
 
 // ---- How css-select sees a tree.
 
@@ -58,34 +58,6 @@ const adapter = {
   findOne,
   removeSubsets: (nodes) => nodes.filter((node) => !nodes.some((other) => other !== node && other.contains(node))),
   equals: (one, other) => one === other,
-};
-
-const isFocused = (element) => pageOf(element)?.focused(documentOf(element)) === element;
-
-const CONTROLS = ["button", "fieldset", "input", "optgroup", "option", "select", "textarea"];
-
-function isOff(element) {
-  if (!isNamed(element, "option")) return isDisabled(element);
-  return element.hasAttribute("disabled") || (isNamed(element.parentNode, "optgroup") && element.parentNode.hasAttribute("disabled"));
-}
-
-/** Classes that css-select does not know, or means otherwise: a word of its own is meant by another, which stands for a function. */
-const pseudos = {
-  checked: ":-page-checked",
-  disabled: ":-page-disabled",
-  enabled: ":-page-enabled",
-  "-page-checked": (element) => (isNamed(element, "option") ? element.selected : element.checked) === true,
-  "-page-disabled": (element) => isNamed(element, ...CONTROLS) && isOff(element),
-  "-page-enabled": (element) => isNamed(element, ...CONTROLS) && !isOff(element),
-  focus: isFocused,
-  "focus-visible": isFocused,
-  "focus-within": (element) => element.contains(pageOf(element)?.focused(documentOf(element)) ?? null),
-  target: (element) => element.id !== "" && `#${element.id}` === new URL(element.ownerDocument.URL).hash,
-  indeterminate: (element) => element.indeterminate === true,
-  hover: () => false,
-  active: () => false,
-  visited: () => false,
-  defined: () => true,
 };
 
 // ---- Selectors that are compiled, and kept.

@@ -2,6 +2,7 @@
 import { Element, HTML, keptOf, nameOf, wanted } from "./core.js";
 
 const [, setAttribute] = Element.operations.setAttribute;
+const [, hasAttribute] = Element.operations.hasAttribute;
 
 /** The style of one element, which writes what a program changes into the attribute, and reads the attribute where that has changed. */
 class Style {
@@ -11,7 +12,7 @@ class Style {
     this.element = element;
     const { CSSStyleDeclaration } = wanted("cssstyle", "styles");
     this.declaration = new CSSStyleDeclaration((text) => this.#write(text));
-    if (element.hasAttribute("style")) this.read();
+    if (hasAttribute(element, "style")) this.read();
   }
 
   read() {
@@ -68,6 +69,14 @@ function displayOf(element) {
   if (local === "dialog" && !element.hasAttribute("open")) return "none";
   return BLOCK.has(local) ? "block" : (OTHERS[local] ?? "inline");
 }
+
+/** Whether an element is shown at all: neither it nor what it is in is left out of what is displayed, nor is it invisible. */
+export function isShown(element) {
+  for (let it = element; it; it = it.parentElement) if ((it.hasAttribute("style") ? computedStyle(it).display : displayOf(it)) === "none") return false;
+  return !hasStyleAbove(element) || computedStyle(element).visibility === "visible";
+}
+
+const hasStyleAbove = (element) => element !== null && (element.hasAttribute("style") || hasStyleAbove(element.parentElement));
 
 /** What `getComputedStyle` answers: nothing is inherited but whether an element is visible. */
 export function computedStyle(element) {

@@ -289,7 +289,7 @@ export function dispatch(target, event) {
   goDown(path, event, its);
   goUp(path, event, its);
   ended(its);
-  if (activated && !its.isCanceled) activated.after?.(activated.element, event);
+  if (activated && !its.isCanceled) activated.after?.(activated.element, event, before);
   else if (activated) activated.undo?.(activated.element, before);
   return !its.isCanceled;
 }

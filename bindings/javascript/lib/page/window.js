@@ -130,6 +130,12 @@ function computing(page) {
   };
 }
 
+/** What the language itself has: a window that is no context's global object has it too, so that a test finds `window.Promise` or `window.TypeError`. */
+const OF_LANGUAGE = `Object Function Array Number Boolean String Symbol BigInt Date Promise RegExp JSON Math Intl Reflect Proxy Map Set WeakMap WeakSet WeakRef
+  FinalizationRegistry Error AggregateError EvalError RangeError ReferenceError SyntaxError TypeError URIError ArrayBuffer SharedArrayBuffer Atomics DataView
+  Int8Array Uint8Array Uint8ClampedArray Int16Array Uint16Array Int32Array Uint32Array Float32Array Float64Array BigInt64Array BigUint64Array WebAssembly
+  parseFloat parseInt isFinite isNaN decodeURI decodeURIComponent encodeURI encodeURIComponent escape unescape`.split(/\s+/);
+
 /** Interfaces of the host's that a page has as they are. */
 const OF_HOST = ["AbortController", "AbortSignal", "URL", "URLSearchParams", "Blob", "TextEncoder", "TextDecoder", "MessageChannel", "MessagePort", "Headers"];
 
@@ -172,7 +178,9 @@ export function completeWindow(page) {
   setWindow(window, page);
   const all = { ...itself(page), ...places(page), ...sizes(), ...timers(page), ...listening(page), ...computing(page), ...constructors(page) };
   Object.defineProperties(window, all);
-  const hidden = Object.fromEntries(OF_HOST.filter((name) => name in globalThis).map((name) => [name, { ...own(globalThis[name]), enumerable: false }]));
-  Object.defineProperties(window, hidden);
+  const isContext = page.realm.global !== globalThis;
+  const names = [...OF_HOST, ...(isContext ? [] : OF_LANGUAGE)].filter((name) => name in globalThis);
+  Object.defineProperties(window, Object.fromEntries(names.map((name) => [name, { ...own(globalThis[name]), enumerable: false }])));
+  if (!isContext) Object.defineProperty(window, "globalThis", { ...own(window), enumerable: false });
   defineHandlers(window, handlers);
 }

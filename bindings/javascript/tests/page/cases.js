@@ -1,5 +1,6 @@
 // What a page answers, as cases that run over the page, over jsdom and in Chromium alike: each gets a window with an empty page, and answers what JSON has.
 // `jsdom` says where jsdom answers otherwise than a browser.
+import { TESTERS } from "./testers.js";
 
 const attributes = {
   "attributes are a live list, in the order in which they came"({ document }) {
@@ -744,4 +745,4 @@ const elements = {
   },
 };
 
-export const CASES = { attributes, markup, selectors, events, views, forms, elements };
+export const CASES = { attributes, markup, selectors, events, views, forms, elements, testers: TESTERS };

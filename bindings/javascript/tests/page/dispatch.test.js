@@ -105,6 +105,37 @@ test("memory is level where listeners come and go", { skip: skip || (globalThis.
   assert.ok(grown < 2 ** 20, `${grown}`);
 });
 
+/** Dispatches once along 10,000 listeners, each of which goes while it runs, and has another one come and go. */
+function crowd(window, path) {
+  let called = 0;
+  for (const element of path) {
+    for (let which = 0; which < EACH; which++) {
+      const isDown = which % 2 === 0;
+      const other = () => assert.fail("it has gone before");
+      const own = () => {
+        called++;
+        element.removeEventListener("x", own, isDown);
+        element.addEventListener("x", other, isDown);
+        element.removeEventListener("x", other, isDown);
+      };
+      element.addEventListener("x", own, isDown);
+    }
+  }
+  path.at(-1).dispatchEvent(new window.Event("x", { bubbles: true }));
+  assert.equal(called, DEPTH * EACH);
+}
+
+test("memory is level where 10,000 listeners go while a dispatch runs", { skip: skip || (globalThis.gc ? false : "node runs without --expose-gc") }, async (t) => {
+  const window = await WINDOWS.page();
+  const path = pathIn(window);
+  for (let time = 0; time < 5; time++) crowd(window, path);
+  const before = used();
+  for (let time = 0; time < 20; time++) crowd(window, path);
+  const grown = used() - before;
+  t.diagnostic(`${grown} bytes after 20 dispatches`);
+  assert.ok(grown < 2 ** 20, `${grown}`);
+});
+
 test("what a listener throws is reported, and the others are called", { skip }, () => {
   const reported = [];
   const window = createPage("", { report: (fault) => reported.push(fault) });

@@ -1,7 +1,8 @@
 /** Inputs (HTML Standard, section 4.10.5): values by their types, boxes, and what is selected of a text. */
-import { pageOf, refuse } from "../core.js";
+import { convertible, pageOf, refuse, refuseType } from "../core.js";
 import { flags, oneOf, text, texts, url, whole } from "./reflect.js";
 import { formOf, isNamed, stateOf } from "./states.js";
+import { boundsOf, isNumber, numberOf, step } from "./steps.js";
 
 const TYPES = [
   ...["text", "hidden", "search", "tel", "url", "email", "password", "date", "month", "week", "time", "datetime-local", "number", "range", "color"],
@@ -19,13 +20,19 @@ const modeOf = (input) => MODES[typeOf(input)] ?? "value";
 
 const oneLine = (value) => value.replace(/[\n\r]/g, "");
 const trimmed = (value) => oneLine(value).replace(/^[\t\n\f\r ]+|[\t\n\f\r ]+$/g, "");
+const TIME = /^(?:[01]\d|2[0-3]):[0-5]\d(?::[0-5]\d(?:\.\d{1,3})?)?$/;
+
+/** Whether a text is a day that there is. */
+function isDay(text) {
+  const [, year, month, day] = (/^(\d{4,6})-(0[1-9]|1[0-2])-(0[1-9]|[12]\d|3[01])$/.exec(text) ?? []).map(Number);
+  return year > 0 && day <= new Date(Date.UTC(year, month, 0)).getUTCDate();
+}
+
 const fitting = (form) => (value) => (form.test(value) ? value : "");
-const NUMBER = /^-?(?:\d+(?:\.\d+)?|\.\d+)(?:[eE][+-]?\d+)?$/;
 
 function inRange(value, input) {
-  const bound = (name, absent) => (NUMBER.test(input.getAttribute(name) ?? "") ? Number(input.getAttribute(name)) : absent);
-  const [least, most] = [bound("min", 0), bound("max", 100)];
-  const number = NUMBER.test(value) ? Number(value) : least + Math.max(0, most - least) / 2;
+  const { least, most } = boundsOf(input);
+  const number = isNumber(value) ? Number(value) : least + Math.max(0, most - least) / 2;
   return `${Math.max(least, Math.min(number, Math.max(least, most)))}`;
 }
 
@@ -36,12 +43,15 @@ const SANITIZED = {
   password: oneLine,
   url: trimmed,
   email: trimmed,
-  date: fitting(/^\d{4,}-(?:0[1-9]|1[0-2])-(?:0[1-9]|[12]\d|3[01])$/),
+  date: (value) => (isDay(value) ? value : ""),
   month: fitting(/^\d{4,}-(?:0[1-9]|1[0-2])$/),
   week: fitting(/^\d{4,}-W(?:0[1-9]|[1-4]\d|5[0-3])$/),
-  time: fitting(/^(?:[01]\d|2[0-3]):[0-5]\d(?::[0-5]\d(?:\.\d{1,3})?)?$/),
-  "datetime-local": (value) => fitting(/^\d{4,}-\d\d-\d\dT\d\d:\d\d(?::\d\d(?:\.\d{1,3})?)?$/)(value.replace(" ", "T")),
-  number: fitting(NUMBER),
+  time: fitting(TIME),
+  "datetime-local": (value) => {
+    const [day, time] = value.split(/[ T]/);
+    return isDay(day) && TIME.test(time) ? `${day}T${time}` : "";
+  },
+  number: (value) => (isNumber(value) ? value : ""),
   color: (value) => (/^#[\da-f]{6}$/i.test(value) ? value.toLowerCase() : "#000000"),
   range: inRange,
 };
@@ -67,6 +77,15 @@ const VALUES = {
 };
 
 const value = { type: "DOMString or empty", get: (input) => VALUES[modeOf(input)].get(input), set: (input, its) => VALUES[modeOf(input)].set(input, its) };
+
+/** Follows a change of the type: where a value is an attribute from now on, what was typed becomes that attribute. */
+export function typeChanged(input) {
+  const state = stateOf(input);
+  const { value: typed } = state;
+  if (typed === null || modeOf(input) === "value") return;
+  state.value = null;
+  if (typed !== "" && modeOf(input) !== "file") input.setAttribute("value", typed);
+}
 
 // ---- Boxes.
 
@@ -106,8 +125,8 @@ export const boxes = {
     return before;
   },
   undo: (input, before) => before.forEach(([it, isOn, , indeterminate]) => Object.assign(stateOf(it), { isOn, indeterminate })),
-  after(input) {
-    if (!input.isConnected) return;
+  after(input, [[, , wasChecked]]) {
+    if (!input.isConnected || (typeOf(input) === "radio" && wasChecked)) return;
     const page = pageOf(input);
     page.tell(input, "Event", "input", { bubbles: true, composed: true });
     page.tell(input, "Event", "change", { bubbles: true });
@@ -126,12 +145,19 @@ function selectionOf(control) {
   return { ...selection, start: Math.min(selection.start, length), end: Math.min(selection.end, length) };
 }
 
-function setSelectionRange(control, start, end, direction) {
-  if (!canSelect(control)) refuse("InvalidStateError", "nothing can be selected of an input of this type");
+/** Selects a part of a text, and tells of it later, where it is another one than before. */
+function choose(control, start, end, direction) {
+  const before = selectionOf(control);
   const to = Math.min(end ?? 0, lengthOf(control));
   const its = { start: Math.min(start ?? 0, to), end: to, direction: ["forward", "backward"].includes(direction) ? direction : "none" };
   stateOf(control).selection = its;
+  if (its.start === before.start && its.end === before.end && its.direction === before.direction) return;
   pageOf(control).later(() => pageOf(control).tell(control, "Event", "select", { bubbles: true }));
+}
+
+function setSelectionRange(control, start, end, direction) {
+  if (!canSelect(control)) refuse("InvalidStateError", "nothing can be selected of an input of this type");
+  choose(control, start, end, direction);
 }
 
 const selected = (name, set) => ({
@@ -140,14 +166,30 @@ const selected = (name, set) => ({
   set: (control, its) => set(control, its, selectionOf(control)),
 });
 
-function setRangeText(control, replacement, start, end) {
+/** Where an end of the selection is when a part of the text has become another one: what was within it comes to one of the part's ends. */
+function moved(at, { from, to, newTo }, within) {
+  if (at > to) return at + newTo - to;
+  return at > from ? within : at;
+}
+
+/** What is selected when a part of a text was replaced, by the word that was given. */
+const SELECTED_AFTER = {
+  select: (its, { from, newTo }) => [from, newTo],
+  start: (its, { from }) => [from, from],
+  end: (its, { newTo }) => [newTo, newTo],
+  preserve: ({ start, end }, part) => [moved(start, part, part.from), moved(end, part, part.newTo)],
+};
+
+convertible("SelectionMode", (word) => (Object.hasOwn(SELECTED_AFTER, `${word}`) ? `${word}` : refuseType(`${String(word)} is no way to select`)));
+
+function setRangeText(control, replacement, ...[start, end, mode]) {
   if (!canSelect(control)) refuse("InvalidStateError", "nothing can be selected of an input of this type");
   const its = selectionOf(control);
+  if (start > end) refuse("IndexSizeError", "the start is behind the end");
   const [from, to] = [start ?? its.start, end ?? its.end].map((at) => Math.min(at, lengthOf(control)));
-  if (from > to) refuse("IndexSizeError", "the start is behind the end");
   const before = control.value;
   control.value = before.slice(0, from) + replacement + before.slice(to);
-  stateOf(control).selection = { start: Math.min(its.start, lengthOf(control)), end: Math.min(its.end, lengthOf(control)), direction: "none" };
+  choose(control, ...SELECTED_AFTER[mode ?? "preserve"](its, { from, to, newTo: from + replacement.length }), "none");
 }
 
 /** What inputs of a text and textareas have. */
@@ -160,23 +202,9 @@ export const textSelection = {
   operations: {
     select: [[], (control) => canSelect(control) && setSelectionRange(control, 0, lengthOf(control), "none")],
     setSelectionRange: [["unsigned long", "unsigned long", "DOMString = undefined"], setSelectionRange],
-    setRangeText: [["DOMString", "unsigned long = undefined", "unsigned long = undefined", "any = undefined"], setRangeText],
+    setRangeText: [["DOMString", "unsigned long = undefined", "unsigned long = undefined", "SelectionMode = undefined"], setRangeText],
   },
 };
-
-function number(input) {
-  const its = value.get(input);
-  return ["number", "range"].includes(typeOf(input)) && its !== "" ? Number(its) : NaN;
-}
-
-function step(sign) {
-  return (input, count) => {
-    if (!["number", "range"].includes(typeOf(input))) refuse("InvalidStateError", "an input of this type has no steps");
-    const size = Number(input.getAttribute("step") || 1) || 1;
-    const before = Number.isNaN(number(input)) ? 0 : number(input);
-    value.set(input, `${before + sign * count * size}`);
-  };
-}
 
 export const inputMembers = {
   attributes: {
@@ -202,7 +230,7 @@ export const inputMembers = {
       get: (input) => stateOf(input).indeterminate,
       set: (input, its) => void (stateOf(input).indeterminate = its),
     },
-    valueAsNumber: { type: "any", get: number, set: (input, its) => value.set(input, Number.isNaN(its) ? "" : `${its}`) },
+    valueAsNumber: { type: "any", get: numberOf, set: (input, its) => value.set(input, Number.isNaN(its) ? "" : `${its}`) },
     form: formOf,
     list: (input) => {
       const found = input.hasAttribute("list") ? input.ownerDocument.getElementById(input.getAttribute("list")) : null;

@@ -9,7 +9,7 @@ import { buttonClick, buttonMembers, fieldsetMembers, formMembers, labelClick, l
 import { boxes, inputMembers } from "./inputs.js";
 import { linkAttributes, linkOperations } from "./links.js";
 import { elementMembers } from "./members.js";
-import { flags, oneOf, text, texts, url, urls, whole } from "./reflect.js";
+import { flags, oneOf, text, textOrNull, texts, url, urls, whole } from "./reflect.js";
 import { optionMembers, selectMembers } from "./selects.js";
 import { formOf, isNamed } from "./states.js";
 import { cellMembers, rowMembers, sectionMembers, tableMembers } from "./tables.js";
@@ -25,10 +25,10 @@ const join = (...members) => ({
 const attributes = (...sets) => ({ attributes: Object.assign({}, ...sets) });
 const ofText = { text: { type: "DOMString", get: (element) => element.textContent, set: (element, value) => void (element.textContent = value) } };
 const LOADING = ["anonymous", "use-credentials"];
-const crossOrigin = { crossOrigin: { ...oneOf("crossorigin", LOADING, null), type: "any" } };
+const crossOrigin = { crossOrigin: { ...textOrNull("crossorigin"), get: oneOf("crossorigin", LOADING, null, "anonymous").get } };
 const media = join(attributes(urls("src"), texts("preload"), flags("autoplay", "controls", "loop"), crossOrigin, { defaultMuted: flags("muted").muted }));
 const sized = { width: whole("width"), height: whole("height") };
-const link = join({ attributes: linkAttributes, operations: linkOperations }, attributes(texts("target", "download", "ping", "rel", "referrerPolicy"), { relList: tokens("rel") }));
+const link = join({ attributes: linkAttributes, operations: linkOperations }, attributes(texts("target", "download", "ping", "rel", "referrerPolicy"), { relList: tokens("rel", []) }));
 
 /** The interface by its short name: the elements' names, and its members. */
 const INTERFACES = {
@@ -76,7 +76,7 @@ const INTERFACES = {
   Legend: ["legend", attributes(texts("align"), { form: (legend) => (isNamed(legend.parentNode, "fieldset") ? formOf(legend.parentNode) : null) })],
   Link: [
     "link",
-    attributes(texts("rel", "media", "hreflang", "type", "as", "integrity", "referrerPolicy", "imageSrcset", "imageSizes", "charset", "rev", "target"), urls("href"), flags("disabled"), crossOrigin, { relList: tokens("rel") }),
+    attributes(texts("rel", "media", "hreflang", "type", "as", "integrity", "referrerPolicy", "imageSrcset", "imageSizes", "charset", "rev", "target"), urls("href"), flags("disabled"), crossOrigin, { relList: tokens("rel", []) }),
   ],
   Map: ["map", attributes(texts("name"))],
   Marquee: ["marquee", attributes(texts("behavior", "bgColor", "direction", "height", "width"), flags("trueSpeed"), { hspace: whole("hspace"), vspace: whole("vspace") })],
@@ -196,7 +196,7 @@ activate("input", {
   isFor: (input) => boxes.isFor(input) || buttonClick.isFor(input),
   before: (input) => boxes.isFor(input) && boxes.before(input),
   undo: (input, before) => before && boxes.undo(input, before),
-  after: (input) => (boxes.isFor(input) ? boxes.after(input) : buttonClick.after(input)),
+  after: (input, event, before) => (boxes.isFor(input) ? boxes.after(input, before) : buttonClick.after(input)),
 });
 activate("summary", {
   isFor: (summary) => isNamed(summary.parentNode, "details") && summary === [...summary.parentNode.children].find((it) => isNamed(it, "summary")),

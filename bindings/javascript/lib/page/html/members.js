@@ -1,7 +1,7 @@
 /** What all elements have of a page, and those of HTML, SVG and MathML (DOM, CSSOM View, HTML): rectangles are zero, for there is no layout. */
 import { known, makeThing, pageOf, realmOf, refuse, thingOf } from "../core.js";
 import { handlerAttributes } from "../handlers.js";
-import { styleAttribute } from "../styles.js";
+import { isShown, styleAttribute } from "../styles.js";
 import { dataset, tokens } from "../tokens.js";
 import { flags, oneOf, text, textOrNull, texts, whole } from "./reflect.js";
 import { isDisabled, isNamed } from "./states.js";
@@ -105,7 +105,7 @@ export const inRanges = {
 const FOCUSABLE = ["button", "iframe", "select", "textarea"];
 
 function canFocus(element) {
-  if (!element.isConnected) return false;
+  if (!element.isConnected || !isShown(isNamed(element, "area") ? element.parentElement : element)) return false;
   if (isNamed(element, "button", "input", "select", "textarea") && isDisabled(element)) return false;
   if (isNamed(element, "input")) return element.type !== "hidden";
   if (isNamed(element, ...FOCUSABLE) || element.hasAttribute("tabindex")) return true;

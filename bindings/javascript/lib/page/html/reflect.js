@@ -1,22 +1,26 @@
 /** Attributes that stand for properties (HTML Standard, section 2.6.1), each as a table's attribute. */
-import { refuse } from "../core.js";
+import { Element, refuse } from "../core.js";
+
+// (what an attribute says is asked of the core's element by its own operations: nothing has to be converted)
+const [, valueOf] = Element.operations.getAttribute;
+const [, has] = Element.operations.hasAttribute;
 
 export const text = (name) => ({
   type: "DOMString",
-  get: (element) => element.getAttribute(name) ?? "",
+  get: (element) => valueOf(element, name) ?? "",
   set: (element, value) => element.setAttribute(name, value),
 });
 
 /** A text that may be absent. */
 export const textOrNull = (name) => ({
   type: "DOMString?",
-  get: (element) => element.getAttribute(name),
+  get: (element) => valueOf(element, name),
   set: (element, value) => (value === null ? element.removeAttribute(name) : element.setAttribute(name, value)),
 });
 
 const flag = (name) => ({
   type: "boolean",
-  get: (element) => element.hasAttribute(name),
+  get: (element) => has(element, name),
   set: (element, value) => void element.toggleAttribute(name, value),
 });
 
@@ -32,7 +36,7 @@ function wholeIn(written) {
 export const whole = (name, absent = 0, least = -Infinity) => ({
   type: "long",
   get(element) {
-    const found = wholeIn(element.getAttribute(name));
+    const found = wholeIn(valueOf(element, name));
     return found === null || found < least ? absent : found;
   },
   set(element, value) {
@@ -53,7 +57,7 @@ export function resolved(element, written) {
 export const url = (name) => ({
   type: "DOMString",
   get(element) {
-    const written = element.getAttribute(name);
+    const written = valueOf(element, name);
     return written === null ? "" : resolved(element, written);
   },
   set: (element, value) => element.setAttribute(name, value),
@@ -63,7 +67,7 @@ export const url = (name) => ({
 export const oneOf = (name, words, absent = words[0], invalid = absent) => ({
   type: "DOMString",
   get(element) {
-    const written = element.getAttribute(name);
+    const written = valueOf(element, name);
     if (written === null) return absent;
     const word = written.toLowerCase();
     return words.includes(word) ? word : invalid;

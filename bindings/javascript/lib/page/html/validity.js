@@ -1,6 +1,7 @@
 /** Constraint validation (HTML Standard, section 4.10.21): which constraints the value of a control does not meet. */
 import { known, makeThing, pageOf, realmOf, thingOf } from "../core.js";
-import { isDisabled, isNamed, stateOf } from "./states.js";
+import { controlsOf, isDisabled, isNamed, stateOf } from "./states.js";
+import { boundsOf, isBesideSteps, numberOf } from "./steps.js";
 
 const EMAIL = /^[\w.!#$%&'*+/=?^`{|}~-]+@[a-zA-Z\d](?:[a-zA-Z\d-]{0,61}[a-zA-Z\d])?(?:\.[a-zA-Z\d](?:[a-zA-Z\d-]{0,61}[a-zA-Z\d])?)*$/;
 
@@ -49,12 +50,8 @@ function isOffPattern(control) {
   }
 }
 
-/** Whether a number is beyond a bound that an attribute sets, in a direction. */
-function isBeyond(control, name, sign) {
-  const bound = control.getAttribute(name);
-  if (!bound || control.value === "" || !["number", "range"].includes(control.type)) return false;
-  return sign * (Number(control.value) - Number(bound)) > 0;
-}
+const isBelow = (control) => isNamed(control, "input") && numberOf(control) < boundsOf(control).least;
+const isAbove = (control) => isNamed(control, "input") && numberOf(control) > boundsOf(control).most;
 
 const FAULTS = {
   valueMissing: isMissing,
@@ -62,9 +59,9 @@ const FAULTS = {
   patternMismatch: isOffPattern,
   tooLong: () => false,
   tooShort: () => false,
-  rangeUnderflow: (control) => isBeyond(control, "min", -1),
-  rangeOverflow: (control) => isBeyond(control, "max", 1),
-  stepMismatch: () => false,
+  rangeUnderflow: isBelow,
+  rangeOverflow: isAbove,
+  stepMismatch: (control) => isNamed(control, "input") && isBesideSteps(control),
   badInput: () => false,
   customError: (control) => stateOf(control).fault !== "",
 };
@@ -78,6 +75,20 @@ export function checkValidity(control) {
   if (!willValidate(control) || faultsOf(control).length === 0) return true;
   pageOf(control).tell(control, "Event", "invalid", { cancelable: true });
   return false;
+}
+
+/** What selectors ask of it: whether a control that is checked meets its constraints, and whether all of a form do; null for what is never checked. */
+export function isValid(element) {
+  if (isNamed(element, "form")) return controlsOf(element).every((it) => isValid(it) !== false);
+  if (isNamed(element, "fieldset")) return [...element.elements].every((it) => isValid(it) !== false);
+  return willValidate(element) ? faultsOf(element).length === 0 : null;
+}
+
+/** Whether a number is within the bounds that an input has; null where it has none. */
+export function isWithin(element) {
+  if (!isNamed(element, "input") || !willValidate(element) || !["number", "range"].includes(element.type)) return null;
+  const { least, most } = boundsOf(element);
+  return least === -Infinity && most === Infinity ? null : !(isBelow(element) || isAbove(element));
 }
 
 class ValidityIs {

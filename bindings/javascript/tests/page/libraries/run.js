@@ -1,9 +1,12 @@
-// Runs a scene over a window whose names are global, and prints what it answers and the milliseconds of processor time that its parts took, as JSON:
-// `node run.js PLAYER SCENE`.
+// Runs a scene over a window whose names are global, and prints what it answers and the milliseconds of processor time that its parts took at each turn, as
+// JSON: `node run.js PLAYER SCENE [TURNS]`. The part `ready` is what it took until there was a window. `own` has the times of the thread that runs the
+// program, where the system tells them, and `times` those of the whole process, with the engine's compiler and collector.
+import { readFileSync } from "node:fs";
+
 import { WINDOWS } from "../players.js";
 import { SCENES } from "./scenes.js";
 
-const [player, scene] = process.argv.slice(2);
+const [player, scene, turns = "6"] = process.argv.slice(2);
 
 /** What a library finds without saying `window.`, beside what node has. */
 const AS_GLOBAL = /^(?:[A-Z].*|document|navigator|location|history|getComputedStyle|getSelection|requestAnimationFrame|cancelAnimationFrame|innerHeight|innerWidth)$/;
@@ -17,16 +20,39 @@ function makeGlobal(window) {
 }
 
 const times = {};
+const own = {};
 
-/** Measures what is done; of several times, the quickest counts. */
-function timed(name, does) {
-  const before = process.cpuUsage();
-  does();
-  const { user, system } = process.cpuUsage(before);
-  times[name] = Math.min(times[name] ?? Infinity, (user + system) / 1000);
+const THREAD = "/proc/thread-self/schedstat";
+
+/** The milliseconds of processor time that this thread has taken, or NaN. */
+function ownTime() {
+  try {
+    return Number(readFileSync(THREAD, "latin1").split(" ")[0]) / 1e6;
+  } catch {
+    return NaN;
+  }
 }
 
+const now = () => ({ own: ownTime(), whole: process.cpuUsage() });
+
+function took(name, before) {
+  const { user, system } = process.cpuUsage(before.whole);
+  (times[name] ??= []).push((user + system) / 1000);
+  (own[name] ??= []).push(ownTime() - before.own);
+}
+
+function timed(name, does) {
+  const before = now();
+  does();
+  took(name, before);
+}
+
+const start = now();
 const window = await WINDOWS[player]();
+// (what a page loads when it is first needed is loaded here, as jsdom has loaded it)
+void window.document.body.style;
+window.document.querySelector("a > b");
+took("ready", start);
 makeGlobal(window);
-const answer = await SCENES[scene][0](window, timed);
-process.stdout.write(JSON.stringify({ answer, times }), () => process.exit(0));
+const answer = await SCENES[scene][0](window, timed, Number(turns));
+process.stdout.write(JSON.stringify({ answer, times, own }), () => process.exit(0));

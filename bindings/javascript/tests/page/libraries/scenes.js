@@ -1,5 +1,5 @@
 // What is done with each library: its main job and changes after it. Each scene gets a window whose names are global, and answers what was made; `timed`
-// takes what is done and measured, by the processor time of this process.
+// takes what is done and measured, by the processor time of this process, and `turns` says how often that is.
 import { createRequire } from "node:module";
 
 import { ATTACKS } from "./attacks.js";
@@ -8,13 +8,11 @@ const require = createRequire(import.meta.url);
 const rows = (count) => Array.from({ length: count }, (_, at) => ({ id: at, name: `row ${at}`, isEven: at % 2 === 0 }));
 const soon = (wait = 0) => new Promise((ready) => setTimeout(ready, wait));
 const ROWS = 1000;
-/** How often what is measured is done. */
-const TIMES = 6;
 
 /** A change of some rows: each tenth has another name, the last comes first, and some are gone. */
 const changed = (all) => [all.at(-1), ...all.slice(0, -1)].filter((it) => it.id % 7 !== 3).map((it) => (it.id % 10 === 0 ? { ...it, name: `other ${it.id}` } : it));
 
-async function preact({ document, MouseEvent }, timed) {
+async function preact({ document, MouseEvent }, timed, turns) {
   const { h, render, Component } = require("preact");
   const said = [];
   const row = ({ id, name, isEven }) =>
@@ -26,7 +24,7 @@ async function preact({ document, MouseEvent }, timed) {
   }
   const all = rows(ROWS);
   let place, root, first;
-  for (let time = 0; time < TIMES; time++) {
+  for (let time = 0; time < turns; time++) {
     place?.remove();
     place = document.body.appendChild(document.createElement("div"));
     timed("preact: first render", () => void (root = render(h(List, { all }), place)));
@@ -48,7 +46,7 @@ async function preact({ document, MouseEvent }, timed) {
   return { first, second: document.getElementById("list").outerHTML, said, button: button.outerHTML, boxes: document.querySelectorAll("input:checked").length };
 }
 
-async function react({ document }, timed) {
+async function react({ document }, timed, turns) {
   const { createElement: h, useState, useEffect, Component } = require("react");
   const { createRoot } = require("react-dom/client");
   const { flushSync, createPortal } = require("react-dom");
@@ -58,7 +56,7 @@ async function react({ document }, timed) {
   const List = ({ all }) => h("ul", { id: "list" }, all.map((it) => h(Row, { key: it.id, ...it })));
   const all = rows(ROWS);
   let place, root, first;
-  for (let time = 0; time < TIMES; time++) {
+  for (let time = 0; time < turns; time++) {
     if (root) flushSync(() => root.unmount());
     place?.remove();
     place = document.body.appendChild(document.createElement("div"));
@@ -101,7 +99,7 @@ async function react({ document }, timed) {
   return { first, second, said, fields, shown, left: place.innerHTML };
 }
 
-function d3({ document, window }, timed) {
+function d3({ document, window }, timed, turns) {
   const { select, selectAll, event: none } = require("d3-selection");
   let list;
   const join = (data) =>
@@ -112,7 +110,7 @@ function d3({ document, window }, timed) {
     );
   const all = rows(5000);
   let first;
-  for (let time = 0; time < TIMES; time++) {
+  for (let time = 0; time < turns; time++) {
     list?.remove();
     list = select(document.body).append("div").attr("class", "list");
     timed("d3: join of 5,000", () => join(all));
@@ -194,7 +192,7 @@ async function prosemirror({ document, window }, timed) {
   return { model: doc.toString(), out: out.innerHTML, first, typed, after, undone, html, left: place.innerHTML };
 }
 
-function dompurify({ window }, timed) {
+function dompurify({ window }, timed, turns) {
   // (Debian's 2.4.1 reads a name that it has nowhere, and does nothing without it)
   globalThis.shadowNode = {};
   const purify = require("dompurify")(window);
@@ -206,7 +204,7 @@ function dompurify({ window }, timed) {
     { IN_PLACE: false, SANITIZE_NAMED_PROPS: true },
   ];
   let answers;
-  for (let time = 0; time < TIMES; time++) timed("dompurify: attacks", () => void (answers = settings.map((its) => ATTACKS.map((it) => purify.sanitize(it, its)))));
+  for (let time = 0; time < turns; time++) timed("dompurify: attacks", () => void (answers = settings.map((its) => ATTACKS.map((it) => purify.sanitize(it, its)))));
   const fragment = purify.sanitize(ATTACKS.join(""), { RETURN_DOM_FRAGMENT: true });
   const body = purify.sanitize(ATTACKS[0], { RETURN_DOM: true });
   const place = window.document.createElement("div");

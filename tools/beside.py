@@ -1,0 +1,124 @@
+#!/usr/bin/env python3
+"""Runs all tests that need no proof, side by side: of the tools, of want of memory, of costs, of README, of each binding, of served documents, and of the
+referee.
+
+Each is begun once those that it needs have ended, never more at once than processors. What it writes is handed on in one piece when it has ended, under a
+line with its name and how long it took. The last line says how many passed and failed; --after adds what another run said in its last line. A test that
+says no such counts is one.
+"""
+import argparse
+import contextlib
+import dataclasses
+import os
+import re
+import signal
+import subprocess
+import sys
+import tempfile
+import threading
+import time
+
+from start import ROOT
+
+COUNTS = re.compile(r"(\d+) passed, (\d+) failed")
+BINDINGS = "bindings/test.py"
+LIBRARY = "bindings c"
+
+
+@dataclasses.dataclass(frozen=True)
+class Task:
+    """A test: its script with words, and the names of those that have to end first."""
+
+    name: str
+    words: tuple
+    needs: tuple = ()
+
+
+# Those that take long, and those that others need, come first.
+TASKS = (
+    Task(LIBRARY, (BINDINGS, "c")),
+    Task("want of memory", ("tools/refused.py",)),
+    Task("linters", ("tools/linted.py",)),
+    Task("costs", ("bench/hostile.py",)),
+    Task("README", ("tools/printed.py", "README.md")),
+    Task("versions", (BINDINGS, "versions")),
+    Task("bindings python", (BINDINGS, "python"), (LIBRARY,)),
+    Task("bindings javascript", (BINDINGS, "javascript"), (LIBRARY,)),
+    Task("bindings rust", (BINDINGS, "rust"), (LIBRARY,)),
+    Task("served documents", ("serving/test.py",), ("bindings python",)),
+    Task("edits", ("tools/test_edits.py",)),
+    Task("tools", ("tools/test.py",)),
+    Task("referee", ("referee/test.py",), ("bindings javascript", "bindings python", "bindings rust")),
+)
+
+
+class Run:
+    """What has begun and ended; `passed` and `failed` are counted over all that has ended."""
+
+    def __init__(self, passed, failed):
+        self.passed, self.failed = passed, failed
+        self.left, self.ended = [*TASKS], set()
+        self.changed = threading.Condition()
+
+    def next(self):
+        """Takes the first task whose needs have ended, waits where there is none, and returns None once nothing is left to begin."""
+        with self.changed:
+            while self.left:
+                found = next((it for it in self.left if self.ended.issuperset(it.needs)), None)
+                if found:
+                    self.left.remove(found)
+                    return found
+                self.changed.wait()
+        return None
+
+    def end(self, task, status, said, seconds):
+        """Counts what a task came to, and hands on what it wrote."""
+        found = COUNTS.fullmatch(said.rstrip("\n").rpartition("\n")[2])
+        passed, failed = map(int, found.groups()) if found else (int(status == 0), 0)
+        failed += status != 0 and not failed
+        with self.changed:
+            self.passed, self.failed = self.passed + passed, self.failed + failed
+            self.ended.add(task.name)
+            words = f": FAILED, status {status}" if failed else ""
+            print(f"== {task.name} ({seconds // 60}:{seconds % 60:02}){words}\n{said.rstrip()}", flush=True)
+            self.changed.notify_all()
+
+    def work(self):
+        while task := self.next():
+            began = time.monotonic()
+            with tempfile.TemporaryFile("w+", encoding="utf-8", errors="replace") as out:
+                words = [sys.executable, f"{ROOT}/{task.words[0]}", *task.words[1:]]
+                status = subprocess.run(words, stdin=subprocess.DEVNULL, stdout=out, stderr=subprocess.STDOUT, check=False).returncode
+                out.seek(0)
+                self.end(task, status, out.read(), int(time.monotonic() - began))
+
+
+def end(number, _):
+    """Ends this run with all that it has begun."""
+    signal.signal(number, signal.SIG_DFL)
+    os.killpg(os.getpgrp(), number)
+
+
+def main():
+    words = argparse.ArgumentParser(description=__doc__, formatter_class=argparse.RawDescriptionHelpFormatter)
+    words.add_argument("--after", metavar="LINE", default="0 passed, 0 failed", help="the last line of the tests before these")
+    words.add_argument("--jobs", type=int, default=os.cpu_count() or 1, metavar="N", help="how many run side by side (all processors)")
+    given = words.parse_args()
+    before = COUNTS.fullmatch(given.after)
+    if not before:
+        words.error(f"no last line of tests: {given.after}")
+    for it in (signal.SIGTERM, signal.SIGHUP, signal.SIGINT):
+        with contextlib.suppress(ValueError):
+            signal.signal(it, end)
+    run = Run(*map(int, before.groups()))
+    workers = [threading.Thread(target=run.work) for _ in range(given.jobs)]
+    for it in workers:
+        it.start()
+    for it in workers:
+        it.join()
+    print(f"{run.passed} passed, {run.failed} failed")
+    return 1 if run.failed else 0
+
+
+if __name__ == "__main__":
+    sys.exit(main())
