@@ -1,5 +1,6 @@
 #!/usr/bin/env python3
 """Tests tools/setup, tools/gathered.py and tools/printed.py where nothing is installed, built or proved: apt is a script that notes how it was called."""
+import glob
 import importlib.machinery
 import importlib.util
 import os
@@ -103,13 +104,23 @@ class Gathered(unittest.TestCase):
         self.assertEqual({it: gathered.left_out(it) for it in forms}, forms)
 
 
+class Pages(unittest.TestCase):
+    def test_readers_have_no_more_than_so_many_words(self):
+        """README, and all pages together; a new page takes the place of others' words."""
+        words = {}
+        for it in ("README.md", *glob.glob("docs/*.md", root_dir=printed.ROOT)):
+            with open(os.path.join(printed.ROOT, it), encoding="utf-8") as file:
+                words[it] = len(file.read().split())
+        self.assertLessEqual(words["README.md"], 900)
+        self.assertLessEqual(sum(words.values()), 40000)
+
+
 class Printed(unittest.TestCase):
     def test_each_block_of_the_readme_is_saved_or_run(self):
         found = list(printed.blocks(os.path.join(printed.ROOT, "README.md")))
         with open(os.path.join(printed.ROOT, "README.md"), encoding="utf-8") as file:
             text = file.read()
         fences = text.count("\n```") // 2
-        self.assertLessEqual(len(text.split()), 900, "words")
         shown = sum(it.shown is not None for it in found)
         self.assertEqual(len(found) + shown, fences)
         self.assertEqual([it.script for it in found if not it.file and printed.reason(it.script)[0]], [])
