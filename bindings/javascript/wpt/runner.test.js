@@ -102,7 +102,7 @@ test("a file that does not end, one that fails, and one that the checkout can't 
   writeFileSync(join(checkout, "endless.html"), `${harness}<script>while (true);</script>`);
   writeFileSync(join(checkout, "lost.html"), `${harness}<script src="nowhere.js"></script>`);
   writeFileSync(join(checkout, "wrong.html"), `${harness}<script>test(() => assert_true(false), "it fails");</script>`);
-  const { status, said } = run([checkout, "--expect", EXPECTED, "--limit", "8"]);
+  const { status, said } = run([checkout, "--expect", EXPECTED, "--limit", "8", "--jobs", "1"]);
   assert.equal(status, 1, said);
   assert.match(said, /endless\.html: \(the file\)\n\s+it did not end within 8 seconds/);
   assert.match(said, /wrong\.html: it fails/);
