@@ -2,6 +2,7 @@
 import gc
 import os
 import random
+import sys
 import threading
 import unittest
 
@@ -386,8 +387,8 @@ class LettingGo(unittest.TestCase):
             observer.disconnect()
             for node in nodes:
                 self.assertGreater(node.node_type, 0)
-        # (the collector of Python 3.13 runs less often than those before it)
-        self.assertGreater(count, 100)
+        # (since Python 3.12 the collector runs between instructions alone, and so less often)
+        self.assertGreater(count, 200 if sys.version_info < (3, 12) else 100)
 
     def test_threads(self):
         """Threads that make and drop in one session find what they hold, and leave nothing."""
