@@ -9,6 +9,9 @@ use dom_units::Units;
 use indexmap::IndexMap;
 use std::alloc::{AllocError, Global};
 
+// So many entries have room in the smallest table of a map.
+const FEW: usize = 9;
+
 // The number of attributes.
 pub(crate) fn count_in(map: &IndexMap<String, Units>) -> usize
     ensures len { result ≡ length (attributes_of map.now.entries) }
@@ -71,7 +74,35 @@ pub(crate) fn put_in(
     ensures unique { IsDistinct string_eq (keys_of map.new.entries) }
 {
     let old = map.insert(name, value)?;
+    fit_few(map);
     Ok(old)
+}
+
+// Gives back the room that a few entries do not fill: a map makes room for all that its smallest
+// table can hold.
+fn fit_few(map: &mut IndexMap<String, Units>)
+    ensures same { map.new.entries ≡ map.old.entries }
+    ensures unique { IsDistinct string_eq (keys_of map.new.entries) }
+{
+    let count = map.len();
+    if count < FEW && count < map.capacity() {
+        map.shrink_to_fit();
+    }
+}
+
+// Gives back room where entries went, and those that stay fill a third of it; half as many more have
+// room then.
+//
+// Tables are for 9, 18, 36 entries and so on, so this is asked at 3, 6, 12 entries and so on. What a
+// map says of its capacity is not asked: a place that an entry left may be missing there.
+fn give_back(map: &mut IndexMap<String, Units>)
+    ensures same { map.new.entries ≡ map.old.entries }
+    ensures unique { IsDistinct string_eq (keys_of map.new.entries) }
+{
+    let count = map.len();
+    if count % 3 == 0 && (count / 3).is_power_of_two() {
+        map.shrink_to(count.saturating_add(count / 2));
+    }
 }
 
 // Takes the attribute of that name out, and answers its value.
@@ -80,7 +111,9 @@ pub(crate) fn take_from(map: &mut IndexMap<String, Units>, name: &str) -> Option
     ensures rest { attributes_of map.new.entries ≡ without_attribute name.now (attributes_of map.old.entries) }
     ensures unique { IsDistinct string_eq (keys_of map.new.entries) }
 {
-    map.shift_remove(name)
+    let value = map.shift_remove(name);
+    give_back(map);
+    value
 }
 
 // A copy, in memory of its own. It has the table as it stands, so no name is looked for.

@@ -98,8 +98,9 @@ impl Attrs {
         outcome
     }
 
-    /// Takes the attribute of that name out ("remove an attribute by name"); those after it move up. It answers the value. Where none is left,
-    /// the memory of them all is given back.
+    /// Takes the attribute of that name out ("remove an attribute by name"); those after it move up.
+    /// It answers the value. Room past three times their number is given back where memory for a
+    /// smaller table is there; and all of it where none is left.
     pub fn remove(&mut self, name: &str) -> Option<Units>
         ensures value { result ≡ attribute_value name.now self.old }
         ensures rest { self.new ≡ without_attribute name.now self.old }

@@ -12,5 +12,6 @@ pub mod Reading
 pub mod Rows
 pub mod Records
 pub mod Nearby
+pub mod Holding
 pub mod Counting
 pub mod Version

@@ -55,6 +55,6 @@ bad_lengths = 53
 abbrev pub bad_choice : ℕ
 bad_choice = 54
 
--- the last answer has no such part
+-- the last answer, or the node, has no such part
 abbrev pub not_there : ℕ
 not_there = 55

@@ -11,13 +11,15 @@ use crate::status::{HP_CLOSED, HP_NOT_THERE, HP_OK, HP_OUT_OF_MEMORY};
 use dom_session::Answer;
 use dom_wire::Reply;
 
-/// Bytes that are lent. Before a call it holds a pointer that is not null.
+// (Before a call it holds a pointer that is not null; in C the header's inline forms see to that.)
+/// Bytes that are lent.
 #[repr(C)]
 pub struct Bytes<'a> {
     pub bytes: &'a [u8],
 }
 
-/// UTF-16 units that are lent. Before a call it holds a pointer that is not null.
+// (The same holds of its pointer.)
+/// UTF-16 units that are lent.
 #[repr(C)]
 pub struct Text<'a> {
     pub units: &'a [u16],

@@ -12,6 +12,7 @@ pub mod editing;
 pub mod fault;
 pub mod filters;
 pub mod handle;
+pub mod holding;
 pub mod kept;
 pub mod labels;
 pub mod lending;

@@ -56,7 +56,7 @@ pub const HP_NOT_UTF8: u8 = 52;
 pub const HP_BAD_LENGTHS: u8 = 53;
 /// A number stands for none of the choices.
 pub const HP_BAD_CHOICE: u8 = 54;
-/// The last answer has no such part.
+/// The last answer, or the node, has no such part.
 pub const HP_NOT_THERE: u8 = 55;
 
 /// The number that stands for null; no object has it.

@@ -3,18 +3,20 @@ use Rattle.std.specs.Prelude.{IsSome}
 use Rattle.std.proofs.Common.{◌≡◌, ℕ, ap, sym, ◌∙◌, subst}
 use Rattle.dom_model.specs.Forests.Forest.{Forest, HasNode, entry_in}
 use Rattle.dom_model.specs.Worlds.World.{Content}
+use Rattle.dom_model.specs.DataAndCopies.Data.{content_in}
 use Rattle.dom_model.specs.TokenText.Originals.{label_in}
 use Rattle.dom_model.proofs.Forests.Entries.{HasNode-occurs, occurs-HasNode}
 use Rattle.dom_model.proofs.Worlds.Measured.{entry-beside}
 use Rattle.dom_edit.specs.declared.world.World.{World}
-use Rattle.dom_edit.specs.Keeping.{KeepsLabels}
-use Rattle.dom_edit.proofs.NodesKept.{nodes-same}
+use Rattle.dom_edit.specs.Keeping.{present, KeepsLabels}
+use Rattle.dom_edit.proofs.NodesKept.{nodes-none}
+use Rattle.dom_edit.proofs.WatchersKept.{watchers-ranged}
 use Rattle.dom_edit.specs.Leaving.{LeavesAll}
 use Rattle.dom_content.specs.Paths.{StillHeld}
 
--- the tree is as it was
-pub labels-same : (a b : World) → b.tree ≡ a.tree → b.statics ≡ a.statics → b.walkers ≡ a.walkers → KeepsLabels a b
-labels-same a b e statics walkers = (nodes-same a b e statics walkers).labelled
+-- nothing has changed
+pub labels-none : (a : World) → KeepsLabels a a
+labels-none a = (nodes-none a).labelled
 
 -- what is new stands behind what was there
 pub labels-left : (a b : World) → LeavesAll a b → KeepsLabels a b
@@ -24,8 +26,10 @@ labels-left a b l =
     record {
       held = λ n h. subst (λ e. IsSome e) (sym (same n h)) h;
       labels = λ n h. ap label_in (same n h);
+      attributes = λ n h. ap (λ e. (content_in e).attributes) (same n h);
       statics = l.static_ranges;
       walkers = l.walkers;
+      watchers = watchers-ranged a b (ap present l.ranges) l.iterators l.observers;
     }
 
 -- each node that was there is there

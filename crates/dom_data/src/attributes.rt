@@ -4,6 +4,7 @@ ghost use Rattle.std.specs.Prelude.{◌≡◌, true, string_bytes, IfOk, OnOk, O
 ghost use Rattle.dom_model.specs.declared.Kind.TheVariants.{Element};
 ghost use Rattle.dom_model.specs.Forests.Nodes.{is_of_kind};
 ghost use Rattle.dom_model.specs.DataAndCopies.Data.{set_attribute, remove_attribute, toggle_attribute, has_attribute, is_toggled_on};
+ghost use Rattle.dom_observe.specs.Held.{SameObservers};
 ghost use Rattle.dom_edit.specs.Whole.{IsWhole, Follows, unwatched};
 
 use crate::bodies::{has_in, remove_in, set_in};
@@ -27,6 +28,7 @@ pub fn set_attribute(
     requires kind { is_of_kind Element world.old.tree.forest node ≡ true }
     ensures set { OnOk result (Follows world.old world.new (set_attribute node (string_bytes name) value)) }
     ensures kept { OnErr result (world.new ≡ record world.old { observers = world.new.observers }) }
+    ensures observers { SameObservers world.old.observers world.new.observers }
     ensures whole { IsWhole world.new }
 {
     tell_attribute(world, alloc, node, name.as_str())?;
@@ -44,6 +46,7 @@ pub fn remove_attribute(
     requires kind { is_of_kind Element world.old.tree.forest node ≡ true }
     ensures removed { OnOk result (Follows world.old world.new (remove_attribute node name.now)) }
     ensures kept { OnErr result (world.new ≡ record world.old { observers = world.new.observers }) }
+    ensures observers { SameObservers world.old.observers world.new.observers }
     ensures whole { IsWhole world.new }
 {
     if !has_in(&world.tree, node, name) {
@@ -69,6 +72,7 @@ pub fn toggle_attribute(
     ensures answer { IfOk result (λ on. on ≡ is_toggled_on force (has_attribute (unwatched world.old) node (string_bytes name))) }
     ensures toggled { OnOk result (Follows world.old world.new (toggle_attribute node (string_bytes name) force)) }
     ensures kept { OnErr result (world.new ≡ record world.old { observers = world.new.observers }) }
+    ensures observers { SameObservers world.old.observers world.new.observers }
     ensures whole { IsWhole world.new }
 {
     let present = has_in(&world.tree, node, name.as_str());

@@ -1,10 +1,10 @@
 //! The text content of a node (DOM Standard, "Interface Node", textContent).
 
-ghost use Rattle.std.specs.Prelude.{◌≡◌, ◌≢◌, ◌<◌, true, false, [], ◌++◌, drop, IfOk, OnOk};
+ghost use Rattle.std.specs.Prelude.{◌≡◌, ◌≢◌, ◌<◌, true, false, [], ◌++◌, drop, IfOk, OnOk, OnErr};
 ghost use Rattle.dom_model.specs.declared.Kind.TheVariants.{Document};
 ghost use Rattle.dom_model.specs.Forests.Forest.{HasNode, inclusive_descendants};
 ghost use Rattle.dom_model.specs.DataAndCopies.Data.{text_content, string_replace_all, set_text_content};
-ghost use Rattle.dom_model.specs.Forests.Kinds.{may_be_parent};
+ghost use Rattle.dom_model.specs.Forests.Kinds.{may_be_parent, is_character_data};
 ghost use Rattle.dom_model.specs.Forests.Nodes.{kind_passes, is_of_kind};
 ghost use Rattle.dom_model.specs.TokenText.Edits.{set_text_content_edits};
 ghost use Rattle.dom_edit.specs.Whole.{IsWhole, Follows, unwatched};
@@ -104,6 +104,8 @@ pub fn set_text_content(
     requires room { makes_text (unwatched world.old) node text ≡ true → world.old.tree.made < 4294967295 }
     ensures set { OnOk result (Follows world.old world.new (set_text_content node text)) }
     ensures markers { OnOk result (StandByEdits world.old world.new (set_text_content_edits node text)) }
+    ensures left { kind_passes is_character_data world.old.tree.forest node ≡ true →
+        OnErr result (world.new ≡ record world.old { observers = world.new.observers }) }
     ensures kept { KeepsLabels world.old world.new }
     ensures whole { IsWhole world.new }
 {

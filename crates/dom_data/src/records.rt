@@ -5,6 +5,7 @@ ghost use Rattle.dom_model.specs.declared.RecordType.TheVariants.{Attributes};
 ghost use Rattle.dom_model.specs.Forests.Attributes.{attribute_value};
 ghost use Rattle.dom_model.specs.Forests.Forest.{HasNode, entry_in};
 ghost use Rattle.dom_model.specs.DataAndCopies.Data.{content_in, data_record, attribute_record};
+ghost use Rattle.dom_observe.specs.Held.{SameObservers};
 ghost use Rattle.dom_edit.specs.Whole.{IsWhole, Follows};
 ghost use Rattle.dom_data.specs.Changes.{change_of};
 
@@ -21,6 +22,7 @@ pub(crate) fn tell_data(world: &mut World, _alloc: Global, node: NodeId) -> Resu
     requires held { HasNode world.old.tree.forest node }
     ensures told { OnOk result (Follows world.old world.new (data_record node)) }
     ensures kept { world.new ≡ record world.old { observers = world.new.observers } }
+    ensures observers { SameObservers world.old.observers world.new.observers }
     ensures whole { IsWhole world.new }
 {
     let mutation = Mutation {
@@ -65,6 +67,7 @@ pub(crate) fn tell_attribute(
     requires held { HasNode world.old.tree.forest node }
     ensures told { OnOk result (Follows world.old world.new (attribute_record node name.now)) }
     ensures kept { world.new ≡ record world.old { observers = world.new.observers } }
+    ensures observers { SameObservers world.old.observers world.new.observers }
     ensures whole { IsWhole world.new }
 {
     let mutation = attribute_change(&world.tree, node, name);

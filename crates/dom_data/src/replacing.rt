@@ -60,6 +60,7 @@ pub fn replace_data(
     ensures replaced { OnOk result (Follows world.old world.new (replace_data node offset count added.now)) }
     ensures markers { OnOk result (StandByEdits world.old world.new (replace_data_edits node offset count added.now)) }
     ensures refused { IfErr result (λ e. IsRefused e (check_offset (unwatched world.old) node offset) world.old world.new) }
+    ensures left { OnErr result (world.new ≡ record world.old { observers = world.new.observers }) }
     ensures kept { KeepsNumbers world.old world.new }
     ensures whole { IsWhole world.new }
 {

@@ -16,7 +16,7 @@ use Rattle.dom_model.proofs.Soundness.SoundEditing.{may_come_in}
 use Rattle.dom_model.proofs.Soundness.SoundTextContent.{entry-made, made-there}
 use Rattle.dom_edit.specs.declared.world.World.{World}
 use Rattle.dom_edit.specs.Whole.{IsWhole, Follows, unwatched}
-use Rattle.dom_edit.specs.Keeping.{KeepsLabels}
+use Rattle.dom_edit.specs.Keeping.{KeepsWatchers, KeepsLabels}
 use Rattle.dom_edit.proofs.Following.{sound-unwatched}
 use Rattle.dom_edit.proofs.InsertedNodes.{forest-after, statics-after, walkers-after}
 
@@ -37,14 +37,16 @@ after-removed a b n h held f =
     (extends-remove false n (unwatched a) (sound-unwatched a h) (occurs-HasNode a.tree.forest n held))
 
 -- a new node takes nothing from those that were held
-pub labels-made : (a b : World) (d : ℕ) (label : Label) (body : Content) → Follows a b (made_node d label body) → KeepsLabels a b
-labels-made a b d label body f =
+pub labels-made : (a b : World) (d : ℕ) (label : Label) (body : Content) → Follows a b (made_node d label body) → KeepsWatchers a b → KeepsLabels a b
+labels-made a b d label body f watchers =
     let e = after-made a b d label body f in
     record {
       held = λ n h. HasNode-occurs b.tree.forest n (e.there n (occurs-HasNode a.tree.forest n h));
       labels = λ n h. ap (λ t. t.0) (e.tags n (occurs-HasNode a.tree.forest n h));
+      attributes = λ n h. ap (λ t. t.1) (e.tags n (occurs-HasNode a.tree.forest n h));
       statics = statics-after a b (made_node d label body) f;
       walkers = walkers-after a b (made_node d label body) f;
+      watchers = watchers;
     }
 
 -- What is read off there, of a node that was held.

@@ -16,7 +16,7 @@ use Rattle.dom_observe.specs.Watchers.{Watches}
 use Rattle.dom_edit.specs.declared.world.World.{World}
 use Rattle.dom_edit.specs.Whole.{IsWhole, Keeps, Follows, unwatched}
 use Rattle.dom_edit.specs.Inserting.{entering, AreThere, IsOpen}
-use Rattle.dom_edit.specs.Keeping.{KeepsNodes}
+use Rattle.dom_edit.specs.Keeping.{KeepsWatchers, KeepsNodes}
 use Rattle.dom_edit.proofs.Following.{keeps-unwatched, follows-then}
 use Rattle.dom_edit.proofs.PlacedRoots.{placed-world}
 use Rattle.dom_edit.proofs.PlacedWorlds.{sound-unwatched, placing}
@@ -97,14 +97,14 @@ open-freed a b n parent child ns h k e f =
 
 -- The nodes come in.
 
-pub nodes-placed : (a b : World) (parent : ℕ) (child : Option ℕ) (ns : List ℕ) → IsWhole a → IsOpen a.tree.forest parent child ns → Follows a b (placing parent child ns) → KeepsNodes a b
-nodes-placed a b parent child ns h ready f =
+pub nodes-placed : (a b : World) (parent : ℕ) (child : Option ℕ) (ns : List ℕ) → IsWhole a → IsOpen a.tree.forest parent child ns → Follows a b (placing parent child ns) → KeepsWatchers a b → KeepsNodes a b
+nodes-placed a b parent child ns h ready f watchers =
     let placed = placed-world parent child ns (unwatched a) in
     let e = forest-after a b (placing parent child ns) f ∙ ap (λ (w : model.World). w.forest) placed in
     kept-told a b (λ m. ap (λ (g : Forest Content). told_of g m) e ∙ told-all_placed a.tree h.forest parent child ns ready m)
     (made-after a b (placing parent child ns) f ∙ ap (λ (w : model.World). w.made) placed)
     (statics-after a b (placing parent child ns) f ∙ ap (λ (w : model.World). w.static_ranges) placed)
-    (walkers-after a b (placing parent child ns) f ∙ ap (λ (w : model.World). w.walkers) placed)
+    (walkers-after a b (placing parent child ns) f ∙ ap (λ (w : model.World). w.walkers) placed) watchers
 
 pub follows-insert_all : (a b c : World) (parent : ℕ) (child : Option ℕ) (ns : List ℕ) (suppressed : Bool) (previous : Option ℕ) → suppressed ≡ false → previous ≡ previous_to a.tree.forest parent child →
     Follows a b (placing parent child ns) → Follows b c (tree_record parent ns [] previous child) → Follows a c (insert_all suppressed parent child ns)

@@ -14,7 +14,7 @@ use Rattle.dom_model.proofs.Worlds.Measured.{unplaced, unplaced_entry, entry-unp
 use Rattle.dom_model.proofs.Soundness.SoundPlacing.{apart_from}
 use Rattle.dom_edit.specs.declared.world.World.{World}
 use Rattle.dom_edit.specs.Inserting.{placed_in, all_placed, IsOpen}
-use Rattle.dom_edit.specs.Keeping.{KeepsNodes}
+use Rattle.dom_edit.specs.Keeping.{KeepsWatchers, KeepsNodes}
 use Rattle.dom_edit.proofs.PlacedRoots.{bare, sound-bare, forest-next, open-next}
 
 -- what is told of a node beside its place and its node document
@@ -29,13 +29,15 @@ labelled-there None None e h = h
 labelled-there None (Some p) e h = absurd (cc e)
 labelled-there (Some o) p e h = refl
 
-pub kept-told : (a b : World) → ((n : ℕ) → told_of b.tree.forest n ≡ told_of a.tree.forest n) → b.tree.made ≡ a.tree.made → b.statics ≡ a.statics → b.walkers ≡ a.walkers → KeepsNodes a b
-kept-told a b same made statics walkers = record {
+pub kept-told : (a b : World) → ((n : ℕ) → told_of b.tree.forest n ≡ told_of a.tree.forest n) → b.tree.made ≡ a.tree.made → b.statics ≡ a.statics → b.walkers ≡ a.walkers → KeepsWatchers a b → KeepsNodes a b
+kept-told a b same made statics walkers watchers = record {
   labelled = record {
     held = λ n h. labelled-there (entry_in b.tree.forest n) (entry_in a.tree.forest n) (ap (λ p. p.0) (same n)) h;
     labels = λ n h. ap (λ p. p.0) (same n);
+    attributes = λ n h. ap (λ p. p.1.attributes) (same n);
     statics = statics;
     walkers = walkers;
+    watchers = watchers;
   };
   contents = λ n h. ap (λ p. p.1) (same n);
   made = made;

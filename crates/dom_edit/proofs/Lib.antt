@@ -11,6 +11,7 @@ pub mod Making
 pub mod Beginning
 pub mod Adopting
 pub mod Naming
+pub mod WatchersKept
 pub mod LabelsKept
 pub mod LeftAlone
 pub mod InsertedNodes

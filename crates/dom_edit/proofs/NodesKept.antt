@@ -18,7 +18,10 @@ use Rattle.dom_tree.proofs.Beside.{forward-step}
 use Rattle.dom_edit.specs.declared.world.World.{World}
 use Rattle.dom_edit.specs.Whole.{IsWhole}
 use Rattle.dom_edit.specs.Inserting.{reference_in, entering, entering_if_any, AreThere}
-use Rattle.dom_edit.specs.Keeping.{KeepsLabels, KeepsNodes}
+use Rattle.dom_ranges.specs.Tables.{RangeTable}
+use Rattle.dom_observe.specs.Held.{SameObservers}
+use Rattle.dom_edit.specs.Keeping.{present, KeepsWatchers, KeepsLabels, KeepsNodes}
+use Rattle.dom_edit.proofs.WatchersKept.{watchers-then, watchers-none, watchers-observed, watchers-ranged}
 use Rattle.dom_edit.proofs.LabelsKept.{told_of, kept-told, told-cut, told-adopted}
 use Rattle.dom_edit.proofs.InsertedNodes.{if_not, entering-there}
 
@@ -28,8 +31,10 @@ pub labels-then : (a b c : World) → KeepsLabels a b → KeepsLabels b c → Ke
 labels-then a b c f s = record {
   held = λ n h. s.held n (f.held n h);
   labels = λ n h. s.labels n (f.held n h) ∙ f.labels n h;
+  attributes = λ n h. s.attributes n (f.held n h) ∙ f.attributes n h;
   statics = s.statics ∙ f.statics;
   walkers = s.walkers ∙ f.walkers;
+  watchers = watchers-then a b c f.watchers s.watchers;
 }
 
 pub nodes-then : (a b c : World) → KeepsNodes a b → KeepsNodes b c → KeepsNodes a c
@@ -39,19 +44,28 @@ nodes-then a b c f s = record {
   made = s.made ∙ f.made;
 }
 
-pub nodes-same : (a b : World) → b.tree ≡ a.tree → b.statics ≡ a.statics → b.walkers ≡ a.walkers → KeepsNodes a b
+pub nodes-same : (a b : World) → b.tree ≡ a.tree → b.statics ≡ a.statics → b.walkers ≡ a.walkers → KeepsWatchers a b → KeepsNodes a b
 nodes-same a b e = kept-told a b (λ n. ap (λ (t : Grove Content). told_of t.forest n) e) (ap (λ (t : Grove Content). t.made) e)
 
-pub nodes-observed : (a b : World) → b ≡ record a { observers = b.observers } → KeepsNodes a b
-nodes-observed a b e = nodes-same a b (ap (λ (v : World). v.tree) e) (ap (λ (v : World). v.statics) e) (ap (λ (v : World). v.walkers) e)
+-- nothing has changed
+pub nodes-none : (a : World) → KeepsNodes a a
+nodes-none a = nodes-same a a refl refl refl (watchers-none a)
+
+-- ends of live ranges stand elsewhere
+pub nodes-ranged : (a : World) (table : RangeTable) → present table.ranges ≡ present a.ranges.ranges → KeepsNodes a (record a { ranges = table })
+nodes-ranged a table e = nodes-same a (record a { ranges = table }) refl refl refl (watchers-ranged a (record a { ranges = table }) e refl refl)
+
+pub nodes-observed : (a b : World) → b ≡ record a { observers = b.observers } → SameObservers a.observers b.observers → KeepsNodes a b
+nodes-observed a b e observers =
+    nodes-same a b (ap (λ (v : World). v.tree) e) (ap (λ (v : World). v.statics) e) (ap (λ (v : World). v.walkers) e) (watchers-observed a b e observers)
 
 -- a tree whose node was cut
-pub nodes-cut : (a b : World) (n : ℕ) → IsWhole a → b.tree ≡ record a.tree { forest = cut n a.tree.forest } → b.statics ≡ a.statics → b.walkers ≡ a.walkers → KeepsNodes a b
+pub nodes-cut : (a b : World) (n : ℕ) → IsWhole a → b.tree ≡ record a.tree { forest = cut n a.tree.forest } → b.statics ≡ a.statics → b.walkers ≡ a.walkers → KeepsWatchers a b → KeepsNodes a b
 nodes-cut a b n h e =
     kept-told a b (λ m. ap (λ (t : Grove Content). told_of t.forest m) e ∙ told-cut a.tree.forest h.forest.once n m) (ap (λ (t : Grove Content). t.made) e)
 
 -- a tree in which nodes got another document
-pub nodes-adopted : (a b : World) (n d : ℕ) → b.tree ≡ record { forest = adopted n d a.tree.forest; made = a.tree.made } → b.statics ≡ a.statics → b.walkers ≡ a.walkers → KeepsNodes a b
+pub nodes-adopted : (a b : World) (n d : ℕ) → b.tree ≡ record { forest = adopted n d a.tree.forest; made = a.tree.made } → b.statics ≡ a.statics → b.walkers ≡ a.walkers → KeepsWatchers a b → KeepsNodes a b
 nodes-adopted a b n d e =
     kept-told a b (λ m. ap (λ (t : Grove Content). told_of t.forest m) e ∙ told-adopted n d a.tree.forest m) (ap (λ (t : Grove Content). t.made) e)
 

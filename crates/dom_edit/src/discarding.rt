@@ -6,7 +6,7 @@ ghost use Rattle.dom_model.specs.PlainLists.Lists.{among};
 ghost use Rattle.dom_model.specs.Forests.Forest.{HasNode, inclusive_descendants};
 ghost use Rattle.dom_model.specs.Worlds.World.{World as PlainWorld};
 ghost use Rattle.dom_model.specs.MutationAlgorithms.Discarding.{named_nodes, is_in_use, discarded};
-ghost use Rattle.dom_edit.specs.Used.{named_in, is_used};
+ghost use Rattle.dom_edit.specs.Used.{named_in, is_used, forgotten};
 ghost use Rattle.dom_edit.specs.Whole.{IsWhole, Shows, Follows};
 
 use crate::world::World;
@@ -61,6 +61,7 @@ impl World {
         requires held { HasNode self.old.tree.forest top }
         requires unused { is_used self.old top ≡ false }
         ensures discarded { Follows self.old self.new (discarded top) }
+        ensures ranges { self.new.ranges ≡ forgotten self.old.tree.forest top self.old.ranges }
         ensures observers { self.new.observers ≡ self.old.observers }
         ensures whole { IsWhole self.new }
     {

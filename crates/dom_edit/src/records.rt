@@ -4,7 +4,7 @@ ghost use Rattle.std.specs.Prelude.{◌≡◌, OnOk};
 ghost use Rattle.std.specs.Option.{ForSome};
 ghost use Rattle.dom_model.specs.Forests.Forest.{HasNode, ancestors};
 ghost use Rattle.dom_model.specs.MutationAlgorithms.Editing.{tree_record};
-ghost use Rattle.dom_observe.specs.Held.{NamesNoneOf};
+ghost use Rattle.dom_observe.specs.Held.{NamesNoneOf, SameObservers};
 ghost use Rattle.dom_edit.specs.Inserting.{AreThere};
 ghost use Rattle.dom_edit.specs.Whole.{IsWhole, Follows};
 
@@ -35,6 +35,7 @@ impl World {
         requires next { ForSome next (λ n. HasNode self.old.tree.forest n) }
         ensures queued { OnOk result (Follows self.old self.new (tree_record target added.now removed.now previous next)) }
         ensures parts { self.new ≡ record self.old { observers = self.new.observers } }
+        ensures observers { SameObservers self.old.observers self.new.observers }
         ensures quiet { NamesNoneOf (ancestors target self.old.tree.forest) self.old.observers → self.new ≡ self.old }
         ensures whole { IsWhole self.new }
     {

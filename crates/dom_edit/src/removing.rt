@@ -12,7 +12,7 @@ ghost use Rattle.dom_edit.specs.Keeping.{KeepsNodes};
 ghost use Rattle.dom_edit.specs.Leaving.{LeavesOlder};
 ghost use Rattle.dom_edit.specs.Removed.{removal_noted};
 ghost use Rattle.dom_edit.specs.Seats.{IsSeat};
-ghost use Rattle.dom_observe.specs.Held.{NamesNoneOf};
+ghost use Rattle.dom_observe.specs.Held.{NamesNoneOf, SameObservers};
 ghost use Rattle.dom_tree.specs.Spots.{node_at};
 
 use crate::content::Content;
@@ -100,6 +100,7 @@ impl World {
         requires node_held { HasNode self.old.tree.forest node }
         ensures made { OnOk result (Follows self.old self.new (transients_made node parent)) }
         ensures parts { self.new ≡ record self.old { observers = self.new.observers } }
+        ensures observers { SameObservers self.old.observers self.new.observers }
         ensures quiet { NamesNoneOf (ancestors parent self.old.tree.forest) self.old.observers → self.new ≡ self.old }
         ensures whole { IsWhole self.new }
     {
@@ -125,6 +126,7 @@ impl World {
         requires next { ForSome next (λ n. HasNode self.old.tree.forest n) }
         ensures noted { OnOk result (Follows self.old self.new (removal_noted node parent previous next)) }
         ensures parts { self.new ≡ record self.old { observers = self.new.observers } }
+        ensures observers { SameObservers self.old.observers self.new.observers }
         ensures whole { IsWhole self.new }
     {
         let mutation = Mutation {

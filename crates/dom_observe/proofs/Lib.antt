@@ -29,6 +29,7 @@ pub mod QueueLists
 pub mod Queued
 pub mod QueuesCounted
 pub mod Quiet
+pub mod Refusing
 pub mod Registered
 pub mod Releasing
 pub mod Removals

@@ -6,6 +6,7 @@ pub mod Naming
 pub mod Notifying
 pub mod Once
 pub mod Origins
+pub mod Refused
 pub mod Registrations
 pub mod Removed
 pub mod Roster

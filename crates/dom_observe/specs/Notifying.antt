@@ -1,5 +1,5 @@
 -- What pending observers are told, and what that leaves.
-use Rattle.std.specs.Prelude.{◌≡◌, ℕ, if◌then◌else◌, List, [], map, filter, take, Option, is_none, Vec}
+use Rattle.std.specs.Prelude.{◌≡◌, ℕ, if◌then◌else◌, List, [], map, filter, Option, is_none, Vec}
 use Rattle.dom_model.specs.PlainLists.Lists.{among}
 use Rattle.dom_model.specs.Worlds.World.{Registration}
 use Rattle.dom_model.specs.MutationObservers.Record.{Record, Told}
@@ -24,14 +24,3 @@ pub record IsNotified (old new : Watchers) : Type 0 where
   pub pending : new.pending ≡ []
   pub queues : (i : ℕ) → records_at new.queues i ≡ (if among i old.pending then [] else records_at old.queues i)
   pub nodes : (n : ℕ) → on n new.nodes ≡ filter (λ (r : Registration). is_none r.source) (on n old.nodes)
-
--- the queues of the first of these observers are empty, and each other one is as it was
-pub record EmptiesFirst (ps : List ℕ) (old new : List (Option (List Record))) : Type 0 where
-  pub count : ℕ
-  pub queues : (i : ℕ) → records_at new i ≡ (if among i (take count ps) then [] else records_at old i)
-
--- Only the queues of the first pending observers were emptied: all registrations stand, and the same observers are pending.
-pub record IsPartlyTold (old new : Watchers) : Type 0 where
-  pub nodes : new.nodes ≡ old.nodes
-  pub pending : new.pending ≡ old.pending
-  pub queues : EmptiesFirst old.pending old.queues new.queues

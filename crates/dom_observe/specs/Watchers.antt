@@ -45,3 +45,11 @@ pub record Watches (o : Watchers) (x : Observing) : Type 0 where
   pub notified : x.notified ≤ length x.mutations
   pub interested : InterestedAreMade x
   pub once : (i n : ℕ) → length (filter (is_registered i n) x.registrations) ≤ 1
+
+-- whatever observing part the old observers stand for, the new ones stand for what a step makes of it
+abbrev pub Steps : (Observing → Observing) → Watchers → Watchers → Type 0
+Steps step old new = (x : Observing) → Watches old x → Watches new (step x)
+
+-- whatever observing part the observers stand for, this is what a question to it answers
+abbrev pub Answers : {A : Type 0} → (Observing → A) → Watchers → A → Type 0
+Answers question o answer = (x : Observing) → Watches o x → answer ≡ question x

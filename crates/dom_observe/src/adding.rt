@@ -1,6 +1,6 @@
 //! Registrations that are added, and those that stand on the ancestors of a node.
 
-ghost use Rattle.std.specs.Prelude.{◌≡◌, ◌++◌, ℕ, Bool, List, OnOk, OnErr, IfOk, nat_eq, filter, flat_map, option_map, true, false};
+ghost use Rattle.std.specs.Prelude.{◌≡◌, ◌≢◌, ◌++◌, ℕ, Bool, List, OnOk, OnErr, IfOk, nat_eq, filter, flat_map, option_map, true, false};
 ghost use Rattle.std.specs.List.{AllByRecursion};
 ghost use Rattle.indexmap.specs.IndexMap.{IsUnique};
 ghost use Rattle.dom_model.specs.Forests.Forest.{HasNode, ancestors};
@@ -10,6 +10,7 @@ ghost use Rattle.dom_observe.specs.Roster.{lasting_by, passing_by, queues_by, is
 ghost use Rattle.dom_observe.specs.Registrations.{plain, at, found, listed, Added, NewKey, AllLive, Stands, AllStand, HaveKeys, HaveSources, Agree, deep_at, gives, transient_under, with_added_transients};
 ghost use Rattle.dom_observe.specs.Naming.{names_one, NamesNone};
 ghost use Rattle.dom_observe.specs.Origins.{NotesIfAny};
+ghost use Rattle.dom_observe.specs.Refused.{IsFront};
 
 use crate::observer_id::ObserverId;
 use crate::origins::Origins;
@@ -99,6 +100,10 @@ pub(crate) fn add_transients(
     requires there { AllByRecursion (Stands (at table.old) (is_there roster.old)) standing.now }
     ensures ok { OnOk result ((n : ℕ) → found table.new (on n (listed nodes.new.entries))
         ≡ with_added_transients node (found table.old standing.now) n (found table.old (on n (listed nodes.old.entries)))) }
+    ensures front { IsFront (found table.old (on node (listed nodes.old.entries)))
+        (found table.new (on node (listed nodes.new.entries))) }
+    ensures elsewhere { (n : ℕ) → n ≢ node →
+        found table.new (on n (listed nodes.new.entries)) ≡ found table.old (on n (listed nodes.old.entries)) }
     ensures stay { AllByRecursion (λ key. at table.new key ≡ at table.old key) standing.now }
     ensures all_stand { (p : ℕ → Bool) → AllByRecursion (Stands (at table.old) p) standing.now → AllStand (at table.old) p (listed nodes.old.entries) →
         AllStand (at table.new) p (listed nodes.new.entries) }

@@ -6,7 +6,7 @@ ghost use Rattle.dom_model.specs.PlainLists.Lists.{among};
 ghost use Rattle.dom_model.specs.MutationObservers.Records.{has_records};
 ghost use Rattle.dom_observe.specs.Kept.{AllThere};
 ghost use Rattle.dom_observe.specs.Naming.{TellsNone};
-ghost use Rattle.dom_observe.specs.Notifying.{told_of, waiting_for, EmptiesFirst};
+ghost use Rattle.dom_observe.specs.Notifying.{told_of, waiting_for};
 ghost use Rattle.dom_observe.specs.Roster.{keys_by, queues_by, is_there, records_of};
 
 use crate::observer_id::ObserverId;
@@ -17,6 +17,8 @@ use indexmap::IndexSet;
 use std::alloc::{AllocError, Global};
 
 // Takes the records of the pending observers out of their queues, in order; an observer whose queue is empty is left out.
+//
+// There is room for all of them before the first is taken.
 pub(crate) fn gather(
     pending: &IndexSet<ObserverId>,
     roster: &mut Roster,
@@ -25,17 +27,17 @@ pub(crate) fn gather(
     requires { AllThere (is_there roster.old) pending.now.keys }
     ensures told { IfOk result (λ told. told_of told.items ≡ filter has_records (map (waiting_for (queues_by roster.old)) pending.now.keys)) }
     ensures emptied { OnOk result ((p : ℕ) → records_of roster.new p ≡ (if among p pending.now.keys then [] else records_of roster.old p)) }
-    ensures lost { OnErr result (EmptiesFirst pending.now.keys (queues_by roster.old) (queues_by roster.new)) }
+    ensures err { OnErr result (roster.new ≡ roster.old) }
     ensures empty { (p : ℕ) → records_of roster.old p ≡ [] → records_of roster.new p ≡ [] }
     ensures names { (p : ℕ → Bool) → TellsNone p (queues_by roster.old) → TellsNone p (queues_by roster.new) }
     ensures keys { keys_by roster.new ≡ keys_by roster.old }
 {
-    let mut told = Vec::new(alloc);
+    let mut told = Vec::with_capacity(alloc, pending.len())?;
     for index in 0..pending.len() {
         if let Some(observer) = pending.get_index(index) {
             let records = take_from(roster, *observer, alloc);
             if !records.is_empty() {
-                told.push((*observer, records))?;
+                told.push_reserved((*observer, records));
             }
         }
     }

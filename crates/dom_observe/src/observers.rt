@@ -9,11 +9,12 @@ ghost use Rattle.dom_model.specs.MutationObservers.Observing.{standing_on, noted
 ghost use Rattle.dom_model.specs.MutationObservers.Records.{queue_of, observed, with_observer, records_taken, disconnected, released_observer, told, after_notify, pending_taken, observer_told};
 ghost use Rattle.dom_observe.specs.Held.{named, nodes_of_mutation, NamesNoneOf, NamesOnly, SameObservers};
 ghost use Rattle.std.specs.List.{list_any};
-ghost use Rattle.dom_observe.specs.Notifying.{told_of, waiting_in, IsNotified, IsPartlyTold};
+ghost use Rattle.dom_observe.specs.Notifying.{told_of, waiting_in, IsNotified};
 ghost use Rattle.dom_observe.specs.Once.{once};
+ghost use Rattle.dom_observe.specs.Refused.{IsPartlyQueued, IsPartlyLeft, IsPartlyRemoved};
 ghost use Rattle.dom_observe.specs.Removed.{removed_below};
 ghost use Rattle.dom_observe.specs.Sound.{IsSound};
-ghost use Rattle.dom_observe.specs.Watchers.{queue_in, records_at, registrations_in, Watches};
+ghost use Rattle.dom_observe.specs.Watchers.{queue_in, records_at, registrations_in, Watches, Steps, Answers};
 
 use crate::adding::{add, add_transients, find_standing, find_standing_deep};
 use crate::ending::{end_all, end_own, end_transients};
@@ -98,7 +99,7 @@ impl Observers {
         ensures number { IfOk result (λ id. id ≡ length self.old.queues) }
         ensures held { IfOk result (λ id. IsSome (queue_in self.new id)) }
         ensures made { OnOk result (self.new.queues ≡ self.old.queues ++ Some [] ∷ []) }
-        ensures ok { OnOk result ((x : Observing) → Watches self.old x → Watches self.new (with_observer x)) }
+        ensures ok { OnOk result (Steps with_observer self.old self.new) }
         ensures err { OnErr result (self.new ≡ self.old) }
         ensures names { NamesOnly [] self.old self.new }
     {
@@ -124,14 +125,14 @@ impl Observers {
     /// How many observers there are, without those that were released, in constant time.
     pub fn count(&self) -> usize
         ensures count { result ≡ count_by is_some self.now.queues }
-        ensures watched { (x : Observing) → Watches self.now x → result ≡ count_by is_some x.places }
+        ensures watched { Answers (λ x. count_by is_some x.places) self.now result }
     {
         self.roster.count()
     }
 
     /// How many registrations there are, the transient ones with them, in constant time. Those that are equal in every field are one.
     pub fn registrations(&self) -> usize
-        ensures watched { (x : Observing) → Watches self.now x → result ≡ length (once x.registrations) }
+        ensures watched { Answers (λ x. length (once x.registrations)) self.now result }
         ensures own { result ≡ registrations_in self.now }
     {
         self.table.len()
@@ -168,7 +169,7 @@ impl Observers {
         options: Options,
     ) -> Result<(), AllocError>
         requires held { IsSome (queue_in self.old observer) }
-        ensures ok { OnOk result ((x : Observing) → Watches self.old x → Watches self.new (observed observer node options x)) }
+        ensures ok { OnOk result (Steps (observed observer node options) self.old self.new) }
         ensures err { OnErr result (self.new ≡ self.old) }
         ensures names { NamesOnly (node ∷ []) self.old self.new }
         ensures made { SameObservers self.old self.new }
@@ -185,7 +186,7 @@ impl Observers {
         options: Rc<Options>,
     ) -> Result<(), AllocError>
         requires held { IsSome (queue_in self.old observer) }
-        ensures ok { OnOk result ((x : Observing) → Watches self.old x → Watches self.new (observed observer node options.value x)) }
+        ensures ok { OnOk result (Steps (observed observer node options.value) self.old self.new) }
         ensures err { OnErr result (self.new ≡ self.old) }
         ensures names { NamesOnly (node ∷ []) self.old self.new }
         ensures made { SameObservers self.old self.new }
@@ -231,7 +232,7 @@ impl Observers {
     /// Ends all that the observer observes, and empties its queue ("disconnect").
     pub fn disconnect(&mut self, observer: ObserverId)
         requires held { IsSome (queue_in self.old observer) }
-        ensures ended { (x : Observing) → Watches self.old x → Watches self.new (disconnected observer x) }
+        ensures ended { Steps (disconnected observer) self.old self.new }
         ensures names { NamesOnly [] self.old self.new }
         ensures made { SameObservers self.old self.new }
     {
@@ -243,7 +244,7 @@ impl Observers {
     /// Lets an observer go: ends all that it observes, and leaves nothing of it but its number, which is not given out again.
     pub fn release(&mut self, observer: ObserverId)
         requires held { IsSome (queue_in self.old observer) }
-        ensures released { (x : Observing) → Watches self.old x → Watches self.new (released_observer observer x) }
+        ensures released { Steps (released_observer observer) self.old self.new }
         ensures names { NamesOnly [] self.old self.new }
         ensures made { self.new.queues ≡ slice_set self.old.queues observer None }
     {
@@ -258,8 +259,8 @@ impl Observers {
     /// Takes the records of an observer out of its queue ("takeRecords"). It stays pending where it is.
     pub fn take(&mut self, observer: ObserverId) -> Vec<Record>
         requires held { IsSome (queue_in self.old observer) }
-        ensures records { (x : Observing) → Watches self.old x → result.items ≡ queue_of observer x }
-        ensures taken { (x : Observing) → Watches self.old x → Watches self.new (records_taken observer x) }
+        ensures records { Answers (queue_of observer) self.old result.items }
+        ensures taken { Steps (records_taken observer) self.old self.new }
         ensures own { result.items ≡ records_at self.old.queues observer }
         ensures left { self.new ≡ record self.old { queues = slice_set self.old.queues observer (Some []) } }
         ensures names { NamesOnly [] self.old self.new }
@@ -281,6 +282,7 @@ impl Observers {
     ) -> Result<(), AllocError>
         requires { HasNode tree.now.forest parent }
         ensures left { OnOk result ((x : Observing) → Watches self.old x → Watches self.new (with_transients node (ancestors parent tree.now.forest) x)) }
+        ensures partly { OnErr result (IsPartlyLeft node self.old self.new) }
         ensures names { NamesOnly (node ∷ []) self.old self.new }
         ensures made { SameObservers self.old self.new }
         ensures quiet { NamesNoneOf (ancestors parent tree.now.forest) self.old → self.new ≡ self.old }
@@ -308,6 +310,7 @@ impl Observers {
         requires { HasNode tree.now.forest mutation.now.target }
         ensures queued { OnOk result ((x : Observing) → Watches self.old x →
             Watches self.new (noted (record (mutation.now) { standing = standing_on (ancestors mutation.now.target tree.now.forest) x.registrations }) x)) }
+        ensures partly { OnErr result (IsPartlyQueued mutation.now self.old self.new) }
         ensures names { NamesOnly (nodes_of_mutation mutation.now) self.old self.new }
         ensures made { SameObservers self.old self.new }
         ensures quiet { NamesNoneOf (ancestors mutation.now.target tree.now.forest) self.old → self.new ≡ self.old }
@@ -342,8 +345,9 @@ impl Observers {
     ) -> Result<(), AllocError>
         requires held { HasNode tree.now.forest mutation.now.target }
         requires apart { among node (ancestors mutation.now.target tree.now.forest) ≡ false }
-        ensures removed { OnOk result ((x : Observing) → Watches self.old x →
-            Watches self.new (removed_below node (ancestors mutation.now.target tree.now.forest) mutation.now x)) }
+        ensures removed { OnOk result (Steps
+            (removed_below node (ancestors mutation.now.target tree.now.forest) mutation.now) self.old self.new) }
+        ensures partly { OnErr result (IsPartlyRemoved node mutation.now self.old self.new) }
         ensures names { NamesOnly (node ∷ nodes_of_mutation mutation.now) self.old self.new }
         ensures made { SameObservers self.old self.new }
         ensures quiet { NamesNoneOf (ancestors mutation.now.target tree.now.forest) self.old → self.new ≡ self.old }
@@ -377,13 +381,13 @@ impl Observers {
 
     /// Tells the pending observers their records, and ends every transient registration ("notify mutation observers").
     ///
-    /// What waits for an observer that was taken from the pending ones and not told since waits on. After an error the records of the first pending observers are lost; all else is as it was.
+    /// What waits for an observer that was taken from the pending ones and not told since waits on. After an error nothing has changed.
     pub fn notify(&mut self) -> Result<Vec<(ObserverId, Vec<Record>)>, AllocError>
-        ensures told { IfOk result (λ all. (x : Observing) → Watches self.old x → told_of all.items ≡ told x) }
-        ensures after { OnOk result ((x : Observing) → Watches self.old x → Watches self.new (after_notify x)) }
+        ensures told { IfOk result (λ all. Answers told self.old (told_of all.items)) }
+        ensures after { OnOk result (Steps after_notify self.old self.new) }
         ensures own { IfOk result (λ all. told_of all.items ≡ waiting_in self.old.queues self.old.pending) }
         ensures notified { OnOk result (IsNotified self.old self.new) }
-        ensures lost { OnErr result (IsPartlyTold self.old self.new) }
+        ensures err { OnErr result (self.new ≡ self.old) }
         ensures names { NamesOnly [] self.old self.new }
         ensures made { SameObservers self.old self.new }
     {
@@ -405,7 +409,7 @@ impl Observers {
     /// Give each of them to `tell` in this order. After an error nothing has changed.
     pub fn take_pending(&mut self) -> Result<Vec<ObserverId>, AllocError>
         ensures pending { IfOk result (λ taken. taken.items ≡ self.old.pending) }
-        ensures taken { OnOk result ((x : Observing) → Watches self.old x → Watches self.new (pending_taken x)) }
+        ensures taken { OnOk result (Steps pending_taken self.old self.new) }
         ensures left { OnOk result (self.new ≡ record self.old { pending = [] }) }
         ensures err { OnErr result (self.new ≡ self.old) }
         ensures names { NamesOnly [] self.old self.new }
@@ -420,8 +424,8 @@ impl Observers {
     /// It stays pending where it is.
     pub fn tell(&mut self, observer: ObserverId) -> Vec<Record>
         requires held { IsSome (queue_in self.old observer) }
-        ensures records { (x : Observing) → Watches self.old x → result.items ≡ queue_of observer x }
-        ensures told { (x : Observing) → Watches self.old x → Watches self.new (observer_told observer x) }
+        ensures records { Answers (queue_of observer) self.old result.items }
+        ensures told { Steps (observer_told observer) self.old self.new }
         ensures own { result.items ≡ records_at self.old.queues observer }
         ensures queues { self.new.queues ≡ slice_set self.old.queues observer (Some []) }
         ensures names { NamesOnly [] self.old self.new }
@@ -457,8 +461,9 @@ impl Observers {
     /// of an observer that is pending, or was taken and not told, in the same way, by the nodes that its records name, and climbs from each node of the records that came since `settle`.
     pub fn refers<X>(&self, tree: &Tree<X>, top: NodeId) -> bool
         requires { HasNode tree.now.forest top }
-        ensures observed { (x : Observing) → Watches self.now x →
-            result ≡ list_any (λ m. among m (inclusive_descendants tree.now.forest top)) (observed_nodes x) }
+        ensures observed { Answers
+            (λ x. list_any (λ m. among m (inclusive_descendants tree.now.forest top)) (observed_nodes x))
+            self.now result }
         ensures named { result ≡ list_any (λ m. among m (inclusive_descendants tree.now.forest top)) (named self.now) }
     {
         is_named(tree, top, &self.nodes)

@@ -11,6 +11,7 @@ ghost use Rattle.dom_observe.specs.Registrations.{at, Stands};
 ghost use Rattle.dom_observe.specs.Held.{nodes_of_mutation};
 ghost use Rattle.dom_observe.specs.Kept.{AllThere};
 ghost use Rattle.dom_observe.specs.Naming.{TellsOnly};
+ghost use Rattle.dom_observe.specs.Refused.{IsFront, GetsAtMostOne};
 ghost use Rattle.dom_observe.specs.Roster.{keys_by, queues_by, is_there, records_of};
 ghost use Rattle.dom_observe.specs.Telling.{listener_under, listeners, listeners_to, flag_of, joined, IsOnly, delivered};
 
@@ -110,6 +111,7 @@ fn listen(
     ensures pending { OnOk result (pending.new.keys
         ≡ with_all_last pending.old.keys (keys_of (listeners (at table.now) question.now.what question.now.target (text_of question.now.name) standing.now))) }
     ensures stay { (p : ℕ) → among p pending.old.keys ≡ true → among p pending.new.keys ≡ true }
+    ensures front { IsFront pending.old.keys pending.new.keys }
     ensures there { (p : ℕ → Bool) → AllByRecursion (Stands (at table.now) p) standing.now → AllThere p pending.old.keys → AllThere p pending.new.keys }
     ensures known { IfOk result (λ heard. (p : ℕ → Bool) → AllByRecursion (Stands (at table.now) p) standing.now → AllThere p (keys_of heard.entries)) }
     ensures unique { IfOk result (IsUnique nat_eq) }
@@ -148,8 +150,10 @@ fn tell_one(
         ≡ records_of roster.old p ++ delivered mutation.now (if listener.0 == p then Some listener.1 else None)) }
     ensures pending { OnOk result (pending.new.keys ≡ with_last pending.old.keys listener.0) }
     ensures stay { (p : ℕ) → among p pending.old.keys ≡ true → among p pending.new.keys ≡ true }
+    ensures front { IsFront pending.old.keys pending.new.keys }
     ensures there { (p : ℕ → Bool) → p listener.0 ≡ true → AllThere p pending.old.keys → AllThere p pending.new.keys }
     ensures others { (p : ℕ) → among p pending.new.keys ≡ false → records_of roster.new p ≡ records_of roster.old p }
+    ensures each { (p : ℕ) → GetsAtMostOne mutation.now (records_of roster.old p) (records_of roster.new p) }
     ensures err { OnErr result (roster.new ≡ roster.old) }
     ensures keys { keys_by roster.new ≡ keys_by roster.old }
 {
@@ -170,6 +174,7 @@ fn tell_each(
     requires there { AllThere (is_there roster.old) (keys_of heard.now.entries) }
     ensures ok { OnOk result ((p : ℕ) → records_of roster.new p ≡ records_of roster.old p ++ delivered mutation.now (get nat_eq heard.now p)) }
     ensures others { (p : ℕ) → get nat_eq heard.now p ≡ None → records_of roster.new p ≡ records_of roster.old p }
+    ensures each { (p : ℕ) → GetsAtMostOne mutation.now (records_of roster.old p) (records_of roster.new p) }
     ensures names { TellsOnly (nodes_of_mutation mutation.now) (queues_by roster.old) (queues_by roster.new) }
     ensures keys { keys_by roster.new ≡ keys_by roster.old }
 {
@@ -199,8 +204,10 @@ pub(crate) fn tell(
     ensures pending { OnOk result (pending.new.keys
         ≡ with_all_last pending.old.keys (keys_of (listeners_to (at table.now) mutation.now standing.now))) }
     ensures stay { (p : ℕ) → among p pending.old.keys ≡ true → among p pending.new.keys ≡ true }
+    ensures front { IsFront pending.old.keys pending.new.keys }
     ensures there { (p : ℕ → Bool) → AllByRecursion (Stands (at table.now) p) standing.now → AllThere p pending.old.keys → AllThere p pending.new.keys }
     ensures others { (p : ℕ) → among p pending.new.keys ≡ false → records_of roster.new p ≡ records_of roster.old p }
+    ensures each { (p : ℕ) → GetsAtMostOne mutation.now (records_of roster.old p) (records_of roster.new p) }
     ensures names { TellsOnly (nodes_of_mutation mutation.now) (queues_by roster.old) (queues_by roster.new) }
     ensures keys { keys_by roster.new ≡ keys_by roster.old }
 {

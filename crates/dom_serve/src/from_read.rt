@@ -1,8 +1,8 @@
 //! A reader made of one of std's.
 
 ghost use Rattle.std.specs.Prelude.{◌≡◌};
-ghost use Rattle.std.specs.Io.KnownBytes.{Consumes, Keeps};
 
+use crate::one_read::OneRead;
 use crate::streams::{Failed, Source};
 use std::io::Read;
 
@@ -20,15 +20,15 @@ impl<R: Read> FromRead<R> {
     }
 }
 
-impl<R: Read> Source for FromRead<R> {
-    ghost left = { λ s. R.remaining s.inner };
+impl<R: OneRead> Source for FromRead<R> {
+    ghost left = { λ s. R.left s.inner };
 
-    ghost gives = { λ s bytes t. Consumes (R.remaining s.inner) (R.remaining t.inner) bytes };
+    ghost gives = { λ s bytes t. R.gives s.inner bytes t.inner };
 
-    ghost fails = { λ s t. Keeps (R.remaining s.inner) (R.remaining t.inner) };
+    ghost fails = { λ s t. R.fails s.inner t.inner };
 
     fn read(&mut self, buf: &mut [u8]) -> Result<usize, Failed> {
-        match self.inner.read(buf) {
+        match self.inner.read_once(buf) {
             Ok(n) => Ok(n),
             Err(_) => Err(Failed),
         }

@@ -15,3 +15,4 @@ pub mod NodeData
 pub mod Unfelt
 pub mod ContentsAnswers
 pub mod Laying
+pub mod WorldsKept

@@ -11,7 +11,7 @@ use Rattle.dom_model.specs.Commands.Reply as model_reply
 use Rattle.dom_model.specs.Commands.Reply.{is_refusal}
 use Rattle.dom_model.specs.Commands.Answer.{Bounds, answer}
 use Rattle.dom_model.specs.Commands.AnswerObserving.{with_observing}
-use Rattle.dom_model.specs.MutationObservers.Records.{options_refusal, options_of, settled, settled_unless, has_observer, with_observer, observed, disconnected, released_observer, queue_of, pending_of, records_taken, told, after_notify, pending_taken, observer_told}
+use Rattle.dom_model.specs.MutationObservers.Records.{options_refusal, options_of, settled, settled_unless, has_observer, with_observer, observed, disconnected, released_observer, queue_of, records_taken, told, after_notify, pending_taken, observer_told}
 use Rattle.dom_model.specs.MutationObservers.Record.{Record, Told}
 use Rattle.dom_model.proofs.PlainLists.Numbers.{same_or, same, apart}
 use Rattle.dom_observe.specs.Held.{NamesHeld, NamesOnly}
@@ -26,17 +26,20 @@ use Rattle.dom_session.proofs.Stepping.{step-follows, step-stays}
 use Rattle.dom_session.proofs.TreeEdits.{not-none}
 
 module _ (v : World) (whole : IsWhole v) where
+  -- observers that name what is there
+  pub whole-observed : (o : Watchers) → NamesHeld v.tree.forest o → IsWhole (record v { observers = o })
+  whole-observed o names = record { forest = whole.forest; documents = whole.documents; owners = whole.owners; covered = whole.covered; ranges = whole.ranges; statics = whole.statics; iterators = whole.iterators; walkers = whole.walkers; observers = names }
+
   -- the observers are others, which watch what the step makes of it
   pub step-observers : (b : Bounds) (c : Command) (reply : Reply) (o : Watchers) (step : Observing → Observing) → is_refusal (reply_view reply) ≡ false → ((w : model.World) → Shows v w → answer b w c ≡ record { reply = reply_view reply; world = with_observing (step w.observing) w }) → ((x : Observing) → Watches v.observers x → Watches o (step x)) → NamesHeld v.tree.forest o → IsStep v (record v { observers = o }) b c reply
   step-observers b c reply o step done e watched names =
       let new : World = record v { observers = o } in
-      let whole_next : IsWhole new = record { forest = whole.forest; documents = whole.documents; owners = whole.owners; covered = whole.covered; ranges = whole.ranges; statics = whole.statics; iterators = whole.iterators; walkers = whole.walkers; observers = names } in
       step-follows b c reply v new (λ w. with_observing (step w.observing) w) done e
       (record {
         keeps = λ w k. record { forest = k.forest; made = k.made; ranges = k.ranges; static_ranges = k.static_ranges; iterators = k.iterators; walkers = k.walkers };
         watches = λ w k h. watched w.observing h;
       })
-      whole_next
+      (whole-observed o names)
 
   -- no other node is named
   pub names-none : (o : Watchers) → NamesOnly [] v.observers o → NamesHeld v.tree.forest o

@@ -7,4 +7,6 @@ pub mod Bounding
 pub mod Printing
 pub mod Codes
 pub mod Links
+pub mod Lending
 pub mod InUse
+pub mod Ending

@@ -1,9 +1,10 @@
 //! The answer to each command.
 
-ghost use Rattle.std.specs.Prelude.{◌≤◌, IfOk};
+ghost use Rattle.std.specs.Prelude.{◌≤◌, IfOk, OnErr};
 ghost use Rattle.dom_edit.specs.Whole.{IsShown};
 ghost use Rattle.dom_session.specs.Views.{command_view};
 ghost use Rattle.dom_session.specs.Stands.{IsStep};
+ghost use Rattle.dom_session.specs.Ending.{IsKept};
 ghost use Rattle.dom_session.specs.Limiting.{numbered};
 
 use crate::attributes::change_attributes;
@@ -34,6 +35,7 @@ pub(crate) fn answered(
     requires numbers { numbers ≤ 4294967295 }
     requires shown { IsShown world.old }
     ensures step { IfOk result (IsStep world.old world.new (numbered numbers) (command_view command)) }
+    ensures left { OnErr result (IsKept world.old world.new) }
 {
     match command {
         Command::Making(command) => Ok(make_nodes(world, numbers, alloc, command)?.reply()),

@@ -1,6 +1,6 @@
 //! The commands on attributes (DOM Standard, "Interface Element").
 
-ghost use Rattle.std.specs.Prelude.{◌≡◌, ◌<◌, Some, is_some, length, map, slice_get, string_bytes, IfOk};
+ghost use Rattle.std.specs.Prelude.{◌≡◌, ◌<◌, Some, is_some, length, map, slice_get, string_bytes, IfOk, OnErr};
 ghost use Rattle.dom_attrs.specs.Entries.{attribute_at};
 ghost use Rattle.dom_model.specs.Forests.Attributes.{attribute_value, attribute_names};
 ghost use Rattle.dom_model.specs.Forests.Forest.{HasNode, entry_in};
@@ -10,6 +10,7 @@ ghost use Rattle.dom_model.specs.Commands.Guards.{Bounds};
 ghost use Rattle.dom_edit.specs.Whole.{IsShown};
 ghost use Rattle.dom_session.specs.Views.{attributes_view};
 ghost use Rattle.dom_session.specs.Stands.{IsStep};
+ghost use Rattle.dom_session.specs.Ending.{IsKept};
 
 use crate::command::Attributes;
 use crate::refusing::kind_refusal;
@@ -30,6 +31,7 @@ pub(crate) fn set_attribute(
 ) -> Result<Reply, AllocError>
     requires shown { IsShown world.old }
     ensures step { IfOk result (λ reply. (b : Bounds) → IsStep world.old world.new b (SetAttribute element (string_bytes name) value) reply) }
+    ensures left { OnErr result (IsKept world.old world.new) }
 {
     if let Some(reply) = kind_refusal(world, element, Kind::Element) {
         return Ok(reply);
@@ -110,6 +112,7 @@ pub(crate) fn remove_attribute(
 ) -> Result<Reply, AllocError>
     requires shown { IsShown world.old }
     ensures step { IfOk result (λ reply. (b : Bounds) → IsStep world.old world.new b (RemoveAttribute element name.now) reply) }
+    ensures left { OnErr result (IsKept world.old world.new) }
 {
     if let Some(reply) = kind_refusal(world, element, Kind::Element) {
         return Ok(reply);
@@ -128,6 +131,7 @@ pub(crate) fn toggle_attribute(
 ) -> Result<Reply, AllocError>
     requires shown { IsShown world.old }
     ensures step { IfOk result (λ reply. (b : Bounds) → IsStep world.old world.new b (ToggleAttribute element (string_bytes name) force) reply) }
+    ensures left { OnErr result (IsKept world.old world.new) }
 {
     if let Some(reply) = kind_refusal(world, element, Kind::Element) {
         return Ok(reply);
@@ -184,6 +188,7 @@ pub(crate) fn change_attributes(
 ) -> Result<Reply, AllocError>
     requires shown { IsShown world.old }
     ensures step { IfOk result (λ reply. (b : Bounds) → IsStep world.old world.new b (attributes_view command) reply) }
+    ensures left { OnErr result (IsKept world.old world.new) }
 {
     match command {
         Attributes::SetAttribute(element, name, value) => set_attribute(

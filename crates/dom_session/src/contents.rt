@@ -1,11 +1,12 @@
 //! The contents of live ranges (DOM Standard, "Interface Range").
 
-ghost use Rattle.std.specs.Prelude.{◌≤◌, IfOk};
+ghost use Rattle.std.specs.Prelude.{◌≤◌, IfOk, OnErr};
 ghost use Rattle.dom_model.specs.Commands.Command.{RangeText, DeleteContents, ExtractContents, CloneContents, InsertNode, SurroundContents};
 ghost use Rattle.dom_model.specs.Commands.Guards.{Bounds};
 ghost use Rattle.dom_edit.specs.Whole.{IsShown};
 ghost use Rattle.dom_session.specs.Views.{contents_view};
 ghost use Rattle.dom_session.specs.Stands.{IsStep};
+ghost use Rattle.dom_session.specs.Ending.{IsKept};
 ghost use Rattle.dom_session.specs.Limiting.{numbered};
 
 use crate::command::Contents;
@@ -37,6 +38,7 @@ pub(crate) fn delete_contents(
 ) -> Result<Reply, AllocError>
     requires shown { IsShown world.old }
     ensures step { IfOk result (λ reply. (b : Bounds) → IsStep world.old world.new b (DeleteContents range) reply) }
+    ensures left { OnErr result (IsKept world.old world.new) }
 {
     if !world.ranges.holds(range) {
         return Ok(Reply::Own(OwnError::NoSuchObject));
@@ -55,6 +57,7 @@ pub(crate) fn extract_contents(
     requires numbers { numbers ≤ 4294967295 }
     requires shown { IsShown world.old }
     ensures step { IfOk result (IsStep world.old world.new (numbered numbers) (ExtractContents range)) }
+    ensures left { OnErr result (IsKept world.old world.new) }
 {
     if !world.ranges.holds(range) {
         return Ok(Reply::Own(OwnError::NoSuchObject));
@@ -78,6 +81,7 @@ pub(crate) fn clone_contents(
     requires numbers { numbers ≤ 4294967295 }
     requires shown { IsShown world.old }
     ensures step { IfOk result (IsStep world.old world.new (numbered numbers) (CloneContents range)) }
+    ensures left { OnErr result (IsKept world.old world.new) }
 {
     if !world.ranges.holds(range) {
         return Ok(Reply::Own(OwnError::NoSuchObject));
@@ -102,6 +106,7 @@ pub(crate) fn insert_node(
     requires numbers { numbers ≤ 4294967295 }
     requires shown { IsShown world.old }
     ensures step { IfOk result (IsStep world.old world.new (numbered numbers) (InsertNode range node)) }
+    ensures left { OnErr result (IsKept world.old world.new) }
 {
     if !world.ranges.holds(range) || !world.tree.holds(node) {
         return Ok(Reply::Own(OwnError::NoSuchObject));
@@ -126,6 +131,7 @@ pub(crate) fn surround_contents(
     requires numbers { numbers ≤ 4294967295 }
     requires shown { IsShown world.old }
     ensures step { IfOk result (IsStep world.old world.new (numbered numbers) (SurroundContents range node)) }
+    ensures left { OnErr result (IsKept world.old world.new) }
 {
     if !world.ranges.holds(range) || !world.tree.holds(node) {
         return Ok(Reply::Own(OwnError::NoSuchObject));
@@ -149,6 +155,7 @@ pub(crate) fn change_contents(
     requires numbers { numbers ≤ 4294967295 }
     requires shown { IsShown world.old }
     ensures step { IfOk result (IsStep world.old world.new (numbered numbers) (contents_view command)) }
+    ensures left { OnErr result (IsKept world.old world.new) }
 {
     match command {
         Contents::RangeText(range) => range_text(world, alloc, range),

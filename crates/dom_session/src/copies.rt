@@ -1,6 +1,6 @@
 //! Copies, equality, and how nodes stand to each other (DOM Standard, "Interface Node", "Interface Document").
 
-ghost use Rattle.std.specs.Prelude.{◌≡◌, ◌≤◌, ◌+◌, ◌*◌, nat_lt, IfOk};
+ghost use Rattle.std.specs.Prelude.{◌≡◌, ◌≤◌, ◌+◌, ◌*◌, nat_lt, IfOk, OnErr};
 ghost use Rattle.dom_model.specs.declared.Kind.TheVariants.{Document};
 ghost use Rattle.dom_model.specs.Forests.Forest.{size};
 ghost use Rattle.dom_model.specs.Commands.Command.{ImportNode, CloneNode, IsEqual, IsContaining, ComparePosition};
@@ -8,6 +8,7 @@ ghost use Rattle.dom_model.specs.Commands.Guards.{Bounds};
 ghost use Rattle.dom_edit.specs.Whole.{IsShown};
 ghost use Rattle.dom_session.specs.Views.{copying_view};
 ghost use Rattle.dom_session.specs.Stands.{IsStep};
+ghost use Rattle.dom_session.specs.Ending.{IsKept};
 ghost use Rattle.dom_session.specs.Limiting.{numbered};
 
 use crate::command::Copying;
@@ -40,6 +41,7 @@ pub(crate) fn import_node(
     requires numbers { numbers ≤ 4294967295 }
     requires shown { IsShown world.old }
     ensures step { IfOk result (IsStep world.old world.new (numbered numbers) (ImportNode document node deep)) }
+    ensures left { OnErr result (IsKept world.old world.new) }
 {
     if !world.tree.holds(document) || !world.tree.holds(node) {
         return Ok(Reply::Own(OwnError::NoSuchObject));
@@ -67,6 +69,7 @@ pub(crate) fn clone_node(
     requires numbers { numbers ≤ 4294967295 }
     requires shown { IsShown world.old }
     ensures step { IfOk result (IsStep world.old world.new (numbered numbers) (CloneNode node deep)) }
+    ensures left { OnErr result (IsKept world.old world.new) }
 {
     if !world.tree.holds(node) {
         return Ok(Reply::Own(OwnError::NoSuchObject));
@@ -134,6 +137,7 @@ pub(crate) fn copy_nodes(
     requires numbers { numbers ≤ 4294967295 }
     requires shown { IsShown world.old }
     ensures step { IfOk result (IsStep world.old world.new (numbered numbers) (copying_view command)) }
+    ensures left { OnErr result (IsKept world.old world.new) }
 {
     match command {
         Copying::ImportNode(document, node, deep) => import_node(

@@ -1,6 +1,6 @@
 //! The commands that change where nodes stand (DOM Standard, "Interface Node", "Mutation algorithms").
 
-ghost use Rattle.std.specs.Prelude.{◌≡◌, not, IfOk};
+ghost use Rattle.std.specs.Prelude.{◌≡◌, not, IfOk, OnErr};
 ghost use Rattle.dom_model.specs.declared.Kind.TheVariants.{Document};
 ghost use Rattle.dom_model.specs.Forests.Kinds.{may_be_parent};
 ghost use Rattle.dom_model.specs.Forests.Nodes.{is_of_kind};
@@ -11,6 +11,7 @@ ghost use Rattle.dom_edit.specs.Whole.{IsWhole, IsShown};
 ghost use Rattle.dom_session.specs.Brief.{reply_of};
 ghost use Rattle.dom_session.specs.Views.{editing_view};
 ghost use Rattle.dom_session.specs.Stands.{IsStep};
+ghost use Rattle.dom_session.specs.Ending.{IsKept};
 ghost use Rattle.dom_session.specs.Refusing.{lacks_given};
 
 use crate::brief::{Brief, brief_to};
@@ -48,6 +49,7 @@ pub(crate) fn insert_before(
 ) -> Result<Brief, AllocError>
     requires shown { IsShown world.old }
     ensures step { IfOk result (λ reply. (b : Bounds) → IsStep world.old world.new b (InsertBefore parent node child) (reply_of reply)) }
+    ensures left { OnErr result (IsKept world.old world.new) }
 {
     if !world.tree.holds(parent) || !world.tree.holds(node) || !holds_given(world, &child) {
         return Ok(Brief::Own(OwnError::NoSuchObject));
@@ -67,6 +69,7 @@ pub(crate) fn append_child(
 ) -> Result<Brief, AllocError>
     requires shown { IsShown world.old }
     ensures step { IfOk result (λ reply. (b : Bounds) → IsStep world.old world.new b (AppendChild parent node) (reply_of reply)) }
+    ensures left { OnErr result (IsKept world.old world.new) }
 {
     if !world.tree.holds(parent) || !world.tree.holds(node) {
         return Ok(Brief::Own(OwnError::NoSuchObject));
@@ -87,6 +90,7 @@ pub(crate) fn replace_child(
 ) -> Result<Brief, AllocError>
     requires shown { IsShown world.old }
     ensures step { IfOk result (λ reply. (b : Bounds) → IsStep world.old world.new b (ReplaceChild parent node child) (reply_of reply)) }
+    ensures left { OnErr result (IsKept world.old world.new) }
 {
     if !world.tree.holds(parent) || !world.tree.holds(node) || !world.tree.holds(child) {
         return Ok(Brief::Own(OwnError::NoSuchObject));
@@ -106,6 +110,7 @@ pub(crate) fn remove_child(
 ) -> Result<Brief, AllocError>
     requires shown { IsShown world.old }
     ensures step { IfOk result (λ reply. (b : Bounds) → IsStep world.old world.new b (RemoveChild parent child) (reply_of reply)) }
+    ensures left { OnErr result (IsKept world.old world.new) }
 {
     if !world.tree.holds(parent) || !world.tree.holds(child) {
         return Ok(Brief::Own(OwnError::NoSuchObject));
@@ -120,6 +125,7 @@ pub(crate) fn remove_child(
 pub(crate) fn remove(world: &mut World, alloc: Global, node: NodeId) -> Result<Brief, AllocError>
     requires shown { IsShown world.old }
     ensures step { IfOk result (λ reply. (b : Bounds) → IsStep world.old world.new b (Remove node) (reply_of reply)) }
+    ensures left { OnErr result (IsKept world.old world.new) }
 {
     if !world.tree.holds(node) {
         return Ok(Brief::Own(OwnError::NoSuchObject));
@@ -140,6 +146,7 @@ pub(crate) fn replace_children(
 ) -> Result<Brief, AllocError>
     requires shown { IsShown world.old }
     ensures step { IfOk result (λ reply. (b : Bounds) → IsStep world.old world.new b (ReplaceChildren parent node) (reply_of reply)) }
+    ensures left { OnErr result (IsKept world.old world.new) }
 {
     if !world.tree.holds(parent) || !holds_given(world, &node) {
         return Ok(Brief::Own(OwnError::NoSuchObject));
@@ -162,6 +169,7 @@ pub(crate) fn adopt_node(
 ) -> Result<Brief, AllocError>
     requires shown { IsShown world.old }
     ensures step { IfOk result (λ reply. (b : Bounds) → IsStep world.old world.new b (AdoptNode document node) (reply_of reply)) }
+    ensures left { OnErr result (IsKept world.old world.new) }
 {
     if !world.tree.holds(document) || !world.tree.holds(node) {
         return Ok(Brief::Own(OwnError::NoSuchObject));
@@ -199,6 +207,7 @@ pub(crate) fn edit_tree(
 ) -> Result<Brief, AllocError>
     requires shown { IsShown world.old }
     ensures step { IfOk result (λ reply. (b : Bounds) → IsStep world.old world.new b (editing_view command) (reply_of reply)) }
+    ensures left { OnErr result (IsKept world.old world.new) }
 {
     match command {
         Editing::InsertBefore(parent, node, child) => insert_before(

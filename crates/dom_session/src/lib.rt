@@ -1,4 +1,8 @@
 //! A session: commands in, replies out, over one world of nodes.
+//!
+//! [`Session::apply`] answers each [`Command`] with a [`Reply`]; the calls for one group of commands, or for one, answer a [`Brief`].
+//! What stands around a node ([`Links`]) and how many objects there are ([`Counts`]) are read with no command, also once the
+//! session has ended.
 #![tactic(auto)]
 
 mod answering;
@@ -11,6 +15,7 @@ mod copies;
 mod editing;
 mod in_use;
 pub mod laws;
+mod lending;
 mod links;
 mod making;
 mod observing;

@@ -1,6 +1,6 @@
 //! The commands that make nodes.
 
-ghost use Rattle.std.specs.Prelude.{◌≡◌, ◌≤◌, IfOk, option_map, string_bytes};
+ghost use Rattle.std.specs.Prelude.{◌≡◌, ◌≤◌, IfOk, option_map, string_bytes, OnErr};
 ghost use Rattle.dom_model.specs.Worlds.World.{document_label};
 ghost use Rattle.dom_model.specs.Commands.AnswerMaking.{doctype_label, closes_instruction};
 ghost use Rattle.dom_model.specs.Commands.Command.{NewDocument, CreateElement, CreateText, CreateComment, CreatePI, CreateDoctype, CreateFragment};
@@ -8,6 +8,7 @@ ghost use Rattle.dom_session.specs.Brief.{reply_of};
 ghost use Rattle.dom_session.specs.Views.{making_view, reply_view};
 ghost use Rattle.dom_edit.specs.Whole.{IsShown};
 ghost use Rattle.dom_session.specs.Stands.{IsStep};
+ghost use Rattle.dom_session.specs.Ending.{IsKept};
 ghost use Rattle.dom_session.specs.Refusing.{making_refusal};
 ghost use Rattle.dom_session.specs.Limiting.{numbered};
 
@@ -52,6 +53,7 @@ pub(crate) fn new_document(
     requires numbers { numbers ≤ 4294967295 }
     requires shown { IsShown world.old }
     ensures step { IfOk result (λ reply. IsStep world.old world.new (numbered numbers) NewDocument (reply_of reply)) }
+    ensures left { OnErr result (IsKept world.old world.new) }
 {
     if numbers <= world.tree.made() {
         return Ok(Brief::Own(OwnError::Limit));
@@ -71,6 +73,7 @@ pub(crate) fn create_element(
     requires numbers { numbers ≤ 4294967295 }
     requires shown { IsShown world.old }
     ensures step { IfOk result (λ reply. IsStep world.old world.new (numbered numbers) (CreateElement document name.now) (reply_of reply)) }
+    ensures left { OnErr result (IsKept world.old world.new) }
 {
     if let Some(reply) = refusal(world, numbers, document) {
         return Ok(reply);
@@ -94,6 +97,7 @@ pub(crate) fn create_text(
     requires numbers { numbers ≤ 4294967295 }
     requires shown { IsShown world.old }
     ensures step { IfOk result (λ reply. IsStep world.old world.new (numbered numbers) (CreateText document text) (reply_of reply)) }
+    ensures left { OnErr result (IsKept world.old world.new) }
 {
     if let Some(reply) = refusal(world, numbers, document) {
         return Ok(reply);
@@ -114,6 +118,7 @@ pub(crate) fn create_comment(
     requires numbers { numbers ≤ 4294967295 }
     requires shown { IsShown world.old }
     ensures step { IfOk result (λ reply. IsStep world.old world.new (numbered numbers) (CreateComment document text) (reply_of reply)) }
+    ensures left { OnErr result (IsKept world.old world.new) }
 {
     if let Some(reply) = refusal(world, numbers, document) {
         return Ok(reply);
@@ -149,6 +154,7 @@ pub(crate) fn create_instruction(
     requires numbers { numbers ≤ 4294967295 }
     requires shown { IsShown world.old }
     ensures step { IfOk result (λ reply. IsStep world.old world.new (numbered numbers) (CreatePI document (string_bytes target) text) (reply_of reply)) }
+    ensures left { OnErr result (IsKept world.old world.new) }
 {
     if let Some(reply) = refusal(world, numbers, document) {
         return Ok(reply);
@@ -179,6 +185,7 @@ pub(crate) fn create_doctype(
     requires shown { IsShown world.old }
     ensures step { IfOk result (λ reply. IsStep world.old world.new (numbered numbers)
         (CreateDoctype document (string_bytes name) (string_bytes public_id) (string_bytes system_id)) (reply_of reply)) }
+    ensures left { OnErr result (IsKept world.old world.new) }
 {
     if let Some(reply) = refusal(world, numbers, document) {
         return Ok(reply);
@@ -201,6 +208,7 @@ pub(crate) fn create_fragment(
     requires numbers { numbers ≤ 4294967295 }
     requires shown { IsShown world.old }
     ensures step { IfOk result (λ reply. IsStep world.old world.new (numbered numbers) (CreateFragment document) (reply_of reply)) }
+    ensures left { OnErr result (IsKept world.old world.new) }
 {
     if let Some(reply) = refusal(world, numbers, document) {
         return Ok(reply);
@@ -220,6 +228,7 @@ pub(crate) fn make_nodes(
     requires numbers { numbers ≤ 4294967295 }
     requires shown { IsShown world.old }
     ensures step { IfOk result (λ reply. IsStep world.old world.new (numbered numbers) (making_view command) (reply_of reply)) }
+    ensures left { OnErr result (IsKept world.old world.new) }
 {
     match command {
         Making::NewDocument => new_document(world, numbers, alloc),

@@ -1,12 +1,13 @@
 //! The commands on mutation observers (DOM Standard, "Mutation observers").
 
-ghost use Rattle.std.specs.Prelude.{◌≡◌, ◌≤◌, IfOk};
+ghost use Rattle.std.specs.Prelude.{◌≡◌, ◌≤◌, IfOk, OnErr};
 ghost use Rattle.dom_model.specs.Commands.Command.{CreateObserver, Observe, Disconnect, TakeRecords, Notify, Pending, ReleaseObserver, TakePending, TellObserver};
 ghost use Rattle.dom_model.specs.Commands.Guards.{Bounds};
 ghost use Rattle.dom_observe.specs.Notifying.{told_of};
 ghost use Rattle.dom_edit.specs.Whole.{IsShown};
 ghost use Rattle.dom_session.specs.Views.{observing_view};
 ghost use Rattle.dom_session.specs.Stands.{IsStep};
+ghost use Rattle.dom_session.specs.Ending.{IsKept};
 ghost use Rattle.dom_session.specs.Limiting.{numbered};
 
 use crate::command::Observing;
@@ -22,6 +23,7 @@ pub(crate) fn create_observer(world: &mut World, numbers: u64) -> Result<Reply, 
     requires numbers { numbers ≤ 4294967295 }
     requires shown { IsShown world.old }
     ensures step { IfOk result (IsStep world.old world.new (numbered numbers) CreateObserver) }
+    ensures left { OnErr result (IsKept world.old world.new) }
 {
     if numbers <= world.observers.made() as u64 {
         return Ok(Reply::Own(OwnError::Limit));
@@ -39,6 +41,7 @@ pub(crate) fn observe(
 ) -> Result<Reply, AllocError>
     requires shown { IsShown world.old }
     ensures step { IfOk result (λ reply. (b : Bounds) → IsStep world.old world.new b (Observe observer node options) reply) }
+    ensures left { OnErr result (IsKept world.old world.new) }
 {
     if !world.observers.holds(observer) || !world.tree.holds(node) {
         return Ok(Reply::Own(OwnError::NoSuchObject));
@@ -102,6 +105,7 @@ fn all_told(alloc: Global, all: Vec<(ObserverId, Vec<Record>)>) -> Result<Vec<To
 pub(crate) fn notify(world: &mut World, alloc: Global) -> Result<Reply, AllocError>
     requires shown { IsShown world.old }
     ensures step { IfOk result (λ reply. (b : Bounds) → IsStep world.old world.new b Notify reply) }
+    ensures left { OnErr result (IsKept world.old world.new) }
 {
     let all = world.observers.notify()?;
     Ok(Reply::Done(Answer::Notified(all_told(alloc, all)?)))
@@ -126,25 +130,18 @@ pub(crate) fn pending(world: &World, alloc: Global) -> Result<Reply, AllocError>
     Ok(Reply::Done(Answer::Numbers(numbers)))
 }
 
-// The numbers of observers.
-fn numbers_of(alloc: Global, observers: Vec<ObserverId>) -> Result<Vec<u32>, AllocError>
-    ensures { IfOk result (λ numbers. numbers.items ≡ observers.items) }
-{
-    let mut numbers: Vec<u32> = Vec::new(alloc);
-    for observer in observers {
-        numbers.push(observer.number())?;
-    }
-    Ok(numbers)
-}
-
 /// Takes the observers that wait to be told: none of them waits any more, and each is to be told in this order (the first step of "notify mutation
 /// observers").
 pub(crate) fn take_pending(world: &mut World, alloc: Global) -> Result<Reply, AllocError>
     requires shown { IsShown world.old }
     ensures step { IfOk result (λ reply. (b : Bounds) → IsStep world.old world.new b TakePending reply) }
+    ensures unchanged { OnErr result (world.new ≡ world.old) }
+    ensures left { OnErr result (IsKept world.old world.new) }
 {
-    let taken = world.observers.take_pending()?;
-    Ok(Reply::Done(Answer::Numbers(numbers_of(alloc, taken)?)))
+    // the answer comes first, so that nothing is taken where there is no room for it
+    let numbers = pending_numbers(&world.observers, alloc)?;
+    let _ = world.observers.take_pending()?;
+    Ok(Reply::Done(Answer::Numbers(numbers)))
 }
 
 /// Tells an observer in its turn: takes the records that wait for it, and ends its transient registrations (the second step of "notify mutation
@@ -169,6 +166,7 @@ pub(crate) fn watch(
     requires numbers { numbers ≤ 4294967295 }
     requires shown { IsShown world.old }
     ensures step { IfOk result (IsStep world.old world.new (numbered numbers) (observing_view command)) }
+    ensures left { OnErr result (IsKept world.old world.new) }
 {
     match command {
         Observing::CreateObserver => create_observer(world, numbers),

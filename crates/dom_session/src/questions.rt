@@ -1,12 +1,13 @@
 //! Questions about nodes (DOM Standard, "Interface Node").
 
-ghost use Rattle.std.specs.Prelude.{◌≡◌, IfOk};
+ghost use Rattle.std.specs.Prelude.{◌≡◌, IfOk, OnErr};
 ghost use Rattle.dom_model.specs.Forests.Forest.{HasNode, children_of};
 ghost use Rattle.dom_model.specs.Commands.Command.{DescribeNode, Children, Index, Length, Root};
 ghost use Rattle.dom_model.specs.Commands.Guards.{Bounds};
 ghost use Rattle.dom_edit.specs.Whole.{IsShown};
 ghost use Rattle.dom_session.specs.Views.{asking_view};
 ghost use Rattle.dom_session.specs.Stands.{IsStep};
+ghost use Rattle.dom_session.specs.Ending.{IsKept};
 
 use crate::command::Asking;
 use crate::printing::print_tree;
@@ -109,6 +110,7 @@ pub(crate) fn ask_tree(
 ) -> Result<Reply, AllocError>
     requires shown { IsShown world.old }
     ensures step { IfOk result (λ reply. (b : Bounds) → IsStep world.old world.new b (asking_view command) reply) }
+    ensures left { OnErr result (IsKept world.old world.new) }
 {
     match command {
         Asking::DescribeNode(node) => describe_node(world, alloc, node),

@@ -1,11 +1,12 @@
 //! The commands that make, tell and release live ranges (DOM Standard, "Ranges").
 
-ghost use Rattle.std.specs.Prelude.{◌≤◌, IfOk};
+ghost use Rattle.std.specs.Prelude.{◌≤◌, IfOk, OnErr};
 ghost use Rattle.dom_model.specs.Commands.Command.{CreateRange, CloneRange, DescribeRange, ReleaseRange};
 ghost use Rattle.dom_model.specs.Commands.Guards.{Bounds};
 ghost use Rattle.dom_edit.specs.Whole.{IsShown};
 ghost use Rattle.dom_session.specs.Views.{ranging_view};
 ghost use Rattle.dom_session.specs.Stands.{IsStep};
+ghost use Rattle.dom_session.specs.Ending.{IsKept};
 ghost use Rattle.dom_session.specs.Limiting.{numbered};
 
 use crate::command::Ranging;
@@ -27,6 +28,7 @@ pub(crate) fn create_range(
     requires numbers { numbers ≤ 4294967295 }
     requires shown { IsShown world.old }
     ensures step { IfOk result (IsStep world.old world.new (numbered numbers) (CreateRange document)) }
+    ensures left { OnErr result (IsKept world.old world.new) }
 {
     if !world.tree.holds(document) {
         return Ok(Reply::Own(OwnError::NoSuchObject));
@@ -54,6 +56,7 @@ pub(crate) fn clone_range(
     requires numbers { numbers ≤ 4294967295 }
     requires shown { IsShown world.old }
     ensures step { IfOk result (IsStep world.old world.new (numbered numbers) (CloneRange range)) }
+    ensures left { OnErr result (IsKept world.old world.new) }
 {
     if !world.ranges.holds(range) {
         return Ok(Reply::Own(OwnError::NoSuchObject));
@@ -98,6 +101,7 @@ pub(crate) fn act_on_ranges(
     requires numbers { numbers ≤ 4294967295 }
     requires shown { IsShown world.old }
     ensures step { IfOk result (IsStep world.old world.new (numbered numbers) (ranging_view command)) }
+    ensures left { OnErr result (IsKept world.old world.new) }
 {
     match command {
         Ranging::CreateRange(document) => create_range(world, numbers, document),

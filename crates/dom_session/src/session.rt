@@ -8,15 +8,19 @@ ghost use Rattle.dom_model.specs.Commands.Reply.{is_refusal};
 ghost use Rattle.dom_session.specs.Brief.{reply_of};
 ghost use Rattle.dom_session.specs.Views.{command_view, making_view, editing_view, reply_view};
 ghost use Rattle.dom_session.specs.Stands.{StandsFor, IsAnswered};
+ghost use Rattle.dom_session.specs.Ending.{IsLeft};
 ghost use Rattle.dom_session.specs.Bounding.{bounds_of};
 ghost use Rattle.dom_session.specs.InUse.{in_use_of, in_use_in};
 ghost use Rattle.dom_session.specs.Links.{links_in, first_child_in, last_child_in, child_in, count_in, laid_over};
+ghost use Rattle.dom_session.specs.Lending.{lent_as, data_in, attribute_in};
+ghost use Rattle.dom_attrs.specs.Entries.{attribute_at};
 
 use crate::answering::answered;
 use crate::brief::Brief;
 use crate::command::{Command, Editing, Making};
 use crate::editing::edit_tree;
 use crate::in_use::{self, Counts};
+use crate::lending;
 use crate::links::{self, Links};
 use crate::making::{create_element, create_text, make_nodes};
 use crate::reply::Reply;
@@ -64,9 +68,10 @@ impl Model for Session {
     ghost view = { λ s. record { world = s.world; bounds = bounds_of s.limits; ended = s.ended } };
 
     ghost use Rattle.std.specs.Prelude.{◌≡◌, ◌≤◌, false};
-    ghost use Rattle.dom_edit.specs.Whole.{IsShown};
+    ghost use Rattle.dom_edit.specs.Whole.{IsShown, IsWhole};
 
-    ghost invariant = { λ s. (s.limits.numbers ≤ 4294967295) × (s.ended ≡ false → IsShown s.world) };
+    ghost invariant = { λ s. (s.limits.numbers ≤ 4294967295) × (s.ended ≡ false → IsShown s.world)
+        × IsWhole s.world };
 }
 
 impl Session {
@@ -88,6 +93,8 @@ impl Session {
     }
 
     /// Answers a command. A growth that is refused ends the session: that call and every later one answer `Ended`.
+    ///
+    /// What was held is then held still, and can be read: each node with its label.
     pub fn apply(&mut self, command: Command) -> Result<Reply, Ended>
         // For every world that the session stands for, the reply is that world's answer, and the session stands for its next world.
         ensures answers { IfOk result
@@ -95,6 +102,7 @@ impl Session {
         ensures refused { IfOk result (λ reply. is_refusal (reply_view reply) ≡ true → self.new ≡ self.old) }
         ensures open { OnOk result (self.new.ended ≡ false) }
         ensures ended { OnErr result (self.new.ended ≡ true) }
+        ensures left { OnErr result (IsLeft self.old self.new) }
         ensures stays_ended { self.old.ended ≡ true → IsErr result }
         ensures bounds { self.new.bounds ≡ self.old.bounds }
     {
@@ -117,6 +125,7 @@ impl Session {
         ensures refused { IfOk result (λ reply. is_refusal (reply_view (reply_of reply)) ≡ true → self.new ≡ self.old) }
         ensures open { OnOk result (self.new.ended ≡ false) }
         ensures ended { OnErr result (self.new.ended ≡ true) }
+        ensures left { OnErr result (IsLeft self.old self.new) }
         ensures stays_ended { self.old.ended ≡ true → IsErr result }
         ensures bounds { self.new.bounds ≡ self.old.bounds }
     {
@@ -137,6 +146,7 @@ impl Session {
         ensures refused { IfOk result (λ reply. is_refusal (reply_view (reply_of reply)) ≡ true → self.new ≡ self.old) }
         ensures open { OnOk result (self.new.ended ≡ false) }
         ensures ended { OnErr result (self.new.ended ≡ true) }
+        ensures left { OnErr result (IsLeft self.old self.new) }
         ensures stays_ended { self.old.ended ≡ true → IsErr result }
         ensures bounds { self.new.bounds ≡ self.old.bounds }
     {
@@ -163,6 +173,7 @@ impl Session {
         ensures refused { IfOk result (λ reply. is_refusal (reply_view (reply_of reply)) ≡ true → self.new ≡ self.old) }
         ensures open { OnOk result (self.new.ended ≡ false) }
         ensures ended { OnErr result (self.new.ended ≡ true) }
+        ensures left { OnErr result (IsLeft self.old self.new) }
         ensures stays_ended { self.old.ended ≡ true → IsErr result }
         ensures bounds { self.new.bounds ≡ self.old.bounds }
     {
@@ -189,6 +200,7 @@ impl Session {
         ensures refused { IfOk result (λ reply. is_refusal (reply_view (reply_of reply)) ≡ true → self.new ≡ self.old) }
         ensures open { OnOk result (self.new.ended ≡ false) }
         ensures ended { OnErr result (self.new.ended ≡ true) }
+        ensures left { OnErr result (IsLeft self.old self.new) }
         ensures stays_ended { self.old.ended ≡ true → IsErr result }
         ensures bounds { self.new.bounds ≡ self.old.bounds }
     {
@@ -209,6 +221,7 @@ impl Session {
         ensures refused { IfOk result (λ reply. is_refusal (reply_view (reply_of reply)) ≡ true → self.new ≡ self.old) }
         ensures open { OnOk result (self.new.ended ≡ false) }
         ensures ended { OnErr result (self.new.ended ≡ true) }
+        ensures left { OnErr result (self.new ≡ self.old) }
         ensures stays_ended { self.old.ended ≡ true → IsErr result }
         ensures bounds { self.new.bounds ≡ self.old.bounds }
     {
@@ -225,6 +238,7 @@ impl Session {
         ensures refused { IfOk result (λ reply. is_refusal (reply_view (reply_of reply)) ≡ true → self.new ≡ self.old) }
         ensures open { OnOk result (self.new.ended ≡ false) }
         ensures ended { OnErr result (self.new.ended ≡ true) }
+        ensures left { OnErr result (self.new ≡ self.old) }
         ensures stays_ended { self.old.ended ≡ true → IsErr result }
         ensures bounds { self.new.bounds ≡ self.old.bounds }
     {
@@ -241,6 +255,7 @@ impl Session {
         ensures refused { IfOk result (λ reply. is_refusal (reply_view (reply_of reply)) ≡ true → self.new ≡ self.old) }
         ensures open { OnOk result (self.new.ended ≡ false) }
         ensures ended { OnErr result (self.new.ended ≡ true) }
+        ensures left { OnErr result (self.new ≡ self.old) }
         ensures stays_ended { self.old.ended ≡ true → IsErr result }
         ensures bounds { self.new.bounds ≡ self.old.bounds }
     {
@@ -293,6 +308,26 @@ impl Session {
         ensures own_copied { into.new ≡ laid_over (children_of self.now.world.tree.forest node) into.old }
     {
         links::copy_children(&self.world.tree, node, into)
+    }
+
+    /// The data of a node, lent where it lies; none where its kind has no data.
+    pub fn data_of(&self, node: NodeId) -> Result<Option<&[u16]>, OwnError>
+        ensures shown { (w : PlainWorld) → StandsFor self.now w → lent_as (λ units. units.now) result ≡ data_in w.forest node }
+        ensures own { lent_as (λ units. units.now) result ≡ data_in self.now.world.tree.forest node }
+    {
+        lending::data_of(&self.world.tree, node)
+    }
+
+    /// The attribute of a node at a place, its name and its value, lent where they lie; none past the last.
+    pub fn attribute_at(
+        &self,
+        node: NodeId,
+        index: usize,
+    ) -> Result<Option<(&str, &Units)>, OwnError>
+        ensures shown { (w : PlainWorld) → StandsFor self.now w → lent_as attribute_at result ≡ attribute_in index w.forest node }
+        ensures own { lent_as attribute_at result ≡ attribute_in index self.now.world.tree.forest node }
+    {
+        lending::attribute_at(&self.world.tree, node, index)
     }
 
     /// How many there are of each kind of object, in constant time. No command is applied, and no memory taken.

@@ -1,11 +1,12 @@
 //! The commands on static ranges (DOM Standard, "Interface StaticRange").
 
-ghost use Rattle.std.specs.Prelude.{◌≤◌, IfOk};
+ghost use Rattle.std.specs.Prelude.{◌≤◌, IfOk, OnErr};
 ghost use Rattle.dom_model.specs.Commands.Command.{CreateStaticRange, DescribeStaticRange, ReleaseStaticRange};
 ghost use Rattle.dom_model.specs.Commands.Guards.{Bounds};
 ghost use Rattle.dom_edit.specs.Whole.{IsShown};
 ghost use Rattle.dom_session.specs.Views.{static_ranging_view};
 ghost use Rattle.dom_session.specs.Stands.{IsStep};
+ghost use Rattle.dom_session.specs.Ending.{IsKept};
 ghost use Rattle.dom_session.specs.Limiting.{numbered};
 
 use crate::command::StaticRanging;
@@ -26,6 +27,7 @@ pub(crate) fn create_static_range(
     requires numbers { numbers ≤ 4294967295 }
     requires shown { IsShown world.old }
     ensures step { IfOk result (IsStep world.old world.new (numbered numbers) (CreateStaticRange start end)) }
+    ensures left { OnErr result (IsKept world.old world.new) }
 {
     if !world.tree.holds(start.node) || !world.tree.holds(end.node) {
         return Ok(Reply::Own(OwnError::NoSuchObject));
@@ -76,6 +78,7 @@ pub(crate) fn act_on_statics(
     requires numbers { numbers ≤ 4294967295 }
     requires shown { IsShown world.old }
     ensures step { IfOk result (IsStep world.old world.new (numbered numbers) (static_ranging_view command)) }
+    ensures left { OnErr result (IsKept world.old world.new) }
 {
     match command {
         StaticRanging::CreateStaticRange(start, end) => create_static_range(

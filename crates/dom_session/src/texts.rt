@@ -1,12 +1,13 @@
 //! The commands on data and text (DOM Standard, "Interface CharacterData", "Interface Text").
 
-ghost use Rattle.std.specs.Prelude.{◌≡◌, ◌≤◌, option_map, IfOk};
+ghost use Rattle.std.specs.Prelude.{◌≡◌, ◌≤◌, option_map, IfOk, OnErr};
 ghost use Rattle.dom_model.specs.Forests.Kinds.{is_character_data};
 ghost use Rattle.dom_model.specs.Commands.Command.{GetData, SetData, AppendData, InsertData, DeleteData, ReplaceData, SubstringData, SplitText, TextContent, SetTextContent, Normalize};
 ghost use Rattle.dom_model.specs.Commands.Guards.{Bounds};
 ghost use Rattle.dom_edit.specs.Whole.{IsShown};
 ghost use Rattle.dom_session.specs.Views.{texts_view, reply_view};
 ghost use Rattle.dom_session.specs.Stands.{IsStep};
+ghost use Rattle.dom_session.specs.Ending.{IsKept};
 ghost use Rattle.dom_session.specs.Limiting.{numbered};
 ghost use Rattle.dom_session.specs.Refusing.{kind_refusal};
 
@@ -54,6 +55,7 @@ pub(crate) fn set_data(
 ) -> Result<Reply, AllocError>
     requires shown { IsShown world.old }
     ensures step { IfOk result (λ reply. (b : Bounds) → IsStep world.old world.new b (SetData node text.now) reply) }
+    ensures left { OnErr result (IsKept world.old world.new) }
 {
     if let Some(reply) = refusal(world, node) {
         return Ok(reply);
@@ -73,6 +75,7 @@ pub(crate) fn replace_data(
 ) -> Result<Reply, AllocError>
     requires shown { IsShown world.old }
     ensures step { IfOk result (λ reply. (b : Bounds) → IsStep world.old world.new b (ReplaceData node offset count text.now) reply) }
+    ensures left { OnErr result (IsKept world.old world.new) }
 {
     if let Some(reply) = refusal(world, node) {
         return Ok(reply);
@@ -92,6 +95,7 @@ pub(crate) fn append_data(
 ) -> Result<Reply, AllocError>
     requires shown { IsShown world.old }
     ensures step { IfOk result (λ reply. (b : Bounds) → IsStep world.old world.new b (AppendData node text.now) reply) }
+    ensures left { OnErr result (IsKept world.old world.new) }
 {
     if !world.tree.holds(node) {
         return Ok(Reply::Own(OwnError::NoSuchObject));
@@ -110,6 +114,7 @@ pub(crate) fn insert_data(
 ) -> Result<Reply, AllocError>
     requires shown { IsShown world.old }
     ensures step { IfOk result (λ reply. (b : Bounds) → IsStep world.old world.new b (InsertData node offset text.now) reply) }
+    ensures left { OnErr result (IsKept world.old world.new) }
 {
     replace_data(world, alloc, node, offset as usize, 0, text)
 }
@@ -124,6 +129,7 @@ pub(crate) fn delete_data(
 ) -> Result<Reply, AllocError>
     requires shown { IsShown world.old }
     ensures step { IfOk result (λ reply. (b : Bounds) → IsStep world.old world.new b (DeleteData node offset count) reply) }
+    ensures left { OnErr result (IsKept world.old world.new) }
 {
     replace_data(world, alloc, node, offset as usize, count as usize, &[])
 }
@@ -171,6 +177,7 @@ pub(crate) fn set_text_content(
     requires numbers { numbers ≤ 4294967295 }
     requires shown { IsShown world.old }
     ensures step { IfOk result (IsStep world.old world.new (numbered numbers) (SetTextContent node text)) }
+    ensures left { OnErr result (IsKept world.old world.new) }
 {
     if !world.tree.holds(node) {
         return Ok(Reply::Own(OwnError::NoSuchObject));
@@ -193,6 +200,7 @@ pub(crate) fn split_text(
     requires numbers { numbers ≤ 4294967295 }
     requires shown { IsShown world.old }
     ensures step { IfOk result (IsStep world.old world.new (numbered numbers) (SplitText text offset)) }
+    ensures left { OnErr result (IsKept world.old world.new) }
 {
     if let Some(reply) = kind_refusal(world, text, Kind::Text) {
         return Ok(reply);
@@ -210,6 +218,7 @@ pub(crate) fn split_text(
 pub(crate) fn normalize(world: &mut World, alloc: Global, node: NodeId) -> Result<Reply, AllocError>
     requires shown { IsShown world.old }
     ensures step { IfOk result (λ reply. (b : Bounds) → IsStep world.old world.new b (Normalize node) reply) }
+    ensures left { OnErr result (IsKept world.old world.new) }
 {
     if !world.tree.holds(node) {
         return Ok(Reply::Own(OwnError::NoSuchObject));
@@ -228,6 +237,7 @@ pub(crate) fn change_texts(
     requires numbers { numbers ≤ 4294967295 }
     requires shown { IsShown world.old }
     ensures step { IfOk result (IsStep world.old world.new (numbered numbers) (texts_view command)) }
+    ensures left { OnErr result (IsKept world.old world.new) }
 {
     match command {
         Texts::GetData(node) => data(world, alloc, node),

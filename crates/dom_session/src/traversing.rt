@@ -1,6 +1,6 @@
 //! The commands on iterators and walkers (DOM Standard, "Traversal").
 
-ghost use Rattle.std.specs.Prelude.{◌≡◌, ◌≤◌, IfOk};
+ghost use Rattle.std.specs.Prelude.{◌≡◌, ◌≤◌, IfOk, OnErr};
 ghost use Rattle.dom_model.specs.Commands.Command.{CreateIterator, CreateWalker, DescribeIterator, NextNode, PreviousNode, DescribeWalker, SetCurrent, Walk, ReleaseIterator, ReleaseWalker};
 ghost use Rattle.dom_model.specs.Commands.Guards.{Bounds};
 ghost use Rattle.dom_model.specs.Commands.Reply.{Done, MaybeNumber};
@@ -8,6 +8,7 @@ ghost use Rattle.dom_edit.specs.Whole.{IsShown};
 ghost use Rattle.dom_session.specs.Brief.{reply_of};
 ghost use Rattle.dom_session.specs.Views.{traversing_view, reply_view};
 ghost use Rattle.dom_session.specs.Stands.{IsStep};
+ghost use Rattle.dom_session.specs.Ending.{IsKept};
 ghost use Rattle.dom_session.specs.Limiting.{numbered};
 
 use crate::brief::Brief;
@@ -39,6 +40,7 @@ pub(crate) fn create_iterator(
     requires numbers { numbers ≤ 4294967295 }
     requires shown { IsShown world.old }
     ensures step { IfOk result (IsStep world.old world.new (numbered numbers) (CreateIterator root filter)) }
+    ensures left { OnErr result (IsKept world.old world.new) }
 {
     if !world.tree.holds(root) {
         return Ok(Reply::Own(OwnError::NoSuchObject));
@@ -60,6 +62,7 @@ pub(crate) fn create_walker(
     requires numbers { numbers ≤ 4294967295 }
     requires shown { IsShown world.old }
     ensures step { IfOk result (IsStep world.old world.new (numbered numbers) (CreateWalker root filter)) }
+    ensures left { OnErr result (IsKept world.old world.new) }
 {
     if !world.tree.holds(root) {
         return Ok(Reply::Own(OwnError::NoSuchObject));
@@ -174,6 +177,7 @@ pub(crate) fn traverse(
     requires numbers { numbers ≤ 4294967295 }
     requires shown { IsShown world.old }
     ensures step { IfOk result (IsStep world.old world.new (numbered numbers) (traversing_view command)) }
+    ensures left { OnErr result (IsKept world.old world.new) }
 {
     match command {
         Traversing::CreateIterator(root, filter) => create_iterator(world, numbers, root, filter),

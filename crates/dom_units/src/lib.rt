@@ -7,6 +7,7 @@ ghost use Rattle.dom_model.specs.Forests.Texts.{units_of, is_well_formed_units, 
 use std::alloc::{AllocError, Global};
 use std::marker::Model;
 
+mod room;
 mod scan;
 mod shift;
 
@@ -49,7 +50,8 @@ impl Units {
     pub fn from_str(alloc: Global, text: &str) -> Result<Units, AllocError>
         ensures { IfOk result (λ units. units ≡ units_of text.now) }
     {
-        let units = scan::encode(alloc, text)?;
+        let mut units = scan::encode(alloc, text)?;
+        units.shrink_to_fit();
         Ok(Units { units })
     }
 
@@ -93,7 +95,9 @@ impl Units {
 
     /// Puts `added` in place of the `count` units from `at` on ("replace data").
     ///
-    /// It takes memory at most once, before anything moves, and moves what follows once. Where no unit is left, it gives its memory back.
+    /// A text that grows takes memory at most once, before anything moves, and what follows moves
+    /// once. Room past twice the length, and past 32 units, is given back where memory for a smaller
+    /// block is there; and all of it where no unit is left.
     pub fn splice(&mut self, at: usize, count: usize, added: &[u16]) -> Result<(), AllocError>
         requires within { at ≤ length self.old }
         requires enough { count ≤ length self.old - at }
@@ -101,10 +105,7 @@ impl Units {
         ensures err { OnErr result (self.new ≡ self.old) }
     {
         let outcome = shift::splice(&mut self.units, at, count, added);
-        if self.is_empty() {
-            let alloc = *self.units.allocator();
-            self.units = Vec::new(alloc);
-        }
+        room::give_back(&mut self.units);
         outcome
     }
 

@@ -27,10 +27,12 @@ use Rattle.dom_model.proofs.TokenText.EditsMade.EditsOfDrawnContents.{sound-rang
 use Rattle.dom_model.proofs.TokenText.EditsMade.EditsOfInsertedNodes.{kept-insert_node}
 use Rattle.dom_ranges.specs.Tables.{RangeTable, range_in}
 use Rattle.dom_edit.specs.declared.world.World.{World}
+use Rattle.dom_edit.specs.Keeping.{present}
 use Rattle.dom_edit.specs.Whole.{AreCovered, IsWhole, Keeps, Follows, unwatched}
 use Rattle.dom_edit.proofs.Following.{keeps-unwatched, follows-then, whole-sound}
 use Rattle.dom_edit.proofs.Leaving.{sound-unwatched, it_is}
 use Rattle.dom_edit.proofs.InsertedNodes.{follows-as}
+use Rattle.dom_edit.proofs.WatchersKept.{present-set}
 use Rattle.dom_wrap.specs.Outcomes.{left_by, Passes, MayTake, put_around}
 use Rattle.dom_wrap.proofs.InsertedNode.{unless-none, unless-allows, left-alike, start-alike, parent-alike, reference-alike}
 
@@ -322,6 +324,9 @@ module _ (v : World) (h : IsWhole v) (r n : ℕ) (t : RangeTable) (allowed : che
 
   pub whole-selected : IsWhole (record v { ranges = t })
   whole-selected = ends-whole v h r n t there.0 there.1 table
+
+  pub present-selected : IsSome (range_in v.ranges r) → present t.ranges ≡ present v.ranges.ranges
+  present-selected held = ap (λ (x : RangeTable). present x.ranges) table ∙ present-set v.ranges.ranges r there.0 held
 
 -- All of it.
 

@@ -30,41 +30,51 @@ fn put(rt: &impl Abort, tree: &mut Tree<Content>, parent: NodeId, child: NodeId)
     tree.put(parent, child, None);
 }
 
-/// A document, and an element with two others in it, the second of which has one of its own.
-fn five_nodes(rt: &impl Abort, alloc: Global) -> Result<Tree<Content>, AllocError> {
-    let mut tree = Tree::new(alloc);
-    let document = made(rt, &mut tree, Kind::Document, None)?;
-    let top = made(rt, &mut tree, Kind::Element, Some(document))?;
-    let mut last = top;
-    for _ in 0..2 {
-        last = made(rt, &mut tree, Kind::Element, Some(document))?;
-        put(rt, &mut tree, top, last);
+// The document 0, and elements, each the last child of the one of that number.
+fn grow(rt: &impl Abort, tree: &mut Tree<Content>, parents: &[u32]) -> Result<(), AllocError> {
+    let document = made(rt, tree, Kind::Document, None)?;
+    let _top = made(rt, tree, Kind::Element, Some(document))?;
+    for parent in parents {
+        let child = made(rt, tree, Kind::Element, Some(document))?;
+        put(rt, tree, NodeId::new(*parent), child);
     }
-    let inner = made(rt, &mut tree, Kind::Element, Some(document))?;
-    put(rt, &mut tree, last, inner);
-    Ok(tree)
+    Ok(())
+}
+
+// Two nodes, how the second stands to the first, whether it is inside it, and whether both are equal.
+type Row = (u32, u32, u16, bool, bool);
+
+// Of the element 1 with 2 and 3 in it, and 4 in 3.
+const ROWS: &[Row] = &[
+    (1, 1, 0, true, true),
+    (0, 1, 37, false, false),
+    (1, 0, 35, false, false),
+    (1, 4, 20, true, false),
+    (4, 1, 10, false, false),
+    (2, 3, 4, false, false),
+    (4, 2, 2, false, true),
+];
+
+fn stand(rt: &impl Abort, tree: &Tree<Content>, row: &Row) {
+    let (node, other, bits, inside, equal) = *row;
+    let (node, other) = (NodeId::new(node), NodeId::new(other));
+    assert!(rt; tree.holds(node));
+    assert!(rt; tree.holds(other));
+    assert_eq!(rt; position(tree, node, other), bits);
+    assert_eq!(rt; contains(tree, node, other), inside);
+    assert_eq!(rt; is_equal(tree, node, other), equal);
+}
+
+fn stand_all(rt: &impl Abort, tree: &Tree<Content>) {
+    for row in ROWS {
+        stand(rt, tree, row);
+    }
 }
 
 #[test]
 fn nodes_stand_to_each_other(rt: HostRuntime) -> Result<(), Fail> {
-    let tree = five_nodes(&rt, rt.alloc())?;
-    let rows = [
-        (1, 1, 0, true, true),
-        (0, 1, 37, false, false),
-        (1, 0, 35, false, false),
-        (1, 4, 20, true, false),
-        (4, 1, 10, false, false),
-        (2, 3, 4, false, false),
-        (4, 2, 2, false, true),
-    ];
-    for (node, other, bits, inside, equal) in rows {
-        let node = NodeId::new(node);
-        let other = NodeId::new(other);
-        assert!(rt; tree.holds(node));
-        assert!(rt; tree.holds(other));
-        assert_eq!(rt; position(&tree, node, other), bits);
-        assert_eq!(rt; contains(&tree, node, other), inside);
-        assert_eq!(rt; is_equal(&tree, node, other), equal);
-    }
+    let mut tree = Tree::new(rt.alloc());
+    grow(&rt, &mut tree, &[1, 1, 3])?;
+    stand_all(&rt, &tree);
     Ok(())
 }

@@ -1,6 +1,6 @@
 //! Options of observers, and the registrations of one observer on many nodes.
 use dom_kinds::{DomError, Kind, Label};
-use dom_observe::{ObserverId, Observers, RawOptions, Record, settle};
+use dom_observe::{ObserverId, Observers, Options, RawOptions, Record, settle};
 use dom_tree::NodeId;
 use std::alloc::{AllocError, Global};
 use std::process::Abort;
@@ -52,52 +52,79 @@ pub(crate) fn take(
     observers.take(observer)
 }
 
-#[test]
-fn options_are_settled(rt: HostRuntime) -> Result<(), Fail> {
-    let alloc = rt.alloc();
-    assert!(rt; matches!(settle(nothing()), Err(DomError::TypeError)));
+// Asked for the old value or not, attributes are watched.
+fn settles_attributes(rt: &impl Abort) {
     let mut given = nothing();
     given.attribute_old_value = Some(false);
     match settle(given) {
         Ok(options) => assert!(rt; options.attributes && !options.attribute_old_value),
         Err(_) => assert!(rt; false),
     }
-    let mut given = nothing();
-    given.child_list = Some(true);
-    given.attributes = Some(false);
-    given.attribute_filter = Some(Vec::new(alloc));
-    assert!(rt; settle(given).is_err());
+}
+
+// So is the data, where its old value is asked for.
+fn settles_data(rt: &impl Abort) {
     let mut given = nothing();
     given.character_data_old_value = Some(true);
     match settle(given) {
         Ok(options) => assert!(rt; options.character_data && options.character_data_old_value),
         Err(_) => assert!(rt; false),
     }
+}
+
+// A filter of attributes that are not watched is refused.
+fn refuses_a_filter(rt: &impl Abort, alloc: Global) {
+    let mut given = nothing();
+    given.child_list = Some(true);
+    given.attributes = Some(false);
+    given.attribute_filter = Some(Vec::new(alloc));
+    assert!(rt; settle(given).is_err());
+}
+
+// And so are old values of data that is not.
+fn refuses_old_values(rt: &impl Abort) {
     let mut given = nothing();
     given.child_list = Some(true);
     given.character_data = Some(false);
     given.character_data_old_value = Some(true);
     assert!(rt; settle(given).is_err());
-    Ok(())
+}
+
+#[test]
+fn options_are_settled(rt: HostRuntime) {
+    assert!(rt; matches!(settle(nothing()), Err(DomError::TypeError)));
+    settles_attributes(&rt);
+    settles_data(&rt);
+    refuses_a_filter(&rt, rt.alloc());
+    refuses_old_values(&rt);
+}
+
+// What lies below, by the attribute "id".
+fn by_id(alloc: Global) -> Result<RawOptions, Fail> {
+    let id = String::from_str(alloc, "id")?;
+    let names = vec![in alloc; id]?;
+    let mut given = nothing();
+    given.subtree = Some(true);
+    given.attribute_filter = Some(names);
+    Ok(given)
+}
+
+// That attributes by the name "id" are watched, below too, and nothing else.
+fn is_by_id(rt: &impl Abort, options: &Options) {
+    assert!(rt; options.attributes && options.subtree);
+    assert!(rt; !options.child_list && !options.character_data);
+    assert!(rt; !options.attribute_old_value && !options.character_data_old_value);
+    match &options.attribute_filter {
+        Some(names) => assert!(rt; names.len() == 1 && names[0].as_str() == "id"),
+        None => assert!(rt; false, "the filter is copied too"),
+    }
 }
 
 #[test]
 fn options_are_copied(rt: HostRuntime) -> Result<(), Fail> {
-    let alloc = rt.alloc();
-    let mut given = nothing();
-    given.subtree = Some(true);
-    given.attribute_filter = Some(vec![in alloc; String::from_str(alloc, "id")?]?);
+    let given = by_id(rt.alloc())?;
     match settle(given) {
-        Ok(options) => {
-            let copy = options.try_clone(alloc)?;
-            assert!(rt; copy.attributes && copy.subtree);
-            assert!(rt; !copy.child_list && !copy.character_data);
-            assert!(rt; !copy.attribute_old_value && !copy.character_data_old_value);
-            match &copy.attribute_filter {
-                Some(names) => assert!(rt; names.len() == 1 && names[0].as_str() == "id"),
-                None => assert!(rt; false, "the filter is copied too"),
-            }
-        }
+        Ok(options) => is_by_id(&rt, &options.try_clone(rt.alloc())?),
         Err(_) => assert!(rt; false),
     }
     Ok(())

@@ -172,11 +172,11 @@ fn told(observers: &mut Observers) -> Result<usize, AllocError> {
     Ok(told.len())
 }
 
-// The observer is told its record. Where that is refused, the record may be lost.
+// The observer is told its record. Where that is refused, it waits on.
 fn tell(rt: &impl Abort, observers: &mut Observers) -> Result<(), AllocError> {
     match told(observers) {
         Ok(count) => assert_eq!(rt; count, 1),
-        Err(_) => assert!(rt; told(observers)? < 2),
+        Err(_) => assert_eq!(rt; told(observers)?, 1),
     }
     assert!(rt; observers.pending(0).is_none());
     Ok(())
@@ -602,11 +602,11 @@ fn changed_for_many_below(
     Ok(())
 }
 
-// The eight that are left are told their records. Where that is refused, some records may be lost.
+// The eight that are left are told their records. Where that is refused, these wait on.
 fn tell_eight(rt: &impl Abort, observers: &mut Observers) -> Result<(), AllocError> {
     match told(observers) {
         Ok(count) => assert_eq!(rt; count, 8),
-        Err(_) => assert!(rt; told(observers)? < 9),
+        Err(_) => assert_eq!(rt; told(observers)?, 8),
     }
     assert!(rt; observers.pending(0).is_none());
     Ok(())

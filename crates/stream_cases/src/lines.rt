@@ -6,6 +6,7 @@ use dom_session::{
     Rule, Texts, Traversing, Verdict,
 };
 use std::alloc::{AllocError, Global};
+use std::process::Abort;
 use std::test::Fail;
 
 fn is_refused(alloc: Global, line: &[u8], refusal: OwnError) -> Result<bool, AllocError> {
@@ -32,46 +33,63 @@ fn nested(alloc: Global, depth: usize) -> Result<Vec<u8>, AllocError> {
     Ok(line)
 }
 
-#[test]
-fn refused_as_json(rt: HostRuntime) -> Result<(), Fail> {
-    let alloc = rt.alloc();
-    assert!(rt; is_refused(alloc, b"[\"data\",0,]", OwnError::BadJson)?);
-    assert!(rt; is_refused(alloc, b"", OwnError::BadJson)?);
-    assert!(rt; is_refused(alloc, b"  ", OwnError::BadJson)?);
-    assert!(rt; is_refused(alloc, &[255], OwnError::BadJson)?);
-    let deep = nested(alloc, 200)?;
-    assert!(rt; is_refused(alloc, deep.as_slice(), OwnError::BadJson)?);
+// That each of these lines is refused so.
+fn are_refused(
+    rt: &impl Abort,
+    alloc: Global,
+    lines: &[&[u8]],
+    refusal: OwnError,
+) -> Result<(), AllocError> {
+    for line in lines {
+        assert!(rt; is_refused(alloc, line, refusal)?);
+    }
     Ok(())
 }
+
+// The same of arrays in one another, so many.
+fn are_refused_as_deep(
+    rt: &impl Abort,
+    alloc: Global,
+    depth: usize,
+    refusal: OwnError,
+) -> Result<(), AllocError> {
+    let deep = nested(alloc, depth)?;
+    assert!(rt; is_refused(alloc, deep.as_slice(), refusal)?);
+    Ok(())
+}
+
+const NO_JSON: &[&[u8]] = &[b"[\"data\",0,]", b"", b"  ", &[255]];
+
+#[test]
+fn refused_as_json(rt: HostRuntime) -> Result<(), Fail> {
+    are_refused(&rt, rt.alloc(), NO_JSON, OwnError::BadJson)?;
+    are_refused_as_deep(&rt, rt.alloc(), 200, OwnError::BadJson)?;
+    Ok(())
+}
+
+const NO_COMMANDS: &[&[u8]] = &[b"{}", b"[]", b"[\"nosuch\"]", b"[[\"tree\",0]]"];
 
 #[test]
 fn refused_as_command(rt: HostRuntime) -> Result<(), Fail> {
-    let alloc = rt.alloc();
-    assert!(rt; is_refused(alloc, b"{}", OwnError::BadCommand)?);
-    assert!(rt; is_refused(alloc, b"[]", OwnError::BadCommand)?);
-    assert!(rt; is_refused(alloc, b"[\"nosuch\"]", OwnError::BadCommand)?);
-    assert!(rt; is_refused(alloc, b"[[\"tree\",0]]", OwnError::BadCommand)?);
-    let deep = nested(alloc, 100)?;
-    assert!(rt; is_refused(alloc, deep.as_slice(), OwnError::BadCommand)?);
+    are_refused(&rt, rt.alloc(), NO_COMMANDS, OwnError::BadCommand)?;
+    are_refused_as_deep(&rt, rt.alloc(), 100, OwnError::BadCommand)?;
     Ok(())
 }
 
+const BAD_ARGUMENTS: &[&[u8]] = &[
+    b"[\"tree\"]",
+    b"[\"tree\",-1]",
+    b"[\"tree\",4294967296]",
+    b"[\"tree\",1.0]",
+    b"[\"tree\",1e0]",
+    b"[\"tree\",0,0]",
+    b"[\"createElement\",7,5]",
+    b"[\"createText\",0,[97,65536]]",
+];
+
 #[test]
 fn refused_for_arguments(rt: HostRuntime) -> Result<(), Fail> {
-    let alloc = rt.alloc();
-    assert!(rt; is_refused(alloc, b"[\"tree\"]", OwnError::BadArguments)?);
-    assert!(rt; is_refused(alloc, b"[\"tree\",-1]", OwnError::BadArguments)?);
-    assert!(rt; is_refused(alloc, b"[\"tree\",4294967296]", OwnError::BadArguments)?);
-    assert!(rt; is_refused(alloc, b"[\"tree\",1.0]", OwnError::BadArguments)?);
-    assert!(rt; is_refused(alloc, b"[\"tree\",1e0]", OwnError::BadArguments)?);
-    assert!(rt; is_refused(alloc, b"[\"tree\",0,0]", OwnError::BadArguments)?);
-    assert!(rt; is_refused(alloc, b"[\"createElement\",7,5]", OwnError::BadArguments)?);
-    let too_large = is_refused(
-        alloc,
-        b"[\"createText\",0,[97,65536]]",
-        OwnError::BadArguments,
-    )?;
-    assert!(rt; too_large);
+    are_refused(&rt, rt.alloc(), BAD_ARGUMENTS, OwnError::BadArguments)?;
     Ok(())
 }
 
@@ -179,60 +197,94 @@ fn options_told(told: &mut Vec<u32>, options: &RawOptions) -> Result<(), AllocEr
     Ok(())
 }
 
-#[test]
-fn read_commands(rt: HostRuntime) -> Result<(), Fail> {
-    let alloc = rt.alloc();
-    let command = told(alloc, b"[\"newDocument\"]")?;
-    assert_eq!(rt; command.as_slice(), [0].as_slice());
-    let command = told(alloc, b"[\"createElement\",4294967295,\"p\\u00e9\"]")?;
-    assert_eq!(rt;
-        command.as_slice(),
-        [1, 4294967295, 112, 195, 169].as_slice()
-    );
-    let command = told(alloc, "[\"createText\",5,\"a😀\"]".as_bytes())?;
-    assert_eq!(rt; command.as_slice(), [2, 5, 97, 55357, 56832].as_slice());
-    let command = told(alloc, b"[\"createText\",0,[55357,97,0,65535]]")?;
-    assert_eq!(rt; command.as_slice(), [2, 0, 55357, 97, 0, 65535].as_slice());
-    let command = told(alloc, b"[\"appendChild\",1,2]")?;
-    assert_eq!(rt; command.as_slice(), [3, 1, 2].as_slice());
-    let command = told(alloc, b" [ \"tree\" ,\t7 ]\r")?;
-    assert_eq!(rt; command.as_slice(), [4, 7].as_slice());
+// Lines, and the commands that they are read as.
+const COMMANDS: &[(&str, &[u32])] = &[
+    ("[\"newDocument\"]", &[0]),
+    (
+        "[\"createElement\",4294967295,\"p\\u00e9\"]",
+        &[1, 4294967295, 112, 195, 169],
+    ),
+    ("[\"createText\",5,\"a😀\"]", &[2, 5, 97, 55357, 56832]),
+    (
+        "[\"createText\",0,[55357,97,0,65535]]",
+        &[2, 0, 55357, 97, 0, 65535],
+    ),
+    ("[\"appendChild\",1,2]", &[3, 1, 2]),
+    (" [ \"tree\" ,\t7 ]\r", &[4, 7]),
+];
+
+// That the line is read as this command.
+fn is_told(rt: &impl Abort, alloc: Global, line: &str, wanted: &[u32]) -> Result<(), AllocError> {
+    let command = told(alloc, line.as_bytes())?;
+    assert!(rt; command.as_slice() == wanted, "{line}");
     Ok(())
 }
 
+fn are_told(rt: &impl Abort, alloc: Global) -> Result<(), AllocError> {
+    for (line, wanted) in COMMANDS {
+        is_told(rt, alloc, line, wanted)?;
+    }
+    Ok(())
+}
+
+#[test]
+fn read_commands(rt: HostRuntime) -> Result<(), Fail> {
+    are_told(&rt, rt.alloc())?;
+    Ok(())
+}
+
+// Lines, and the last argument of each.
+const LAST_ARGUMENTS: &[(&str, &[u32])] = &[
+    ("[\"insertBefore\",1,2,7]", &[7]),
+    ("[\"insertBefore\",1,2,null]", &[]),
+    ("[\"setTextContent\",1,null]", &[]),
+    ("[\"setTextContent\",1,[97,98]]", &[97, 98]),
+    ("[\"cloneNode\",1,true]", &[1]),
+    ("[\"toggleAttribute\",1,\"a\",false]", &[0]),
+    ("[\"toggleAttribute\",1,\"a\",null]", &[2]),
+    ("[\"walk\",0,\"previousSibling\"]", &[1]),
+    (
+        "[\"createIterator\",1,1,[[\"a\",\"skip\"],[\"*\",\"reject\"]]]",
+        &[0, 1],
+    ),
+    (
+        "[\"observe\",0,1,{\"subtree\":true,\"other\":1,\"attributeFilter\":[\"x\"]}]",
+        &[2, 1, 120],
+    ),
+];
+
 // That the line is read as a command with this last argument.
-fn is_last(alloc: Global, line: &str, argument: &[u32]) -> Result<bool, AllocError> {
+fn is_last(rt: &impl Abort, alloc: Global, line: &str, argument: &[u32]) -> Result<(), AllocError> {
     let told = told(alloc, line.as_bytes())?;
-    Ok(told.as_slice().strip_prefix(&[5]) == Some(argument))
+    assert!(rt;
+        told.as_slice().strip_prefix(&[5]) == Some(argument),
+        "{line}"
+    );
+    Ok(())
+}
+
+fn are_last(rt: &impl Abort, alloc: Global) -> Result<(), AllocError> {
+    for (line, argument) in LAST_ARGUMENTS {
+        is_last(rt, alloc, line, argument)?;
+    }
+    Ok(())
 }
 
 #[test]
 fn arguments_of_each_shape(rt: HostRuntime) -> Result<(), Fail> {
-    let alloc = rt.alloc();
-    assert!(rt; is_last(alloc, "[\"insertBefore\",1,2,7]", &[7])?);
-    assert!(rt; is_last(alloc, "[\"insertBefore\",1,2,null]", &[])?);
-    assert!(rt; is_last(alloc, "[\"setTextContent\",1,null]", &[])?);
-    assert!(rt; is_last(alloc, "[\"setTextContent\",1,[97,98]]", &[97, 98])?);
-    assert!(rt; is_last(alloc, "[\"cloneNode\",1,true]", &[1])?);
-    assert!(rt; is_last(alloc, "[\"toggleAttribute\",1,\"a\",false]", &[0])?);
-    assert!(rt; is_last(alloc, "[\"toggleAttribute\",1,\"a\",null]", &[2])?);
-    assert!(rt; is_last(alloc, "[\"walk\",0,\"previousSibling\"]", &[1])?);
-    let filtered = "[\"createIterator\",1,1,[[\"a\",\"skip\"],[\"*\",\"reject\"]]]";
-    assert!(rt; is_last(alloc, filtered, &[0, 1])?);
-    let given = "{\"subtree\":true,\"other\":1,\"attributeFilter\":[\"x\"]}";
-    let observed = format!(in alloc; "[\"observe\",0,1,{given}]")?;
-    assert!(rt; is_last(alloc, observed.as_str(), &[2, 1, 120])?);
+    are_last(&rt, rt.alloc())?;
     Ok(())
 }
 
+const BAD_SHAPES: &[&[u8]] = &[
+    b"[\"cloneNode\",1,null]",
+    b"[\"walk\",0,\"up\"]",
+    b"[\"createIterator\",1,1,[[\"a\"]]]",
+    b"[\"observe\",0,1,{\"subtree\":1}]",
+];
+
 #[test]
 fn refused_for_the_shape(rt: HostRuntime) -> Result<(), Fail> {
-    let alloc = rt.alloc();
-    assert!(rt; is_refused(alloc, b"[\"cloneNode\",1,null]", OwnError::BadArguments)?);
-    assert!(rt; is_refused(alloc, b"[\"walk\",0,\"up\"]", OwnError::BadArguments)?);
-    let lone = b"[\"createIterator\",1,1,[[\"a\"]]]";
-    assert!(rt; is_refused(alloc, lone, OwnError::BadArguments)?);
-    let counted = b"[\"observe\",0,1,{\"subtree\":1}]";
-    assert!(rt; is_refused(alloc, counted, OwnError::BadArguments)?);
+    are_refused(&rt, rt.alloc(), BAD_SHAPES, OwnError::BadArguments)?;
     Ok(())
 }

@@ -8,6 +8,7 @@ use dom_session::{
 };
 use std::alloc::{AllocError, Global};
 use std::cmp::Ordering;
+use std::process::Abort;
 use std::test::Fail;
 
 fn row(
@@ -26,21 +27,29 @@ fn row(
     })
 }
 
+// That a reply is this line.
+fn is_line(rt: &impl Abort, alloc: Global, reply: &Reply, wanted: &[u8]) -> Result<(), AllocError> {
+    let line = write_reply(alloc, reply)?;
+    assert!(rt; line.as_slice() == wanted);
+    Ok(())
+}
+
+fn are_lines(rt: &impl Abort, alloc: Global) -> Result<(), AllocError> {
+    is_line(rt, alloc, &Reply::Done(Answer::Number(1)), b"{\"ok\":1}\n")?;
+    let refused = Reply::Dom(DomError::HierarchyRequestError);
+    is_line(
+        rt,
+        alloc,
+        &refused,
+        b"{\"error\":\"HierarchyRequestError\"}\n",
+    )?;
+    let refused = Reply::Own(OwnError::NoSuchObject);
+    is_line(rt, alloc, &refused, b"{\"error\":\"no-such-object\"}\n")
+}
+
 #[test]
 fn short_replies(rt: HostRuntime) -> Result<(), Fail> {
-    let alloc = rt.alloc();
-    let line = write_reply(alloc, &Reply::Done(Answer::Number(1)))?;
-    assert_eq!(rt; line.as_slice(), b"{\"ok\":1}\n".as_slice());
-    let line = write_reply(alloc, &Reply::Dom(DomError::HierarchyRequestError))?;
-    assert_eq!(rt;
-        line.as_slice(),
-        b"{\"error\":\"HierarchyRequestError\"}\n".as_slice()
-    );
-    let line = write_reply(alloc, &Reply::Own(OwnError::NoSuchObject))?;
-    assert_eq!(rt;
-        line.as_slice(),
-        b"{\"error\":\"no-such-object\"}\n".as_slice()
-    );
+    are_lines(&rt, rt.alloc())?;
     Ok(())
 }
 
@@ -84,56 +93,97 @@ fn prints(alloc: Global, answer: Answer, wanted: &str) -> Result<bool, AllocErro
     Ok(line.as_slice() == whole.as_bytes())
 }
 
+// Answers that take no memory, by their place in a table, and how they are printed.
+fn plain(place: usize) -> (Answer, &'static str) {
+    match place {
+        0 => (Answer::Nothing, "null"),
+        1 => (Answer::MaybeNumber(None), "null"),
+        2 => (Answer::MaybeNumber(Some(3)), "3"),
+        3 => (Answer::Count(5000000000), "5000000000"),
+        4 => (Answer::Flag(false), "false"),
+        5 => (Answer::Order(Ordering::Less), "-1"),
+        _ => (Answer::Order(Ordering::Greater), "1"),
+    }
+}
+
+// That the answer at a place of that table is printed so.
+fn prints_plain(rt: &impl Abort, alloc: Global, place: usize) -> Result<(), AllocError> {
+    let (answer, wanted) = plain(place);
+    assert!(rt; prints(alloc, answer, wanted)?, "{place}");
+    Ok(())
+}
+
 #[test]
 fn printed_values(rt: HostRuntime) -> Result<(), Fail> {
-    let alloc = rt.alloc();
-    assert!(rt; prints(alloc, Answer::Nothing, "null")?);
-    assert!(rt; prints(alloc, Answer::MaybeNumber(None), "null")?);
-    assert!(rt; prints(alloc, Answer::MaybeNumber(Some(3)), "3")?);
-    assert!(rt; prints(alloc, Answer::Count(5000000000), "5000000000")?);
+    for place in 0..7 {
+        prints_plain(&rt, rt.alloc(), place)?;
+    }
+    Ok(())
+}
+
+fn prints_numbers(rt: &impl Abort, alloc: Global) -> Result<(), AllocError> {
     let numbers = Vec::from_slice(alloc, &[1, 4294967295])?;
     assert!(rt; prints(alloc, Answer::Numbers(numbers), "[1,4294967295]")?);
-    assert!(rt; prints(alloc, Answer::Flag(false), "false")?);
-    assert!(rt; prints(alloc, Answer::Order(Ordering::Less), "-1")?);
-    assert!(rt; prints(alloc, Answer::Order(Ordering::Greater), "1")?);
+    Ok(())
+}
+
+fn prints_units(rt: &impl Abort, alloc: Global) -> Result<(), AllocError> {
     let text = Units::from_str(alloc, "a\"b")?;
     assert!(rt; prints(alloc, Answer::Units(text), "\"a\\\"b\"")?);
     let lone = Units::from_units(alloc, &[55296])?;
     assert!(rt; prints(alloc, Answer::MaybeUnits(Some(lone)), "[55296]")?);
-    let names = vec![in alloc; String::from_str(alloc, "x")?]?;
+    Ok(())
+}
+
+fn prints_names(rt: &impl Abort, alloc: Global) -> Result<(), Fail> {
+    let name = String::from_str(alloc, "x")?;
+    let names = vec![in alloc; name]?;
     assert!(rt; prints(alloc, Answer::Names(names), "[\"x\"]")?);
     Ok(())
 }
 
 #[test]
-fn printed_nodes(rt: HostRuntime) -> Result<(), Fail> {
-    let alloc = rt.alloc();
-    let mut node = Description {
-        document: NodeId::new(8),
-        label: Label::named(alloc, Kind::Element, "b")?,
+fn printed_lists(rt: HostRuntime) -> Result<(), Fail> {
+    prints_numbers(&rt, rt.alloc())?;
+    prints_units(&rt, rt.alloc())?;
+    prints_names(&rt, rt.alloc())
+}
+
+// That a node of that label is printed so, a root without siblings or the second of three children.
+fn prints_node(
+    rt: &impl Abort,
+    alloc: Global,
+    label: Label,
+    is_root: bool,
+    wanted: &str,
+) -> Result<(), AllocError> {
+    let node = Description {
+        document: NodeId::new(if is_root { 0 } else { 8 }),
+        label,
         next: None,
-        parent: Some(NodeId::new(1)),
-        previous: Some(NodeId::new(2)),
+        parent: (!is_root).then_some(NodeId::new(1)),
+        previous: (!is_root).then_some(NodeId::new(2)),
     };
-    let wanted =
-        "{\"document\":8,\"name\":\"b\",\"next\":null,\"parent\":1,\"previous\":2,\"type\":1}";
-    assert!(rt; prints(alloc, Answer::NodeAt(Box::new(alloc, node)?), wanted)?);
-    node = Description {
-        document: NodeId::new(0),
-        label: Label::named(alloc, Kind::DocumentType, "html")?,
-        next: None,
-        parent: None,
-        previous: None,
-    };
-    let wanted =
-        "{\"document\":0,\"name\":\"html\",\"next\":null,\"parent\":null,\"previous\":null,\"public\":\"\",\"system\":\"\",\"type\":10}";
     assert!(rt; prints(alloc, Answer::NodeAt(Box::new(alloc, node)?), wanted)?);
     Ok(())
 }
 
+const ELEMENT: &str =
+    "{\"document\":8,\"name\":\"b\",\"next\":null,\"parent\":1,\"previous\":2,\"type\":1}";
+
+const DOCTYPE: &str =
+    "{\"document\":0,\"name\":\"html\",\"next\":null,\"parent\":null,\"previous\":null,\"public\":\"\",\"system\":\"\",\"type\":10}";
+
 #[test]
-fn printed_places(rt: HostRuntime) -> Result<(), Fail> {
-    let alloc = rt.alloc();
+fn printed_nodes(rt: HostRuntime) -> Result<(), Fail> {
+    let label = Label::named(rt.alloc(), Kind::Element, "b")?;
+    prints_node(&rt, rt.alloc(), label, false, ELEMENT)?;
+    let label = Label::named(rt.alloc(), Kind::DocumentType, "html")?;
+    prints_node(&rt, rt.alloc(), label, true, DOCTYPE)?;
+    Ok(())
+}
+
+fn prints_ends(rt: &impl Abort, alloc: Global) -> Result<(), AllocError> {
     let start = Point {
         node: NodeId::new(1),
         offset: 0,
@@ -143,25 +193,32 @@ fn printed_places(rt: HostRuntime) -> Result<(), Fail> {
         offset: 3,
     };
     assert!(rt; prints(alloc, Answer::Ends(start, end), "[1,0,2,3]")?);
-    assert!(rt;
-        prints(
-            alloc,
-            Answer::StaticEnds(start, end, true),
-            "[1,0,2,3,true]"
-        )?
-    );
+    let answer = Answer::StaticEnds(start, end, true);
+    assert!(rt; prints(alloc, answer, "[1,0,2,3,true]")?);
+    Ok(())
+}
+
+fn prints_stances(rt: &impl Abort, alloc: Global) -> Result<(), AllocError> {
     let (root, other) = (NodeId::new(1), NodeId::new(4));
     assert!(rt; prints(alloc, Answer::IteratorAt(root, other, false), "[1,4,false]")?);
     assert!(rt; prints(alloc, Answer::WalkerAt(root, other), "[1,4]")?);
     Ok(())
 }
 
+#[test]
+fn printed_places(rt: HostRuntime) -> Result<(), Fail> {
+    prints_ends(&rt, rt.alloc())?;
+    prints_stances(&rt, rt.alloc())?;
+    Ok(())
+}
+
 fn removal(alloc: Global) -> Result<Record, AllocError> {
+    let removed = Vec::from_slice(alloc, &[NodeId::new(2)])?;
     Ok(Record {
         what: RecordType::ChildList,
         target: NodeId::new(1),
         added: Vec::new(alloc),
-        removed: Vec::from_slice(alloc, &[NodeId::new(2)])?,
+        removed,
         previous: None,
         next: Some(NodeId::new(3)),
         name: None,

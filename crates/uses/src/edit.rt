@@ -1,10 +1,11 @@
 //! Calls of `dom_edit`.
 
-ghost use Rattle.std.specs.Prelude.{◌≡◌, ◌<◌, true, IfOk};
+ghost use Rattle.std.specs.Prelude.{◌≡◌, ◌<◌, true, IfOk, OnOk};
 ghost use Rattle.dom_model.specs.declared.Kind.TheVariants.{Document};
 ghost use Rattle.dom_model.specs.Forests.Forest.{HasNode, entry_in};
 ghost use Rattle.dom_model.specs.Forests.Nodes.{is_of_kind};
 ghost use Rattle.dom_model.specs.Forests.Texts.{units_of};
+ghost use Rattle.dom_model.specs.Worlds.World.{first_world};
 ghost use Rattle.dom_model.specs.DataAndCopies.Data.{content_in};
 ghost use Rattle.dom_edit.specs.Whole.{IsWhole, Keeps};
 ghost use Rattle.uses.specs.Paragraph.{empty_paragraph, paragraph};
@@ -16,17 +17,44 @@ use dom_tree::NodeId;
 use dom_units::Units;
 use std::alloc::{AllocError, Global};
 
+/// Puts an element into the Document of a new world.
+pub fn put_element(alloc: Global, world: &mut World) -> Result<(), AllocError>
+    requires keeps { Keeps world.old first_world }
+    requires whole { IsWhole world.old }
+    ensures keeps { OnOk result (Keeps world.new empty_paragraph) }
+    ensures whole { IsWhole world.new }
+{
+    let document = NodeId::new(0);
+    let label = Label::named(alloc, Kind::Element, "p")?;
+    let element = world.make(alloc, label, Content::nothing(), Some(document))?;
+    world.insert_checked(alloc, document, element, None)?;
+    Ok(())
+}
+
 /// A Document with an element in it.
 pub fn empty_paragraph(alloc: Global) -> Result<World, AllocError>
     ensures keeps { IfOk result (λ world. Keeps world empty_paragraph) }
     ensures whole { IfOk result IsWhole }
 {
-    let document = NodeId::new(0);
-    let label = Label::named(alloc, Kind::Element, "p")?;
     let mut world = World::new(alloc)?;
-    let element = world.make(alloc, label, Content::nothing(), Some(document))?;
-    world.insert_checked(alloc, document, element, None)?;
+    put_element(alloc, &mut world)?;
     Ok(world)
+}
+
+/// Puts a Text of that data into the element.
+pub fn put_text(alloc: Global, world: &mut World, text: &str) -> Result<(), AllocError>
+    requires keeps { Keeps world.old empty_paragraph }
+    requires whole { IsWhole world.old }
+    ensures keeps { OnOk result (Keeps world.new (paragraph (units_of text.now))) }
+    ensures whole { IsWhole world.new }
+{
+    let document = NodeId::new(0);
+    let element = NodeId::new(1);
+    let label = Label::nameless(Kind::Text);
+    let data = Content::of_text(alloc, Units::from_str(alloc, text)?)?;
+    let child = world.make(alloc, label, data, Some(document))?;
+    world.insert_checked(alloc, element, child, None)?;
+    Ok(())
 }
 
 /// A Document with an element in it, and a Text of that data in the element.
@@ -34,13 +62,8 @@ pub fn paragraph(alloc: Global, text: &str) -> Result<World, AllocError>
     ensures keeps { IfOk result (λ world. Keeps world (paragraph (units_of text.now))) }
     ensures whole { IfOk result IsWhole }
 {
-    let document = NodeId::new(0);
-    let element = NodeId::new(1);
-    let label = Label::nameless(Kind::Text);
-    let data = Content::of_text(alloc, Units::from_str(alloc, text)?)?;
     let mut world = empty_paragraph(alloc)?;
-    let child = world.make(alloc, label, data, Some(document))?;
-    world.insert_checked(alloc, element, child, None)?;
+    put_text(alloc, &mut world, text)?;
     Ok(world)
 }
 

@@ -9,7 +9,7 @@ returns-clause-old c =
 
 pub returns-clause-ok : goal.returns-clause-ok
 returns-clause-ok c =
-    ap attributes_of c.in_ok-old.ensures.entries ∙ attributes_of-insert_entry c.args.map.now.entries c.args.name c.args.value
+    ap attributes_of (c.fit_few.ensures.same ∙ c.in_ok-old.ensures.entries) ∙ attributes_of-insert_entry c.args.map.now.entries c.args.name c.args.value
 
 pub returns-clause-err : goal.returns-clause-err
 returns-clause-err c = search (tests, rules)

@@ -5,8 +5,8 @@ use Rattle.dom_attrs.proofs.entries.take_from.Goals as goal
 
 pub returns-clause-value : goal.returns-clause-value
 returns-clause-value c =
-    c.shift_remove.ensures.value ∙ lookup-attributes_of c.args.name.now c.args.map.now.entries
+    c.shift_remove-value.ensures.value ∙ lookup-attributes_of c.args.name.now c.args.map.now.entries
 
 pub returns-clause-rest : goal.returns-clause-rest
 returns-clause-rest c =
-    ap attributes_of c.shift_remove.ensures.entries ∙ attributes_of-remove_entry c.args.name.now c.args.map.now.entries
+    ap attributes_of (c.give_back.ensures.same ∙ c.shift_remove-value.ensures.entries) ∙ attributes_of-remove_entry c.args.name.now c.args.map.now.entries

@@ -1,7 +1,6 @@
 -- Each node takes its turn.
-use Rattle.std.proofs.Common.{refl}
 use Rattle.dom_edit.proofs.NodesKept.{labels-then}
-use Rattle.dom_content.proofs.LabelsKept.{labels-same}
+use Rattle.dom_content.proofs.LabelsKept.{labels-none}
 use Rattle.dom_content.proofs.EachRemoved.{leaving-node, leaving-next, leaving-end}
 use Rattle.dom_content.proofs.deleting.remove_each.Goals as goal
 
@@ -12,7 +11,7 @@ remove-requires-clause-held c =
 pub loop-node-init : goal.loop-node-init
 loop-node-init c = record {
   leaving = record { whole = c.requires.whole; there = c.requires.held; rest = λ final f. f };
-  kept = labels-same c.args.world.now c.args.world.now refl refl refl;
+  kept = labels-none c.args.world.now;
 }
 
 pub loop-node-preserved : goal.loop-node-preserved

@@ -1,5 +1,11 @@
 -- Both ends are set at once.
+use Rattle.std.proofs.Common.{ap, ◌∙◌}
+use Rattle.dom_model.specs.RangesAndContents.Ranges.{collapsed_at}
+use Rattle.dom_ranges.specs.Tables.{RangeTable}
+use Rattle.dom_edit.specs.Keeping.{present}
 use Rattle.dom_edit.proofs.Leaving.{held-covered}
+use Rattle.dom_edit.proofs.NodesKept.{nodes-ranged}
+use Rattle.dom_edit.proofs.WatchersKept.{present-set}
 use Rattle.dom_content.proofs.EndsSet.{follows-standing, whole-standing}
 use Rattle.dom_content.proofs.deleting.stand_at.Goals as goal
 
@@ -11,3 +17,9 @@ returns-clause-stands c = follows-standing c.args.world.now c.args.range c.args.
 
 pub returns-clause-whole : goal.returns-clause-whole
 returns-clause-whole c = whole-standing c.args.world.now c.args.range c.args.place c.collapse_at.new.self c.collapse_at.ensures.set c.requires.whole c.requires.within
+
+pub returns-clause-kept : goal.returns-clause-kept
+returns-clause-kept c =
+    let v = c.args.world.now in
+    let set = ap (λ (t : RangeTable). present t.ranges) c.collapse_at.ensures.set ∙ present-set v.ranges.ranges c.args.range (collapsed_at c.args.place) c.requires.live in
+    (nodes-ranged v c.collapse_at.new.self set).labelled

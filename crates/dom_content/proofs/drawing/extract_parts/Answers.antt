@@ -1,6 +1,7 @@
 -- The ends stay, or go to the new place.
 use Rattle.std.proofs.Common.{true, ◌∙◌}
 use Rattle.dom_model.specs.Worlds.World.{Range}
+use Rattle.dom_edit.proofs.NodesKept.{labels-then}
 use Rattle.dom_content.proofs.DrawnContents.{extracted-here, extracted-moved, place-drawn, live-drawn}
 use Rattle.dom_content.proofs.PartsGathered.{way-from_top, place-by_parts}
 use Rattle.dom_content.proofs.drawing.extract_parts.Goals as goal
@@ -40,4 +41,12 @@ returns-clause-whole c =
     elim c.if-not-stays.branch [
       | then-not-stays w ↦ rw w.world-is w.stand_at.ensures.whole
       | else-not-stays w ↦ rw w.world-is c.in_ok-fragment.ensures.whole
+    ]
+
+pub returns-clause-kept : goal.returns-clause-kept
+returns-clause-kept c =
+    elim c.if-not-stays.branch [
+      | then-not-stays w ↦
+          rw w.world-is (labels-then c.args.world.now c.draw.new.world w.stand_at.new.world c.in_ok-fragment.ensures.kept w.stand_at.ensures.kept)
+      | else-not-stays w ↦ rw w.world-is c.in_ok-fragment.ensures.kept
     ]

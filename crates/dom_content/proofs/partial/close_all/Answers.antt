@@ -1,10 +1,10 @@
 -- One after another is finished.
-use Rattle.std.proofs.Common.{◌<◌, ◌≤◌, [], ◌∷◌, ◌++◌, length, refl, arith, ⊎_elim}
+use Rattle.std.proofs.Common.{◌<◌, ◌≤◌, [], ◌∷◌, ◌++◌, length, arith, ⊎_elim}
 use Rattle.std.proofs.lemmas.Bool.{cases_lt, false≢true}
 use Rattle.dom_edit.proofs.NodesKept.{labels-then}
 use Rattle.dom_edit.specs.Leaving.{AreNewer}
 use Rattle.dom_content.specs.Paths.{numbers_of_copies}
-use Rattle.dom_content.proofs.LabelsKept.{labels-same}
+use Rattle.dom_content.proofs.LabelsKept.{labels-none}
 use Rattle.dom_content.proofs.OlderLeft.{front-newer, last-newer}
 use Rattle.dom_content.proofs.PathSteps.{closing-first, closing-last, closing-room, closing-next, closing-end, no_partials, fewer}
 use Rattle.dom_content.proofs.partial.close_all.Goals as goal
@@ -12,7 +12,7 @@ use Rattle.dom_content.proofs.partial.close_all.Goals as goal
 pub loop-partial-init : goal.loop-partial-init
 loop-partial-init c = record {
   closing = closing-first c.args.world.now c.args.moves c.args.partials.items c.requires.whole c.requires.may c.requires.room;
-  kept = labels-same c.args.world.now c.args.world.now refl refl refl;
+  kept = labels-none c.args.world.now;
   left = λ still a h newer l. (newer, l);
 }
 

@@ -2,6 +2,7 @@
 use Rattle.std.proofs.Common.{[], ◌∷◌, false, arith}
 use Rattle.dom_model.proofs.Forests.Climbing.{hits-first}
 use Rattle.dom_edit.proofs.LeftAlone.{newer-two}
+use Rattle.dom_edit.proofs.NodesKept.{labels-then}
 use Rattle.dom_clone.proofs.Left.{left-then}
 use Rattle.dom_content.proofs.PieceSteps.{data-then}
 use Rattle.dom_content.proofs.LabelsKept.{still-held}
@@ -92,3 +93,13 @@ returns-clause-begun c a h newer l =
     let put = c.put_last.ensures.left (λ _. rw c.in_ok-copy.ensures.number c.in_ok-copy.ensures.root) a h two m in
     let grown = put.made in
     newer-two a h c.in_ok-copy.copy c.in_ok-inner.inner (omega (arith, begun, c.in_ok-copy.ensures.number)) (omega (arith, grown, c.in_ok-inner.ensures.number))
+
+pub returns-clause-kept : goal.returns-clause-kept
+returns-clause-kept c =
+    labels-then c.args.world.now c.put_last.new.world c.new_fragment.new.world
+    (labels-then c.args.world.now c.copy_of.new.world c.put_last.new.world c.in_ok-copy.ensures.kept c.in_ok-put_last.ensures.kept) c.in_ok-inner.ensures.kept
+
+pub returns-in_err-inner-clause-kept : goal.returns-in_err-inner-clause-kept
+returns-in_err-inner-clause-kept c =
+    labels-then c.args.world.now c.put_last.new.world c.new_fragment.new.world
+    (labels-then c.args.world.now c.copy_of.new.world c.put_last.new.world c.in_ok-copy.ensures.kept c.in_ok-put_last.ensures.kept) c.new_fragment.ensures.kept

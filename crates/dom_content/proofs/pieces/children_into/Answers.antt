@@ -1,14 +1,13 @@
 -- Each node takes its turn.
-use Rattle.std.proofs.Common.{refl}
 use Rattle.dom_edit.proofs.NodesKept.{labels-then}
-use Rattle.dom_content.proofs.LabelsKept.{labels-same}
+use Rattle.dom_content.proofs.LabelsKept.{labels-none}
 use Rattle.dom_content.proofs.PieceSteps.{filling-first, filling-may, filling-room, filling-held, filling-next, filling-end}
 use Rattle.dom_content.proofs.pieces.children_into.Goals as goal
 
 pub loop-node-init : goal.loop-node-init
 loop-node-init c = record {
   filling = filling-first c.args.world.now c.args.moves c.args.into c.args.nodes.now c.requires.whole c.requires.may c.requires.room;
-  kept = labels-same c.args.world.now c.args.world.now refl refl refl;
+  kept = labels-none c.args.world.now;
   left = λ still a h newer l. l;
 }
 

@@ -1,9 +1,9 @@
 -- Each node above the last is opened; then all are finished.
-use Rattle.std.proofs.Common.{[], ◌∷◌, ◌+◌, drop, refl, arith}
+use Rattle.std.proofs.Common.{[], ◌∷◌, ◌+◌, drop, arith}
 use Rattle.std.proofs.lemmas.Result.{on_ok_weaker}
 use Rattle.dom_model.specs.RangesAndContents.Contents.{head_into}
 use Rattle.dom_edit.proofs.NodesKept.{labels-then}
-use Rattle.dom_content.proofs.LabelsKept.{labels-same}
+use Rattle.dom_content.proofs.LabelsKept.{labels-none}
 use Rattle.dom_content.proofs.OlderLeft.{first-newer, rest-newer, more-newer}
 use Rattle.dom_content.specs.Paths.{entered, numbers_of_copies}
 use Rattle.dom_content.proofs.PathSteps.{down-first, down-first_old, down-held, down-may, down-room, down-next, down-close, down-close_room, down-end, down-more, down-last}
@@ -16,7 +16,7 @@ pub loop-next-init : goal.loop-next-init
 loop-next-init c = record {
   down = rw c.new-partials.ensures.items
       (down-first c.args.world.now c.args.moves 0 (λ i ns. head_into c.args.moves i c.args.offset ns) c.args.into (c.args.first ∷ c.args.below.now) c.requires.whole c.requires.may c.requires.way c.requires.room);
-  kept = labels-same c.args.world.now c.args.world.now refl refl refl;
+  kept = labels-none c.args.world.now;
   left = λ still a h newer l. (rw c.new-partials.ensures.items newer, l);
 }
 

@@ -1,6 +1,5 @@
 -- Each Text takes its turn.
-use Rattle.std.proofs.Common.{refl}
-use Rattle.dom_data.proofs.LabelsKept.{numbers-same, numbers-then}
+use Rattle.dom_data.proofs.LabelsKept.{numbers-none, numbers-then}
 use Rattle.dom_data.proofs.TextsInTurn.{turn-first, turn-next, turn-text, turn-told, turn-end}
 use Rattle.dom_data.proofs.normalizing.normalize_each.Goals as goal
 
@@ -15,7 +14,7 @@ normalize_below-requires-clause-told c =
 pub loop-text-init : goal.loop-text-init
 loop-text-init c = record {
   turn = turn-first c.args.world.now c.args.top c.args.texts.now c.requires.whole c.requires.kinds c.requires.told;
-  kept = numbers-same c.args.world.now c.args.world.now refl refl refl;
+  kept = numbers-none c.args.world.now;
 }
 
 pub loop-text-preserved : goal.loop-text-preserved

@@ -1,13 +1,13 @@
 -- Each Text takes its turn.
-use Rattle.std.proofs.Common.{◌+◌, drop, refl}
-use Rattle.dom_data.proofs.LabelsKept.{numbers-same, numbers-then}
+use Rattle.std.proofs.Common.{◌+◌, drop}
+use Rattle.dom_data.proofs.LabelsKept.{numbers-none, numbers-then}
 use Rattle.dom_data.proofs.TakenIn.{taking-first, taking-text, taking-next, taking-end}
 use Rattle.dom_data.proofs.normalizing.take_each_in.Goals as goal
 
 pub loop-text-init : goal.loop-text-init
 loop-text-init c = record {
   taking = taking-first c.args.world.now c.args.node c.args.parent c.args.base c.args.texts.now c.requires.whole c.requires.joinable;
-  kept = numbers-same c.args.world.now c.args.world.now refl refl refl;
+  kept = numbers-none c.args.world.now;
 }
 
 pub take_in-requires-clause-next : goal.take_in-requires-clause-next

@@ -5,6 +5,7 @@ use Rattle.dom_model.proofs.Forests.Entries.{occurs-HasNode}
 use Rattle.dom_data.proofs.Parting.{text-held}
 use Rattle.dom_data.proofs.Behind.{covered-there}
 use Rattle.dom_data.proofs.TakenIn.{first-fits, whole-merged, follows-taken}
+use Rattle.dom_data.proofs.LabelsKept.{numbers-merged}
 use Rattle.dom_data.proofs.normalizing.take_in.Goals as goal
 
 pub merged-requires-clause-fit : goal.merged-requires-clause-fit
@@ -34,3 +35,9 @@ returns-clause-further c = search (tests, rules)
 
 pub returns-clause-whole : goal.returns-clause-whole
 returns-clause-whole c = search (tests, rules)
+
+pub returns-clause-kept : goal.returns-clause-kept
+returns-clause-kept c = numbers-merged c.args.world.now c.merged.new.self c.remove.new.self _ c.merged.ensures c.remove.ensures.kept
+
+pub returns-in_err-remove-clause-kept : goal.returns-in_err-remove-clause-kept
+returns-in_err-remove-clause-kept c = numbers-merged c.args.world.now c.merged.new.self c.remove.new.self _ c.merged.ensures c.remove.ensures.kept

@@ -33,3 +33,6 @@ returns-clause-whole c =
     let new : World = record v { observers = c.queue.new.self } in
     whole-named v new (n ∷ []) refl c.requires.whole
     (subst (λ (m : Mutation). NamesOnly (nodes_of_mutation m) v.observers new.observers) c.attribute_change-mutation.ensures c.queue.ensures.names) (one-there v.tree.forest n c.requires.held)
+
+pub returns-clause-observers : goal.returns-clause-observers
+returns-clause-observers c = c.queue.ensures.made

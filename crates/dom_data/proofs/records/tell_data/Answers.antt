@@ -27,3 +27,6 @@ returns-clause-whole c =
     let v = c.args.world.now in
     let n = c.args.node in
     whole-named v (record v { observers = c.queue.new.self }) (n ∷ []) refl c.requires.whole c.queue.ensures.names (one-there v.tree.forest n c.requires.held)
+
+pub returns-clause-observers : goal.returns-clause-observers
+returns-clause-observers c = c.queue.ensures.made

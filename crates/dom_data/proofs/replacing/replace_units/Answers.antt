@@ -1,12 +1,15 @@
 -- Units replaced, with the ends behind them.
-use Rattle.std.proofs.Common.{◌≡◌, ◌+◌, ◌≤◌, true, length, refl, ap, sym, subst, arith, tests, rules}
+use Rattle.std.proofs.Common.{◌≡◌, ◌+◌, ◌≤◌, true, length, refl, ap, sym, ◌∙◌, subst, arith, tests, rules}
 use Rattle.dom_model.specs.Forests.Kinds.{is_character_data}
 use Rattle.dom_model.specs.Forests.Forest.{entry_in}
 use Rattle.dom_model.specs.Forests.Nodes.{kind_passes}
 use Rattle.dom_model.specs.DataAndCopies.Data.{content_in, data_of}
 use Rattle.dom_model.proofs.Soundness.SoundData.{length-spliced}
+use Rattle.dom_ranges.specs.Tables.{RangeTable}
 use Rattle.dom_edit.specs.declared.world.World.{World}
 use Rattle.dom_edit.specs.Whole.{unwatched}
+use Rattle.dom_edit.specs.Keeping.{present}
+use Rattle.dom_edit.proofs.WatchersKept.{present-moved, watchers-observed, watchers-ranged}
 use Rattle.dom_data.proofs.MovedOffsets.{splice-fits}
 use Rattle.dom_data.proofs.StaysWhole.{whole-replaced}
 use Rattle.dom_data.proofs.LabelsKept.{numbers-same, numbers-then, numbers-replaced}
@@ -37,5 +40,7 @@ returns-clause-nodes c =
     let told = c.tell_data.new.world in
     let new : World = record told { tree = c.splice_data.new.tree; ranges = c.spliced.new.self } in
     numbers-then c.args.world.now told new
-    (numbers-same c.args.world.now told (ap (λ (v : World). v.tree) c.tell_data.ensures.kept) (ap (λ (v : World). v.statics) c.tell_data.ensures.kept) (ap (λ (v : World). v.walkers) c.tell_data.ensures.kept))
-    (numbers-replaced told new c.args.node _ c.in_ok-splice_data.ensures.ok refl refl)
+    (numbers-same c.args.world.now told (ap (λ (v : World). v.tree) c.tell_data.ensures.kept) (ap (λ (v : World). v.statics) c.tell_data.ensures.kept) (ap (λ (v : World). v.walkers) c.tell_data.ensures.kept)
+    (watchers-observed c.args.world.now told c.tell_data.ensures.kept c.tell_data.ensures.observers))
+    (numbers-replaced told new c.args.node _ c.in_ok-splice_data.ensures.ok refl refl
+    (watchers-ranged told new (ap (λ (r : RangeTable). present r.ranges) c.spliced.ensures ∙ present-moved _ told.ranges.ranges) refl refl))

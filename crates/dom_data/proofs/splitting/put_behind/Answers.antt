@@ -1,9 +1,13 @@
 -- The new Text comes in, and the ends move.
-use Rattle.std.proofs.Common.{false, sym, ◌∙◌, subst, arith}
+use Rattle.std.proofs.Common.{false, ap, sym, ◌∙◌, subst, arith}
 use Rattle.dom_model.specs.MutationAlgorithms.Editing.{insert}
 use Rattle.dom_model.proofs.Forests.Entries.{HasNode-occurs}
 use Rattle.dom_model.specs.MutationAlgorithms.Insertable.{IsInsertable}
+use Rattle.dom_ranges.specs.Tables.{RangeTable}
+use Rattle.dom_edit.specs.Keeping.{present}
 use Rattle.dom_edit.specs.Whole.{Follows}
+use Rattle.dom_edit.proofs.NodesKept.{labels-then, nodes-ranged}
+use Rattle.dom_edit.proofs.WatchersKept.{present-moved}
 use Rattle.dom_data.proofs.Parting.{text-held}
 use Rattle.dom_data.proofs.Behind.{covered-there, split-fits, insertable-new, kind-mid, within-mid, room-mid, parent-mid, new-mid, whole-new, follows-new}
 use Rattle.dom_data.proofs.splitting.put_behind.Goals as goal
@@ -66,3 +70,9 @@ pub returns-clause-whole : goal.returns-clause-whole
 returns-clause-whole c =
     let inserted = subst (λ d. Follows c.args.world.now c.insert.new.self (insert false c.args.new c.args.parent d)) c.next-next.ensures c.in_ok-insert.ensures.inserted in
     whole-new c.args.world.now c.args.node c.args.offset c.args.new c.args.parent c.requires.tail c.requires.parent c.insert.new.self inserted c.was_split.new.self c.index_if_asked-index.result c.was_split.ensures c.index_if_asked-index.ensures.asked c.insert.ensures.whole
+
+pub returns-clause-kept : goal.returns-clause-kept
+returns-clause-kept c =
+    let mid = c.insert.new.self in
+    let moved = ap (λ (t : RangeTable). present t.ranges) c.was_split.ensures ∙ present-moved _ mid.ranges.ranges in
+    labels-then c.args.world.now mid (record mid { ranges = c.was_split.new.self }) c.insert.ensures.kept.labelled (nodes-ranged mid c.was_split.new.self moved).labelled

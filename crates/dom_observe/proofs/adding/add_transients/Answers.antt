@@ -1,12 +1,13 @@
 -- Each key gives the node one more transient registration, or none.
-use Rattle.std.proofs.Common.{◌≡◌, refl, List, if◌then◌else◌, ◌==◌, Bool, true, false, Some, None, option_map, ap, sym, ◌∙◌, subst}
-use Rattle.std.specs.Prelude.{slice_index_or, slice_set}
+use Rattle.std.proofs.Common.{◌≡◌, refl, List, if◌then◌else◌, ◌==◌, Bool, true, false, Some, None, option_map, take, ap, sym, ◌∙◌, subst}
+use Rattle.std.specs.Prelude.{slice_index_or, slice_set, filter_map}
 use Rattle.std.specs.List.{AllByRecursion}
 use Rattle.dom_observe.specs.Watchers.{on}
-use Rattle.dom_observe.specs.Registrations.{plain, at, listed, AllStand, HaveSources, Agree, transient_under}
+use Rattle.dom_observe.specs.Registrations.{plain, at, found, listed, AllStand, HaveSources, Agree, transient_under}
 use Rattle.dom_observe.proofs.Agreeing.{agree-made, agree-transient}
 use Rattle.dom_observe.specs.Naming.{NamesNone}
 use Rattle.dom_observe.proofs.Holding.{none-added, none-made}
+use Rattle.dom_observe.specs.Refused.{IsFront}
 use Rattle.dom_observe.specs.Kept.{has_queue, IsIndexed}
 use Rattle.dom_observe.specs.Roster.{passing_by, queues_by}
 use Rattle.dom_observe.proofs.Hearing.{last-there}
@@ -15,6 +16,7 @@ use Rattle.dom_observe.proofs.Rosters.{has-kept, within-passing, passing-there, 
 use Rattle.dom_model.specs.PlainLists.LastOnce.{with_last}
 use Rattle.dom_observe.specs.Origins.{NotesIfAny, AlsoNotes}
 use Rattle.dom_observe.proofs.Noting.{noted-added}
+use Rattle.dom_observe.proofs.Refusing.{front-same, front-added, elsewhere-same}
 use Rattle.dom_observe.proofs.Sources.{sources-added, source-made}
 use Rattle.dom_observe.proofs.Tables.{alike_self, turn-none, turn-added, turn-alike, turn-stands, all_live-added}
 use Rattle.dom_observe.proofs.adding.add_transients.Goals as goal
@@ -181,3 +183,70 @@ loop-key-preserved c =
             full = inv.full;
           })
     ]
+
+-- what came in came in last on the node, as far as the loop went
+
+pub returns-in_err-origins-clause-front : goal.returns-in_err-origins-clause-front
+returns-in_err-origins-clause-front c =
+    let here = found c.args.table.now (on c.args.node (listed c.args.nodes.now.entries)) in
+    front-same here here refl
+
+pub returns-in_err-made-clause-front : goal.returns-in_err-made-clause-front
+returns-in_err-made-clause-front c =
+    let here = found c.args.table.now (on c.args.node (listed c.args.nodes.now.entries)) in
+    let ss = found c.args.table.now (take c.loop-key.key-index c.args.standing.now) in
+    front-added c.args.node ss here (found c.loop-key.table (on c.args.node (listed c.loop-key.nodes.entries))) (c.loop-key.invariant.has c.args.node)
+
+pub returns-in_err-made-clause-elsewhere : goal.returns-in_err-made-clause-elsewhere
+returns-in_err-made-clause-elsewhere c = λ n ne.
+    let ss = found c.args.table.now (take c.loop-key.key-index c.args.standing.now) in
+    elsewhere-same c.args.node n ne ss (found c.args.table.now (on n (listed c.args.nodes.now.entries))) (found c.loop-key.table (on n (listed c.loop-key.nodes.entries))) (c.loop-key.invariant.has n)
+
+pub returns-in_err-note-clause-front : goal.returns-in_err-note-clause-front
+returns-in_err-note-clause-front c =
+    let here = found c.args.table.now (on c.args.node (listed c.args.nodes.now.entries)) in
+    let ss = found c.args.table.now (take c.loop-key.key-index c.args.standing.now) in
+    front-added c.args.node ss here (found c.loop-key.table (on c.args.node (listed c.loop-key.nodes.entries))) (c.loop-key.invariant.has c.args.node)
+
+pub returns-in_err-note-clause-elsewhere : goal.returns-in_err-note-clause-elsewhere
+returns-in_err-note-clause-elsewhere c = λ n ne.
+    let ss = found c.args.table.now (take c.loop-key.key-index c.args.standing.now) in
+    elsewhere-same c.args.node n ne ss (found c.args.table.now (on n (listed c.args.nodes.now.entries))) (found c.loop-key.table (on n (listed c.loop-key.nodes.entries))) (c.loop-key.invariant.has n)
+
+pub returns-in_err-pend-clause-front : goal.returns-in_err-pend-clause-front
+returns-in_err-pend-clause-front c =
+    let here = found c.args.table.now (on c.args.node (listed c.args.nodes.now.entries)) in
+    let ss = found c.args.table.now (take c.loop-key.key-index c.args.standing.now) in
+    front-added c.args.node ss here (found c.loop-key.table (on c.args.node (listed c.loop-key.nodes.entries))) (c.loop-key.invariant.has c.args.node)
+
+pub returns-in_err-pend-clause-elsewhere : goal.returns-in_err-pend-clause-elsewhere
+returns-in_err-pend-clause-elsewhere c = λ n ne.
+    let ss = found c.args.table.now (take c.loop-key.key-index c.args.standing.now) in
+    elsewhere-same c.args.node n ne ss (found c.args.table.now (on n (listed c.args.nodes.now.entries))) (found c.loop-key.table (on n (listed c.loop-key.nodes.entries))) (c.loop-key.invariant.has n)
+
+pub returns-in_err-add-clause-front : goal.returns-in_err-add-clause-front
+returns-in_err-add-clause-front c =
+    let here = found c.args.table.now (on c.args.node (listed c.args.nodes.now.entries)) in
+    let ss = found c.args.table.now (take c.loop-key.key-index c.args.standing.now) in
+    subst (λ slots. IsFront here (filter_map (λ k. option_map plain (slice_index_or slots k None)) (on c.args.node (listed c.add.new.nodes.entries)))) (sym c.in_err-add.ensures.err_table)
+    (subst (λ l. IsFront here (found c.loop-key.table (on c.args.node l))) (sym c.in_err-add.ensures.err_nodes)
+    (front-added c.args.node ss here (found c.loop-key.table (on c.args.node (listed c.loop-key.nodes.entries))) (c.loop-key.invariant.has c.args.node)))
+
+pub returns-in_err-add-clause-elsewhere : goal.returns-in_err-add-clause-elsewhere
+returns-in_err-add-clause-elsewhere c = λ n ne.
+    let old = found c.args.table.now (on n (listed c.args.nodes.now.entries)) in
+    let ss = found c.args.table.now (take c.loop-key.key-index c.args.standing.now) in
+    subst (λ slots. filter_map (λ k. option_map plain (slice_index_or slots k None)) (on n (listed c.add.new.nodes.entries)) ≡ old) (sym c.in_err-add.ensures.err_table)
+    (subst (λ l. found c.loop-key.table (on n l) ≡ old) (sym c.in_err-add.ensures.err_nodes)
+    (elsewhere-same c.args.node n ne ss old (found c.loop-key.table (on n (listed c.loop-key.nodes.entries))) (c.loop-key.invariant.has n)))
+
+pub returns-clause-front : goal.returns-clause-front
+returns-clause-front c =
+    let here = found c.args.table.now (on c.args.node (listed c.args.nodes.now.entries)) in
+    let ss = found c.args.table.now (take c.loop-key.key-index c.args.standing.now) in
+    front-added c.args.node ss here (found c.loop-key.table (on c.args.node (listed c.loop-key.nodes.entries))) (c.loop-key.invariant.has c.args.node)
+
+pub returns-clause-elsewhere : goal.returns-clause-elsewhere
+returns-clause-elsewhere c = λ n ne.
+    let ss = found c.args.table.now (take c.loop-key.key-index c.args.standing.now) in
+    elsewhere-same c.args.node n ne ss (found c.args.table.now (on n (listed c.args.nodes.now.entries))) (found c.loop-key.table (on n (listed c.loop-key.nodes.entries))) (c.loop-key.invariant.has n)

@@ -1,5 +1,5 @@
 -- The next pending observer is told what waits for it.
-use Rattle.std.proofs.Common.{◌≡◌, ℕ, suc, ◌+◌, ◌==◌, ◌++◌, [], ◌∷◌, Bool, true, false, if◌then◌else◌, List, Some, None, length, filter, map, take, refl, ap, sym, ◌∙◌, subst, arith, option_copied, nat_eq, tests, rules}
+use Rattle.std.proofs.Common.{◌≡◌, ℕ, suc, ◌+◌, ◌==◌, ◌++◌, [], ◌∷◌, Bool, true, false, if◌then◌else◌, List, Some, None, length, filter, map, take, refl, ap, sym, ◌∙◌, arith, option_copied, nat_eq, tests, rules}
 use Rattle.std.proofs.lemmas.List.{take_all}
 use Rattle.std.specs.Prelude.{slice_get, Vec}
 use Rattle.std.specs.List.{IsDistinct, list_any}
@@ -8,18 +8,16 @@ use Rattle.dom_model.specs.MutationObservers.Record.{Record}
 use Rattle.dom_model.specs.MutationObservers.Records.{has_records}
 use Rattle.dom_observe.specs.Kept.{has_queue}
 use Rattle.dom_model.specs.MutationAlgorithms.Discarding.{nodes_of_record}
-use Rattle.dom_observe.specs.Naming.{TellsNone}
-use Rattle.dom_observe.specs.Notifying.{told_of, waiting_for, EmptiesFirst}
+use Rattle.dom_observe.specs.Notifying.{told_of, waiting_for}
 use Rattle.dom_observe.specs.Roster.{queues_by}
 use Rattle.dom_observe.specs.Watchers.{records_at}
 use Rattle.dom_observe.proofs.EndedOnes.{at-get}
 use Rattle.dom_observe.proofs.Rosters.{has-same}
 use Rattle.dom_observe.proofs.Gathered.{told-some, told-none, left-next}
 use Rattle.dom_observe.proofs.Hearing.{take-none}
-use Rattle.dom_observe.proofs.Holding.{tells-emptied, tells-left}
-use Rattle.dom_observe.proofs.Outcomes.{at_err}
+use Rattle.dom_observe.proofs.Holding.{tells-left}
 use Rattle.dom_observe.proofs.notifying.gather.Goals as goal
-use Rattle.dom_observe.proofs.notifying.gather.Goals.{in-Some+then-not-is_empty+in_ok-push, in-Some+else-not-is_empty, in_default}
+use Rattle.dom_observe.proofs.notifying.gather.Goals.{in-Some+then-not-is_empty, in-Some+else-not-is_empty, in_default}
 
 told_of-push : {A : Type 0} (xs : List (ℕ × Vec Record A)) (x : ℕ × Vec Record A) → told_of (xs ++ x ∷ []) ≡ told_of xs ++ record { observer = x.0; records = x.1.items } ∷ []
 told_of-push [] x = refl
@@ -32,6 +30,9 @@ take_from-records-requires c =
     has-same c.args.roster.now c.loop-index.roster c.loop-index.invariant.keys c.in-Some.observer.now
     ∙ at-get (λ o. has_queue (queues_by c.args.roster.now) o ≡ true) c.args.pending.now.keys c.loop-index.index c.in-Some.observer.now c.requires next
 
+pub push_reserved-requires : goal.push_reserved-requires
+push_reserved-requires c = omega (arith, c.loop-index.invariant.many, c.loop-index.invariant.room, c.loop-index-test.true, c.len-index-end.ensures.len)
+
 pub loop-index-preserved : goal.loop-index-preserved
 loop-index-preserved c =
     let keys = c.args.pending.now.keys in
@@ -42,7 +43,7 @@ loop-index-preserved c =
     let unique : IsDistinct nat_eq keys = c.len-index-end.ensures.unique in
     let next : i + 1 ≡ suc i = omega arith in
     elim c.match-get_index.branch [
-      | in-Some+then-not-is_empty+in_ok-push w ↦
+      | in-Some+then-not-is_empty w ↦
           let o = w.in-Some.observer.now in
           let at : slice_get keys i ≡ Some o = sym c.get_index.ensures.key ∙ ap option_copied w.in-Some.is in
           let there = has-same c.args.roster.now c.loop-index.roster inv.keys o ∙ at-get (λ p. has_queue qs0 p ≡ true) keys i o c.requires at in
@@ -51,8 +52,10 @@ loop-index-preserved c =
           let told = told-some qs0 qs (queues_by w.take_from-records.new.roster) keys i o at unique there inv.left w.take_from-records.ensures.emptied w.take_from-records.result.items w.take_from-records.ensures.records some (told_of c.loop-index.told.items) inv.told in
           rw (w.roster-is, w.told-is) (record {
             keys = w.take_from-records.ensures.keys ∙ inv.keys;
-            told = ap told_of w.in_ok-push.ensures.items ∙ told_of-push c.loop-index.told.items (o, w.take_from-records.result) ∙ told ∙ ap (λ j. filter has_records (map (waiting_for qs0) (take j keys))) (sym next);
+            told = ap told_of w.push_reserved.ensures.items ∙ told_of-push c.loop-index.told.items (o, w.take_from-records.result) ∙ told ∙ ap (λ j. filter has_records (map (waiting_for qs0) (take j keys))) (sym next);
             left = λ p. left p ∙ ap (λ j. if among p (take j keys) then [] else records_at qs0 p) (sym next);
+            many = omega (arith, inv.many, w.push_reserved.ensures.len);
+            room = omega (arith, inv.room, w.push_reserved.ensures.capacity);
           })
       | in-Some+else-not-is_empty w ↦
           let o = w.in-Some.observer.now in
@@ -65,6 +68,8 @@ loop-index-preserved c =
             keys = w.take_from-records.ensures.keys ∙ inv.keys;
             told = inv.told ∙ told ∙ ap (λ j. filter has_records (map (waiting_for qs0) (take j keys))) (sym next);
             left = λ p. left p ∙ ap (λ j. if among p (take j keys) then [] else records_at qs0 p) (sym next);
+            many = omega (arith, inv.many);
+            room = inv.room;
           })
       | in_default w ↦
           let none : slice_get keys i ≡ None = sym c.get_index.ensures.key ∙ ap option_copied w.in_default.is in
@@ -73,11 +78,10 @@ loop-index-preserved c =
             keys = inv.keys;
             told = inv.told ∙ ap (λ ks. filter has_records (map (waiting_for qs0) ks)) same_keys;
             left = λ p. inv.left p ∙ ap (λ ks. if among p ks then [] else records_at qs0 p) same_keys;
+            many = omega (arith, inv.many);
+            room = inv.room;
           })
     ]
-
-pub returns-in_err-push-clause-keys : goal.returns-in_err-push-clause-keys
-returns-in_err-push-clause-keys c = c.take_from-records.ensures.keys ∙ c.loop-index.invariant.keys
 
 pub returns-clause-told : goal.returns-clause-told
 returns-clause-told c =
@@ -104,29 +108,3 @@ pub returns-clause-names : goal.returns-clause-names
 returns-clause-names c = λ p none o.
     ap (list_any (λ r. list_any p (nodes_of_record r))) (c.loop-index.invariant.left o)
     ∙ tells-left p (among o (take c.loop-index.index c.args.pending.now.keys)) (records_at (queues_by c.args.roster.now) o) (none o)
-
-pub returns-in_err-push-clause-names : goal.returns-in_err-push-clause-names
-returns-in_err-push-clause-names c = λ p none.
-    let next : slice_get c.args.pending.now.keys c.loop-index.index ≡ Some c.in-Some.observer.now = sym c.get_index.ensures.key ∙ ap option_copied c.in-Some.is in
-    let there =
-    has-same c.args.roster.now c.loop-index.roster c.loop-index.invariant.keys c.in-Some.observer.now
-    ∙ at-get (λ o. has_queue (queues_by c.args.roster.now) o ≡ true) c.args.pending.now.keys c.loop-index.index c.in-Some.observer.now c.requires next in
-    subst (TellsNone p) (sym c.take_from-records.ensures.emptied)
-    (tells-emptied p (queues_by c.loop-index.roster) c.in-Some.observer.now there (λ o.
-    ap (list_any (λ r. list_any p (nodes_of_record r))) (c.loop-index.invariant.left o)
-    ∙ tells-left p (among o (take c.loop-index.index c.args.pending.now.keys)) (records_at (queues_by c.args.roster.now) o) (none o)))
-
--- an observer more has an empty queue, whom nobody told
-pub returns-in_err-push-clause-lost : goal.returns-in_err-push-clause-lost
-returns-in_err-push-clause-lost c =
-    let keys = c.args.pending.now.keys in
-    let i = c.loop-index.index in
-    let o = c.in-Some.observer.now in
-    let qs0 = queues_by c.args.roster.now in
-    let at : slice_get keys i ≡ Some o = sym c.get_index.ensures.key ∙ ap option_copied c.in-Some.is in
-    let there = has-same c.args.roster.now c.loop-index.roster c.loop-index.invariant.keys o ∙ at-get (λ p. has_queue qs0 p ≡ true) keys i o c.requires at in
-    let lost : EmptiesFirst keys qs0 (queues_by c.take_from-records.new.roster) = record {
-      count = suc i;
-      queues = left-next qs0 (queues_by c.loop-index.roster) (queues_by c.take_from-records.new.roster) keys i o at c.len-index-end.ensures.unique there c.loop-index.invariant.left c.take_from-records.ensures.emptied;
-    } in
-    at_err c.from_residual.result lost

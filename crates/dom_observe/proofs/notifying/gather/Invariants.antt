@@ -1,5 +1,5 @@
--- The first pending observers are told, and their queues are empty.
-use Rattle.std.proofs.Common.{◌≡◌, ℕ, [], if◌then◌else◌, filter, map, take}
+-- The first pending observers are told, and their queues are empty; there is room for the others.
+use Rattle.std.proofs.Common.{◌≡◌, ℕ, ◌≤◌, [], if◌then◌else◌, length, filter, map, take, vec_len, vec_capacity}
 use Rattle.dom_model.specs.PlainLists.Lists.{among}
 use Rattle.dom_model.specs.MutationObservers.Records.{has_records}
 use Rattle.dom_observe.specs.Notifying.{told_of, waiting_for}
@@ -12,4 +12,6 @@ invariant-loop-index l = record {
   keys : keys_by l.roster ≡ keys_by l.initial.roster;
   told : told_of l.told.items ≡ filter has_records (map (waiting_for (queues_by l.initial.roster)) (take l.index l.pending.keys));
   left : (p : ℕ) → records_at (queues_by l.roster) p ≡ (if among p (take l.index l.pending.keys) then [] else records_at (queues_by l.initial.roster) p);
+  many : vec_len l.told ≤ l.index;
+  room : length l.pending.keys ≤ vec_capacity l.told;
 }

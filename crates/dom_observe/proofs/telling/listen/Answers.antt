@@ -8,9 +8,11 @@ use Rattle.dom_model.specs.PlainLists.LastOnce.{with_last, with_all_last}
 use Rattle.dom_observe.specs.Kept.{AllThere}
 use Rattle.dom_observe.specs.Names.{text_of}
 use Rattle.dom_observe.specs.Registrations.{at, Stands}
+use Rattle.dom_observe.specs.Refused.{IsFront}
 use Rattle.dom_observe.specs.Telling.{listener_under, listeners, flag_of}
 use Rattle.dom_observe.proofs.Tables.{all_at, found_more}
 use Rattle.dom_observe.proofs.Hearing.{stay-last, there-last, listener-there, flag-last, keys_of-append, all_last-append}
+use Rattle.dom_observe.proofs.Refusing.{front-trans, front-last, front-all_last}
 use Rattle.dom_observe.proofs.telling.listen.Goals as goal
 use Rattle.dom_observe.proofs.telling.listen.Goals.{in-Some+in_ok-pend+in_ok-note, in_default}
 
@@ -89,3 +91,26 @@ returns-clause-heard c = grind (arith, common_steps)
 
 pub returns-clause-pending : goal.returns-clause-pending
 returns-clause-pending c = grind (arith, common_steps)
+
+-- those who are pending come last, one after another
+
+pub returns-in_err-pend-clause-front : goal.returns-in_err-pend-clause-front
+returns-in_err-pend-clause-front c =
+    let q = c.args.question.now in
+    let before = listeners (at c.args.table.now) q.what q.target (text_of q.name) (take c.loop-key.key-index c.args.standing.now) in
+    subst (IsFront c.args.pending.now.keys) (sym (c.in_err-pend.ensures.err ∙ c.loop-key.invariant.pending)) (front-all_last c.args.pending.now.keys (keys_of before))
+
+pub returns-in_err-note-clause-front : goal.returns-in_err-note-clause-front
+returns-in_err-note-clause-front c =
+    let q = c.args.question.now in
+    let o = c.in-Some.listener.0 in
+    let before = listeners (at c.args.table.now) q.what q.target (text_of q.name) (take c.loop-key.key-index c.args.standing.now) in
+    let front = subst (IsFront c.args.pending.now.keys) (sym c.loop-key.invariant.pending) (front-all_last c.args.pending.now.keys (keys_of before)) in
+    subst (IsFront c.args.pending.now.keys) (sym c.in_ok-pend.ensures.ok)
+    (front-trans c.args.pending.now.keys c.loop-key.pending.keys (with_last c.loop-key.pending.keys o) front (front-last c.loop-key.pending.keys o))
+
+pub returns-clause-front : goal.returns-clause-front
+returns-clause-front c =
+    let q = c.args.question.now in
+    let before = listeners (at c.args.table.now) q.what q.target (text_of q.name) (take c.loop-key.key-index c.args.standing.now) in
+    subst (IsFront c.args.pending.now.keys) (sym c.loop-key.invariant.pending) (front-all_last c.args.pending.now.keys (keys_of before))

@@ -1,15 +1,16 @@
 -- One listener alone, or each of them, gets a record and is pending.
-use Rattle.std.proofs.Common.{ℕ, ◌==◌, Bool, if◌then◌else◌, Some, None, ap, ◌∙◌}
+use Rattle.std.proofs.Common.{ℕ, ◌==◌, Bool, if◌then◌else◌, Some, None, refl, ap, ◌∙◌}
 use Rattle.std.specs.List.{list_any}
 use Rattle.dom_model.specs.MutationAlgorithms.Discarding.{nodes_of_record}
 use Rattle.dom_observe.specs.Names.{text_of}
 use Rattle.dom_observe.specs.Registrations.{at}
-use Rattle.dom_observe.specs.Roster.{queues_by, is_there}
+use Rattle.dom_observe.specs.Roster.{queues_by, is_there, records_of}
 use Rattle.dom_observe.specs.Telling.{listeners}
 use Rattle.dom_observe.specs.Watchers.{records_at}
 use Rattle.dom_observe.proofs.Holding.{tells-delivered}
 use Rattle.dom_observe.proofs.Outcomes.{by_one}
 use Rattle.dom_observe.proofs.Queued.{unheard}
+use Rattle.dom_observe.proofs.Refusing.{gets-none}
 use Rattle.dom_observe.proofs.telling.tell.Goals as goal
 
 pub tell_one-requires : goal.tell_one-requires
@@ -35,3 +36,6 @@ returns-clause-others c = λ p off.
     let q = c.question-question.result in
     let ls = listeners (at c.args.table.now) q.what q.target (text_of q.name) c.args.standing.now in
     c.tell_each.ensures.others p (c.in_ok-heard.ensures.heard p ∙ unheard p ls c.args.pending.now.keys c.listen.new.pending.keys c.in_ok-heard.ensures.pending off)
+
+pub returns-in_err-heard-clause-each : goal.returns-in_err-heard-clause-each
+returns-in_err-heard-clause-each c = λ p. gets-none c.args.mutation.now (records_of c.args.roster.now p) (records_of c.args.roster.now p) refl

@@ -104,3 +104,13 @@ pub returns-clause-names : goal.returns-clause-names
 returns-clause-names c = λ p nameless none o.
     let old = records_at (queues_by c.args.roster.now) o in
     ap (list_any (λ r. list_any p (nodes_of_record r))) (c.loop-index.invariant.told o) ∙ tells-delivered p c.args.mutation.now (lookup (nat_eq o) (take c.loop-index.index c.args.heard.now.entries)) old nameless (none o)
+
+-- the first listeners have one record more
+pub returns-in_err-told-clause-each : goal.returns-in_err-told-clause-each
+returns-in_err-told-clause-each c = λ p. (lookup (nat_eq p) (take c.loop-index.index c.args.heard.now.entries), c.loop-index.invariant.told p)
+
+pub returns-in_err-deliver-clause-each : goal.returns-in_err-deliver-clause-each
+returns-in_err-deliver-clause-each c = λ p. (lookup (nat_eq p) (take c.loop-index.index c.args.heard.now.entries), ap (λ r. records_at (queues_by r) p) c.in_err-deliver.ensures.err ∙ c.loop-index.invariant.told p)
+
+pub returns-clause-each : goal.returns-clause-each
+returns-clause-each c = λ p. (lookup (nat_eq p) (take c.loop-index.index c.args.heard.now.entries), c.loop-index.invariant.told p)

@@ -1,11 +1,13 @@
 -- The listener gets its record, and is pending.
-use Rattle.std.proofs.Common.{◌≡◌, ◌==◌, ◌++◌, ◌∷◌, [], true, if◌then◌else◌, ap, sym, ◌∙◌, subst}
+use Rattle.std.proofs.Common.{◌≡◌, ◌==◌, ◌++◌, ◌∷◌, [], true, if◌then◌else◌, refl, ap, sym, ◌∙◌, subst}
 use Rattle.std.proofs.lemmas.Bool.{true≢false}
 use Rattle.dom_model.specs.PlainLists.Lists.{among}
 use Rattle.dom_model.proofs.PlainLists.Numbers.{same_or, same, apart}
 use Rattle.dom_observe.specs.Roster.{records_of}
+use Rattle.dom_observe.specs.Refused.{IsFront}
 use Rattle.dom_observe.proofs.Hearing.{stay-last, last-there}
 use Rattle.dom_observe.proofs.Outcomes.{by_one}
+use Rattle.dom_observe.proofs.Refusing.{front-same, front-last, gets-none, gets-one}
 use Rattle.dom_observe.proofs.telling.tell_one.Goals as goal
 
 pub returns-clause-stay : goal.returns-clause-stay
@@ -23,3 +25,24 @@ returns-clause-others c = λ p off.
           (λ told. told p ∙ ap (λ n. if n == p then records_of c.args.roster.now p ++ c.in_ok-told.told ∷ [] else records_of c.args.roster.now p) c.number.ensures ∙ ap (λ b. if b then records_of c.args.roster.now p ++ c.in_ok-told.told ∷ [] else records_of c.args.roster.now p) t)
           (λ same. ap (λ r. records_of r p) same)
     ]
+
+pub returns-in_err-told-clause-front : goal.returns-in_err-told-clause-front
+returns-in_err-told-clause-front c = front-same c.args.pending.now.keys c.args.pending.now.keys refl
+
+pub returns-in_err-told-clause-each : goal.returns-in_err-told-clause-each
+returns-in_err-told-clause-each c = λ p. gets-none c.args.mutation.now (records_of c.args.roster.now p) (records_of c.args.roster.now p) refl
+
+pub returns-in_err-pend-clause-front : goal.returns-in_err-pend-clause-front
+returns-in_err-pend-clause-front c = front-same c.args.pending.now.keys c.pend.new.pending.keys c.in_err-pend.ensures.err
+
+pub returns-in_err-pend-clause-each : goal.returns-in_err-pend-clause-each
+returns-in_err-pend-clause-each c = λ p. gets-none c.args.mutation.now (records_of c.args.roster.now p) (records_of c.args.roster.now p) refl
+
+pub returns-clause-front : goal.returns-clause-front
+returns-clause-front c = subst (IsFront c.args.pending.now.keys) (sym c.in_ok-pend.ensures.ok) (front-last c.args.pending.now.keys c.args.listener.0)
+
+pub returns-clause-each : goal.returns-clause-each
+returns-clause-each c = λ p.
+    by_one c.deliver.result c.deliver.ensures.ok c.deliver.ensures.err
+    (λ told. gets-one c.args.mutation.now c.args.listener.1 (c.number.result == p) c.in_ok-told.told (records_of c.args.roster.now p) (records_of c.deliver.new.roster p) c.in_ok-told.ensures (told p))
+    (λ same. gets-none c.args.mutation.now (records_of c.args.roster.now p) (records_of c.deliver.new.roster p) (ap (λ r. records_of r p) same))

@@ -14,4 +14,5 @@ returns c =
       step = λ b. step-follows b (RemoveAttribute c.args.element c.args.name.now) (Done Nothing) v c.remove_attribute.new.world (remove_attribute c.args.element c.args.name.now) refl
           (λ w shown. answer-remove_attribute v b w shown c.args.element c.args.name.now (sym c.in_default.ensures))
           c.in_ok-remove_attribute.ensures.removed c.remove_attribute.ensures.whole;
+      left = tt;
     }

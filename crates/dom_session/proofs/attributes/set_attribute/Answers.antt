@@ -17,4 +17,5 @@ returns c =
       step = λ b. step-follows b (SetAttribute c.args.element name c.args.value) (Done Nothing) v c.set_attribute.new.world (set_attribute c.args.element name c.args.value) refl
           (λ w shown. answer-set_attribute v b w shown c.args.element name c.args.value (sym c.in_default.ensures) valid)
           c.in_ok-set_attribute.ensures.set c.set_attribute.ensures.whole;
+      left = tt;
     }

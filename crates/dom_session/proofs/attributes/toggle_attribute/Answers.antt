@@ -17,4 +17,5 @@ returns c =
       step = λ b. step-follows b (ToggleAttribute c.args.element name c.args.force) (Done (Flag c.in_ok-present.present)) v c.toggle_attribute.new.world (toggle_attribute c.args.element name c.args.force) refl
           (λ w shown. answer-toggle_attribute v b w shown c.args.element name c.args.force c.in_ok-present.present (sym c.in_default.ensures) valid c.in_ok-present.ensures.answer)
           c.in_ok-present.ensures.toggled c.toggle_attribute.ensures.whole;
+      left = tt;
     }

@@ -10,6 +10,7 @@ use Rattle.dom_session.specs.declared.reply.Reply.TheVariants.{Done}
 use Rattle.dom_session.specs.Limiting.{numbered}
 use Rattle.dom_session.proofs.Stepping.{step-follows, step-refused}
 use Rattle.dom_session.proofs.ContentsAnswers.{room-clone_contents, answer-clone_contents}
+use Rattle.dom_session.proofs.WorldsKept.{on_err, kept_labels}
 use Rattle.dom_session.proofs.contents.clone_contents.Goals as goal
 
 pub clone_contents-requires-clause-room : goal.clone_contents-requires-clause-room
@@ -27,6 +28,7 @@ returns-in-Ok c =
       step = rw (c.number.ensures ∙ c.in-Ok.ensures.number) (step-follows (numbered c.args.numbers) (CloneContents c.args.range) (Done (Number v.tree.made)) v c.clone_contents.new.world (clone_contents c.args.range) refl
           (λ w shown. answer-clone_contents v (numbered c.args.numbers) w shown c.args.range live room None c.in-Ok.ensures.allowed)
           c.in-Ok.ensures.cloned c.clone_contents.ensures.whole);
+      left = tt;
     }
 
 pub returns-in-Err : goal.returns-in-Err
@@ -37,4 +39,5 @@ returns-in-Err c =
     record {
       step = step-refused v c.clone_contents.new.world (CloneContents c.args.range) c.in-Err.refusal (check_extract c.args.range (unwatched v)) c.reply_to.result c.reply_to.ensures c.in-Err.ensures.refused (numbered c.args.numbers)
           (λ e named w shown. answer-clone_contents v (numbered c.args.numbers) w shown c.args.range live room (Some e) named);
+      left = on_err c.reply_to.result (kept_labels v c.clone_contents.new.world c.clone_contents.ensures.kept c.clone_contents.ensures.whole);
     }

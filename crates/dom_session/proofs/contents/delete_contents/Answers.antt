@@ -17,4 +17,5 @@ returns c =
       step = λ b. step-follows b (DeleteContents c.args.range) (Done Nothing) v c.delete_contents.new.world (delete_contents c.args.range) refl
           (λ w shown. answer-delete_contents v b w shown c.args.range live)
           c.in_ok-delete_contents.ensures.deleted c.delete_contents.ensures.whole;
+      left = tt;
     }

@@ -10,6 +10,7 @@ use Rattle.dom_session.specs.declared.reply.Reply.TheVariants.{Done}
 use Rattle.dom_session.specs.Limiting.{numbered}
 use Rattle.dom_session.proofs.Stepping.{step-follows, step-refused}
 use Rattle.dom_session.proofs.ContentsAnswers.{room-extract, answer-extract_contents}
+use Rattle.dom_session.proofs.WorldsKept.{on_err, kept_labels}
 use Rattle.dom_session.proofs.contents.extract_contents.Goals as goal
 
 pub extract-requires-clause-room : goal.extract-requires-clause-room
@@ -27,6 +28,7 @@ returns-in-Ok c =
       step = rw (c.number.ensures ∙ c.in-Ok.ensures.number) (step-follows (numbered c.args.numbers) (ExtractContents c.args.range) (Done (Number v.tree.made)) v c.extract.new.world (extract c.args.range) refl
           (λ w shown. answer-extract_contents v (numbered c.args.numbers) w shown c.args.range live room None c.in-Ok.ensures.allowed)
           c.in-Ok.ensures.extracted c.extract.ensures.whole);
+      left = tt;
     }
 
 pub returns-in-Err : goal.returns-in-Err
@@ -37,4 +39,5 @@ returns-in-Err c =
     record {
       step = step-refused v c.extract.new.world (ExtractContents c.args.range) c.in-Err.refusal (check_extract c.args.range (unwatched v)) c.reply_to.result c.reply_to.ensures c.in-Err.ensures.refused (numbered c.args.numbers)
           (λ e named w shown. answer-extract_contents v (numbered c.args.numbers) w shown c.args.range live room (Some e) named);
+      left = on_err c.reply_to.result (kept_labels v c.extract.new.world c.extract.ensures.kept c.extract.ensures.whole);
     }

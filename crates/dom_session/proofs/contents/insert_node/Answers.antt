@@ -12,6 +12,7 @@ use Rattle.dom_session.specs.declared.reply.Reply.TheVariants.{Done}
 use Rattle.dom_session.specs.Limiting.{numbered}
 use Rattle.dom_session.proofs.Stepping.{step-follows, step-refused}
 use Rattle.dom_session.proofs.ContentsAnswers.{answer-insert_node, refused-insert_node}
+use Rattle.dom_session.proofs.WorldsKept.{on_err, kept_labels}
 use Rattle.dom_session.proofs.contents.insert_node.Goals as goal
 
 pub returns-in-Ok : goal.returns-in-Ok
@@ -26,6 +27,7 @@ returns-in-Ok c =
       step = step-follows (numbered c.args.numbers) (InsertNode r n) (Done Nothing) v c.insert_node.new.world (λ w. left_by (insert_node r n w) w) refl
           (λ w shown. answer-insert_node v (numbered c.args.numbers) w shown r n live held room c.in-Ok.ensures.allowed)
           c.in-Ok.ensures.inserted c.insert_node.ensures.whole;
+      left = tt;
     }
 
 pub returns-in-Err : goal.returns-in-Err
@@ -39,6 +41,7 @@ returns-in-Err c =
     record {
       step = step-refused v c.insert_node.new.world (InsertNode r n) c.in-Err.refusal (refusal_in (insert_node r n (unwatched v))) c.reply_to.result c.reply_to.ensures c.in-Err.ensures.refused (numbered c.args.numbers)
           (λ e named w shown. refused-insert_node v (numbered c.args.numbers) w shown r n live held e room named);
+      left = on_err c.reply_to.result (kept_labels v c.insert_node.new.world c.insert_node.ensures.kept c.insert_node.ensures.whole);
     }
 
 pub insert_node-requires-clause-room : goal.insert_node-requires-clause-room

@@ -11,6 +11,7 @@ use Rattle.dom_session.specs.declared.reply.Reply.TheVariants.{Done}
 use Rattle.dom_session.specs.Limiting.{numbered}
 use Rattle.dom_session.proofs.Stepping.{step-follows, step-refused}
 use Rattle.dom_session.proofs.ContentsAnswers.{room-surround, answer-surround, refused-surround}
+use Rattle.dom_session.proofs.WorldsKept.{on_err, kept_labels}
 use Rattle.dom_session.proofs.contents.surround_contents.Goals as goal
 
 pub surround-requires-clause-room : goal.surround-requires-clause-room
@@ -31,6 +32,7 @@ returns-in-Ok c =
       step = step-follows (numbered c.args.numbers) (SurroundContents r n) (Done Nothing) v c.surround.new.world (λ w. left_by (surround r n w) w) refl
           (λ w shown. answer-surround v (numbered c.args.numbers) w shown r n live held room c.in-Ok.ensures.allowed)
           c.in-Ok.ensures.surrounded c.surround.ensures.whole;
+      left = tt;
     }
 
 pub returns-in-Err : goal.returns-in-Err
@@ -44,4 +46,5 @@ returns-in-Err c =
     record {
       step = step-refused v c.surround.new.world (SurroundContents r n) c.in-Err.refusal (check_whole_surround r n (unwatched v)) c.reply_to.result c.reply_to.ensures c.in-Err.ensures.refused (numbered c.args.numbers)
           (λ e named w shown. refused-surround v (numbered c.args.numbers) w shown r n live held e room named);
+      left = on_err c.reply_to.result (kept_labels v c.surround.new.world c.surround.ensures.kept c.surround.ensures.whole);
     }

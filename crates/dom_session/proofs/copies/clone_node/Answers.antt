@@ -8,6 +8,7 @@ use Rattle.dom_session.specs.declared.reply.Reply.TheVariants.{Done}
 use Rattle.dom_session.specs.Limiting.{numbered}
 use Rattle.dom_session.proofs.Stepping.{step-follows}
 use Rattle.dom_session.proofs.NodeCopies.{room-copy, answer-clone_node}
+use Rattle.dom_session.proofs.WorldsKept.{on_err, kept_all}
 use Rattle.dom_session.proofs.copies.clone_node.Goals as goal
 
 pub clone_node-requires-clause-room : goal.clone_node-requires-clause-room
@@ -25,4 +26,10 @@ returns c =
       step = rw (c.number.ensures ∙ c.in_ok-copy.ensures.number) (step-follows (numbered c.args.numbers) (CloneNode c.args.node c.args.deep) (Done (Number v.tree.made)) v c.clone_node.new.world (clone_node c.args.deep c.args.node) refl
           (λ w shown. answer-clone_node v c.args.numbers w shown c.args.node c.args.deep held room)
           c.in_ok-copy.ensures.cloned c.clone_node.ensures.whole);
+      left = tt;
     }
+
+pub returns-in_err-copy-clause-left : goal.returns-in_err-copy-clause-left
+returns-in_err-copy-clause-left c =
+    on_err c.from_residual.result
+    (kept_all c.args.world.now c.clone_node.new.world c.clone_node.ensures.left c.clone_node.ensures.whole)

@@ -12,6 +12,7 @@ use Rattle.dom_session.specs.declared.reply.Reply.TheVariants.{Done}
 use Rattle.dom_session.specs.Limiting.{numbered}
 use Rattle.dom_session.proofs.Stepping.{step-follows, step-refused}
 use Rattle.dom_session.proofs.NodeCopies.{room-copy, answer-import_node, refused-import_node}
+use Rattle.dom_session.proofs.WorldsKept.{on_err, kept_all}
 use Rattle.dom_session.proofs.copies.import_node.Goals as goal
 
 pub import-requires-clause-room : goal.import-requires-clause-room
@@ -32,6 +33,7 @@ returns-in-Ok c =
       step = rw (c.number.ensures ∙ c.in-Ok.ensures.number) (step-follows (numbered c.args.numbers) (ImportNode c.args.document c.args.node c.args.deep) (Done (Number v.tree.made)) v c.import.new.world (import_node c.args.document c.args.deep c.args.node) refl
           (λ w shown. answer-import_node v c.args.numbers w shown c.args.document c.args.node c.args.deep document held kind room c.in-Ok.ensures.allowed)
           c.in-Ok.ensures.imported c.import.ensures.whole);
+      left = tt;
     }
 
 pub returns-in-Err : goal.returns-in-Err
@@ -45,4 +47,5 @@ returns-in-Err c =
     record {
       step = step-refused v c.import.new.world (ImportNode c.args.document c.args.node c.args.deep) c.in-Err.refusal (check_adopt f c.args.node) c.reply_to.result c.reply_to.ensures c.in-Err.ensures.refused (numbered c.args.numbers)
           (λ e named w shown. refused-import_node v c.args.numbers w shown c.args.document c.args.node c.args.deep document held kind room e named);
+      left = on_err c.reply_to.result (kept_all v c.import.new.world c.import.ensures.left c.import.ensures.whole);
     }

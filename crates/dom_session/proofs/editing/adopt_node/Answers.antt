@@ -11,6 +11,7 @@ use Rattle.dom_model.specs.MutationAlgorithms.Editing.{adopt}
 use Rattle.dom_edit.specs.Refusals.{check_adopt}
 use Rattle.dom_session.proofs.Stepping.{step-follows, steps-refused-briefly}
 use Rattle.dom_session.proofs.TreeEdits.{answer-adopt_node, refused-adopt_node}
+use Rattle.dom_session.proofs.WorldsKept.{on_err, kept_nodes}
 use Rattle.dom_session.proofs.editing.adopt_node.Goals as goal
 
 pub returns-in-Ok : goal.returns-in-Ok
@@ -25,6 +26,7 @@ returns-in-Ok c =
       step = λ b. rw c.number.ensures (step-follows b (AdoptNode d n) (Done (Number n)) old c.adopt.new.self (adopt n d) refl
           (λ w shown. answer-adopt_node old b d n w shown hd hn kind c.in-Ok.ensures.allowed)
           c.in-Ok.ensures.adopted c.adopt.ensures.whole);
+      left = tt;
     }
 
 pub returns-in-Err : goal.returns-in-Err
@@ -38,4 +40,5 @@ returns-in-Err c =
     record {
       step = steps-refused-briefly old c.adopt.new.self (AdoptNode d n) c.in-Err.refusal (check_adopt old.tree.forest n) c.brief_to.result c.brief_to.ensures c.in-Err.ensures.refused
           (λ b e named w shown. refused-adopt_node old b d n w shown hd hn kind e named);
+      left = on_err c.brief_to.result (kept_nodes old c.adopt.new.self c.adopt.ensures.kept c.adopt.ensures.whole);
     }

@@ -8,6 +8,7 @@ use Rattle.dom_session.specs.declared.reply.Answer.TheVariants.{Number}
 use Rattle.dom_session.specs.declared.reply.Reply.TheVariants.{Done}
 use Rattle.dom_session.proofs.Stepping.{step-follows, steps-refused-briefly}
 use Rattle.dom_session.proofs.TreeEdits.{answer-append_child}
+use Rattle.dom_session.proofs.WorldsKept.{on_err, kept_nodes}
 use Rattle.dom_session.proofs.editing.append_child.Goals as goal
 
 pub returns-in-Ok : goal.returns-in-Ok
@@ -21,6 +22,7 @@ returns-in-Ok c =
       step = λ b. rw c.number.ensures (step-follows b (AppendChild p n) (Done (Number n)) old c.append.new.self (append n p) refl
           (λ w shown. answer-append_child old b p n w None shown hp hn c.in-Ok.ensures.allowed)
           c.in-Ok.ensures.appended c.append.ensures.whole);
+      left = tt;
     }
 
 pub returns-in-Err : goal.returns-in-Err
@@ -33,4 +35,5 @@ returns-in-Err c =
     record {
       step = steps-refused-briefly old c.append.new.self (AppendChild p n) c.in-Err.refusal (check_insert old.tree.forest p n None) c.brief_to.result c.brief_to.ensures c.in-Err.ensures.refused
           (λ b e named w shown. answer-append_child old b p n w (Some e) shown hp hn named);
+      left = on_err c.brief_to.result (kept_nodes old c.append.new.self c.append.ensures.kept c.append.ensures.whole);
     }

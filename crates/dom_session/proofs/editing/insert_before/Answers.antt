@@ -9,6 +9,7 @@ use Rattle.dom_model.specs.MutationAlgorithms.Checks.{check_insert}
 use Rattle.dom_model.specs.MutationAlgorithms.Editing.{pre_insert}
 use Rattle.dom_session.proofs.Stepping.{step-follows, steps-refused-briefly}
 use Rattle.dom_session.proofs.TreeEdits.{not-true, answer-insert_before}
+use Rattle.dom_session.proofs.WorldsKept.{on_err, kept_nodes}
 use Rattle.dom_session.proofs.editing.insert_before.Goals as goal
 
 pub returns-in-Ok : goal.returns-in-Ok
@@ -25,6 +26,7 @@ returns-in-Ok c =
       step = λ b. rw c.number.ensures (step-follows b (InsertBefore p n child) (Done (Number n)) old c.insert_before.new.self (pre_insert n p child) refl
           (λ w shown. answer-insert_before old b p n child w None shown hp hn hc c.in-Ok.ensures.allowed)
           c.in-Ok.ensures.inserted c.insert_before.ensures.whole);
+      left = tt;
     }
 
 pub returns-in-Err : goal.returns-in-Err
@@ -40,4 +42,5 @@ returns-in-Err c =
     record {
       step = steps-refused-briefly old c.insert_before.new.self (InsertBefore p n child) c.in-Err.refusal (check_insert old.tree.forest p n child) c.brief_to.result c.brief_to.ensures c.in-Err.ensures.refused
           (λ b e named w shown. answer-insert_before old b p n child w (Some e) shown hp hn hc named);
+      left = on_err c.brief_to.result (kept_nodes old c.insert_before.new.self c.insert_before.ensures.kept c.insert_before.ensures.whole);
     }

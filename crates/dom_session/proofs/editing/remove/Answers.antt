@@ -23,6 +23,7 @@ returns c =
       step = λ b. step-follows b (Remove n) (Done Nothing) old c.remove.new.self (remove false n) refl
           (λ w shown. answer-remove old b n w shown hn kind)
           c.in_ok-remove.ensures.removed c.remove.ensures.whole;
+      left = tt;
     }
 
 pub returns-then-not-is_child_node : goal.returns-then-not-is_child_node

@@ -8,6 +8,7 @@ use Rattle.dom_model.specs.MutationAlgorithms.Editing.{remove}
 use Rattle.dom_edit.specs.Refusals.{check_remove_child}
 use Rattle.dom_session.proofs.Stepping.{step-follows, steps-refused-briefly}
 use Rattle.dom_session.proofs.TreeEdits.{answer-remove_child, refused-remove_child}
+use Rattle.dom_session.proofs.WorldsKept.{on_err, kept_nodes}
 use Rattle.dom_session.proofs.editing.remove_child.Goals as goal
 
 pub returns-in-Ok : goal.returns-in-Ok
@@ -21,6 +22,7 @@ returns-in-Ok c =
       step = λ b. rw c.number.ensures (step-follows b (RemoveChild p child) (Done (Number child)) old c.remove_child.new.self (remove false child) refl
           (λ w shown. answer-remove_child old b p child w shown hp hc c.in-Ok.ensures.allowed)
           c.in-Ok.ensures.removed c.remove_child.ensures.whole);
+      left = tt;
     }
 
 pub returns-in-Err : goal.returns-in-Err
@@ -33,4 +35,5 @@ returns-in-Err c =
     record {
       step = steps-refused-briefly old c.remove_child.new.self (RemoveChild p child) c.in-Err.refusal (check_remove_child old.tree.forest p child) c.brief_to.result c.brief_to.ensures c.in-Err.ensures.refused
           (λ b e named w shown. refused-remove_child old b p child w shown hp hc e named);
+      left = on_err c.brief_to.result (kept_nodes old c.remove_child.new.self c.remove_child.ensures.kept c.remove_child.ensures.whole);
     }

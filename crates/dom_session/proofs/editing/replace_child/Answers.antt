@@ -8,6 +8,7 @@ use Rattle.dom_model.specs.MutationAlgorithms.Checks.{check_replace}
 use Rattle.dom_model.specs.MutationAlgorithms.Editing.{replace}
 use Rattle.dom_session.proofs.Stepping.{step-follows, steps-refused-briefly}
 use Rattle.dom_session.proofs.TreeEdits.{answer-replace_child}
+use Rattle.dom_session.proofs.WorldsKept.{on_err, kept_nodes}
 use Rattle.dom_session.proofs.editing.replace_child.Goals as goal
 
 pub returns-in-Ok : goal.returns-in-Ok
@@ -23,6 +24,7 @@ returns-in-Ok c =
       step = λ b. rw c.number.ensures (step-follows b (ReplaceChild p n child) (Done (Number child)) old c.replace.new.self (replace child n p) refl
           (λ w shown. answer-replace_child old b p n child w None shown hp hn hc c.in-Ok.ensures.allowed)
           c.in-Ok.ensures.replaced c.replace.ensures.whole);
+      left = tt;
     }
 
 pub returns-then-not-holds : goal.returns-then-not-holds
@@ -40,4 +42,5 @@ returns-in-Err c =
     record {
       step = steps-refused-briefly old c.replace.new.self (ReplaceChild p n child) c.in-Err.refusal (check_replace old.tree.forest p n child) c.brief_to.result c.brief_to.ensures c.in-Err.ensures.refused
           (λ b e named w shown. answer-replace_child old b p n child w (Some e) shown hp hn hc named);
+      left = on_err c.brief_to.result (kept_nodes old c.replace.new.self c.replace.ensures.kept c.replace.ensures.whole);
     }

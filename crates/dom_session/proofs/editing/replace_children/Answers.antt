@@ -12,6 +12,7 @@ use Rattle.dom_edit.specs.Refusals.{check_only_child}
 use Rattle.dom_session.specs.declared.reply.Reply.TheVariants.{Dom}
 use Rattle.dom_session.proofs.Stepping.{step-follows, step-stays, steps-refused-briefly}
 use Rattle.dom_session.proofs.TreeEdits.{not-true, kind_passes-label, answer-replace_children, refused-replace_children, refused-parent}
+use Rattle.dom_session.proofs.WorldsKept.{on_err, kept_nodes}
 use Rattle.dom_session.proofs.editing.replace_children.Goals as goal
 
 pub returns-then-not-may_be_parent : goal.returns-then-not-may_be_parent
@@ -26,6 +27,7 @@ returns-then-not-may_be_parent c =
     let kind = kind_passes-label may_be_parent old.tree.forest p c.label.result.now hp c.label.ensures ∙ test in
     record {
       step = λ b. step-stays b (ReplaceChildren p n) (Dom TypeError) old (λ w shown. refused-parent old b p n w shown hp kind hn);
+      left = tt;
     }
 
 pub returns-in-Ok : goal.returns-in-Ok
@@ -42,6 +44,7 @@ returns-in-Ok c =
       step = λ b. step-follows b (ReplaceChildren p n) (Done Nothing) old c.replace_children.new.self (replace_all n p) refl
           (λ w shown. answer-replace_children old b p w shown hp kind n hn c.in-Ok.ensures.allowed)
           c.in-Ok.ensures.replaced c.replace_children.ensures.whole;
+      left = tt;
     }
 
 pub returns-in-Err : goal.returns-in-Err
@@ -57,4 +60,5 @@ returns-in-Err c =
     record {
       step = steps-refused-briefly old c.replace_children.new.self (ReplaceChildren p n) c.in-Err.refusal (check_only_child old.tree.forest p n) c.brief_to.result c.brief_to.ensures c.in-Err.ensures.refused
           (λ b e named w shown. refused-replace_children old b p w shown hp kind n e hn named);
+      left = on_err c.brief_to.result (kept_nodes old c.replace_children.new.self c.replace_children.ensures.kept c.replace_children.ensures.whole);
     }

@@ -21,10 +21,12 @@ returns c =
           (λ w shown. answer-create_doctype c.args.world.now c.args.numbers c.args.document name public_id system_id w shown (sym c.in_default.ensures) valid)
           (c.number.ensures ∙ c.in_ok-id.ensures.number)
           (rw (c.in_ok-label.ensures, c.nothing.ensures) at c.in_ok-id.ensures.made) c.make.ensures.whole;
+      left = tt;
     }
 
 pub returns-in-Some : goal.returns-in-Some
 returns-in-Some c = record {
   step = step-stays (numbered c.args.numbers) (CreateDoctype c.args.document (string_bytes c.args.name) (string_bytes c.args.public_id) (string_bytes c.args.system_id)) (reply_of c.in-Some.reply) c.args.world.now
       (λ w shown. refused-create_doctype c.args.world.now c.args.numbers c.args.document (string_bytes c.args.name) (string_bytes c.args.public_id) (string_bytes c.args.system_id) w (reply_view (reply_of c.in-Some.reply)) shown (sym c.in-Some.ensures));
+  left = tt;
 }

@@ -21,10 +21,12 @@ returns c =
           (λ w shown. answer-create_instruction c.args.world.now c.args.numbers c.args.document target c.args.text w shown (sym c.in_default.ensures) valid apart)
           (c.number.ensures ∙ c.in_ok-id.ensures.number)
           (rw (c.in_ok-label.ensures, c.as_str-2.ensures.value, c.in_ok-body.ensures) at c.in_ok-id.ensures.made) c.make.ensures.whole;
+      left = tt;
     }
 
 pub returns-in-Some : goal.returns-in-Some
 returns-in-Some c = record {
   step = step-stays (numbered c.args.numbers) (CreatePI c.args.document (string_bytes c.args.target) c.args.text) (reply_of c.in-Some.reply) c.args.world.now
       (λ w shown. refused-create_instruction c.args.world.now c.args.numbers c.args.document (string_bytes c.args.target) c.args.text w (reply_view (reply_of c.in-Some.reply)) shown (sym c.in-Some.ensures));
+  left = tt;
 }

@@ -15,4 +15,5 @@ returns c =
           (λ w shown. answer-new_document old c.args.numbers w shown room)
           (c.number.ensures ∙ c.in_ok-id.ensures.number)
           (rw (c.document_label.ensures, c.nothing.ensures) at c.in_ok-id.ensures.made) c.make.ensures.whole;
+      left = tt;
     }

@@ -8,4 +8,5 @@ pub returns : goal.returns
 returns c = record {
   step = λ b. step-notify c.args.world.now c.requires.shown.shows.whole b c.in_ok-all_told.field-0.items c.notify.new.self (Done (Notified c.in_ok-all_told.field-0)) refl
       (λ x h. c.in_ok-all_told.ensures ∙ c.in_ok-all.ensures.told x h) c.in_ok-all.ensures.after c.notify.ensures.names;
+  left = tt;
 }

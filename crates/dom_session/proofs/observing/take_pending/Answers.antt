@@ -1,4 +1,4 @@
-use Rattle.std.proofs.Common.{refl, ◌∙◌}
+use Rattle.std.proofs.Common.{refl}
 use Rattle.dom_session.specs.declared.reply.Answer.TheVariants.{Numbers}
 use Rattle.dom_session.specs.declared.reply.Reply.TheVariants.{Done}
 use Rattle.dom_session.proofs.ObserverSteps.{step-take_pending}
@@ -6,6 +6,8 @@ use Rattle.dom_session.proofs.observing.take_pending.Goals as goal
 
 pub returns : goal.returns
 returns c = record {
-  step = λ b. step-take_pending c.args.world.now c.requires.shown.shows.whole b c.in_ok-numbers_of.field-0.items c.take_pending.new.self (Done (Numbers c.in_ok-numbers_of.field-0)) refl
-      (c.in_ok-numbers_of.ensures ∙ c.in_ok-taken.ensures.pending) c.in_ok-taken.ensures.taken c.take_pending.ensures.names;
+  step = λ b. step-take_pending c.args.world.now c.requires.shown.shows.whole b c.in_ok-numbers.numbers.items c.take_pending.new.self (Done (Numbers c.in_ok-numbers.numbers)) refl
+      c.in_ok-numbers.ensures c.in_ok-take_pending.ensures.taken c.take_pending.ensures.names;
+  unchanged = tt;
+  left = tt;
 }

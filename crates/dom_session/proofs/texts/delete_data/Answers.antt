@@ -19,4 +19,5 @@ returns c =
       step = ok-more c.replace_data.result P Q
           (λ reply h b. step-same old new b replace command reply (λ w shown. refl) (h b))
           c.replace_data.ensures.step;
+      left = c.replace_data.ensures.left;
     }

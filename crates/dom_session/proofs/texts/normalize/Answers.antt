@@ -17,4 +17,5 @@ returns c =
       step = λ b. step-follows b (Normalize c.args.node) (Done Nothing) v c.normalize.new.world (normalize c.args.node) refl
           (λ w shown. answer-normalize v b w shown c.args.node held)
           c.in_ok-normalize.ensures.normalized c.normalize.ensures.whole;
+      left = tt;
     }

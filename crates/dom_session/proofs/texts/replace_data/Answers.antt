@@ -6,6 +6,7 @@ use Rattle.dom_session.specs.declared.reply.Answer.TheVariants.{Nothing}
 use Rattle.dom_session.specs.declared.reply.Reply.TheVariants.{Done}
 use Rattle.dom_session.proofs.Stepping.{step-follows, steps-refused}
 use Rattle.dom_session.proofs.NodeData.{answer-replace_data}
+use Rattle.dom_session.proofs.WorldsKept.{on_err, kept_numbers}
 use Rattle.dom_session.proofs.texts.replace_data.Goals as goal
 
 pub returns-in-Ok : goal.returns-in-Ok
@@ -15,6 +16,7 @@ returns-in-Ok c =
       step = λ b. step-follows b (ReplaceData c.args.node c.args.offset c.args.count c.args.text.now) (Done Nothing) v c.replace_data.new.world (replace_data c.args.node c.args.offset c.args.count c.args.text.now) refl
           (λ w shown. answer-replace_data v b w shown c.args.node c.args.offset c.args.count c.args.text.now None (sym c.in_default.ensures) c.in-Ok.ensures.allowed)
           c.in-Ok.ensures.replaced c.replace_data.ensures.whole;
+      left = tt;
     }
 
 pub returns-in-Err : goal.returns-in-Err
@@ -24,4 +26,5 @@ returns-in-Err c =
     record {
       step = steps-refused v c.replace_data.new.world (ReplaceData n c.args.offset c.args.count c.args.text.now) c.in-Err.refusal (check_offset (unwatched v) n c.args.offset) c.reply_to.result c.reply_to.ensures c.in-Err.ensures.refused
           (λ b e named w shown. answer-replace_data v b w shown n c.args.offset c.args.count c.args.text.now (Some e) (sym c.in_default.ensures) named);
+      left = on_err c.reply_to.result (kept_numbers v c.replace_data.new.world c.replace_data.ensures.kept c.replace_data.ensures.whole);
     }

@@ -14,4 +14,5 @@ returns c =
       step = λ b. step-follows b (SetData c.args.node c.args.text.now) (Done Nothing) v c.set_data.new.world (set_data c.args.node c.args.text.now) refl
           (λ w shown. answer-set_data v b w shown c.args.node c.args.text.now (sym c.in_default.ensures))
           c.in_ok-set_data.ensures.set c.set_data.ensures.whole;
+      left = tt;
     }

@@ -20,4 +20,5 @@ returns c =
       step = step-follows (numbered c.args.numbers) (SetTextContent c.args.node c.args.text) (Done Nothing) v c.set_text_content.new.world (set_text_content c.args.node c.args.text) refl
           (λ w shown. answer-set_text_content v (numbered c.args.numbers) w shown c.args.node c.args.text held room)
           c.in_ok-set_text_content.ensures.set c.set_text_content.ensures.whole;
+      left = tt;
     }

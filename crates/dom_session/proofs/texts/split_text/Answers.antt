@@ -9,6 +9,7 @@ use Rattle.dom_session.specs.Views.{reply_view}
 use Rattle.dom_session.specs.Limiting.{numbered}
 use Rattle.dom_session.proofs.Stepping.{step-follows, step-stays, step-refused}
 use Rattle.dom_session.proofs.NodeData.{answer-split_text, refused-split_text}
+use Rattle.dom_session.proofs.WorldsKept.{on_err, kept_labels}
 use Rattle.dom_session.proofs.texts.split_text.Goals as goal
 
 pub returns-in-Ok : goal.returns-in-Ok
@@ -19,6 +20,7 @@ returns-in-Ok c =
       step = rw (c.number.ensures ∙ c.in-Ok.ensures.number) (step-follows (numbered c.args.numbers) (SplitText c.args.text c.args.offset) (Done (Number v.tree.made)) v c.split.new.world (split c.args.text c.args.offset) refl
           (λ w shown. answer-split_text v (numbered c.args.numbers) w shown c.args.text c.args.offset None (sym c.in_default.ensures) room c.in-Ok.ensures.allowed)
           c.in-Ok.ensures.split c.split.ensures.whole);
+      left = tt;
     }
 
 pub returns-in-Err : goal.returns-in-Err
@@ -29,6 +31,7 @@ returns-in-Err c =
     record {
       step = step-refused v c.split.new.world (SplitText n c.args.offset) c.in-Err.refusal (check_offset (unwatched v) n c.args.offset) c.reply_to.result c.reply_to.ensures c.in-Err.ensures.refused (numbered c.args.numbers)
           (λ e named w shown. answer-split_text v (numbered c.args.numbers) w shown n c.args.offset (Some e) (sym c.in_default.ensures) room named);
+      left = on_err c.reply_to.result (kept_labels v c.split.new.world c.split.ensures.kept c.split.ensures.whole);
     }
 
 pub returns-in-Some : goal.returns-in-Some
@@ -37,4 +40,5 @@ returns-in-Some c =
     record {
       step = step-stays (numbered c.args.numbers) (SplitText c.args.text c.args.offset) c.in-Some.reply v
           (λ w shown. refused-split_text v (numbered c.args.numbers) w shown c.args.text c.args.offset (reply_view c.in-Some.reply) (sym c.in-Some.ensures));
+      left = tt;
     }

@@ -14,4 +14,5 @@ returns c =
     let room : nat_lt c.args.numbers (length v.iterators + 1) ≡ false = grind (arith, nat_tests) in
     record {
       step = step-create_iterator v c.requires.shown c.args.numbers c.args.root c.number.result c.args.filter c.make.new.self (Done (Number c.number.result)) there room (c.number.ensures ∙ c.in_ok-id.ensures.number) refl c.in_ok-id.ensures.made;
+      left = tt;
     }

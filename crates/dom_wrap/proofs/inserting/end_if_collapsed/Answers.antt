@@ -1,8 +1,11 @@
-use Rattle.std.proofs.Common.{refl, sym, tests, rules, arith}
+use Rattle.std.proofs.Common.{Option, is_some, ap, sym, ◌∙◌, tests, rules, arith}
 use Rattle.std.proofs.lemmas.Grind.{common_steps}
 use Rattle.dom_model.specs.Worlds.World.{Range}
+use Rattle.dom_ranges.specs.Tables.{RangeTable}
+use Rattle.dom_edit.specs.Keeping.{present}
 use Rattle.dom_edit.proofs.Leaving.{held-covered}
-use Rattle.dom_content.proofs.LabelsKept.{labels-same}
+use Rattle.dom_edit.proofs.NodesKept.{nodes-ranged}
+use Rattle.dom_edit.proofs.WatchersKept.{present-set}
 use Rattle.dom_wrap.proofs.InsertedNode.{grown-range, set-done, follows-ended, whole-ended}
 use Rattle.dom_wrap.proofs.inserting.end_if_collapsed.Goals as goal
 
@@ -38,7 +41,11 @@ returns-then-eq-clause-whole c =
 pub returns-then-eq-clause-kept : goal.returns-then-eq-clause-kept
 returns-then-eq-clause-kept c =
     let v = c.args.world.now in
-    rw c.set_end.ensures.kept (labels-same v (record v { ranges = c.set_end.new.self }) refl refl refl)
+    let range : Range = record { start = c.ends-start.result.0; end = c.ends-start.result.1 } in
+    let e = c.ends-start.ensures.ends in
+    let is = set-done v c.requires.whole c.args.range c.args.end range e c.requires.sound (sym c.if-eq.ensures) c.set_end.new.self c.set_end.result c.set_end.ensures.refusal c.set_end.ensures.set in
+    let set = ap (λ (t : RangeTable). present t.ranges) is ∙ present-set v.ranges.ranges c.args.range _ (ap (λ (o : Option Range). is_some o) e) in
+    rw c.set_end.ensures.kept ((nodes-ranged v c.set_end.new.self set).labelled)
 
 pub set_end-requires-clause-stands : goal.set_end-requires-clause-stands
 set_end-requires-clause-stands c = grind (arith, common_steps)

@@ -1,5 +1,6 @@
 use Rattle.std.proofs.Common.{None}
 use Rattle.dom_model.specs.RangesAndContents.Wrapping.{and_then, try_pre_insert, insert_node, try_select}
+use Rattle.dom_edit.proofs.NodesKept.{labels-then}
 use Rattle.dom_wrap.specs.Outcomes.{MayTake}
 use Rattle.dom_wrap.proofs.SurroundingSteps.{Stays, take-first, take-next, insert-passes, parent-passes-there, stays-inserted, passes-inserted, stays-appended, passes-appended, passes-put}
 use Rattle.dom_wrap.proofs.surrounding.put_around.Goals as goal
@@ -68,3 +69,10 @@ returns-clause-put c =
     (passes-inserted a b c.requires.whole c.args.range c.args.node c.requires.node_held c.in_ok-insert_at_start.ensures.allowed c.in_ok-insert_at_start.ensures.inserted)
     (passes-appended b d c.insert_at_start.ensures.whole c.args.range c.args.node c.args.fragment (k.nodes c.args.fragment c.requires.fragment_held) passes c.in_ok-insert_checked.ensures.inserted)
     c.select.ensures.selected
+
+pub returns-clause-kept : goal.returns-clause-kept
+returns-clause-kept c =
+    let b = c.insert_at_start.new.world in
+    let d = c.insert_checked.new.self in
+    let last = c.select.new.world in
+    labels-then c.args.world.now b last c.insert_at_start.ensures.kept (labels-then b d last c.insert_checked.ensures.kept.labelled c.select.ensures.kept)

@@ -1,5 +1,6 @@
 use Rattle.dom_edit.proofs.Leaving.{held-covered, parent-held}
-use Rattle.dom_wrap.proofs.SurroundingSteps.{passes-selected, whole-selected}
+use Rattle.dom_edit.proofs.NodesKept.{nodes-ranged}
+use Rattle.dom_wrap.proofs.SurroundingSteps.{passes-selected, whole-selected, present-selected}
 use Rattle.dom_wrap.proofs.surrounding.select.Goals as goal
 
 pub select_checked-requires-clause-covered : goal.select_checked-requires-clause-covered
@@ -12,3 +13,8 @@ returns-clause-selected c = passes-selected c.args.world.now c.requires.whole c.
 
 pub returns-clause-whole : goal.returns-clause-whole
 returns-clause-whole c = whole-selected c.args.world.now c.requires.whole c.args.range c.args.node c.select_checked.new.self c.requires.allowed c.select_checked.ensures.set
+
+pub returns-clause-kept : goal.returns-clause-kept
+returns-clause-kept c =
+    let v = c.args.world.now in
+    (nodes-ranged v c.select_checked.new.self (present-selected v c.requires.whole c.args.range c.args.node c.select_checked.new.self c.requires.allowed c.select_checked.ensures.set c.requires.held)).labelled

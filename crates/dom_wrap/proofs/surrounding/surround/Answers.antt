@@ -1,5 +1,5 @@
-use Rattle.std.proofs.Common.{refl, tests, rules}
-use Rattle.dom_content.proofs.LabelsKept.{labels-same}
+use Rattle.std.proofs.Common.{tests, rules}
+use Rattle.dom_content.proofs.LabelsKept.{labels-none}
 use Rattle.dom_wrap.proofs.Marking.{stand-by_surround}
 use Rattle.dom_wrap.proofs.surrounding.surround.Goals as goal
 
@@ -36,7 +36,7 @@ pub returns-clause-whole : goal.returns-clause-whole
 returns-clause-whole c = search (tests, rules)
 
 pub returns-in-Err-clause-kept : goal.returns-in-Err-clause-kept
-returns-in-Err-clause-kept c = labels-same c.args.world.now c.args.world.now refl refl refl
+returns-in-Err-clause-kept c = labels-none c.args.world.now
 
 pub returns-clause-kept : goal.returns-clause-kept
 returns-clause-kept c = c.surround_allowed.ensures.kept

@@ -6,6 +6,7 @@ use Rattle.dom_model.specs.MutationAlgorithms.Editing.{replace_all}
 use Rattle.dom_model.specs.RangesAndContents.Wrapping.{try_extract}
 use Rattle.dom_edit.specs.Whole.{unwatched}
 use Rattle.dom_edit.proofs.Following.{keeps-unwatched}
+use Rattle.dom_edit.proofs.NodesKept.{labels-then}
 use Rattle.dom_wrap.specs.Outcomes.{Passes, MayTake, put_around}
 use Rattle.dom_wrap.proofs.SurroundingRoom.{room-extract, room-emptied}
 use Rattle.dom_wrap.proofs.SurroundingSteps.{Stays, take-next, take-step, take-whole, extract-passes, stays-extracted, fragment-there, stays-emptied, passes-extracted, follows-surrounded}
@@ -75,3 +76,10 @@ returns-clause-surrounded c =
     (passes-extracted a b c.requires.whole r c.requires.held (extract-passes c.args.world.now c.args.range c.args.node c.requires.held c.requires.allowed) c.in_ok-fragment.ensures.extracted) c.in_ok-remove_children.ensures.removed
     (subst (λ (fragment : ℕ). Passes c.remove_children.new.world last (put_around r n fragment)) c.in_ok-fragment.ensures.number put))
     c.put_around.ensures.put
+
+pub returns-clause-kept : goal.returns-clause-kept
+returns-clause-kept c =
+    let b = c.extract_checked.new.world in
+    let d = c.remove_children.new.world in
+    let last = c.put_around.new.world in
+    labels-then c.args.world.now b last c.extract_checked.ensures.kept (labels-then b d last c.remove_children.ensures.kept c.put_around.ensures.kept)

@@ -8,6 +8,7 @@ use Rattle.dom_edit.specs.declared.world.World.{World}
 use Rattle.dom_edit.proofs.Marking.{stand-by_adopt}
 use Rattle.dom_edit.proofs.Adopting.{removed-held, removed-root, removed-document, whole-adopted, follows-staying}
 use Rattle.dom_edit.proofs.NodesKept.{nodes-then, nodes-adopted}
+use Rattle.dom_edit.proofs.WatchersKept.{watchers-ranged}
 use Rattle.dom_edit.proofs.world.World.adopt.Goals as goal
 
 pub document_of-requires : goal.document_of-requires
@@ -81,4 +82,4 @@ pub returns-then-ne-clause-kept : goal.returns-then-ne-clause-kept
 returns-then-ne-clause-kept c =
     let out = c.remove_node.new.self in
     let new : World = record { tree = c.set_document.new.self; ranges = out.ranges; statics = out.statics; iterators = out.iterators; walkers = out.walkers; observers = out.observers } in
-    nodes-then c.args.self.now out new c.remove_node.ensures.kept (nodes-adopted out new c.args.node c.args.document c.set_document.ensures refl refl)
+    nodes-then c.args.self.now out new c.remove_node.ensures.kept (nodes-adopted out new c.args.node c.args.document c.set_document.ensures refl refl (watchers-ranged out new refl refl refl))

@@ -14,3 +14,6 @@ returns-clause-whole c =
 
 pub returns-clause-discarded : goal.returns-clause-discarded
 returns-clause-discarded c = search (tests, rules)
+
+pub returns-clause-ranges : goal.returns-clause-ranges
+returns-clause-ranges c = c.forget.ensures

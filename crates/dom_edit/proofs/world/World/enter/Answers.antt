@@ -1,8 +1,8 @@
-use Rattle.std.proofs.Common.{refl, sym, ◌∙◌, tests, rules}
+use Rattle.std.proofs.Common.{sym, ◌∙◌, tests, rules}
 use Rattle.std.proofs.lemmas.Result.{on_ok_weaker}
 use Rattle.dom_model.proofs.Forests.Entries.{HasNode-occurs}
 use Rattle.dom_edit.proofs.InsertedNodes.{open-freed, follows-insert}
-use Rattle.dom_edit.proofs.NodesKept.{nodes-same, nodes-then}
+use Rattle.dom_edit.proofs.NodesKept.{nodes-none, nodes-then}
 use Rattle.dom_edit.proofs.world.World.enter.Goals as goal
 
 pub free-requires-clause-held : goal.free-requires-clause-held
@@ -22,7 +22,7 @@ pub returns-then-is_empty-clause-inserted : goal.returns-then-is_empty-clause-in
 returns-then-is_empty-clause-inserted c = search (tests, rules)
 
 pub returns-then-is_empty-clause-kept : goal.returns-then-is_empty-clause-kept
-returns-then-is_empty-clause-kept c = nodes-same c.args.self.now c.args.self.now refl refl refl
+returns-then-is_empty-clause-kept c = nodes-none c.args.self.now
 
 pub returns-then-is_empty-clause-whole : goal.returns-then-is_empty-clause-whole
 returns-then-is_empty-clause-whole c = search (tests, rules)

@@ -1,10 +1,10 @@
-use Rattle.std.proofs.Common.{[], ◌∷◌, false, refl, sym, ◌∙◌, arith, tests, rules}
+use Rattle.std.proofs.Common.{[], ◌∷◌, false, sym, ◌∙◌, arith, tests, rules}
 use Rattle.std.proofs.lemmas.Result.{on_ok_weaker}
 use Rattle.dom_model.proofs.Forests.Entries.{HasNode-occurs}
 use Rattle.dom_model.proofs.Forests.Climbing.{hits-first}
 use Rattle.dom_edit.proofs.InsertedNodes.{open-freed, follows-insert}
 use Rattle.dom_edit.proofs.LeftAlone.{newer-more, entering-newer}
-use Rattle.dom_edit.proofs.NodesKept.{nodes-same, nodes-then}
+use Rattle.dom_edit.proofs.NodesKept.{nodes-none, nodes-then}
 use Rattle.dom_edit.proofs.world.World.enter_unreferred.Goals as goal
 
 pub free_unreferred-requires-clause-held : goal.free_unreferred-requires-clause-held
@@ -30,7 +30,7 @@ pub returns-clause-whole : goal.returns-clause-whole
 returns-clause-whole c = search (tests, rules)
 
 pub returns-then-is_empty-clause-kept : goal.returns-then-is_empty-clause-kept
-returns-then-is_empty-clause-kept c = nodes-same c.args.self.now c.args.self.now refl refl refl
+returns-then-is_empty-clause-kept c = nodes-none c.args.self.now
 
 pub returns-clause-kept : goal.returns-clause-kept
 returns-clause-kept c = nodes-then c.args.self.now c.free_unreferred.new.self c.insert_all.new.self c.free_unreferred.ensures.kept c.insert_all.ensures.kept

@@ -51,4 +51,4 @@ returns-clause-whole c = search (tests, rules)
 pub returns-then-is_fragment-clause-kept : goal.returns-then-is_fragment-clause-kept
 returns-then-is_fragment-clause-kept c =
     nodes-then c.args.self.now c.remove_all.new.self c.queue_tree_record.new.self c.remove_all.ensures.kept
-    (nodes-observed c.remove_all.new.self c.queue_tree_record.new.self c.queue_tree_record.ensures.parts)
+    (nodes-observed c.remove_all.new.self c.queue_tree_record.new.self c.queue_tree_record.ensures.parts c.queue_tree_record.ensures.observers)

@@ -55,7 +55,7 @@ returns-then-not-is_fragment-clause-whole c = search (tests, rules)
 pub returns-clause-kept : goal.returns-clause-kept
 returns-clause-kept c =
     nodes-then c.args.self.now c.remove_all_unreferred.new.self c.queue_tree_record.new.self c.remove_all_unreferred.ensures.kept
-    (nodes-observed c.remove_all_unreferred.new.self c.queue_tree_record.new.self c.queue_tree_record.ensures.parts)
+    (nodes-observed c.remove_all_unreferred.new.self c.queue_tree_record.new.self c.queue_tree_record.ensures.parts c.queue_tree_record.ensures.observers)
 
 pub returns-then-not-is_fragment-clause-left : goal.returns-then-not-is_fragment-clause-left
 returns-then-not-is_fragment-clause-left c root a h newer l =

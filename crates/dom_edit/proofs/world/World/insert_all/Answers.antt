@@ -38,7 +38,8 @@ returns-clause-inserted c =
 
 pub returns-clause-kept : goal.returns-clause-kept
 returns-clause-kept c =
-    nodes-then c.args.self.now c.place.new.self c.queue_tree_record.new.self c.place.ensures.kept (nodes-observed c.place.new.self c.queue_tree_record.new.self c.queue_tree_record.ensures.parts)
+    nodes-then c.args.self.now c.place.new.self c.queue_tree_record.new.self c.place.ensures.kept
+    (nodes-observed c.place.new.self c.queue_tree_record.new.self c.queue_tree_record.ensures.parts c.queue_tree_record.ensures.observers)
 
 pub returns-then-suppressed-clause-kept : goal.returns-then-suppressed-clause-kept
 returns-then-suppressed-clause-kept c = search (tests, rules)

@@ -3,9 +3,11 @@ use Rattle.std.proofs.Common.{◌≡◌, ◌+◌, refl, ap, ◌∙◌, tests, ru
 use Rattle.dom_ranges.specs.Chained.{covered_to}
 use Rattle.dom_observe.proofs.Outcomes.{by_outcome}
 use Rattle.dom_edit.specs.declared.world.World.{World}
+use Rattle.dom_edit.specs.Keeping.{present}
 use Rattle.dom_edit.proofs.Making.{follows-made, whole-made, whole-covered}
 use Rattle.dom_edit.proofs.CallerLemmas.{labels-made}
 use Rattle.dom_edit.proofs.NodesKept.{nodes-same}
+use Rattle.dom_edit.proofs.WatchersKept.{watchers-ranged}
 use Rattle.dom_edit.proofs.world.World.make.Goals as goal
 
 pub returns-clause-whole : goal.returns-clause-whole
@@ -30,9 +32,10 @@ returns-clause-labelled c =
     let v = c.args.self.now in
     let new : World = record { tree = c.make.new.self; ranges = c.cover.new.self; statics = v.statics; iterators = v.iterators; walkers = v.walkers; observers = v.observers } in
     let ranges = ap (λ r. r.ranges) c.in_ok-cover.ensures.ok in
+    let watchers = watchers-ranged v new (ap (λ rs. present rs) ranges) refl refl in
     by_outcome c.make.result c.make.ensures.made c.make.ensures.unchanged c.make.ensures.unchanged
-    (λ made. labels-made v new (unwrap_or c.args.document v.tree.made) c.args.label c.args.content (follows-made v new c.args.document c.args.label c.args.content made ranges refl refl refl refl))
-    (λ same again. (nodes-same v new same refl refl).labelled)
+    (λ made. labels-made v new (unwrap_or c.args.document v.tree.made) c.args.label c.args.content (follows-made v new c.args.document c.args.label c.args.content made ranges refl refl refl refl) watchers)
+    (λ same again. (nodes-same v new same refl refl watchers).labelled)
 
 pub returns-clause-parts : goal.returns-clause-parts
 returns-clause-parts c = refl

@@ -3,6 +3,7 @@ use Rattle.std.proofs.Common.{[], ◌∷◌, refl, ap}
 use Rattle.dom_observe.specs.Watchers.{Watchers}
 use Rattle.dom_edit.proofs.NodesKept.{one-there}
 use Rattle.dom_edit.proofs.Named.{whole-named}
+use Rattle.dom_edit.proofs.WatchersKept.{observers-same}
 use Rattle.dom_edit.proofs.world.World.make_transients.Goals as goal
 
 pub returns-then-is_idle-clause-made : goal.returns-then-is_idle-clause-made
@@ -20,3 +21,9 @@ returns-then-is_idle-clause-quiet c unnamed = refl
 
 pub returns-clause-quiet : goal.returns-clause-quiet
 returns-clause-quiet c unnamed = ap (λ (o : Watchers). record c.args.self.now { observers = o }) (c.transients.ensures.quiet unnamed)
+
+pub returns-then-is_idle-clause-observers : goal.returns-then-is_idle-clause-observers
+returns-then-is_idle-clause-observers c = observers-same c.args.self.now.observers c.args.self.now.observers refl
+
+pub returns-clause-observers : goal.returns-clause-observers
+returns-clause-observers c = c.transients.ensures.made

@@ -15,3 +15,6 @@ returns-clause-whole c =
     whole-named v (record v { observers = c.removed.new.self }) (a.node ∷ told) refl r.whole c.removed.ensures.names
     (there-append f (a.node ∷ []) told (one-there f a.node r.node_held)
     (there-told f a.parent [] (a.node ∷ []) a.previous a.next r.held (none-there f) (one-there f a.node r.node_held) r.previous r.next))
+
+pub returns-clause-observers : goal.returns-clause-observers
+returns-clause-observers c = c.removed.ensures.made

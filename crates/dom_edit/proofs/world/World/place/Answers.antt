@@ -1,10 +1,12 @@
-use Rattle.std.proofs.Common.{ap, sym, ◌∙◌, subst}
+use Rattle.std.proofs.Common.{length, ap, sym, ◌∙◌, subst}
 use Rattle.dom_edit.specs.declared.world.World.{World}
+use Rattle.dom_edit.specs.Keeping.{present}
 use Rattle.dom_edit.specs.Leaving.{LeavesAll}
 use Rattle.dom_edit.specs.Whole.{IsWhole, Follows}
 use Rattle.dom_edit.proofs.LeftAlone.{placed-left}
 use Rattle.dom_edit.proofs.PlacedWorlds.{with_placed, placing, follows-placing, whole-placed, placed-is}
 use Rattle.dom_edit.proofs.InsertedNodes.{nodes-placed}
+use Rattle.dom_edit.proofs.WatchersKept.{present-room, watchers-ranged}
 use Rattle.dom_edit.proofs.world.World.place.Goals as goal
 
 pub returns-clause-placed : goal.returns-clause-placed
@@ -21,7 +23,10 @@ pub returns-clause-kept : goal.returns-clause-kept
 returns-clause-kept c =
     let v = c.args.self.now in
     let new : World = record c.make_room.new.self { tree = c.put_all.new.tree } in
+    let room = c.make_room.ensures in
     nodes-placed v new c.args.parent c.args.child c.args.nodes.now c.requires.whole c.requires.ready (returns-clause-placed c)
+    (watchers-ranged v new (ap (λ (w : World). present w.ranges.ranges) room ∙ present-room v.tree.forest c.args.parent c.args.child (length c.args.nodes.now) v.ranges.ranges)
+    (ap (λ (w : World). w.iterators) room) (ap (λ (w : World). w.observers) room))
 
 pub returns-clause-left : goal.returns-clause-left
 returns-clause-left c last a h newer l =

@@ -1,5 +1,6 @@
 use Rattle.std.proofs.Common.{sym, ◌∙◌, tests, rules}
 use Rattle.std.proofs.lemmas.Result.{on_ok_weaker}
+use Rattle.dom_edit.proofs.NodesKept.{nodes-observed}
 use Rattle.dom_edit.proofs.ReplacedNodes.{follows-added, follows-removed}
 use Rattle.dom_edit.proofs.world.World.queue_replaced.Goals as goal
 use Rattle.dom_edit.proofs.world.World.queue_replaced.Goals.{else-is_empty-via-then-is_empty+else-is_empty-2, else-is_empty-via-else-is_empty}
@@ -31,3 +32,6 @@ returns-then-is_empty-2-clause-whole c = search (tests, rules)
 
 pub returns-clause-whole : goal.returns-clause-whole
 returns-clause-whole c = search (tests, rules)
+
+pub returns-clause-kept : goal.returns-clause-kept
+returns-clause-kept c = nodes-observed c.args.self.now c.queue_tree_record.new.self c.queue_tree_record.ensures.parts c.queue_tree_record.ensures.observers

@@ -14,3 +14,6 @@ returns-clause-whole c =
 
 pub returns-clause-quiet : goal.returns-clause-quiet
 returns-clause-quiet c unnamed = ap (λ (o : Watchers). record c.args.self.now { observers = o }) (c.queue.ensures.quiet unnamed)
+
+pub returns-clause-observers : goal.returns-clause-observers
+returns-clause-observers c = c.queue.ensures.made

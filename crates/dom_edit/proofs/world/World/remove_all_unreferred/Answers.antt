@@ -1,4 +1,4 @@
-use Rattle.std.proofs.Common.{◌≡◌, ℕ, ◌+◌, true, List, [], ◌∷◌, ◌++◌, take, drop, refl, ap, sym, ◌∙◌, subst}
+use Rattle.std.proofs.Common.{◌≡◌, ℕ, ◌+◌, true, List, [], ◌∷◌, ◌++◌, take, drop, ap, sym, ◌∙◌, subst}
 use Rattle.std.proofs.lemmas.List.{take_more, drop_more}
 use Rattle.dom_model.specs.MutationAlgorithms.Editing.{remove, remove_all}
 use Rattle.dom_model.proofs.Forests.Climbing.{hits-first}
@@ -8,7 +8,7 @@ use Rattle.dom_edit.proofs.Following.{follows-none, follows-then}
 use Rattle.dom_edit.proofs.InsertedNodes.{remove_all-more, follows-as}
 use Rattle.dom_edit.proofs.LeftAlone.{newer-two, child-newer}
 use Rattle.dom_edit.proofs.Unreferred.{AreLeft, first-left, rest-left}
-use Rattle.dom_edit.proofs.NodesKept.{nodes-same, nodes-then}
+use Rattle.dom_edit.proofs.NodesKept.{nodes-none, nodes-then}
 use Rattle.dom_edit.proofs.world.World.remove_all_unreferred.Goals as goal
 
 pub loop-node-init : goal.loop-node-init
@@ -23,7 +23,7 @@ loop-node-init c =
         under = λ m k. child-parent v.tree.forest c.requires.whole.forest.once m p k;
         once = λ m. child-once v.tree.forest c.requires.whole.forest.once m p;
       });
-      kept = nodes-same v v refl refl refl;
+      kept = nodes-none v;
       older = λ a h newer l. l;
     }
 

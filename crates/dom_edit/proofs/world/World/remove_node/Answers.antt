@@ -4,7 +4,7 @@ use Rattle.std.proofs.lemmas.Result.{on_ok_weaker}
 use Rattle.dom_model.specs.Forests.Forest.{parent_of}
 use Rattle.dom_edit.proofs.Following.{follows-none}
 use Rattle.dom_edit.proofs.Leaving.{it_is, parent-held, held-taken, left-apart, follows-removed, follows-noted}
-use Rattle.dom_edit.proofs.NodesKept.{stay-some, previous-held, next-held}
+use Rattle.dom_edit.proofs.NodesKept.{nodes-then, nodes-observed, stay-some, previous-held, next-held}
 use Rattle.dom_edit.proofs.world.World.remove_node.Goals as goal
 
 pub make_transients-requires-clause-held : goal.make_transients-requires-clause-held
@@ -97,3 +97,13 @@ returns-then-suppressed-clause-root c none =
     let e : parent_of c.args.self.now.tree.forest c.args.node ≡ Some c.in-Some.seat.parent = c.in-Some.ensures.parent in
     let d : None ≡ Some c.in-Some.seat.parent = sym none ∙ e in
     absurd (cc d)
+
+pub returns-then-suppressed-clause-kept : goal.returns-then-suppressed-clause-kept
+returns-then-suppressed-clause-kept c =
+    nodes-then c.args.self.now c.take_out.new.self c.make_transients.new.self c.take_out.ensures.kept
+    (nodes-observed c.take_out.new.self c.make_transients.new.self c.make_transients.ensures.parts c.make_transients.ensures.observers)
+
+pub returns-clause-kept : goal.returns-clause-kept
+returns-clause-kept c =
+    nodes-then c.args.self.now c.take_out.new.self c.note_removal.new.self c.take_out.ensures.kept
+    (nodes-observed c.take_out.new.self c.note_removal.new.self c.note_removal.ensures.parts c.note_removal.ensures.observers)

@@ -6,11 +6,13 @@ use Rattle.dom_model.proofs.Forests.Entries.{HasNode-occurs}
 use Rattle.dom_model.proofs.Forests.Indices.{parent-there}
 use Rattle.dom_edit.specs.declared.world.World.{World}
 use Rattle.dom_edit.specs.Whole.{Follows}
+use Rattle.dom_edit.specs.Keeping.{present}
 use Rattle.dom_edit.proofs.Following.{follows-none}
 use Rattle.dom_edit.proofs.Leaving.{parent-held, held-taken, follows-cut_out, whole-taken, follows-removed}
 use Rattle.dom_edit.proofs.LeftAlone.{cut-left, quiet-above, same-left}
 use Rattle.dom_edit.proofs.Unreferred.{ends-stay}
 use Rattle.dom_edit.proofs.NodesKept.{nodes-then, nodes-observed, nodes-cut}
+use Rattle.dom_edit.proofs.WatchersKept.{watchers-cut}
 use Rattle.dom_edit.proofs.world.World.remove_unreferred.Goals as goal
 
 pub cut_out-requires-clause-held : goal.cut_out-requires-clause-held
@@ -64,8 +66,9 @@ pub returns-clause-kept : goal.returns-clause-kept
 returns-clause-kept c =
     let mid = c.cut_out.new.self in
     nodes-then c.args.self.now mid c.make_transients.new.self
-    (nodes-cut c.args.self.now mid c.args.node c.requires.whole (ap (λ (w : World). w.tree) c.cut_out.ensures) (ap (λ (w : World). w.statics) c.cut_out.ensures) (ap (λ (w : World). w.walkers) c.cut_out.ensures))
-    (nodes-observed mid c.make_transients.new.self c.make_transients.ensures.parts)
+    (nodes-cut c.args.self.now mid c.args.node c.requires.whole (ap (λ (w : World). w.tree) c.cut_out.ensures) (ap (λ (w : World). w.statics) c.cut_out.ensures) (ap (λ (w : World). w.walkers) c.cut_out.ensures)
+    (watchers-cut c.args.self.now mid c.args.node (ap (λ (w : World). present w.ranges.ranges) c.cut_out.ensures) (ap (λ (w : World). w.iterators) c.cut_out.ensures) (ap (λ (w : World). w.observers) c.cut_out.ensures)))
+    (nodes-observed mid c.make_transients.new.self c.make_transients.ensures.parts c.make_transients.ensures.observers)
 
 pub returns-clause-left : goal.returns-clause-left
 returns-clause-left c a h newer l =

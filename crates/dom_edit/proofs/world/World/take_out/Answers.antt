@@ -1,10 +1,13 @@
 use Rattle.std.proofs.Common.{ap, ◌∙◌}
 use Rattle.dom_model.specs.Forests.Forest.{parent_of}
 use Rattle.dom_model.specs.MutationAlgorithms.Editing.{taken_out}
+use Rattle.dom_ranges.specs.Tables.{RangeTable}
 use Rattle.dom_edit.specs.declared.world.World.{World}
+use Rattle.dom_edit.specs.Keeping.{present}
 use Rattle.dom_edit.specs.Whole.{Follows}
 use Rattle.dom_edit.proofs.Leaving.{if_some, it_is, held-covered, parent-held, follows-cut_out, whole-taken}
 use Rattle.dom_edit.proofs.NodesKept.{nodes-cut}
+use Rattle.dom_edit.proofs.WatchersKept.{present-moved, watchers-cut}
 use Rattle.dom_edit.proofs.world.World.take_out.Goals as goal
 
 pub removing-requires-clause-parent : goal.removing-requires-clause-parent
@@ -32,4 +35,10 @@ returns-clause-whole c =
     (ap (λ (w : World). w.ranges.covered) c.cut_out.ensures ∙ ap (λ r. r.covered) moved) (ap (λ (w : World). w.observers) c.cut_out.ensures)
 
 pub returns-clause-kept : goal.returns-clause-kept
-returns-clause-kept c = nodes-cut c.args.self.now c.cut_out.new.self c.args.node c.requires.whole (ap (λ (w : World). w.tree) c.cut_out.ensures) (ap (λ (w : World). w.statics) c.cut_out.ensures) (ap (λ (w : World). w.walkers) c.cut_out.ensures)
+returns-clause-kept c =
+    let v = c.args.self.now in
+    let new = c.cut_out.new.self in
+    let moved = it_is _ (parent_of v.tree.forest c.args.node) c.args.parent c.requires.child c.removing.ensures in
+    nodes-cut v new c.args.node c.requires.whole (ap (λ (w : World). w.tree) c.cut_out.ensures) (ap (λ (w : World). w.statics) c.cut_out.ensures) (ap (λ (w : World). w.walkers) c.cut_out.ensures)
+    (watchers-cut v new c.args.node (ap (λ (w : World). present w.ranges.ranges) c.cut_out.ensures ∙ ap (λ (r : RangeTable). present r.ranges) moved ∙ present-moved _ v.ranges.ranges)
+    (ap (λ (w : World). w.iterators) c.cut_out.ensures) (ap (λ (w : World). w.observers) c.cut_out.ensures))

@@ -4,7 +4,7 @@ use Rattle.std.specs.Prelude.{is_none}
 use Rattle.dom_model.specs.PlainLists.Lists.{among}
 use Rattle.dom_model.specs.Worlds.World.{Registration}
 use Rattle.dom_model.specs.MutationObservers.Records.{has_records, told_in}
-use Rattle.dom_observe.specs.Notifying.{waiting_in, EmptiesFirst, IsPartlyTold}
+use Rattle.dom_observe.specs.Notifying.{waiting_in}
 use Rattle.dom_observe.proofs.Outcomes.{at_err}
 use Rattle.dom_observe.specs.Watchers.{Watchers, Watches, on, records_at}
 use Rattle.dom_observe.specs.Naming.{TellsNone}
@@ -166,13 +166,9 @@ returns-clause-notified c =
           ∙ ap (λ (o : Watchers). filter (λ (r : Registration). is_none r.source) (on n o.nodes)) c.self.view_is;
     }
 
-pub returns-in_err-told-clause-lost : goal.returns-in_err-told-clause-lost
-returns-in_err-told-clause-lost c =
+pub returns-in_err-told-clause-err : goal.returns-in_err-told-clause-err
+returns-in_err-told-clause-err c =
     let a = c.self.inside in
-    let new : Watchers = record { nodes = registered_nodes a.table a.nodes.entries; queues = queues_by c.gather.new.roster; pending = a.pending.keys } in
-    let lost : IsPartlyTold c.args.self.now new = record {
-      nodes = ap (λ (o : Watchers). o.nodes) c.self.view_is;
-      pending = ap (λ (o : Watchers). o.pending) c.self.view_is;
-      queues = subst (λ (o : Watchers). EmptiesFirst o.pending o.queues (queues_by c.gather.new.roster)) c.self.view_is c.in_err-told.ensures.lost;
-    } in
-    at_err c.from_residual.result lost
+    let same : record { nodes = registered_nodes a.table a.nodes.entries; queues = queues_by c.gather.new.roster; pending = a.pending.keys } ≡ c.args.self.now =
+    (λ i. record { nodes = registered_nodes a.table a.nodes.entries; queues = queues_by (c.in_err-told.ensures.err i); pending = a.pending.keys }) ∙ c.self.view_is in
+    at_err c.from_residual.result same

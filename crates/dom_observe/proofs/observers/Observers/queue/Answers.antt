@@ -20,11 +20,12 @@ use Rattle.dom_observe.proofs.Hearing.{all_last-there}
 use Rattle.dom_observe.proofs.Keyrings.{indexed-same}
 use Rattle.dom_observe.proofs.Releasing.{each-there}
 use Rattle.dom_observe.proofs.Rosters.{has-same, length-same}
-use Rattle.dom_observe.proofs.Outcomes.{on_both}
+use Rattle.dom_observe.proofs.Outcomes.{on_both, at_err}
 use Rattle.dom_observe.proofs.Keeping.{on-registered_nodes, nobody}
 use Rattle.dom_observe.proofs.Queued.{standing_on-none, standing_stands, kept-queued, told-queued, pended-queued}
 use Rattle.dom_observe.proofs.Watching.{watches-noted, watches-unheard}
 use Rattle.dom_observe.proofs.Quiet.{not_nothing, none-stand, none-standing}
+use Rattle.dom_observe.proofs.Refusing.{queued-same, partly-queued}
 use Rattle.std.proofs.lemmas.Bool.{true≢false}
 use Rattle.dom_model.proofs.PlainLists.Numbers.{same_or, same, apart}
 use Rattle.dom_observe.proofs.observers.Observers.queue.Goals as goal
@@ -159,3 +160,14 @@ returns-clause-quiet g c unnamed =
     let none-there = none-stand a.table a.nodes.entries (has_queue (queues_by a.roster)) c.self.invariant.0.stand (queues_by a.roster) a.pending.keys c.args.self.now c.self.view_is (ancestors c.args.mutation.now.target c.args.tree.now.forest) unnamed in
     let nothing = c.in_ok-find_standing.ensures ∙ ap (λ k. flat_map (λ n. on n (listed a.nodes.entries)) (ancestors k c.args.tree.now.forest)) target ∙ none-there in
     absurd (not_nothing c.find_standing.new.keys.items c.find_standing.new.keys.len (sym c.find_standing.new.keys.ok.0) (sym c.is_empty-2.ensures ∙ c.if-is_empty-2.false) nothing)
+
+pub returns-in_err-find_standing-clause-partly : goal.returns-in_err-find_standing-clause-partly
+returns-in_err-find_standing-clause-partly g c = at_err c.from_residual.result (queued-same c.args.self.now _ c.self.view_is c.args.mutation.now)
+
+pub returns-clause-partly : goal.returns-clause-partly
+returns-clause-partly g c =
+    let a = c.self.inside in
+    let left =
+    partly-queued a.table a.nodes.entries (queues_by a.roster) a.pending.keys c.args.self.now c.self.view_is c.args.mutation.now (queues_by c.tell.new.roster) c.tell.new.pending.keys
+    c.tell.ensures.front c.tell.ensures.each in
+    at_err c.tell.result left

@@ -17,14 +17,16 @@ use Rattle.dom_observe.specs.Kept.{registered_nodes, has_queue, IsAwaited}
 use Rattle.dom_observe.specs.Roster.{lasting_by, passing_by, queues_by}
 use Rattle.dom_observe.specs.Naming.{TellsNone}
 use Rattle.dom_observe.specs.Held.{nodes_of_mutation}
+use Rattle.dom_observe.specs.Refused.{GetsAtMostOne}
 use Rattle.dom_observe.specs.Telling.{listeners}
 use Rattle.dom_observe.proofs.Holding.{names-only, names-same, same-queues, same-there}
 use Rattle.dom_observe.proofs.Hearing.{all_last-there}
 use Rattle.dom_observe.proofs.Keeping.{on-registered_nodes}
 use Rattle.dom_observe.proofs.Keyrings.{indexed-by, indexed-same}
-use Rattle.dom_observe.proofs.Outcomes.{on_both}
+use Rattle.dom_observe.proofs.Outcomes.{on_both, at_err}
 use Rattle.dom_observe.proofs.Queued.{standing_on-none, standing_stands, kept-queued, told-queued, pended-queued}
 use Rattle.dom_observe.proofs.Quiet.{not_nothing, none-stand, none-standing}
+use Rattle.dom_observe.proofs.Refusing.{front-same, gets-none, removed-same, partly-removed}
 use Rattle.dom_observe.proofs.Releasing.{each-there}
 use Rattle.dom_observe.proofs.Removals.{listeners-alike, stood, standing-live, standing-unnamed, kept-left, standing-left, watches-none_above}
 use Rattle.dom_observe.proofs.Rosters.{has-same, length-same}
@@ -271,3 +273,32 @@ returns-clause-quiet g c unnamed =
     let none-there = none-stand a.table a.nodes.entries (has_queue (queues_by a.roster)) c.self.invariant.0.stand (queues_by a.roster) a.pending.keys c.args.self.now c.self.view_is (ancestors c.args.mutation.now.target c.args.tree.now.forest) unnamed in
     let nothing = c.in_ok-find_standing.ensures ∙ ap (λ k. flat_map (λ n. on n (listed a.nodes.entries)) (ancestors k c.args.tree.now.forest)) target ∙ none-there in
     absurd (not_nothing c.find_standing.new.keys.items c.find_standing.new.keys.len (sym c.find_standing.new.keys.ok.0) (sym c.is_empty.ensures ∙ c.if-is_empty.false) nothing)
+
+-- what is left half-way
+
+pub returns-in_err-find_standing-clause-partly : goal.returns-in_err-find_standing-clause-partly
+returns-in_err-find_standing-clause-partly g c = at_err c.from_residual.result (removed-same c.args.self.now _ c.self.view_is c.args.node c.args.mutation.now)
+
+pub returns-in_err-add_transients-clause-partly : goal.returns-in_err-add_transients-clause-partly
+returns-in_err-add_transients-clause-partly g c =
+    let a = c.self.inside in
+    let b = c.add_transients.new in
+    let m = c.args.mutation.now in
+    let qs = queues_by a.roster in
+    let left =
+    partly-removed a.table a.nodes.entries qs a.pending.keys c.args.self.now c.self.view_is b.table b.nodes.entries c.args.node
+    c.add_transients.ensures.front c.add_transients.ensures.elsewhere m (queues_by b.roster) a.pending.keys (front-same a.pending.keys a.pending.keys refl)
+    (λ i. gets-none m (records_at qs i) (records_at (queues_by b.roster) i) (ap (λ q. records_at q i) c.add_transients.ensures.queues)) in
+    at_err c.from_residual-in_err-add_transients.result left
+
+pub returns-clause-partly : goal.returns-clause-partly
+returns-clause-partly g c =
+    let a = c.self.inside in
+    let b = c.add_transients.new in
+    let d = c.tell.new in
+    let m = c.args.mutation.now in
+    let left =
+    partly-removed a.table a.nodes.entries (queues_by a.roster) a.pending.keys c.args.self.now c.self.view_is b.table b.nodes.entries c.args.node
+    c.add_transients.ensures.front c.add_transients.ensures.elsewhere m (queues_by d.roster) d.pending.keys c.tell.ensures.front
+    (λ i. subst (λ q. GetsAtMostOne m (records_at q i) (records_at (queues_by d.roster) i)) c.add_transients.ensures.queues (c.tell.ensures.each i)) in
+    at_err c.tell.result left

@@ -13,7 +13,8 @@ use Rattle.dom_observe.specs.Roster.{lasting_by, passing_by, queues_by}
 use Rattle.dom_observe.specs.Naming.{names_one, TellsNone}
 use Rattle.dom_observe.proofs.Holding.{names-only, same-queues}
 use Rattle.dom_observe.proofs.Keyrings.{indexed-by}
-use Rattle.dom_observe.proofs.Outcomes.{on_ok}
+use Rattle.dom_observe.proofs.Outcomes.{on_ok, at_err}
+use Rattle.dom_observe.proofs.Refusing.{left-same, partly-left}
 use Rattle.dom_observe.proofs.Tables.{live_of_stands}
 use Rattle.dom_observe.proofs.Keeping.{on-registered_nodes, kept_table, all_deep, stands_of}
 use Rattle.dom_observe.proofs.Transients.{transients-once, none-added-there}
@@ -143,3 +144,15 @@ returns-then-is_empty-clause-quiet g c unnamed = c.self.view_is
 
 pub returns-in_err-find_standing_deep-clause-quiet : goal.returns-in_err-find_standing_deep-clause-quiet
 returns-in_err-find_standing_deep-clause-quiet g c unnamed = c.self.view_is
+
+pub returns-in_err-find_standing_deep-clause-partly : goal.returns-in_err-find_standing_deep-clause-partly
+returns-in_err-find_standing_deep-clause-partly g c = at_err c.from_residual.result (left-same c.args.self.now _ c.self.view_is c.args.node)
+
+pub returns-clause-partly : goal.returns-clause-partly
+returns-clause-partly g c =
+    let a = c.self.inside in
+    let b = c.add_transients.new in
+    let left =
+    partly-left a.table a.nodes.entries (queues_by a.roster) a.pending.keys c.args.self.now c.self.view_is b.table b.nodes.entries c.args.node
+    c.add_transients.ensures.front c.add_transients.ensures.elsewhere (queues_by b.roster) c.add_transients.ensures.queues in
+    at_err c.add_transients.result left

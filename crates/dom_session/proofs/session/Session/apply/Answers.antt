@@ -1,13 +1,16 @@
-use Rattle.std.proofs.Common.{tests, rules}
+use Rattle.std.proofs.Common.{◌≡◌, true, false, tests, rules}
 use Rattle.dom_session.specs.Bounding.{bounds_of}
 use Rattle.dom_session.specs.Limiting.{numbered}
 use Rattle.dom_session.specs.Views.{command_view}
 use Rattle.dom_session.proofs.Applying.{IsShown-step, IsAnswered-step}
+use Rattle.dom_session.proofs.WorldsKept.{left_ended, left_open}
 use Rattle.dom_session.proofs.session.Session.apply.Goals as goal
 
 pub invariant_of-self : goal.invariant_of-self
 invariant_of-self c =
-    (c.self.invariant.0, λ on. IsShown-step c.self.inside.world c.answered.new.world (numbered c.self.inside.limits.numbers) (command_view c.args.command) c.in-Ok.reply (c.self.invariant.1 on) c.in-Ok.ensures.step)
+    let on : c.self.inside.ended ≡ false = cc in
+    let shown = IsShown-step c.self.inside.world c.answered.new.world (numbered c.self.inside.limits.numbers) (command_view c.args.command) c.in-Ok.reply (c.self.invariant.1 on) c.in-Ok.ensures.step in
+    (c.self.invariant.0, λ _. shown, shown.shows.whole)
 
 pub returns-in-Ok-clause-answers : goal.returns-in-Ok-clause-answers
 returns-in-Ok-clause-answers c =
@@ -27,6 +30,22 @@ returns-then-self-clause-open c = search (tests, rules)
 
 pub returns-then-self-clause-ended : goal.returns-then-self-clause-ended
 returns-then-self-clause-ended c = search (tests, rules)
+
+pub returns-then-self-clause-left : goal.returns-then-self-clause-left
+returns-then-self-clause-left c =
+    rw (← c.self.view_is)
+    (left_ended (record { world = c.self.inside.world; bounds = bounds_of c.self.inside.limits; ended = c.self.inside.ended }) c.self.invariant.2)
+
+pub returns-in-Ok-clause-left : goal.returns-in-Ok-clause-left
+returns-in-Ok-clause-left c = tt
+
+pub returns-in-Err-clause-left : goal.returns-in-Err-clause-left
+returns-in-Err-clause-left c =
+    let on : c.self.inside.ended ≡ false = cc in
+    rw (← c.self.view_is)
+    (left_open (record { world = c.self.inside.world; bounds = bounds_of c.self.inside.limits; ended = c.self.inside.ended })
+    (record { world = c.answered.new.world; bounds = bounds_of c.self.inside.limits; ended = true })
+    on c.in-Err.ensures.left)
 
 pub returns-then-self-clause-stays_ended : goal.returns-then-self-clause-stays_ended
 returns-then-self-clause-stays_ended c = search (tests, rules)

@@ -1,4 +1,4 @@
-use Rattle.std.proofs.Common.{refl}
+use Rattle.std.proofs.Common.{◌≡◌, false, refl}
 use Rattle.dom_model.specs.Commands.Command.{CreateText}
 use Rattle.dom_session.specs.Bounding.{bounds_of}
 use Rattle.dom_session.specs.Brief.{reply_of}
@@ -8,7 +8,9 @@ use Rattle.dom_session.proofs.session.Session.create_text.Goals as goal
 
 pub invariant_of-self : goal.invariant_of-self
 invariant_of-self c =
-    (c.self.invariant.0, λ on. IsShown-step c.self.inside.world c.create_text.new.world (numbered c.self.inside.limits.numbers) (CreateText c.args.document c.args.text) (reply_of c.in-Ok.reply) (c.self.invariant.1 on) c.in-Ok.ensures.step)
+    let on : c.self.inside.ended ≡ false = cc in
+    let shown = IsShown-step c.self.inside.world c.create_text.new.world (numbered c.self.inside.limits.numbers) (CreateText c.args.document c.args.text) (reply_of c.in-Ok.reply) (c.self.invariant.1 on) c.in-Ok.ensures.step in
+    (c.self.invariant.0, λ _. shown, shown.shows.whole)
 
 pub returns-clause-answers : goal.returns-clause-answers
 returns-clause-answers c =

@@ -1,4 +1,4 @@
-use Rattle.std.proofs.Common.{ap}
+use Rattle.std.proofs.Common.{◌≡◌, false, ap}
 use Rattle.dom_edit.specs.declared.world.World.{World}
 use Rattle.dom_session.specs.Stands.{Held}
 use Rattle.dom_session.specs.Bounding.{bounds_of}
@@ -10,7 +10,9 @@ use Rattle.dom_session.proofs.session.Session.edit.Goals as goal
 
 pub invariant_of-self : goal.invariant_of-self
 invariant_of-self c =
-    (c.self.invariant.0, λ on. IsShown-step c.self.inside.world c.edit_tree.new.world (numbered c.self.inside.limits.numbers) (editing_view c.args.command) (reply_of c.in-Ok.reply) (c.self.invariant.1 on) (c.in-Ok.ensures.step (numbered c.self.inside.limits.numbers)))
+    let on : c.self.inside.ended ≡ false = cc in
+    let shown = IsShown-step c.self.inside.world c.edit_tree.new.world (numbered c.self.inside.limits.numbers) (editing_view c.args.command) (reply_of c.in-Ok.reply) (c.self.invariant.1 on) (c.in-Ok.ensures.step (numbered c.self.inside.limits.numbers)) in
+    (c.self.invariant.0, λ _. shown, shown.shows.whole)
 
 pub returns-clause-answers : goal.returns-clause-answers
 returns-clause-answers c =

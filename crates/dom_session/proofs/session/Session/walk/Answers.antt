@@ -1,4 +1,4 @@
-use Rattle.std.proofs.Common.{refl, ap}
+use Rattle.std.proofs.Common.{◌≡◌, false, refl, ap}
 use Rattle.dom_model.specs.Commands.Command.{Walk}
 use Rattle.dom_edit.specs.declared.world.World.{World}
 use Rattle.dom_session.specs.Stands.{Held}
@@ -10,7 +10,9 @@ use Rattle.dom_session.proofs.session.Session.walk.Goals as goal
 
 pub invariant_of-self : goal.invariant_of-self
 invariant_of-self c =
-    (c.self.invariant.0, λ on. IsShown-step c.self.inside.world c.walk.new.world (numbered c.self.inside.limits.numbers) (Walk c.args.walker c.args.direction) (reply_of c.walk.result) (c.self.invariant.1 on) (c.walk.ensures.step (numbered c.self.inside.limits.numbers)))
+    let on : c.self.inside.ended ≡ false = cc in
+    let shown = IsShown-step c.self.inside.world c.walk.new.world (numbered c.self.inside.limits.numbers) (Walk c.args.walker c.args.direction) (reply_of c.walk.result) (c.self.invariant.1 on) (c.walk.ensures.step (numbered c.self.inside.limits.numbers)) in
+    (c.self.invariant.0, λ _. shown, shown.shows.whole)
 
 pub returns-clause-answers : goal.returns-clause-answers
 returns-clause-answers c =

@@ -1,0 +1,49 @@
+-- What a node holds, lent with no command: the session stays, and so does its last answer.
+use Rattle.std.specs.Prelude.{◌≡◌, ℕ, Bool, true, false, List, Option, Some, None, Result, Ok, Err}
+use Rattle.dom_model.specs.declared.OwnError.{OwnError}
+use Rattle.dom_model.specs.Forests.Attributes.{Attribute}
+use Rattle.dom_model.specs.Forests.Forest.{Forest}
+use Rattle.dom_model.specs.Worlds.World.{Content, World}
+use Rattle.dom_session.specs.Lending.{lent_as, data_in, attribute_in}
+use Rattle.dom_wire.specs.Sessions.{StandsFor}
+use Rattle.dom_c.specs.Statuses.{status_of_own, out_of_memory, closed}
+use Rattle.dom_c.specs.Reading.{status_found, or_before}
+use Rattle.dom_c.specs.declared.kept.Kept.{Kept}
+use Rattle.dom_c.specs.declared.handle.Handle.{Handle}
+
+abbrev pub data_told : ℕ → Forest Content → Result (Option (List ℕ)) OwnError
+data_told n f = data_in f n
+
+abbrev pub attribute_name_told : ℕ → ℕ → Forest Content → Result (Option (List ℕ)) OwnError
+attribute_name_told n index f = lent_as (λ (a : Attribute). a.name) (attribute_in index f n)
+
+abbrev pub attribute_value_told : ℕ → ℕ → Forest Content → Result (Option (List ℕ)) OwnError
+attribute_value_told n index f = lent_as (λ (a : Attribute). a.value) (attribute_in index f n)
+
+-- the status of what was looked for: it is lent, or not there, or there is no such node
+abbrev pub status_of_lent : {A : Type 0} → Result (Option A) OwnError → ℕ
+status_of_lent (Ok lent) = status_found lent
+status_of_lent (Err e) = status_of_own e
+
+abbrev pub lent_or_before : {A : Type 0} → Result (Option A) OwnError → A → A
+lent_or_before (Ok lent) before = or_before lent before
+lent_or_before (Err e) before = before
+
+-- what the session's world has is lent; where there is none, what was there stays
+pub record IsLent {A : Type 0} (find : Forest Content → Result (Option A) OwnError) (kept : Kept) (before after : A) (status : ℕ) : Type 0 where
+  pub status_is : (w : World) → StandsFor kept.session w → status ≡ status_of_lent (find w.forest)
+  pub lent_is : (w : World) → StandsFor kept.session w → after ≡ lent_or_before (find w.forest) before
+
+-- the same, or memory was wanting before
+abbrev pub IsLentOrEnded : {A : Type 0} → Bool → (Forest Content → Result (Option A) OwnError) → Kept → A → A → ℕ → Type 0
+IsLentOrEnded true find kept before after status = (status ≡ out_of_memory) × (after ≡ before)
+IsLentOrEnded false find kept before after status = IsLent find kept before after status
+
+-- a closed handle says so
+abbrev pub LendsKept : {A : Type 0} → (Forest Content → Result (Option A) OwnError) → Option Kept → A → A → ℕ → Type 0
+LendsKept find None before after status = (status ≡ closed) × (after ≡ before)
+LendsKept find (Some kept) before after status = IsLentOrEnded kept.ended find kept before after status
+
+-- what a call that lends of a forest lends, and its status
+abbrev pub LendsForest : {A : Type 0} → Handle → (Forest Content → Result (Option A) OwnError) → A → A → ℕ → Type 0
+LendsForest h find before after status = LendsKept find h.slot.kept before after status

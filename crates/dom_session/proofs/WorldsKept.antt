@@ -1,0 +1,49 @@
+-- What commands keep of a world where memory was wanting.
+use Rattle.std.proofs.Common.{◌≡◌, false, refl}
+use Rattle.std.specs.Prelude.{Result, Ok, Err, OnErr}
+use Rattle.dom_edit.specs.declared.world.World.{World}
+use Rattle.dom_edit.specs.Whole.{IsWhole}
+use Rattle.dom_edit.specs.Keeping.{KeepsLabels, KeepsNodes}
+use Rattle.dom_edit.specs.Leaving.{LeavesAll}
+use Rattle.dom_data.specs.Keeping.{KeepsNumbers}
+use Rattle.dom_clone.proofs.Left.{left-same}
+use Rattle.dom_content.proofs.LabelsKept.{labels-left}
+use Rattle.dom_session.specs.Stands.{Held}
+use Rattle.dom_session.specs.Ending.{IsKept, IsLeft}
+
+-- whatever a call answers
+pub on_err : {T E P : Type 0} (r : Result T E) → P → OnErr r P
+on_err (Ok x) p = tt
+on_err (Err e) p = p
+
+pub kept_labels : (old new : World) → KeepsLabels old new → IsWhole new → IsKept old new
+kept_labels old new k whole = record { whole = whole; held = k }
+
+pub kept_nodes : (old new : World) → KeepsNodes old new → IsWhole new → IsKept old new
+kept_nodes old new k = kept_labels old new k.labelled
+
+pub kept_numbers : (old new : World) → KeepsNumbers old new → IsWhole new → IsKept old new
+kept_numbers old new k = kept_labels old new k.labelled
+
+-- nothing that was there has changed
+pub kept_all : (old new : World) → LeavesAll old new → IsWhole new → IsKept old new
+kept_all old new l = kept_labels old new (labels-left old new l)
+
+pub kept_whole : (v : World) → IsWhole v → IsKept v v
+kept_whole v = kept_all v v (left-same v)
+
+-- Sessions.
+
+pub left_ended : (s : Held) → IsWhole s.world → IsLeft s s
+left_ended s whole = record {
+  whole = whole;
+  held = (kept_whole s.world whole).held;
+  had_ended = λ _. refl;
+}
+
+pub left_open : (old new : Held) → old.ended ≡ false → IsKept old.world new.world → IsLeft old new
+left_open old new on k = record {
+  whole = k.whole;
+  held = k.held;
+  had_ended = λ ended. absurd (cc (on, ended));
+}

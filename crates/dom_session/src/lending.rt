@@ -1,0 +1,38 @@
+//! What a node holds, lent where it lies with no command: its data, and its attributes by their place (DOM Standard, "Interface
+//! CharacterData", "Interface Element").
+
+ghost use Rattle.std.specs.Prelude.{◌≡◌};
+ghost use Rattle.dom_attrs.specs.Entries.{attribute_at};
+ghost use Rattle.dom_session.specs.Lending.{lent_as, data_in, attribute_in};
+
+use dom_edit::Content;
+use dom_model::OwnError;
+use dom_tree::{NodeId, Tree};
+use dom_units::Units;
+
+/// The data of a node, where its kind has data.
+pub(crate) fn data_of(tree: &Tree<Content>, node: NodeId) -> Result<Option<&[u16]>, OwnError>
+    ensures { lent_as (λ units. units.now) result ≡ data_in tree.now.forest node }
+{
+    if !tree.holds(node) {
+        return Err(OwnError::NoSuchObject);
+    }
+    if !tree.has_data(node) {
+        return Ok(None);
+    }
+    Ok(Some(tree.body(node).text()))
+}
+
+/// The attribute of a node at a place, its name and its value.
+pub(crate) fn attribute_at(
+    tree: &Tree<Content>,
+    node: NodeId,
+    index: usize,
+) -> Result<Option<(&str, &Units)>, OwnError>
+    ensures { lent_as attribute_at result ≡ attribute_in index tree.now.forest node }
+{
+    if !tree.holds(node) {
+        return Err(OwnError::NoSuchObject);
+    }
+    Ok(tree.body(node).attribute_at(index))
+}
