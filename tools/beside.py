@@ -2,9 +2,10 @@
 """Runs all tests that need no proof, side by side: of the tools, of want of memory, of costs, of README, of each binding, of served documents, and of the
 referee.
 
-Each is begun once those that it needs have ended, never more at once than processors. What it writes is handed on in one piece when it has ended, under a
-line with its name and how long it took. The last line says how many passed and failed; --after adds what another run said in its last line. A test that
-says no such counts is one.
+What they share is built first: the library for C, the module for Python and the one for JavaScript. Tests that build it again put each file in place whole,
+so others may read it meanwhile. Each task is begun once those that it needs have ended, never more at once than processors. What it writes is handed on in
+one piece when it has ended, under a line with its name and how long it took. The last line says how many passed and failed; --after adds what another run
+said in its last line. A test that says no such counts is one; a build counts where it fails.
 """
 import argparse
 import contextlib
@@ -22,33 +23,37 @@ from start import ROOT
 
 COUNTS = re.compile(r"(\d+) passed, (\d+) failed")
 BINDINGS = "bindings/test.py"
-LIBRARY = "bindings c"
+LIBRARY, EXTENSION, MODULE = "the library for C", "the module for Python", "the module for JavaScript"
 
 
 @dataclasses.dataclass(frozen=True)
 class Task:
-    """A test: its script with words, and the names of those that have to end first."""
+    """A test, or a build that tests need: its script with words, and the names of those that have to end first."""
 
     name: str
     words: tuple
     needs: tuple = ()
+    is_build: bool = False
 
 
-# Those that take long, and those that others need, come first.
+# Those that others need come first, and then those that take long.
 TASKS = (
-    Task(LIBRARY, (BINDINGS, "c")),
+    Task(LIBRARY, ("bindings/c/make.py",), is_build=True),
+    Task(MODULE, ("bindings/javascript/make.py",), is_build=True),
+    Task(EXTENSION, ("bindings/python/extension.py", "--build"), (LIBRARY,), is_build=True),
+    Task("bindings rust", (BINDINGS, "rust"), (LIBRARY,)),
+    Task("bindings python", (BINDINGS, "python"), (EXTENSION,)),
+    Task("served documents", ("serving/test.py",), (EXTENSION,)),
+    Task("bindings c", (BINDINGS, "c"), (LIBRARY,)),
+    Task("referee", ("referee/test.py",), (EXTENSION, MODULE, "bindings rust")),
     Task("want of memory", ("tools/refused.py",)),
+    Task("bindings javascript", (BINDINGS, "javascript"), (MODULE,)),
     Task("linters", ("tools/linted.py",)),
     Task("costs", ("bench/hostile.py",)),
     Task("README", ("tools/printed.py", "README.md")),
     Task("versions", (BINDINGS, "versions")),
-    Task("bindings python", (BINDINGS, "python"), (LIBRARY,)),
-    Task("bindings javascript", (BINDINGS, "javascript"), (LIBRARY,)),
-    Task("bindings rust", (BINDINGS, "rust"), (LIBRARY,)),
-    Task("served documents", ("serving/test.py",), ("bindings python",)),
     Task("edits", ("tools/test_edits.py",)),
     Task("tools", ("tools/test.py",)),
-    Task("referee", ("referee/test.py",), ("bindings javascript", "bindings python", "bindings rust")),
 )
 
 
@@ -74,7 +79,7 @@ class Run:
     def end(self, task, status, said, seconds):
         """Counts what a task came to, and hands on what it wrote."""
         found = COUNTS.fullmatch(said.rstrip("\n").rpartition("\n")[2])
-        passed, failed = map(int, found.groups()) if found else (int(status == 0), 0)
+        passed, failed = map(int, found.groups()) if found else (int(status == 0 and not task.is_build), 0)
         failed += status != 0 and not failed
         with self.changed:
             self.passed, self.failed = self.passed + passed, self.failed + failed

@@ -1,9 +1,10 @@
 #!/usr/bin/env python3
-"""Tries the edits that must fail, many of a crate in one check, and tells of each at which goal it is refused.
+"""Tries the edits that must fail, all of a crate in one check where that can be, and tells of each at which goal it is refused.
 
-A function's proof stands on the contracts of what it calls, and never on their bodies. So edits of different functions do not touch each other: one
-check of a copy with all of them tells for each of these functions that it has no proof, and at which goals. The edits of a crate are put into as few
-groups as no two of which change one function; each group is applied to a copy, which is checked once, over what the groups before it proved.
+A function's proof stands on the contracts of what it calls, and never on their bodies. So beside each function that an edit changes a second one, its twin,
+gets the edited body, with the same contract and a copy of the proof: one check of a copy with all twins of a crate tells for each that it has no proof, and
+at which goals. What has no twin, or was not refused at a clause there, is tried in its place: in as few groups as no two of which change one function,
+each applied to a copy that is checked once, over what the checks before it proved.
 
 An edit is refused, at a function and its goals; or let through; or bad, where it does not fit, does not compile, or its function was not reached. One
 that is refused at no clause, since a proof file names what it takes away or its new body has no proof of any kind, is told: it says little of the
@@ -15,6 +16,7 @@ last line is `N passed, M failed`.
 """
 import argparse
 import contextlib
+import copy
 import hashlib
 import json
 import os
@@ -26,6 +28,7 @@ import tempfile
 
 import edit_files
 import edit_told
+import edit_twins
 import start
 
 TASK = "edits"
@@ -153,6 +156,52 @@ class Trial:
         self.outcomes[edit.path] = outcome
         self.waiting.remove(edit)
 
+    def try_twins(self, jobs):
+        """Settles the edits that a check of twins refuses at a clause, or that do not compile; returns how many checks it took."""
+        twins = edit_twins.Twins(self.crate.name, self.crate.folder, self.waiting)
+        spoiled, checks = {}, 0
+        while twins.made and len(spoiled) < len({it.edit.path for it in twins.made}):
+            said, at = self.check_twins(twins, spoiled, jobs)
+            checks += 1
+            if said.has_judged:
+                self.judge_twins([it for it in twins.made if it.edit.path not in spoiled], said)
+                break
+            more = {at[file, line].path: text for file, line, text in said.faults if (file, line) in at}
+            if not more:
+                break
+            spoiled |= more
+        for edit in [it for it in self.waiting if it.path in spoiled]:
+            self.settle(edit, Outcome(BAD, why=f"it does not compile: {spoiled[edit.path]}"))
+        return checks
+
+    def check_twins(self, twins, left_out, jobs):
+        """Checks a copy of the crate with twins, but those of some edits; returns what it said, and which edit each line of a twin is of."""
+        with tempfile.TemporaryDirectory(prefix=f"rt-twins-{os.getpid()}-") as room:
+            at = twins.lay(room, left_out)
+            crate = copy.copy(self.crate)
+            crate.folder = room
+            only = [word for it in twins.made if it.edit.path not in left_out for word in ("--only", it.named().path())]
+            for number in (jobs, 1):
+                ran = self.rt.checked(crate, {}, ["--jobs", str(number), *only], self.work)
+                if ran.returncode != -signal.SIGKILL:
+                    break
+        return edit_told.read(self.crate.name, ran.stdout), at
+
+    def controls(self, jobs):
+        """Returns the twins that are not proved though nothing is edited in them: what these are of would be told as refused whatever the edit."""
+        twins = edit_twins.Twins(self.crate.name, self.crate.folder, self.waiting, are_edited=False)
+        said, _ = self.check_twins(twins, (), jobs)
+        proved = lambda it: all(said.functions[name].is_proved for name in edit_told.names_of(said, it.named())) and edit_told.names_of(said, it.named())
+        return [it for it in twins.made if not proved(it)], len(twins.made)
+
+    def judge_twins(self, twins, said):
+        """Settles those edits of which a twin is refused at a clause, and waits for nobody."""
+        for twin in twins:
+            found = {name: said.functions[name] for name in edit_told.names_of(said, twin.named())}
+            refused = next((name for name, told in found.items() if told.is_refused), None)
+            if refused and twin.edit in self.waiting and not any(told.calls for told in found.values()):
+                self.settle(twin.edit, Outcome(REFUSED, edit_twins.original(refused), found[refused].goals))
+
     def spoiled(self, group, said):
         """Settles those of a group whose check ended before it judged: the edits at whose functions it found a fault, or one of them that is then alone."""
         guilty = {it.path: text for it in group for file, line, text in said.faults if self.is_near(it, file, line)}
@@ -195,7 +244,7 @@ class Trial:
 
     def run(self, jobs):
         """Tries all, and returns what each came to, by its path."""
-        checks = 0
+        checks = self.try_twins(jobs)
         while self.waiting:
             self.waiting.sort(key=lambda it: self.tried[it.path])
             group = self.group()
@@ -209,10 +258,11 @@ class Trial:
 class Edits(start.Start):
     """The edits of some crates, tried once the libraries below each are there: proved, or taken from the kit's store."""
 
-    def __init__(self, rt, top, names, anew=False, begins=True):
+    def __init__(self, rt, top, names, anew=False, begins=True, controls=False):
         rows = start.listed()
         super().__init__(rt, top, {below for name in names for below in start.with_lower(rows, name)})
         self.of, self.anew, self.begins, self.results = names, anew, begins, {}
+        self.work_of = self.try_controls if controls else self.try_edits
 
     def lower(self):
         """Returns the crates that have to be proved."""
@@ -223,9 +273,13 @@ class Edits(start.Start):
         tasks = {key: it for key, it in super().tasks().items() if key[0] in lower}
         for name in self.of:
             crate = self.crates[name]
-            call = lambda given, jobs, crate=crate: self.all_proved(crate, given) and self.try_edits(crate, jobs)
+            call = lambda given, jobs, crate=crate: self.all_proved(crate, given) and self.behind(self.work_of, crate, jobs)
             tasks[name, TASK] = ([(it.name, start.PROOF) for it in crate.below()], 0, self.rt.need(crate), call)
         return tasks
+
+    def behind(self, call, *given):
+        """Does what nothing waits for, and returns what that gives."""
+        return start.behind(call, *given)
 
     def all_proved(self, crate, given):
         return all(given[it.name, start.PROOF] for it in crate.below())
@@ -249,6 +303,15 @@ class Edits(start.Start):
             kept.keep(edit, outcomes[edit.path])
         self.results[crate.name] = [(it, outcomes[it.path]) for it in edits], strange
         return True
+
+    def try_controls(self, crate, jobs):
+        """Checks a twin of each function that an edit changes, with nothing edited, and answers whether all are proved."""
+        with self.work(crate) as work:
+            lost, count = Trial(self.rt, crate, edit_files.edits_of(self.rt, crate.folder), work, self.say).controls(jobs)
+        for it in lost:
+            self.say(f"{crate.name}: {it.owner.path()} has no proof as a twin, with nothing edited")
+        self.say(f"{crate.name}: {count - len(lost)} of {count} twins proved")
+        return not lost
 
     @contextlib.contextmanager
     def work(self, crate):
@@ -298,6 +361,7 @@ def main():
     words.add_argument("crates", nargs="*", metavar="CRATE", help="try the edits of these crates, in place of all")
     words.add_argument("--write", action="store_true", help="write the lines `at:` from what the check says")
     words.add_argument("--anew", action="store_true", help="try each, also what was tried before on this machine")
+    words.add_argument("--controls", action="store_true", help="try no edit: check a twin of each function with nothing edited, all of which have to be proved")
     words.add_argument("--after", metavar="LINE", default="0 passed, 0 failed", help="the last line of the tests before these")
     given = words.parse_args()
     for it in given.crates:
@@ -308,9 +372,11 @@ def main():
         signal.signal(it, start.end)
     rt = start.kit()
     with start.workplace(rt) as top:
-        run = Edits(rt, top, names, given.anew)
+        run = Edits(rt, top, names, given.anew, controls=given.controls)
         if not run.run():
             return 1
+        if given.controls:
+            return 0
         return report(run.results, given.write, given.after)
 
 

@@ -1,16 +1,19 @@
 #!/usr/bin/env python3
 """Does the long work of the gate in the best order: every crate and its tests are proved, and the edits that must fail are tried.
 
-A crate is proved as soon as those below it are, the one with the longest way to the end first; tests and edits fill what the proofs leave free. There
-are never more checks at once than processors (RT_JOBS says how many else); a proof has a thread for each processor, another check one. All is kept beside the kit, by the sums of what was read: `rt ci`, which is
-the judge, then finds the proofs, and `tools/edits.py` what the edits came to. Nothing is decided here, so the status is 0 also where something has no proof.
+A crate is proved as soon as those below it are, with a thread for each processor. Tests and edits fill what the proofs leave free, at a lower priority: as
+many at once as there are processors (RT_JOBS says how many else), one fewer while something is proved. All is kept beside the kit, by the sums of what was
+read: `rt ci`, which is the judge, then finds the proofs, and `tools/edits.py` what the edits came to. Nothing is decided here, so the status is 0 also where
+something has no proof.
 """
 import argparse
+import contextlib
 import copy
 import os
 import signal
 import sys
 import tempfile
+import threading
 
 import edits
 import start
@@ -18,12 +21,47 @@ import start
 TESTS = "tests"
 
 
+class Turns:
+    """Who may run: each proof at once, and of what nothing waits for as many as there are processors, one fewer beside a proof."""
+
+    def __init__(self, processors):
+        self.processors, self.proofs, self.others = processors, 0, 0
+        self.changed = threading.Condition()
+
+    @contextlib.contextmanager
+    def proof(self):
+        with self.changed:
+            self.proofs += 1
+        try:
+            yield
+        finally:
+            with self.changed:
+                self.proofs -= 1
+                self.changed.notify_all()
+
+    @contextlib.contextmanager
+    def other(self):
+        with self.changed:
+            self.changed.wait_for(lambda: self.others < max(1, self.processors - bool(self.proofs)))
+            self.others += 1
+        try:
+            yield
+        finally:
+            with self.changed:
+                self.others -= 1
+                self.changed.notify_all()
+
+
 class Gate(edits.Edits):
     """Some crates and those below them, their tests and their edits."""
 
-    def __init__(self, rt, top, names):
+    def __init__(self, rt, top, names, processors):
         super().__init__(rt, top, [*names], begins=False)
-        self.of = edits.with_edits(self.names)
+        self.of, self.turns = edits.with_edits(self.names), Turns(processors)
+
+    def behind(self, call, *given):
+        with self.turns.other():
+            return super().behind(call, *given)
 
     def lower(self):
         return self.names
@@ -32,13 +70,13 @@ class Gate(edits.Edits):
         tasks = super().tasks()
         for crate in self.crates.values():
             if crate.has_tests():
-                call = lambda given, jobs, crate=crate: self.all_proved(crate, given) and self.prove_tests(crate, jobs)
+                call = lambda given, jobs, crate=crate: self.all_proved(crate, given) and self.behind(self.prove_tests, crate, jobs)
                 tasks[crate.name, TESTS] = ([(it.name, start.PROOF) for it in crate.below()], crate.count(rb"\n"), self.rt.need(crate), call)
         return tasks
 
     def prove(self, crate, given, jobs):
-        """Proves a crate with a thread for each processor, whatever runs beside it: others wait for it, and nothing waits for tests and edits."""
-        return super().prove(crate, given, max(jobs, os.cpu_count() or 1))
+        with self.turns.proof():
+            return super().prove(crate, given, jobs)
 
     def prove_tests(self, crate, jobs):
         """Proves and builds the tests of a crate as the gate does, or finds that they are kept."""
@@ -70,8 +108,12 @@ def main():
     rt = start.kit()
     if not hasattr(rt, "Kept"):
         return 0
+    number = os.environ.get("RT_JOBS", "")
+    processors = int(number) if number.isdigit() and int(number) else rt.processors()
+    # (the kit begins whatever it may; who has to wait is decided here)
+    os.environ["RT_JOBS"] = str(3 * len(names) + 1)
     with start.workplace(rt) as top:
-        Gate(rt, top, names).run()
+        Gate(rt, top, names, processors).run()
     return 0
 
 

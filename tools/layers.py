@@ -45,7 +45,11 @@ SAYS = {
     "size_cases": "tests of large trees, long texts",
     "edit_cases": "tests of edits, copies, contents",
     "observer_cases": "tests of observers and records",
-    "layer_cases": "tests of single low crates",
+    "range_cases": "tests of live and static ranges",
+    "tree_cases": "tests of trees, points, walks",
+    "store_cases": "tests of texts, slots, pages, names",
+    "tree_steps": "nodes made and put, for tests",
+    "growth_marks": "marks of what takes no memory",
     "uses": "callers, one module for each crate",
     MODEL: "the definitions that the others speak of, and their laws",
 }

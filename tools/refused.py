@@ -2,15 +2,17 @@
 """Runs what `rt ci` built once more under a malloc that refuses growths, and counts the blocks in use at the end.
 
 Parts (all, where none is named):
-  store      the tests of layer_cases whose names end with `without_a_growth`, every growth refused from their first mark on: each asks
+  store      the tests of single low crates whose names end with `without_a_growth`, every growth refused from their first mark on: each asks
              for the second mark's room alone, and passes; and the tests that meet each growth refused in turn and must pass, as a
              thousand `add`s, `cover`, `observe` on a hundred nodes
   tests      each test of single crates with one growth refused: it passes, or it ends with its own word that memory was wanting; those
              that compare what stands then must pass
   dialogues  the program over each dialogue with one growth refused, and with all from one on: the first reply lines, never fewer than
-             with an earlier growth refused, then the out-of-memory line, and status 1; where one alone is refused a smaller one may do
+             with an earlier growth refused, then the out-of-memory line, and status 1; where a smaller one does all are there
   writers    the same with writers that fail: a closed one, one that is always full, one that is full after some bytes; status 3
   leaks      the program under valgrind over each dialogue, whole and with single growths refused; left out where there is no valgrind
+  room       the program over scenes in which Texts and attributes lose most of what they had, with the bytes in use at once counted;
+             and over smaller ones, as over dialogues
 
 A test that ends by itself, and each run of the program, leaves no block in use. Of each test or dialogue some growths are refused, spread
 over all of them; with --whole, and of a test of several scenes, each, of a test at most 3,000. A test of more than 100,000 growths runs
@@ -27,17 +29,20 @@ import sys
 import tempfile
 from collections import Counter, namedtuple
 
-from running import LIMIT, OUT_OF_MEMORY, PROGRAM, ROOT, Run, dialogues, refusing_malloc, run
+import room_scenes
+from running import Dialogue, LIMIT, OUT_OF_MEMORY, PROGRAM, ROOT, Run, dialogues, refusing_malloc, run
 
 # For each part the growths of a test or dialogue that are refused where nothing else is said; of `store` it is each.
-PARTS = {"store": sys.maxsize, "tests": 60, "dialogues": 40, "writers": 3, "leaks": 1}
+PARTS = {"store": sys.maxsize, "tests": 60, "dialogues": 40, "writers": 3, "leaks": 1, "room": sys.maxsize}
 # A test of more growths is run with none refused, since each run takes long.
 HEAVY = 100_000
 WHOLE = 3000
 
 # Crates whose tests are run with refusals, and the modules of them that must pass then.
 CRATES = {
-    "layer_cases": (),
+    "store_cases": (),
+    "tree_cases": (),
+    "range_cases": (),
     "observer_cases": ("watching",),
     "edit_cases": ("attributes", "cloning", "contents", "editing", "texts", "wrapping"),
     "stream_cases": (),
@@ -45,21 +50,21 @@ CRATES = {
 WITHOUT = "_without_a_growth"
 # Tests that pass with each of their growths refused, and how many of these each has at least.
 STAND = {
-    ("layer_cases", "links::a_refused_add_hands_the_value_back"): 1000,
-    ("layer_cases", "ranges::refused_room"): 1,
-    ("layer_cases", "slotted::refused_room"): 10,
+    ("store_cases", "links::a_refused_add_hands_the_value_back"): 1000,
+    ("range_cases", "ranges::refused_room"): 1,
+    ("store_cases", "slotted::refused_room"): 10,
     ("observer_cases", "observing::a_hundred_nodes"): 100,
 }
 # Tests of several scenes, of which each growth is refused: so each scene meets its own.
 SCENES = {
-    ("layer_cases", "points::points_of_small_trees"),
-    ("layer_cases", "ranges::scenes"),
-    ("layer_cases", "statics::scenes"),
+    ("tree_cases", "points::points_of_small_trees"),
+    ("range_cases", "ranges::scenes"),
+    ("range_cases", "statics::scenes"),
 }
 
 WANTING = b"domserve: out of memory\n"
 UNWRITTEN = b"domserve: write failed\n"
-COUNTS = re.compile(rb"growths (\d+), refused (\d+), left (-?\d+)\n")
+COUNTS = re.compile(rb"growths (\d+), refused (\d+), left (-?\d+), most (\d+)\n")
 # How a test says that memory was wanting: by its answer, or at its assertion that memory was there.
 SAYS = re.compile(rb"^error: Alloc(Error|Failed \{ \.\. \})$", re.M)
 ASSERTS = re.compile(rb"^(assertion failed: ([a-z_]+\.is_ok\(\)|through_a_pointer\(rt\.alloc\(\)\) == Some\(.*\))|  left: Err\(Failed\))$", re.M)
@@ -67,7 +72,7 @@ VALGRIND = ["valgrind", "-q", "--soname-synonyms=somalloc=nouserintercepts", "--
 VALGRIND += ["--leak-check=full", "--show-leak-kinds=all", "--errors-for-leak-kinds=all"]
 
 # A run, with what the malloc counted; None where the program was stopped.
-Counted = namedtuple("Counted", "status out said growths refused left")
+Counted = namedtuple("Counted", "status out said growths refused left most")
 
 
 class Wrong(Exception):
@@ -77,7 +82,7 @@ class Wrong(Exception):
 def counted(ran):
     """A run with what the malloc counted taken out of what it said."""
     found = COUNTS.search(ran.err)
-    return Counted(ran.status, ran.out, COUNTS.sub(b"", ran.err), *(map(int, found.groups()) if found else (None, None, None)))
+    return Counted(ran.status, ran.out, COUNTS.sub(b"", ran.err), *(map(int, found.groups()) if found else (None,) * 4))
 
 
 def spread(growths, most):
@@ -146,20 +151,20 @@ class Serving:
     def run(self, folder, setting, **writer):
         return counted(run(self.program, self.dialogue.path, self.dialogue.words, folder, {**setting, "LD_PRELOAD": self.library}, **writer))
 
-    def growths(self, folder):
+    def whole(self, folder):
         """The run without a refusal."""
         found = self.run(folder, {})
         if (found.status, found.said, found.out) != (0, b"", self.dialogue.due):
             raise Wrong(f"not all is answered: {found}")
         leaves_nothing(found)
-        return found.growths
+        return found
 
-    def replies(self, found, mode):
+    def replies(self, found):
         """How many reply lines stand ahead of the out-of-memory line; None before the program serves, or where it got by."""
         leaves_nothing(found)
         if found.refused == 0:
             raise Wrong("the growth was not asked for")
-        if found.status == 0 and mode == "REFUSE_AT" and (found.said, found.out) == (b"", self.dialogue.due):
+        if (found.status, found.said, found.out) == (0, b"", self.dialogue.due):
             return None
         if (found.status, found.said) != (1, WANTING):
             raise Wrong("status or words")
@@ -174,7 +179,7 @@ class Serving:
         for growth in growths:
             found = self.run(folder, {mode: str(growth)})
             try:
-                count = self.replies(found, mode)
+                count = self.replies(found)
                 if count is not None and count < lines or count is None and lines and found.status:
                     raise Wrong("fewer replies than with an earlier growth refused")
             except Wrong as wrong:
@@ -202,6 +207,27 @@ class Serving:
         said = COUNTS.sub(b"", ran.stderr)
         if (ran.returncode, said) not in ([(1, WANTING), (0, b"")] if setting else [(0, b"")]):
             raise Wrong(f"under valgrind, {setting}: status {ran.returncode} {said.decode(errors='replace')}")
+
+
+class Scene:
+    """The program over a scene of two sizes."""
+
+    def __init__(self, scene, program, library):
+        self.name, self.makes, *self.sizes = scene
+        self.program, self.library = program, library
+
+    def __str__(self):
+        return self.name
+
+    def written(self, folder):
+        """The scene at each of its sizes."""
+        for at, size in enumerate(self.sizes):
+            lines, replies = zip(*self.makes(*size))
+            path = os.path.join(folder, f"{at}.in")
+            given, due = ("".join(it + "\n" for it in text).encode() for text in (lines, replies))
+            with open(path, "wb") as file:
+                file.write(given)
+            yield Serving(Dialogue(self.name, path, given, [], due), self.program, self.library)
 
 
 # What is tried of one test or dialogue. Each yields after each run, and raises where that was not as it is due.
@@ -239,7 +265,7 @@ def tests(it, most):
 
 def serving(it, most, with_writers):
     with tempfile.TemporaryDirectory() as folder:
-        growths = it.growths(folder)
+        growths = it.whole(folder).growths
         yield
         for mode in ("REFUSE_AT", "REFUSE_FROM"):
             for growth, found in it.refuses(folder, mode, spread(growths, most)):
@@ -252,17 +278,28 @@ def leaks(it, most):
     it.under_valgrind()
     yield
     with tempfile.TemporaryDirectory() as folder:
-        growths = it.growths(folder)
+        growths = it.whole(folder).growths
     for growth in spread(growths, most + 1)[1:]:
         it.under_valgrind((("REFUSE_AT", str(growth)),))
         yield
+
+
+def room(it, most):
+    """A scene at its two sizes."""
+    with tempfile.TemporaryDirectory() as folder:
+        large, small = it.written(folder)
+        found = large.whole(folder)
+        if found.most > room_scenes.MOST:
+            raise Wrong(f"{found.most:,} bytes are in use at once, and at most {room_scenes.MOST:,} are due")
+        yield
+        yield from serving(small, most, False)
 
 
 def tried(work):
     """Makes the runs of one test or dialogue: the part, how many runs there were, and what was wrong."""
     part, it, most = work
     runs = 0
-    ways = {"store": store, "tests": tests, "leaks": leaks}
+    ways = {"store": store, "tests": tests, "leaks": leaks, "room": room}
     try:
         for _ in ways[part](it, most) if part in ways else serving(it, most, part == "writers"):
             runs += 1
@@ -289,6 +326,8 @@ def works(given, library):
         yield from (("store", it, sys.maxsize) for it in stands)
     if "tests" in given.parts:
         yield from (("tests", it, most_of(given, "tests")) for it in every)
+    if "room" in given.parts:
+        yield from (("room", Scene(it, given.program, library), most_of(given, "room")) for it in room_scenes.SCENES)
     for part in ("dialogues", "writers", "leaks"):
         if part in given.parts:
             yield from ((part, Serving(it, given.program, library), most_of(given, part)) for it in dialogues([]))
@@ -317,7 +356,7 @@ def can_run(given):
         given.parts.remove("leaks")
         print("left out: what runs under valgrind, since there is no valgrind", flush=True)
     built = [program_of(it) for it in given.crate] if {"store", "tests"} & {*given.parts} else []
-    built += [given.program] if {"dialogues", "writers", "leaks"} & {*given.parts} else []
+    built += [given.program] if {"dialogues", "writers", "leaks", "room"} & {*given.parts} else []
     missing = [it for it in built if not os.access(it, os.X_OK)]
     if missing:
         sys.exit(f"{os.path.relpath(missing[0], ROOT)} is not built: rt ci builds it")

@@ -3,10 +3,11 @@
  *   REFUSE_FROM=N    the Nth growth and each later one is refused
  *   REFUSE_AFTER=S   once room of exactly S bytes was handed out, every growth is refused
  *   REFUSE_IN=NAME   these hold in a program of that name only
- * At the end it writes "growths G, refused R, left B" to standard error: B blocks are in use. */
+ * At the end it writes "growths G, refused R, left B, most M" to standard error: B blocks are in use, and at most M bytes were at once. */
 #define _GNU_SOURCE
 #include <dlfcn.h>
 #include <errno.h>
+#include <malloc.h>
 #include <stddef.h>
 #include <stdio.h>
 #include <stdlib.h>
@@ -14,7 +15,7 @@
 #include <unistd.h>
 
 static unsigned long growths, refused, at, from, after;
-static long left;
+static long left, bytes, most;
 static int marked, is_read;
 
 static unsigned long number_of(const char *name)
@@ -53,7 +54,16 @@ static int is_refused(size_t size)
 static void *counted(void *block)
 {
     left += block != NULL;
+    bytes += (long)malloc_usable_size(block);
+    most = bytes > most ? bytes : most;
     return block;
+}
+
+/* One block less is in use, where this is one. */
+static void uncounted(void *block)
+{
+    left -= block != NULL;
+    bytes -= (long)malloc_usable_size(block);
 }
 
 void *malloc(size_t size)
@@ -77,8 +87,12 @@ void *realloc(void *old, size_t size)
     static void *(*next)(void *, size_t);
     if (!next)
         next = dlsym(RTLD_NEXT, "realloc");
-    void *block = is_refused(size) ? NULL : next(old, size);
-    return old ? block : counted(block);
+    if (is_refused(size))
+        return NULL;
+    uncounted(old);
+    void *block = next(old, size);
+    counted(block || size == 0 ? block : old);
+    return block;
 }
 
 void free(void *block)
@@ -86,14 +100,14 @@ void free(void *block)
     static void (*next)(void *);
     if (!next)
         next = dlsym(RTLD_NEXT, "free");
-    left -= block != NULL;
+    uncounted(block);
     next(block);
 }
 
 __attribute__((destructor)) static void tell(void)
 {
-    char line[80];
-    int length = snprintf(line, sizeof line, "growths %lu, refused %lu, left %ld\n", growths, refused, left);
+    char line[120];
+    int length = snprintf(line, sizeof line, "growths %lu, refused %lu, left %ld, most %ld\n", growths, refused, left, most);
     if (length > 0 && write(2, line, (size_t)length) < 0)
         _exit(1);
 }

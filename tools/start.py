@@ -10,6 +10,7 @@ A kit that has no store leaves what it proved under crates/NAME/out: there a sta
 of the files that are there.
 """
 import argparse
+import concurrent.futures
 import contextlib
 import copy
 import functools
@@ -31,6 +32,8 @@ PROGRAM = "domserve"
 PROOF = "proof"
 # How often a start that takes long says what it is at, in seconds.
 PAUSE = 60
+# How far what nothing waits for stands back from the rest, as `nice` has it.
+BEHIND = 10
 # A clang that keeps the code that it is handed.
 KEEPER = """\
 #!/bin/sh
@@ -249,11 +252,17 @@ class Start:
                 self.kept.keep(crate, False, key)
         return is_proved, was_kept
 
+    def threads(self, crate, jobs):
+        """Returns how many threads a proof gets: as many as the kit reckons, or one for each processor where memory holds that. Others wait for each crate."""
+        # (the kit reckons at least twice what a check was seen to take, and six tenths of that for each further thread)
+        most = int(1 + (2 * self.rt.free() / self.rt.need(crate) - 1) / 0.6)
+        return max(jobs, min(self.rt.processors(), most))
+
     def prove(self, crate, given, jobs):
         """Proves and builds one crate where all below it are, and returns whether it is."""
         if not all(given[it.name, PROOF] for it in crate.below()):
             return False
-        crate = copy.copy(crate)
+        crate, jobs = copy.copy(crate), self.threads(crate, jobs)
         os.makedirs(f"{crate.folder}/out", exist_ok=True)
         self.running.add(crate.name)
         with tempfile.TemporaryFile("w+", encoding="utf-8", errors="replace") as crate.out:
@@ -288,6 +297,18 @@ class Start:
         ended.set()
         self.kept.shrink()
         return all(given.values())
+
+
+def behind(call, *given):
+    """Returns what a call gives that all it starts yields the processors for: what nothing waits for."""
+
+    def yields():
+        with contextlib.suppress(OSError):
+            os.setpriority(os.PRIO_PROCESS, threading.get_native_id(), BEHIND)
+
+    # (a thread of its own: without rights none comes back to where it was)
+    with concurrent.futures.ThreadPoolExecutor(1, initializer=yields) as pool:
+        return pool.submit(call, *given).result()
 
 
 def end(number, _):

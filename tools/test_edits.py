@@ -12,7 +12,7 @@ import sys
 import tempfile
 
 HERE = os.path.dirname(os.path.realpath(__file__))
-SCRIPTS = ("start.py", "edits.py", "edit_files.py", "edit_told.py")
+SCRIPTS = ("start.py", "edits.py", "edit_files.py", "edit_told.py", "edit_twins.py")
 SOURCE = """//! Five functions, of which one promises nothing, and one is of a type that another file declares.
 #![tactic(auto)]
 
@@ -102,13 +102,28 @@ def laid(room):
             it.write(text)
 
 
+def run(room, *words):
+    return subprocess.run([sys.executable, f"{room}/tools/edits.py", "small", *words], capture_output=True, text=True, check=False)
+
+
+def of_twins(room):
+    """Runs the edits that are refused where they are meant to be, which take one check, and twins with nothing edited; returns what was wrong."""
+    for name in FAILED:
+        os.remove(f"{room}/crates/small/edits/{name}.edit")
+    said = run(room, "--anew").stderr
+    faults = [] if f"{len(EDITS) - len(FAILED)} edits in 1 checks" in said else ["the edits that are refused take more than one check"]
+    said = run(room, "--controls")
+    return faults + ([] if said.returncode == 0 and "4 of 4 twins proved" in said.stderr else ["a twin with nothing edited is not proved"])
+
+
 def main():
     argparse.ArgumentParser(description=__doc__, formatter_class=argparse.RawDescriptionHelpFormatter).parse_args()
     with tempfile.TemporaryDirectory(prefix="edits-") as room:
         laid(room)
-        ran = subprocess.run([sys.executable, f"{room}/tools/edits.py", "small", "--anew"], capture_output=True, text=True, check=False)
+        ran = run(room, "--anew")
         told = dict(re.findall(r"^edit small/(\w+)\.edit: (.*)$", ran.stdout, re.M))
-    faults = [f"{name}: told {told.get(name)!r}, and not {wanted!r}" for name, (_, _, _, wanted) in EDITS.items() if not told.get(name, "").startswith(wanted)]
+        faults = of_twins(room)
+    faults += [f"{name}: told {told.get(name)!r}, and not {wanted!r}" for name, (_, _, _, wanted) in EDITS.items() if not told.get(name, "").startswith(wanted)]
     faults += [f"{name}: {told.get(name)!r} says nothing of another place"] if "ELSEWHERE" not in told.get((name := ELSEWHERE), "") else []
     closing, wanted = ran.stdout.rstrip("\n").rpartition("\n")[2], f"{len(EDITS) - len(FAILED)} passed, {len(FAILED)} failed"
     faults += [f"the last line is {closing!r}, and not {wanted!r}"] if closing != wanted or ran.returncode != 1 else []
@@ -116,7 +131,7 @@ def main():
         print(f"FAILED {it}")
     if faults:
         print(ran.stdout, ran.stderr, sep="\n")
-    print(f"{len(EDITS) + 2 - len(faults)} passed, {len(faults)} failed")
+    print(f"{len(EDITS) + 4 - len(faults)} passed, {len(faults)} failed")
     return 1 if faults else 0
 
 

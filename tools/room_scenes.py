@@ -1,0 +1,109 @@
+"""Scenes in which Texts and attributes lose most of what they had: lines, each with the reply that is due, for `tools/refused.py`.
+
+What they lost is given back: in each scene no more than `MOST` bytes are in use at once.
+"""
+import json
+
+MOST = 20 << 20
+
+
+def pair(due, *command):
+    """A command's line, and its reply."""
+    line, reply = (json.dumps(it, separators=(",", ":")) for it in (command, {"ok": due}))
+    return line, reply
+
+
+def split_from_the_front(lines):
+    """One Text of so many lines of 80 units is cut into these, front to back."""
+    yield pair(1, "createElement", 0, "e")
+    yield pair(2, "createText", 0, "a" * 80 * lines)
+    yield pair(2, "appendChild", 1, 2)
+    for number in range(2, lines + 1):
+        yield pair(number + 1, "splitText", number, 80)
+    yield pair(80, "length", 2)
+    yield pair(80, "length", lines + 1)
+
+
+def split_from_the_back(lines):
+    """The same, back to front."""
+    yield pair(1, "createElement", 0, "e")
+    yield pair(2, "createText", 0, "a" * 80 * lines)
+    yield pair(2, "appendChild", 1, 2)
+    for number in range(3, lines + 2):
+        yield pair(number, "splitText", 2, 80 * (lines + 2 - number))
+    yield pair(80, "length", 2)
+
+
+def deleted(node, units, _):
+    yield pair(None, "deleteData", node, 1, units - 1)
+
+
+def data_set(node, _, __):
+    yield pair(None, "setData", node, "b")
+
+
+def replaced(node, units, _):
+    yield pair(None, "replaceData", node, 1, units, "")
+
+
+def split_and_discarded(node, _, free):
+    yield pair(free, "splitText", node, 1)
+    yield pair(None, "discard", free)
+
+
+def deleted_by_a_range(node, units, _):
+    yield pair(None, "setStart", 0, node, 1)
+    yield pair(None, "setEnd", 0, node, units)
+    yield pair(None, "deleteContents", 0)
+
+
+def cut_to_a_unit(texts, units):
+    """So many Texts of so many units, each cut to one unit, in five ways in turn."""
+    ways = [deleted, data_set, replaced, split_and_discarded, deleted_by_a_range]
+    yield pair(1, "createText", 0, "a" * units)
+    yield pair(0, "createRange", 0)
+    number = 2
+    for at in range(texts):
+        yield pair(number, "cloneNode", 1, False)
+        lines = list(ways[at % len(ways)](number, units, number + 1))
+        yield from lines
+        yield pair("b" if ways[at % len(ways)] is data_set else "a", "data", number)
+        number += 1 + (ways[at % len(ways)] is split_and_discarded)
+
+
+def taken_off_one_by_one(units):
+    """A Text loses its last unit, so often as it has units but one; then it is filled again."""
+    yield pair(1, "createText", 0, "a" * units)
+    for left in range(units - 1, 0, -1):
+        yield pair(None, "deleteData", 1, left, 1)
+    for _ in range(units - 1):
+        yield pair(None, "appendData", 1, "b")
+    yield pair("a" + "b" * (units - 1), "data", 1)
+
+
+def attributes_lost(names, copies):
+    """An element has so many attributes and loses all but the first two; then it is copied, gets two more, and is copied again."""
+    yield pair(1, "createElement", 0, "e")
+    for at in range(names):
+        yield pair(None, "setAttribute", 1, f"a{at}", f"{at}")
+    for at in reversed(range(2, names)):
+        yield pair(None, "removeAttribute", 1, f"a{at}")
+    for number in range(2, 2 + copies):
+        yield pair(number, "cloneNode", 1, False)
+    yield pair(None, "setAttribute", 1, "b", "")
+    yield pair(None, "setAttribute", 1, "c", "")
+    for number in range(2 + copies, 2 + 2 * copies):
+        yield pair(number, "cloneNode", 1, False)
+    yield pair(["a0", "a1"], "attributeNames", 1 + copies)
+    yield pair(["a0", "a1", "b", "c"], "attributeNames", 1 + 2 * copies)
+    yield pair("1", "getAttribute", 1 + 2 * copies, "a1")
+
+
+# The name of each, what makes it, its size where memory is counted, and its size where each growth is refused.
+SCENES = (
+    ("a Text split from the front", split_from_the_front, (5000,), (12,)),
+    ("a Text split from the back", split_from_the_back, (5000,), (12,)),
+    ("Texts cut to a unit", cut_to_a_unit, (4000, 50_000), (10, 200)),
+    ("units taken off one by one", taken_off_one_by_one, (20_000,), (100,)),
+    ("attributes lost", attributes_lost, (8000, 4000), (40, 4)),
+)
