@@ -92,6 +92,44 @@ def contents_of_an_observed_chain(count):
     return making, [["deleteContents", 0]]
 
 
+def leaves_let_go(count):
+    """Elements without a parent, from number 2 on, and lines that discard them."""
+    return [["createElement", 0, "e"]] * (count + 1), [["discard", it] for it in range(2, count + 2)]
+
+
+def discards_behind_steps(made, step):
+    """Each iterator, or walker, takes a step, and then leaves are discarded."""
+
+    def scene(count):
+        leaves, lines = leaves_let_go(count)
+        making = [*leaves, ["createElement", 0, "e"], ["appendChild", 1, count + 2], *[made] * count]
+        return making, [[*step[:1], at, *step[1:]] for at in range(count)] + lines
+
+    return scene
+
+
+def discards_beside_records(count):
+    """Leaves are discarded while as many records wait."""
+    leaves, lines = leaves_let_go(count)
+    return [*leaves, ["createObserver"], ["observe", 0, 1, {"attributes": True}], *[["setAttribute", 1, "a", "b"]] * count], lines
+
+
+def texts_cut_to_a_unit(count):
+    return [["createText", 0, "a" * 1000]] * count, [["deleteData", it, 1, 999] for it in range(1, count + 1)]
+
+
+def last_unit_goes(count):
+    """The last unit of a Text goes, until one is left, and as many come again."""
+    goes = [["deleteData", 1, it, 1] for it in range(count - 1, 0, -1)]
+    return [["createText", 0, "a" * count]], goes + [["appendData", 1, "b"]] * (count - 1)
+
+
+def last_attribute_goes(count):
+    """The last attribute of an element goes, until one is left, and as many come again."""
+    comes = [["setAttribute", 1, f"a{it}", ""] for it in range(count)]
+    return [["createElement", 0, "e"], *comes], [["removeAttribute", 1, f"a{it}"] for it in range(count - 1, 0, -1)] + comes[1:]
+
+
 RANGE = watchers_at_depth(lambda at, node: [["createRange", 0], ["setStart", at, node, 0], ["setEnd", at, node, 0]])
 SCENES = (
     ("moves in a chain, observed from its top, without notify", moves_in_a_chain, 50),
@@ -114,6 +152,12 @@ SCENES = (
     ("one step of a walker with as many rules as nodes", rules_of_a_filter, 300),
     ("removals under an observer of many attributes", removals_under_a_long_filter, 200),
     ("deleteContents of half of an observed chain", contents_of_an_observed_chain, 300),
+    ("steps of as many iterators, and as many discards", discards_behind_steps(["createIterator", 1, 1, []], ["nextNode"]), 300),
+    ("steps of as many walkers, and as many discards", discards_behind_steps(["createWalker", 1, 1, []], ["walk", "nextNode"]), 300),
+    ("discards while as many records wait", discards_beside_records, 500),
+    ("deleteData of all but one unit of each of some Texts", texts_cut_to_a_unit, 250),
+    ("deleteData of the last unit of a Text, and appendData", last_unit_goes, 1000),
+    ("removeAttribute of the last attribute, and setAttribute", last_attribute_goes, 500),
 )
 
 

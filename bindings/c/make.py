@@ -10,6 +10,7 @@ import os
 import shutil
 import subprocess
 import sys
+import tempfile
 
 from exports import ROOT, SOURCES, modules
 from header import header
@@ -73,8 +74,6 @@ def call(*words, **how):
 
 def merge(archives, to):
     """One archive of what several have."""
-    if os.path.exists(to):
-        os.remove(to)
     links = []
     for at, it in enumerate(archives):
         # (a script of ar reads no path with signs of its own)
@@ -99,11 +98,8 @@ def share(compiler, archive, names, folder):
     words += ["-Wl,--whole-archive", archive, "-Wl,--no-whole-archive"]
     call(compiler, *words, "-o", to)
     os.remove(script)
-    name = os.path.join(folder, "libhuckleport.so")
-    if os.path.lexists(name):
-        os.remove(name)
     # (a second name of the file: rt takes no folder in which anything is a symbolic link)
-    os.link(to, name)
+    os.link(to, os.path.join(folder, "libhuckleport.so"))
     return to
 
 
@@ -139,7 +135,7 @@ def install(folder, prefix):
 
 
 def make(given):
-    """Makes the four files in a folder."""
+    """Makes the four files in a folder; each is put in place whole, since others may read it meanwhile."""
     found = modules(given.sources)
     names = [it.name for module in found for it in module.exports]
     text = header(found)
@@ -150,11 +146,14 @@ def make(given):
             sys.exit(f"{it} is not there")
     folder = os.path.abspath(given.to)
     os.makedirs(folder, exist_ok=True)
-    merged = os.path.join(folder, "libhuckleport.a")
-    merge([archive, c_part], merged)
-    check(share(given.compiler, merged, names, folder), names)
-    write(os.path.join(folder, "huckleport.h"), text)
-    write(os.path.join(folder, "huckleport.pc"), pkgconfig("${pcfiledir}"))
+    with tempfile.TemporaryDirectory(dir=folder) as room:
+        merged = os.path.join(room, "libhuckleport.a")
+        merge([archive, c_part], merged)
+        check(share(given.compiler, merged, names, room), names)
+        write(os.path.join(room, "huckleport.h"), text)
+        write(os.path.join(room, "huckleport.pc"), pkgconfig("${pcfiledir}"))
+        for it in os.listdir(room):
+            os.replace(os.path.join(room, it), os.path.join(folder, it))
     return folder, len(names)
 
 

@@ -4,6 +4,7 @@
 #include <stdbool.h>
 #include <stdio.h>
 #include <stdlib.h>
+#include <string.h>
 
 enum { COUNT = 100000 };
 
@@ -34,6 +35,13 @@ static void text(uint32_t parent)
 static void attribute(uint32_t node)
 {
     must(hp_set_attribute(&session, node, hp_name("name"), hp_text_literal("a value")));
+}
+
+static void attributes(uint32_t node)
+{
+    static const char *const names[] = { "name", "nam1", "nam2", "nam3", "nam4", "nam5" };
+    for (size_t i = 0; i < sizeof names / sizeof *names; i++)
+        must(hp_set_attribute(&session, node, (const uint8_t *)names[i], strlen(names[i]), hp_text_literal("a value")));
 }
 
 static void range(uint32_t node)
@@ -79,6 +87,7 @@ static const struct kind {
     { "an element `item`, in a tree", element, true },
     { "a Text of nine units, in a tree", text, true },
     { "an element's first attribute, `name` with seven units", attribute, false },
+    { "an element's first six attributes, like it", attributes, false },
     { "a live range over a node", range, false },
     { "a static range", static_range, false },
     { "an iterator", iterator, false },

@@ -33,6 +33,14 @@ static void make_attribute(xmlNodePtr node)
         exit(1);
 }
 
+static void make_attributes(xmlNodePtr node)
+{
+    static const char *const names[] = { "name", "nam1", "nam2", "nam3", "nam4", "nam5" };
+    for (size_t i = 0; i < sizeof names / sizeof *names; i++)
+        if (!xmlNewProp(node, BAD_CAST names[i], BAD_CAST "a value"))
+            exit(1);
+}
+
 static const struct kind {
     const char *name;
     void (*make)(xmlNodePtr node);
@@ -41,6 +49,7 @@ static const struct kind {
     { "an element `item`, in a tree", make_element, true },
     { "a Text of nine units, in a tree", make_text, false },
     { "an element's first attribute, `name` with seven units", make_attribute, false },
+    { "an element's first six attributes, like it", make_attributes, false },
 };
 
 static double each_takes(const struct kind *kind)

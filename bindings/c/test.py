@@ -4,7 +4,7 @@
 - the header compiles as C99 and as C++, and the shared object shows its calls alone;
 - each dialogue of dialogues through hp_line, byte for byte, and again through the calls of the header, from Python and from C;
 - each call with a closed session, and what is handed in wrongly;
-- what is read around a node, which takes no memory, and a hundred thousand children removed one by one;
+- what is read around a node and of what it holds, which takes no memory, and a hundred thousand children removed one by one;
 - how many objects of each kind there are, as they come and go, told with no memory taken;
 - what is released, which no call finds and which keeps no tree, and the memory after a million of each kind;
 - each allocation refused in turn over all dialogues, and over one of the calls that copy names and texts;

@@ -30,7 +30,7 @@ def has_module(folder):
 
 
 def build(given):
-    """Puts both files into the package's folder; returns the module."""
+    """Puts both files into the package's folder, each whole, since others may read it meanwhile; returns the module."""
     if os.path.abspath(given.module) == MODULE and not has_module(MODULE):
         if subprocess.run([sys.executable, os.path.join(WEB, "make.py")], check=False).returncode:
             sys.exit("the module was not made")
@@ -38,7 +38,9 @@ def build(given):
         sys.exit(f"{given.module} lacks {' or '.join(FILES)}")
     os.makedirs(given.to, exist_ok=True)
     for it in FILES:
-        shutil.copy(os.path.join(given.module, it), given.to)
+        to = os.path.join(given.to, it)
+        shutil.copy(os.path.join(given.module, it), f"{to}.new")
+        os.replace(f"{to}.new", to)
     return os.path.join(given.to, FILES[0])
 
 

@@ -200,6 +200,8 @@ def member_answer(answer, outs, words):
         return f"same(given[{[name for name, _ in words].index(part)}])"
     if form in ("none", "text", "names"):
         return "none()" if form == "none" else READ[form].format("session_of(self)")
+    if form == "lent":
+        return LENT[outs[0].type].format(outs[0].name)
     value = f"{outs[0].name}.{part}" if part else outs[0].name
     if form in NEW:
         found = f"made_at(self, KIND_{upper(form)}, FAMILY_{NEW[form]}, {value})"
@@ -229,7 +231,9 @@ def member(name, export, words, answer):
     required = sum(not form.endswith("?") for _, form in words)
     short = name.rstrip("=").split(".")[1]
     reads = [f'sort(words, named, names, {required}, given, "{short}")', *(it for _, it, _ in made)] if words else []
-    refusal = f'refused_of(status, "{export.name[3:]}", self, {f"given, {len(words)}" if words else "NULL, 0"})'
+    # (what a node of another kind does not lend is told as by the command)
+    status = "status == HP_NOT_THERE ? HP_TYPE_ERROR : status" if answer == "lent" else "status"
+    refusal = f'refused_of({status}, "{export.name[3:]}", self, {f"given, {len(words)}" if words else "NULL, 0"})'
     found = member_answer(answer, outs, words)
     if export.name in MOVING:
         found = f"{MOVING[export.name]}, {found})"

@@ -21,7 +21,7 @@ LET_GO_FIRST = set(
 
 # Calls that move no node of a tree, by the modules of their exports and by their names. All others may.
 STILL_MODULES = set(
-    "version lending parts labels rows notices records making copying asking nearby counting attributes ranges points statics traversing observing".split()
+    "version lending parts labels rows notices records making copying asking nearby holding counting attributes ranges points statics traversing observing".split()
 )
 STILL = set("print reply_line data set_data append_data insert_data delete_data replace_data substring_data range_text clone_contents".split())
 
@@ -55,7 +55,7 @@ Element.set_attribute            | set_attribute           | name:name value:tex
 Element.has_attribute            | has_attribute           | name:name                | bool
 Element.remove_attribute         | remove_attribute        | name:name                | none
 Element.get_attribute_names      | attribute_names         |                          | names
-CharacterData.data               | data                    |                          | text
+CharacterData.data               | data_of                 |                          | lent
 CharacterData.data=              | set_data                | data:text                | none
 CharacterData.substring_data     | substring_data          | offset:uint32 count:uint32           | text
 CharacterData.append_data        | append_data             | data:text                            | none

@@ -89,9 +89,9 @@ WHOLE = {"text": "str", "text?": "Optional[str]", "numbers": "List[int]", "names
 
 
 def is_plain(export):
-    """Whether a call is a method by itself: it has a session, and writes into no array."""
+    """Whether a call is a method by itself: it has a session, writes into no array, and at most one thing."""
     kinds = [it.kind for it in export.parameters]
-    return "session" in kinds and "array" not in kinds
+    return "session" in kinds and "array" not in kinds and kinds.count("out") < 2
 
 
 def takes(export):
@@ -103,8 +103,6 @@ def takes(export):
 def method(export):
     """The method that makes a call."""
     written = outs(export)
-    if len(written) > 1:
-        sys.exit(f"{export.name}: there is no form in Python for it")
     answer = "None"
     if written:
         answer = LENT.get(written[0].type) or NUMBERS.get(written[0].type) or written[0].type

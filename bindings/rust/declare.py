@@ -10,7 +10,7 @@ import sys
 HERE = os.path.dirname(os.path.abspath(__file__))
 sys.dont_write_bytecode = True
 sys.path.insert(0, os.path.join(os.path.dirname(HERE), "c"))
-from exports import SOURCES, modules
+from exports import READING, SOURCES, modules
 
 TO = os.path.join(HERE, "src/ffi.rs")
 
@@ -28,8 +28,6 @@ TYPES = {
 }
 KEYWORDS = {"type": "type_", "move": "move_", "ref": "ref_"}
 
-# Modules whose calls read the last answer and leave it there: several of what they lend may be held at once.
-READING = {"lending", "parts", "labels", "rows", "notices", "records", "nearby", "counting", "version"}
 # These two are the handle's own opening and closing.
 OWN = {"hp_open", "hp_close"}
 
@@ -135,10 +133,10 @@ def given(it):
     return f"{named(it.name)}: " + {"scalar": form, "slice": f"&[{form}]", "array": f"&mut [{form}]", "in": f"&{form}"}[it.kind]
 
 
-def handed(it):
-    """A parameter as the safe method hands it on."""
+def handed(it, place):
+    """A parameter as the safe method hands it on; what it writes stands at a place."""
     name = named(it.name)
-    forms = {"session": "self.session.get()", "scalar": name, "slice": f"{name}.as_ptr(), {name}.len()", "in": name, "out": "&mut out"}
+    forms = {"session": "self.session.get()", "scalar": name, "slice": f"{name}.as_ptr(), {name}.len()", "in": name, "out": f"&mut {place}"}
     forms["array"] = f"{name}.as_mut_ptr(), {name}.len()"
     return forms[it.kind]
 
@@ -151,25 +149,35 @@ def nothing(it, lent):
     return f"{it.type}::default()" if it.type not in TYPES else "0"
 
 
+def answered(it, place, lent):
+    """The type of what a call wrote at a place, and the value."""
+    if it.type not in lent:
+        return rust(it.type), place
+    pointer = lent[it.type].fields[0]
+    return f"&[{rust(pointer.type)}]", f"unsafe {{ std::slice::from_raw_parts({place}.{pointer.name}, {place}.length) }}"
+
+
+def together(parts):
+    """One as it is; none and several as a tuple."""
+    return parts[0] if len(parts) == 1 else f"({', '.join(parts)})"
+
+
 def method(it, is_reading, lent):
     """The safe method over a call."""
     outs = [its for its in it.parameters if its.kind == "out"]
-    assert len(outs) < 2, it.name
+    places = {its.name: "out" if len(outs) == 1 else named(its.name) for its in outs}
+    answers = [answered(its, places[its.name], lent) for its in outs]
+    answer, value = together([form for form, _ in answers]), together([value for _, value in answers])
     reach = "&self" if is_reading else "&mut self"
     ins = [given(its) for its in it.parameters if its.kind not in ("session", "out")]
-    out = outs[0] if outs else None
-    is_lent = bool(out) and out.type in lent
-    answer = "()" if not out else f"&[{rust(lent[out.type].fields[0].type)}]" if is_lent else rust(out.type)
     text = f"\n    pub(crate) fn {it.name[3:]}({', '.join([reach, *ins])}) -> Result<{answer}, u8> {{\n"
-    if out:
-        text += f"        let mut out = {nothing(out, lent)};\n"
-    words = ", ".join(handed(its) for its in it.parameters)
+    text += "".join(f"        let mut {places[its.name]} = {nothing(its, lent)};\n" for its in outs)
+    words = ", ".join(handed(its, places.get(its.name)) for its in it.parameters)
     text += f"        // SAFETY: as at the head of the file.\n        let status = unsafe {{ {it.name}({words}) }};\n"
-    if not is_lent:
-        return text + f"        if status == HP_OK {{ Ok({'out' if out else '()'}) }} else {{ Err(status) }}\n    }}\n"
-    pointer = lent[out.type].fields[0].name
+    if not any(its.type in lent for its in outs):
+        return text + f"        if status == HP_OK {{ Ok({value}) }} else {{ Err(status) }}\n    }}\n"
     text += "        if status != HP_OK {\n            return Err(status);\n        }\n"
-    return text + f"        // SAFETY: what is lent lies there as long as the handle is borrowed.\n        Ok(unsafe {{ std::slice::from_raw_parts(out.{pointer}, out.length) }})\n    }}\n"
+    return text + f"        // SAFETY: what is lent lies there as long as the handle is borrowed.\n        Ok({value})\n    }}\n"
 
 
 def text_of(found):
@@ -179,7 +187,9 @@ def text_of(found):
     text = HEAD + "".join(map(constant, constants)) + "\n" + "".join(map(struct, structs))
     text += 'extern "C" {\n' + "".join(external(it) for module in found for it in module.exports) + "}\n\n" + HANDLE
     for module in found:
-        text += "".join(method(it, module.name in READING, lent) for it in module.exports if it.name not in OWN)
+        # (several of what these lend may be held at once)
+        is_reading = module.name in READING | {"version"}
+        text += "".join(method(it, is_reading, lent) for it in module.exports if it.name not in OWN)
     return text + "}\n"
 
 

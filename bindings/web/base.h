@@ -35,6 +35,28 @@ SHOWN(numbers)(void)
     return place(numbers);
 }
 
+/* A piece with room for so many parts of a size: twice as many as before, as long as these are too few. NULL where there is no memory; it then stays. */
+static void *lengthened(void *piece, uint32_t *room, size_t wanted, size_t size)
+{
+    size_t parts = *room ? *room : LEAST / size;
+    while (parts < wanted)
+        parts *= 2;
+    void *found = parts > 4294967295u / size ? NULL : heap_resize(piece, parts * size);
+    if (found)
+        *room = (uint32_t)parts;
+    return found;
+}
+
+/* A piece as it is, or NULL where it was larger than what is kept, and has been given back. */
+static void *unless_large(void *piece, uint32_t *room, size_t size)
+{
+    if (*room <= LARGE / size)
+        return piece;
+    heap_give(piece);
+    *room = 0;
+    return NULL;
+}
+
 /* ---- The guard: a call that does not end, by a trap or since the stack is too short, leaves the flag up, and no later call reads what it left. */
 
 static bool is_busy;
@@ -46,6 +68,18 @@ static uint32_t leave(uint32_t status)
 }
 
 /* ---- Sessions. */
+
+/* The name of a node, which never changes: its number plus one, 0 where nothing stands. */
+typedef struct named {
+    uint32_t node, name;
+} named;
+
+/* A session that is open, and names of nodes that were asked for (see name_of). */
+typedef struct opened {
+    hp_session its;
+    named *named;
+    uint32_t named_room;
+} opened;
 
 static hp_session **sessions;
 static uint32_t session_count;
@@ -90,18 +124,18 @@ SHOWN(open)(uint32_t count, uint32_t line)
         return STUCK;
     is_busy = true;
     uint32_t index = free_index();
-    hp_session *session = has_place(index) ? heap_take(sizeof(*session)) : NULL;
-    if (!session)
+    opened *made = has_place(index) ? heap_take(sizeof(*made)) : NULL;
+    if (!made)
         return leave(HP_OUT_OF_MEMORY);
-    *session = (hp_session)HP_SESSION_INIT;
-    uint32_t status = hp_open(session, count, line);
+    *made = (opened){ .its = HP_SESSION_INIT };
+    uint32_t status = hp_open(&made->its, count, line);
     if (status == HP_OK) {
-        sessions[index] = session;
+        sessions[index] = &made->its;
         numbers[0] = index;
         return leave(status);
     }
-    hp_close(session);
-    heap_give(session);
+    hp_close(&made->its);
+    heap_give(made);
     return leave(status);
 }
 
@@ -113,6 +147,7 @@ SHOWN(close)(uint32_t index)
         return refused;
     sessions[index] = NULL;
     uint32_t status = hp_close(session);
+    heap_give(((opened *)session)->named);
     heap_give(session);
     return leave(status);
 }
@@ -156,6 +191,9 @@ typedef struct name {
     uint32_t sum;
     uint32_t length;
     uint8_t *bytes;
+    /* How it is written as that of an element and of an attribute, and which call asked for it last (see html.h). */
+    struct form *forms[2];
+    uint32_t asked[2];
 } name;
 
 static name *names;
@@ -226,7 +264,7 @@ static uint32_t number_of_name(const uint8_t *bytes, size_t length)
     if (!copy)
         return HP_NONE;
     __builtin_memcpy(copy, bytes, length);
-    names[name_count] = (name){ sum, (uint32_t)length, copy };
+    names[name_count] = (name){ .sum = sum, .length = (uint32_t)length, .bytes = copy };
     *bucket = ++name_count;
     return name_count - 1;
 }
@@ -247,6 +285,72 @@ SHOWN(name_bytes)(uint32_t number)
     return HP_OK;
 }
 
+/* ---- Names of nodes. Those that were asked for last are kept at places that the nodes' numbers say, so many at most. */
+
+enum { FEWEST_NAMED = 512, MOST_NAMED = 131072 };
+
+/* Has so many places that there is one for a node alone, as far as that goes; where there is no memory, those stay that are there. */
+static void widen(opened *its, uint32_t node)
+{
+    uint32_t places = its->named_room ? its->named_room : FEWEST_NAMED;
+    while (places <= node && places < MOST_NAMED)
+        places *= 2;
+    named *wider = places == its->named_room ? NULL : heap_take(places * sizeof(*wider));
+    if (!wider)
+        return;
+    __builtin_memset(wider, 0, places * sizeof(*wider));
+    for (uint32_t at = 0; at < its->named_room; at++)
+        if (its->named[at].name)
+            wider[its->named[at].node & (places - 1)] = its->named[at];
+    heap_give(its->named);
+    its->named = wider;
+    its->named_room = places;
+}
+
+/* The place of a node, or NULL. */
+static named *place_of_node(hp_session *session, uint32_t node)
+{
+    opened *its = (opened *)session;
+    if (node >= its->named_room && its->named_room < MOST_NAMED)
+        widen(its, node);
+    return its->named_room ? &its->named[node & (its->named_room - 1)] : NULL;
+}
+
+static void note_name(hp_session *session, uint32_t node, uint32_t number)
+{
+    named *at = place_of_node(session, node);
+    if (at)
+        *at = (named){ node, number + 1 };
+}
+
+/* Asks for a part of a node's name: its number. */
+static uint32_t ask_name(hp_session *session, uint32_t node, uint8_t part, uint32_t *number)
+{
+    hp_place its;
+    hp_bytes bytes;
+    uint32_t status = hp_node(session, node, &its);
+    if (status == HP_OK)
+        status = hp_node_name(session, part, &bytes);
+    if (status != HP_OK)
+        return status;
+    *number = number_of_name(bytes.bytes, bytes.length);
+    return *number == HP_NONE ? HP_OUT_OF_MEMORY : HP_OK;
+}
+
+/* The number of a node's name. */
+static uint32_t name_of(hp_session *session, uint32_t node, uint32_t *number)
+{
+    named *at = place_of_node(session, node);
+    if (at && at->name && at->node == node) {
+        *number = at->name - 1;
+        return HP_OK;
+    }
+    uint32_t status = ask_name(session, node, 0, number);
+    if (status == HP_OK && at)
+        *at = (named){ node, *number + 1 };
+    return status;
+}
+
 /* ---- Answers of many parts: words of 32 bits, which stand here until the next such answer. Its place and its count are the first numbers. */
 
 static uint32_t *words, word_count, word_room;
@@ -254,25 +358,17 @@ static uint32_t *words, word_count, word_room;
 static void begin_words(void)
 {
     word_count = 0;
-    if (word_room > LARGE / sizeof(*words)) {
-        heap_give(words);
-        words = NULL;
-        word_room = 0;
-    }
+    words = unless_large(words, &word_room, sizeof(*words));
 }
 
 static bool has_words(size_t more)
 {
-    size_t wanted = word_count + more, size = word_room ? word_room : LEAST / sizeof(*words);
-    if (wanted <= word_room)
+    if (word_count + more <= word_room)
         return true;
-    while (size < wanted)
-        size *= 2;
-    uint32_t *longer = size > 4294967295u / sizeof(*words) ? NULL : heap_resize(words, size * sizeof(*words));
-    if (!longer)
+    uint32_t *its = lengthened(words, &word_room, word_count + more, sizeof(*words));
+    if (!its)
         return false;
-    words = longer;
-    word_room = (uint32_t)size;
+    words = its;
     return true;
 }
 
@@ -531,24 +627,20 @@ SHOWN(element)(uint32_t index, uint32_t document, uint32_t number)
     uint32_t refused = number >= name_count ? HP_NOT_THERE : enter(index, &session);
     if (refused)
         return refused;
-    return leave(hp_create_element(session, document, names[number].bytes, names[number].length, numbers));
+    uint32_t status = hp_create_element(session, document, names[number].bytes, names[number].length, numbers);
+    if (status == HP_OK)
+        note_name(session, numbers[0], number);
+    return leave(status);
 }
 
 /* The name of a node, or a part of a doctype's: its number. */
 SHOWN(node_name)(uint32_t index, uint32_t node, uint32_t part)
 {
     hp_session *session;
-    hp_place its;
-    hp_bytes bytes;
     uint32_t refused = enter(index, &session);
     if (refused)
         return refused;
-    uint32_t status = hp_node(session, node, &its);
-    if (status == HP_OK)
-        status = hp_node_name(session, (uint8_t)part, &bytes);
-    if (status == HP_OK)
-        numbers[0] = number_of_name(bytes.bytes, bytes.length);
-    return leave(status == HP_OK && numbers[0] == HP_NONE ? HP_OUT_OF_MEMORY : status);
+    return leave(part ? ask_name(session, node, (uint8_t)part, numbers) : name_of(session, node, numbers));
 }
 
 /* The data of a node, and its text: place and length. */

@@ -26,6 +26,7 @@ WRITERS = {"name": ("3 * {0}.length", "putName"), "text": ("2 * {0}.length", "pu
 C_HEAD = """\
 /* The glue: a call of the module for each call of the library. Made by bindings/web/glue.py from the exports; not to be edited. */
 #include "base.h"
+#include "html.h"
 """
 
 JS_HEAD = """\
@@ -61,9 +62,9 @@ def split(export):
 
 
 def has_form(export):
-    """Whether the module makes a call by itself: it has a session, and writes into no array (base.h makes those calls)."""
+    """Whether the module makes a call by itself: it has a session, and writes into no array and at most one thing (base.h makes other calls)."""
     kinds = [it.kind for it in export.parameters]
-    return export.name not in OWN and "session" in kinds and "array" not in kinds
+    return export.name not in OWN and "session" in kinds and "array" not in kinds and kinds.count("out") < 2
 
 
 # ---- In C

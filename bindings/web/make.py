@@ -90,6 +90,27 @@ def code():
     return found
 
 
+def take_target(rt):
+    """Has the kit take the last line of a check for the target of the module, for which its gate has no place; it is held to all else that the gate holds it to."""
+    beyond, target = rt.Crate.beyond, f"target={TRIPLE}"
+
+    def held(crate, line, of_tests):
+        said = line.split()
+        if crate.is_wasm and target not in said:
+            return f"it was not checked for {TRIPLE}"
+        return beyond(crate, " ".join(it for it in said if it != target), of_tests)
+
+    rt.Crate.beyond = held
+
+
+def bring(start, top, name):
+    """Puts the line of the verdict beside the crate, with the sum of what it was proved of."""
+    file, noted = start.built(name)
+    os.makedirs(os.path.dirname(file), exist_ok=True)
+    shutil.copy(f"{top}/crates/{name}/out/{name}", file)
+    write(noted, start.sum_of(start.with_lower(start.listed(), name)))
+
+
 def for_wasm(start, kit):
     """Alters the script, so that it proves the crate for the target of the module, which is kept in the kit's store under a sum of its own."""
 
@@ -107,7 +128,9 @@ def for_wasm(start, kit):
         found.key = lambda crate: hashlib.sha256(f"{TRIPLE} {key(crate)}".encode()).hexdigest() if crate.name == CRATE else key(crate)
         return found
 
+    take_target(start.kit())
     start.Start, start.store = Proving, store
+    start.bring = lambda top, name: bring(start, top, name)
     start.built = lambda name: tuple(it.replace(f"out/{name}", f"out/{name}.wasm64") for it in built(name))
 
 

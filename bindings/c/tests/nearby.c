@@ -1,6 +1,6 @@
-/* What is read around a node with no command: what it says, that it takes no memory and leaves the last answer, and that a program that
- * removes its first child, or its last, as long as there is one takes no longer a child where there are many. Linked with --wrap for malloc,
- * realloc and free. */
+/* What is read of a node with no command, around it and of what it holds: what it says, that it takes no memory and leaves the last answer;
+ * and that a program that removes its first child, or its last, as long as there is one takes no longer a child where there are many. Linked
+ * with --wrap for malloc, realloc and free. */
 #include "refusing.h"
 #include "wanting.h"
 #include <string.h>
@@ -87,6 +87,95 @@ static void copied(uint32_t parent, uint32_t count)
     WANT(hp_children_into(&session, parent + 1, numbers, 1, &told) == HP_OK && told == 0);
 }
 
+/* ---- what a node holds */
+
+static bool is_text(const hp_text_view *it, const char *due)
+{
+    bool same = it->length == strlen(due);
+    for (size_t at = 0; same && at < it->length; at++)
+        same = it->units[at] == (unsigned char)due[at];
+    return same;
+}
+
+static bool has_data(uint32_t node, const char *due)
+{
+    hp_text_view data;
+    return hp_data_of(&session, node, &data) == HP_OK && is_text(&data, due);
+}
+
+/* Whether a node is said to have no data, and nothing is lent. */
+static bool lacks_data(uint32_t node, uint8_t status)
+{
+    static const uint16_t before[1] = { 'a' };
+    hp_text_view data = { before, 1 };
+    return hp_data_of(&session, node, &data) == status && data.length == 0;
+}
+
+static bool has_attribute(uint32_t node, size_t index, const char *due_name, const char *due_value)
+{
+    hp_bytes name;
+    hp_text_view value;
+    if (hp_attribute_at(&session, node, index, &name, &value) != HP_OK)
+        return false;
+    return name.length == strlen(due_name) && memcmp(name.bytes, due_name, name.length) == 0 && is_text(&value, due_value);
+}
+
+static bool lacks_attribute(uint32_t node, size_t index, uint8_t status)
+{
+    static const uint8_t name_before[1] = { 'a' };
+    static const uint16_t before[1] = { 'a' };
+    hp_bytes name = { name_before, 1 };
+    hp_text_view value = { before, 1 };
+    return hp_attribute_at(&session, node, index, &name, &value) == status && name.length == 0 && value.length == 0;
+}
+
+/* An attribute that is set again stays where it is, and those behind one that is removed move up ("Interface Element"). */
+static void attributes(uint32_t element, uint32_t text)
+{
+    size_t told = 7;
+    WANT(hp_set_attribute(&session, element, hp_name("id"), hp_text_literal("one")) == HP_OK);
+    WANT(hp_set_attribute(&session, element, hp_name("class"), hp_text_literal("two")) == HP_OK);
+    WANT(hp_set_attribute(&session, element, hp_name("title"), NULL, 0) == HP_OK);
+    WANT(hp_set_attribute(&session, element, hp_name("id"), hp_text_literal("again")) == HP_OK);
+    WANT(hp_attribute_names(&session, element) == HP_OK);
+    refuse(1);
+    WANT(has_attribute(element, 0, "id", "again") && has_attribute(element, 1, "class", "two") && has_attribute(element, 2, "title", ""));
+    WANT(lacks_attribute(element, 3, HP_NOT_THERE) && lacks_attribute(element, (size_t)-1, HP_NOT_THERE));
+    WANT(lacks_attribute(text, 0, HP_NOT_THERE) && lacks_attribute(0, 0, HP_NOT_THERE));
+    WANT(lacks_attribute(HP_NONE, 0, HP_NO_SUCH_OBJECT) && lacks_attribute(4000000000u, 0, HP_NO_SUCH_OBJECT));
+    counts = false;
+    WANT(asked == 0);
+    WANT(hp_count(&session, &told) == HP_OK && told == 3);
+    WANT(hp_remove_attribute(&session, element, hp_name("class")) == HP_OK);
+    WANT(has_attribute(element, 1, "title", "") && lacks_attribute(element, 2, HP_NOT_THERE));
+}
+
+/* A Text, a Comment and a ProcessingInstruction have data ("Interface CharacterData"). */
+static void holding(void)
+{
+    uint32_t element = 7, text = 7, comment = 7, instruction = 7, doctype = 7, fragment = 7;
+    hp_text_view kept;
+    WANT(hp_create_element(&session, 0, hp_name("p"), &element) == HP_OK);
+    WANT(hp_create_text(&session, 0, hp_text_literal("some text"), &text) == HP_OK);
+    WANT(hp_create_comment(&session, 0, NULL, 0, &comment) == HP_OK);
+    WANT(hp_create_pi(&session, 0, hp_name("target"), hp_text_literal("a=1"), &instruction) == HP_OK);
+    WANT(hp_create_doctype(&session, 0, hp_name("html"), hp_name("public"), hp_name("system"), &doctype) == HP_OK);
+    WANT(hp_create_fragment(&session, 0, &fragment) == HP_OK);
+    WANT(hp_append_child(&session, element, text) == HP_OK && hp_data(&session, instruction) == HP_OK);
+    refuse(1);
+    WANT(has_data(text, "some text") && has_data(comment, "") && has_data(instruction, "a=1"));
+    WANT(lacks_data(element, HP_NOT_THERE) && lacks_data(0, HP_NOT_THERE) && lacks_data(doctype, HP_NOT_THERE) && lacks_data(fragment, HP_NOT_THERE));
+    WANT(lacks_data(HP_NONE, HP_NO_SUCH_OBJECT) && lacks_data(4000000000u, HP_NO_SUCH_OBJECT));
+    counts = false;
+    WANT(asked == 0);
+    WANT(hp_text(&session, &kept) == HP_OK && is_text(&kept, "a=1"));
+    WANT(hp_replace_data(&session, text, 0, 4, hp_text_literal("other")) == HP_OK && has_data(text, "other text"));
+    attributes(element, text);
+    WANT(hp_discard(&session, comment) == HP_OK && lacks_data(comment, HP_NO_SUCH_OBJECT));
+}
+
+/* ---- ends that are removed */
+
 /* The milliseconds of the processor that it takes to remove all children, each as the first or as the last. */
 static double emptied(uint32_t parent, uint8_t (*end)(hp_session *, uint32_t, uint32_t *))
 {
@@ -124,6 +213,7 @@ int main(int argc, char **words)
     /* (under valgrind each takes much longer) */
     bool is_timed = argc > 1 && strcmp(words[1], "timed") == 0;
     WANT(hp_open(&session, 4294967295u, 100) == HP_OK);
+    holding();
     reading(parent_of(FEW), FEW);
     uint32_t parent = parent_of(CHILDREN);
     reading(parent, CHILDREN);

@@ -52,6 +52,22 @@ class Reader:
         found = self.lent("hp_text_view", call, *words)
         return None if found is None else of_units(found)
 
+    def attribute(self, node, at):
+        """The attribute of a node at a place, which is lent with no command; None past the last."""
+        name, value = self.nothing(self.structs["hp_bytes"]), self.nothing(self.structs["hp_text_view"])
+        status = self.call("hp_attribute_at", node, at, ctypes.byref(name), ctypes.byref(value))
+        if self.words[status] == "not-there":
+            return None
+        assert status == 0, f"hp_attribute_at: {self.words[status]}"
+        return [bytes(name.bytes[: name.length]).decode(), of_units(value.units[: value.length])]
+
+    def held(self, row):
+        """Whether what a row says that its node holds is what is lent of the node with no command."""
+        node, kind, last = row[1], row[2], row[-1]
+        assert self.text("hp_data_of", node) == (last if kind in WITH_DATA else None), "hp_data_of"
+        for at, due in enumerate([*(last if kind == ELEMENT else ()), None]):
+            assert self.attribute(node, at) == due, "hp_attribute_at"
+
     def count(self, call="hp_count", *words):
         found = ctypes.c_size_t(7)
         self.must(call, *words, ctypes.byref(found))

@@ -47,8 +47,8 @@ class Program:
             front.append(f"const {it.type} a{at} = {{ {', '.join(str(getattr(word, part.name)) for part in self.structs[it.type])} }};")
             return f"&a{at}"
         if it.is_pointer:
-            front.append(f"{it.type} out;")
-            return "&out"
+            front.append(f"{it.type} out{at};")
+            return f"&out{at}"
         number = int(getattr(word, "value", word))
         return f"{number}u" if number > 2147483647 else str(number)
 
@@ -67,7 +67,7 @@ class Program:
         for at, (it, word) in enumerate(zip(parameters, words)):
             given.append(self.value(it, word, at, front))
             if it.is_pointer and not it.is_const and not status:
-                behind += self.lent(it, "out")
+                behind += self.lent(it, f"out{at}")
         call = f'look("{self.name}", "{name}", {status}, {name}({", ".join(given)}));'
         self.lines.append("    { " + " ".join([*front, call, *behind]) + " }\n")
 

@@ -15,7 +15,7 @@ import sys
 HERE = os.path.dirname(os.path.abspath(__file__))
 sys.path.insert(0, os.path.dirname(HERE))
 from declared import SCALARS, header, library
-from exports import ROOT, status_word
+from exports import READING, ROOT, modules, status_word
 from reader import DOCTYPE, MOST, NO_STATUSES, Reader, maybe
 from said import Program
 
@@ -68,21 +68,35 @@ class Session(Reader):
         self.words = {value: status_word(name) for name, value in self.header.constants.items() if name not in NO_STATUSES}
         self.session = self.structs["hp_session"]()
         self.seen = set()
+        self.reading = {it.name for module in modules() if module.name in READING for it in module.exports}
+        self.sized = ctypes.CDLL(None).malloc_usable_size
+        self.sized.argtypes, self.sized.restype = [ctypes.c_void_p], ctypes.c_size_t
         self.program = Program(self.header)
         assert self.header.constants["HP_NONE"] == MOST
 
     def call(self, name, *words):
         if name not in self.calls:
             raise NoCall(name)
-        self.seen.add(name)
-        status = getattr(self.library, name)(ctypes.byref(self.session), *words)
+        status = self.made(name, words)
         self.program.say(name, words, status)
         return status
 
+    def made(self, name, words):
+        """The status of a call. One that reads or lends leaves what the session keeps, which no clause says where the session is lent."""
+        self.seen.add(name)
+        before = self.image() if name in self.reading else None
+        status = getattr(self.library, name)(ctypes.byref(self.session), *words)
+        assert before is None or before == self.image(), f"{name} changes what the session keeps"
+        return status
+
+    def image(self):
+        """The bytes of what the session keeps: its world, its last answer and its line, by where they lie, its limits, whether it has ended."""
+        at = ctypes.cast(self.session.slot.at, ctypes.c_void_p)
+        return ctypes.string_at(at, self.sized(at))
+
     def silently(self, name, *words):
         """A call of two out pointers, which the program in C does not make."""
-        self.seen.add(name)
-        status = getattr(self.library, name)(ctypes.byref(self.session), *words)
+        status = self.made(name, words)
         assert status == 0, f"{name}: {self.words[status]}"
 
     def must(self, name, *words):
@@ -221,7 +235,10 @@ class Session(Reader):
         if name == "attributeNames":
             return [self.name("hp_name_at", at) for at in range(self.count())]
         if name in ROWS:
-            return self.many(name)
+            found = self.many(name)
+            for row in found if name == "tree" else ():
+                self.held(row)
+            return found
         return None
 
     def printed(self):

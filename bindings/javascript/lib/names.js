@@ -8,6 +8,8 @@ import { check, native, OK, out, Refusal } from "./core.js";
 
 export const HTML = "http://www.w3.org/1999/xhtml";
 export const SVG = "http://www.w3.org/2000/svg";
+export const MATHML = "http://www.w3.org/1998/Math/MathML";
+export const XLINK = "http://www.w3.org/1999/xlink";
 export const XML = "http://www.w3.org/XML/1998/namespace";
 export const XMLNS = "http://www.w3.org/2000/xmlns/";
 
@@ -24,10 +26,17 @@ export const small = (text) => (/[A-Z]/.test(text) ? lowered(text) : text);
 /** A text whose letters of ASCII are capitals. */
 export const capital = (text) => (/[a-z]/.test(text) ? raised(text) : text);
 
+/** The namespaces that have the same number in each session: what is written of a name as HTML depends on them. The others are numbered behind them. */
+const EVERYWHERE = [HTML, SVG, MATHML, XML, XMLNS, XLINK];
+
 function numberOfNamespace(session, namespace) {
+  const everywhere = EVERYWHERE.indexOf(namespace);
+  if (everywhere >= 0) return everywhere;
   const found = session.namespaces.indexOf(namespace);
-  return found < 0 ? session.namespaces.push(namespace) - 1 : found;
+  return EVERYWHERE.length + (found < 0 ? session.namespaces.push(namespace) - 1 : found);
 }
+
+const namespaceOf = (session, number) => (number < EVERYWHERE.length ? EVERYWHERE[number] : session.namespaces[number - EVERYWHERE.length]);
 
 /** What a name of the core says; without a mark its namespace is the plain one. Its number is that of the module. */
 function read(session, given, plain) {
@@ -38,8 +47,7 @@ function read(session, given, plain) {
   const found = core.includes(MARK) ? MARKED.exec(core) : null;
   const [, local = core, namespace, prefix = null] = found ?? [];
   const qualified = prefix === null ? local : `${prefix}:${local}`;
-  // (what is written of it as HTML is kept here once it is asked for, see serializing.js)
-  return { core, number, namespace: found ? session.namespaces[namespace] : plain, prefix, local, qualified, capital: capital(qualified), html: null };
+  return { core, number, namespace: found ? namespaceOf(session, Number(namespace)) : plain, prefix, local, qualified, capital: capital(qualified) };
 }
 
 function known(session, names, core, plain) {

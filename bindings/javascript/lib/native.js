@@ -198,6 +198,14 @@ const own = {
     const place = reserve(2 * text.length + 8);
     return place === 0 ? NUMBERS.HP_OUT_OF_MEMORY : module.set_value(session, element, number, place, putText(place, text));
   },
+  html: module.html,
+  /** Tells how a name is written as HTML (see html.h of the module). */
+  tellForm(number, kind, marks, start, end) {
+    const place = reserve(2 * (start.length + end.length) + 16);
+    if (place === 0) return NUMBERS.HP_OUT_OF_MEMORY;
+    putText(place + 2 * putText(place, start), end);
+    return module.tell_form(number, kind, marks, place, start.length, end.length);
+  },
   data: lentBy(module.data),
   content: lentBy(module.content),
   /** The bytes that the core and the glue hold. */

@@ -45,8 +45,9 @@ class StaticRangeIs extends EndsAre {
   }
 }
 
-const endsOf = (it) => thingOf(it, EndsAre);
 const rangeOf = (it) => thingOf(it, RangeIs);
+const staticRangeOf = (it) => thingOf(it, StaticRangeIs);
+const endsOf = (it) => rangeOf(it) ?? staticRangeOf(it);
 
 /** The container of an end, and the offset: each end has two numbers of its own. */
 function container(it, side) {
@@ -227,7 +228,7 @@ convertible("StaticRangeInit", dictionary({ endContainer: "Node", endOffset: "un
 export const StaticRange = known({
   name: "StaticRange",
   parent: "AbstractRange",
-  is: (it) => thingOf(it, StaticRangeIs) !== undefined,
+  is: (it) => staticRangeOf(it) !== undefined,
   construct: [
     ["StaticRangeInit"],
     (realm, [endContainer, endOffset, startContainer, startOffset]) => {

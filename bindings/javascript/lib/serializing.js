@@ -1,23 +1,15 @@
-/** Documents out: nodes as HTML, by the standard's steps over rows that are read at once, and as XML, by w3c-xmlserializer. */
-import { check, COMMENT, DOCUMENT, ELEMENT, FRAGMENT, INSTRUCTION, native, NONE, out, Refusal, TEXT, textFrom, TOO_LONG, words } from "./core.js";
+/** Documents out: nodes as HTML, which the module writes by the standard's steps, and as XML, by w3c-xmlserializer. */
+import { check, DOCUMENT, ELEMENT, FRAGMENT, native, out, Refusal, textFrom, TOO_LONG, wordsOf } from "./core.js";
 import { wanted } from "./libraries.js";
-import { attributeByNumber, elementByNumber, HTML, SVG, XML, XMLNS } from "./names.js";
-import { contentsOf, firstChildOf, nextOf } from "./nodes.js";
+import { attributeByNumber, elementByNumber, HTML, MATHML, SVG, XLINK, XML, XMLNS } from "./names.js";
+import { contentsOf } from "./nodes.js";
 import { Rows } from "./rows.js";
-import { isNode, kindOf, numberOf, sessionOf, wrap } from "./wrappers.js";
-
-const XLINK = "http://www.w3.org/1999/xlink";
-const MATHML = "http://www.w3.org/1998/Math/MathML";
+import { isNode, numberOf, sessionOf, wrap } from "./wrappers.js";
 
 const setOf = (names) => new Set(names.split(" "));
 /** Elements of HTML that have no end tag, and those whose text is written as it is. */
 const VOID = setOf("area base br col embed hr img input link meta source track wbr basefont bgsound frame keygen param");
 const RAW = setOf("style script xmp iframe noembed noframes plaintext");
-
-const ESCAPES = { "&": "&amp;", "\u00a0": "&nbsp;", "<": "&lt;", ">": "&gt;", '"': "&quot;" };
-const escaped = (text, signs) => text.replace(signs, (sign) => ESCAPES[sign]);
-const inText = (text) => (/[&\u00a0<>]/.test(text) ? escaped(text, /[&\u00a0<>]/g) : text);
-const inValue = (text) => (/[&\u00a0"<>]/.test(text) ? escaped(text, /[&\u00a0"<>]/g) : text);
 
 /** How an attribute is named: by its prefix where its namespace has one that HTML knows, and else by its qualified name. */
 function attributeName({ namespace, local, qualified }) {
@@ -30,142 +22,69 @@ function attributeName({ namespace, local, qualified }) {
 /** How a tag is named: elements of HTML, MathML and SVG have no prefix there. */
 const tagOf = ({ namespace, local, qualified }) => (namespace === HTML || namespace === MATHML || namespace === SVG ? local : qualified);
 
-function childrenOf(node) {
-  const found = [];
-  for (let it = firstChildOf(node); it; it = nextOf(it)) found.push(it);
-  return found;
-}
+// ---- HTML: the module writes a tree by one call (see html.h there). It is told what an element is by its name and how names are written, once for each.
 
-/** What is written of an element by its name: where its start tag begins, its end tag, and what is in it. A name keeps this. */
-function tagsOf(name) {
+/** What the module answers where it met names of which nothing was told, and the kinds of names there. */
+const UNTOLD = 253;
+const OF_ELEMENT = 0;
+const OF_ATTRIBUTE = 1;
+const IS_VOID = 1;
+const IS_RAW = 2;
+const IS_TEMPLATE = 4;
+
+const marksOf = (tag) => (VOID.has(tag) ? IS_VOID : 0) | (RAW.has(tag) ? IS_RAW : 0) | (tag === "template" ? IS_TEMPLATE : 0);
+
+function tellTag(name) {
   const tag = tagOf(name);
-  const isOfHtml = name.namespace === HTML;
-  const isVoid = isOfHtml && VOID.has(tag);
-  return { start: `<${tag}`, end: isVoid ? "" : `</${tag}>`, isVoid, isRaw: isOfHtml && RAW.has(tag), isTemplate: isOfHtml && tag === "template" };
+  const marks = name.namespace === HTML ? marksOf(tag) : 0;
+  return native.tellForm(name.number, OF_ELEMENT, marks, `<${tag}`, marks & IS_VOID ? "" : `</${tag}>`);
 }
 
-const writtenTags = (name) => (name.html ??= tagsOf(name));
-const writtenAttribute = (name) => (name.html ??= ` ${attributeName(name)}="`);
+const tellAttribute = (name) => native.tellForm(name.number, OF_ATTRIBUTE, 0, ` ${attributeName(name)}="`, "");
 
-/** So many rows are written by one call, so that an engine compiles the call once, and not anew for each text. */
-const PIECE = 64;
-/** The words of the row of a Document or a fragment. */
-const TOP = 6;
-const DEEPEST = 4294967295;
-
-/** Writes the rows of a node (see base.h of the module). */
-class Writer {
-  session;
-  html = "";
-  at;
-  end;
-  base = 0;
-  // The elements that are open, and how deep what is written may stand: what is in a template or in a void element is left out.
-  open = [];
-  shut = DEEPEST;
-  // What stands ahead of the contents of each template, and its number.
-  templates = [];
-
-  constructor(node) {
-    this.session = sessionOf(node);
-    check(native.rows(this.session.index, numberOf(node)));
-    this.at = out[0] >>> 2;
-    this.end = this.at + out[1];
-    if (kindOf(node) !== DOCUMENT && kindOf(node) !== FRAGMENT) return;
-    this.base = 1;
-    this.at += TOP;
+/** Tells the module of the names that it asks for. */
+function tellForms(session) {
+  const asked = Array.from(wordsOf(0));
+  for (let at = 0; at < asked.length; at += 2) {
+    const [number, kind] = asked.slice(at, at + 2);
+    check(kind === OF_ELEMENT ? tellTag(elementByNumber(session, number)) : tellAttribute(attributeByNumber(session, number)));
   }
+}
 
-  /** Writes some rows; answers whether there are more. */
-  some() {
-    for (let count = 0; count < PIECE; count++) {
-      if (this.at >= this.end) return false;
-      this.row();
-    }
-    return true;
-  }
+/** A node and what is in it, or only that, as HTML. */
+function written(node, isInner) {
+  const session = sessionOf(node);
+  const ask = () => native.html(session.index, numberOf(node), Number(isInner), Number(session.hasContents));
+  let status = ask();
+  for (; status === UNTOLD; status = ask()) tellForms(session);
+  check(status);
+  const text = textFrom(out[2], out[3]);
+  if (text === TOO_LONG) throw new Refusal(TOO_LONG);
+  return out[1] === 0 ? text : filled(session, text, Array.from(wordsOf(0)));
+}
 
-  row() {
-    const at = this.at;
-    const depth = words[at] - this.base;
-    const isLeft = depth > this.shut;
-    if (!isLeft) {
-      this.close(depth);
-      this.shut = DEEPEST;
-    }
-    this.at = at + 5;
-    if (words[at + 2] === ELEMENT) return this.element(words[at + 4], words[at + 3], isLeft, words[at + 1], depth);
-    const data = this.data(words[at + 2], words[at + 4]);
-    if (!isLeft) this.html += data;
+/** A text with the contents of its templates, which have none but their children where they were given none. */
+function filled(session, text, templates) {
+  let whole = "";
+  let from = 0;
+  for (let at = 0; at < templates.length; at += 2) {
+    const [number, to] = templates.slice(at, at + 2);
+    whole += text.slice(from, to) + serializeInner(wrap(session, number));
+    from = to;
   }
+  return whole + text.slice(from);
+}
 
-  /** Ends what is open from a depth on. */
-  close(depth) {
-    const open = this.open;
-    while (open.length > depth) this.html += open.pop().end;
-  }
-
-  text() {
-    const length = words[this.at++];
-    if (length === NONE) return "";
-    const text = textFrom(4 * this.at, length);
-    if (text === TOO_LONG) throw new Refusal(TOO_LONG);
-    this.at += (length + 1) >>> 1;
-    return text;
-  }
-
-  element(number, count, isLeft, node, depth) {
-    const tags = writtenTags(elementByNumber(this.session, number));
-    let html = tags.start;
-    this.at++;
-    for (let each = 0; each < count; each++) {
-      html += writtenAttribute(attributeByNumber(this.session, words[this.at++]));
-      html += `${inValue(this.text())}"`;
-    }
-    if (isLeft) return;
-    this.html += `${html}>`;
-    this.open.push(tags);
-    if (tags.isVoid) this.shut = depth;
-    else if (tags.isTemplate && this.session.hasContents) this.template(node, depth);
-  }
-
-  /** The contents of a template come in place of its children; where it has none, these. */
-  template(number, depth) {
-    this.templates.push({ before: this.html, number });
-    this.html = "";
-    this.shut = depth;
-  }
-
-  /** What is written of a node that is no element. */
-  data(kind, name) {
-    const data = this.text();
-    const within = this.open.length === 0 ? null : this.open[this.open.length - 1];
-    if (kind === TEXT) return within !== null && within.isRaw ? data : inText(data);
-    if (kind === COMMENT) return `<!--${data}-->`;
-    if (kind === INSTRUCTION) return `<?${native.nameOf(name)} ${data}>`;
-    // (behind a doctype are its two ids)
-    this.at += 2;
-    return `<!DOCTYPE ${native.nameOf(name)}>`;
-  }
-
-  whole() {
-    this.close(0);
-    let whole = "";
-    for (const { before, number } of this.templates) {
-      const template = wrap(this.session, number);
-      const contents = contentsOf(template);
-      whole += before + (contents ? serialize(contents) : childrenOf(template).map(serialize).join(""));
-    }
-    return whole + this.html;
-  }
+/** What is in a node as HTML; of a template its contents. */
+export function serializeInner(node) {
+  const contents = sessionOf(node).hasContents ? contentsOf(node) : null;
+  return written(contents ?? node, true);
 }
 
 /** A node and what is in it as HTML: of a Document and a fragment what is in it. */
 export function serialize(node) {
   if (!isNode(node)) throw new TypeError("this is no node");
-  const writer = new Writer(node);
-  while (writer.some());
-  return writer.whole();
+  return written(node, false);
 }
 
 // ---- XML: w3c-xmlserializer reads objects that have the members of nodes.

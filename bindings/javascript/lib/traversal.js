@@ -6,9 +6,8 @@
  * took.
  */
 import { check, native, NONE, out, Refusal } from "./core.js";
-import { firstChildOf, lastChildOf, nextOf, parentOf, previousOf } from "./nodes.js";
 import { known, refuseType } from "./webidl.js";
-import { kindOf, makeThing, numberIn, numberOf, realmOf, sessionOf, thingOf, wrap } from "./wrappers.js";
+import { itsOf, makeThing, numberIn, numberOf, realmOf, sessionOf, thingOf, wrap } from "./wrappers.js";
 
 const NO_BYTES = new Uint8Array(0);
 const NO_NUMBERS = new Uint32Array(0);
@@ -25,25 +24,34 @@ function createdBy(call, root, show) {
   return out[0];
 }
 
-/** What iterators and walkers have in common: root, what is shown, the filter, and whether it is being asked. */
+const objectOf = (node) => node && node.object;
+
+/** What iterators and walkers have in common: root, what is shown, the filter, and whether it is being asked. A node is here by what its object knows. */
 class Traversal {
   isAsking = false;
 
   constructor(root, show, filter) {
     this.session = sessionOf(root);
-    this.root = root;
+    this.root = itsOf(root);
     this.show = show;
     this.filter = filter;
   }
 
   /** What the filter says of a node. */
   verdict(node) {
-    if (this.isAsking) throw new Refusal(native.HP_INVALID_STATE_ERROR, "the filter is being asked");
-    if (!((this.show >>> (kindOf(node) - 1)) & 1)) return SKIP;
-    if (this.filter === null) return ACCEPT;
+    if (this.isAsking) this.refuse();
+    if (((this.show >>> (node.kind - 1)) & 1) === 0) return SKIP;
+    return this.filter === null ? ACCEPT : this.filtered(node);
+  }
+
+  refuse() {
+    throw new Refusal(native.HP_INVALID_STATE_ERROR, "the filter is being asked");
+  }
+
+  filtered(node) {
     this.isAsking = true;
     try {
-      return this.asked(node);
+      return this.asked(node.object);
     } finally {
       this.isAsking = false;
     }
@@ -58,24 +66,36 @@ class Traversal {
   }
 }
 
+// ---- Tree order.
+
+/** The node that follows all below a node, within a root. */
+function following(root, node) {
+  for (let it = node; it !== null && it !== root; it = it.parent()) {
+    const sibling = it.nextSibling();
+    if (sibling !== null) return sibling;
+  }
+  return null;
+}
+
+/** The node after another one in tree order, within a root, or null. */
+const nodeAfter = (node, root) => node.firstChild() ?? following(root, node);
+
+/** The node before another one in tree order, within a root, or null. */
+function nodeBefore(node, root) {
+  if (node === root) return null;
+  let found = node.previousSibling();
+  if (found === null) return node.parent();
+  for (let last = found.lastChild(); last !== null; last = found.lastChild()) found = last;
+  return found;
+}
+
 // ---- Iterators.
 
-/** Where the iterator that moved last came to, from which the next node is not far. */
-const cursor = { iterator: null, node: null };
+/** Where the iterator that moved last came to, whether its pointer is ahead of that, and the count of the session until which both hold. */
+const cursor = { iterator: null, node: null, isBefore: false, structure: -1 };
 
 /** How many nodes are gone through before the node of a number is looked for by its number. */
 const NEAR = 32;
-
-/** The object of a number that an iterator came to, sought from where it was before. */
-function sought(its, number, course) {
-  if (number === NONE) return null;
-  let node = cursor.iterator === its ? cursor.node : null;
-  for (let count = 0; node && count < NEAR && numberOf(node) !== number; count++) node = course.beside(node, its.root);
-  const found = node && numberOf(node) === number ? node : wrap(its.session, number);
-  cursor.iterator = its;
-  cursor.node = found;
-  return found;
-}
 
 class IteratorIs extends Traversal {
   constructor(root, show, filter) {
@@ -83,18 +103,30 @@ class IteratorIs extends Traversal {
     this.number = createdBy("hp_create_iterator", root, filter === null ? show : ALL);
   }
 
-  ask() {
+  /** Has the cursor be where the core has the iterator. */
+  place() {
+    if (cursor.iterator === this && cursor.structure === this.session.structure) return;
     check(native.hp_iterator(this.session.index, this.number));
+    const number = out[1];
+    const isBefore = out[2] === 1;
+    this.keep(cursor.iterator === this && cursor.node.number === number ? cursor.node : itsOf(wrap(this.session, number)), isBefore);
+  }
+
+  keep(node, isBefore) {
+    cursor.iterator = this;
+    cursor.node = node;
+    cursor.isBefore = isBefore;
+    cursor.structure = this.session.structure;
   }
 
   get reference() {
-    this.ask();
-    return wrap(this.session, out[1]);
+    this.place();
+    return cursor.node;
   }
 
   get isBefore() {
-    this.ask();
-    return out[2] === 1;
+    this.place();
+    return cursor.isBefore;
   }
 
   /** Moves in the core by a call. */
@@ -104,12 +136,20 @@ class IteratorIs extends Traversal {
     return out[0];
   }
 
-  /** Moves on to a node, from wherever the filter may have put the reference meanwhile. */
-  follow(course, node) {
-    const wanted = numberOf(node);
-    if (this.move(course.call) === wanted) return;
+  /** The node of a number that the iterator came to, sought from where it was before. */
+  sought(number, course) {
+    let node = cursor.iterator === this ? cursor.node : null;
+    for (let count = 0; node !== null && count < NEAR && node.number !== number; count++) node = course.beside(node, this.root);
+    return node !== null && node.number === number ? node : itsOf(wrap(this.session, number));
+  }
+
+  /** Moves on to a node by so many steps, or from wherever the filter may have put the reference meanwhile. */
+  follow(course, wanted, steps) {
+    let at = NONE;
+    for (let count = 0; count < steps && at !== wanted; count++) at = this.move(course.call);
+    if (at === wanted) return;
     const call = this.isAhead(wanted) ? FORTH.call : BACK.call;
-    let at = this.move(call);
+    at = this.move(call);
     while (at !== wanted && at !== NONE) at = this.move(call);
     // (one step more where it came from the other side)
     if (call !== course.call) this.move(course.call);
@@ -117,13 +157,13 @@ class IteratorIs extends Traversal {
 
   /** Whether a node is within the root. */
   has(node) {
-    check(native.hp_contains(this.session.index, numberOf(this.root), numberOf(node)));
+    check(native.hp_contains(this.session.index, this.root.number, node.number));
     return out[0] === 1;
   }
 
   /** Whether a node comes behind the reference. */
   isAhead(number) {
-    this.ask();
+    check(native.hp_iterator(this.session.index, this.number));
     check(native.hp_compare_position(this.session.index, out[1], number));
     return (out[0] & FOLLOWING) !== 0;
   }
@@ -131,29 +171,42 @@ class IteratorIs extends Traversal {
 
 const iteratorOf = (it) => thingOf(it, IteratorIs);
 
-/** The courses of an iterator: its call, the node beside another one in tree order, and whether the reference itself comes first. */
-const FORTH = { call: native.hp_next_node, beside: nodeAfter, isFirst: (its) => its.isBefore };
-const BACK = { call: native.hp_previous_node, beside: nodeBefore, isFirst: (its) => !its.isBefore };
+/** The courses of an iterator: its call, the node beside another one in tree order, and whether the pointer is ahead of a node that it comes to. */
+const FORTH = { call: native.hp_next_node, beside: nodeAfter, isBefore: false };
+const BACK = { call: native.hp_previous_node, beside: nodeBefore, isBefore: true };
+
+/** Without a filter the core's iterator moves, and its node is sought. */
+function plain(its, course) {
+  const number = its.move(course.call);
+  if (number === NONE) return null;
+  const node = its.sought(number, course);
+  its.keep(node, course.isBefore);
+  return node;
+}
 
 /** By the standard's steps: the pointer moves once the filter has taken a node. One that the filter removed is answered, and the pointer stays ahead of it. */
 function filtered(its, course) {
-  const reference = its.reference;
+  its.place();
+  const { node: reference, isBefore, structure } = cursor;
   const passed = [];
-  let node = course.isFirst(its) ? reference : course.beside(reference, its.root);
-  while (node && its.verdict(node) !== ACCEPT) {
+  let node = isBefore === course.isBefore ? course.beside(reference, its.root) : reference;
+  while (node !== null && its.verdict(node) !== ACCEPT) {
     passed.push(node);
     node = course.beside(node, its.root);
   }
-  if (!node) return null;
-  const to = its.has(node) ? node : passed.findLast((it) => its.has(it));
-  if (to) its.follow(course, to);
+  if (node === null) return null;
+  const isSame = structure === its.session.structure;
+  const to = isSame || its.has(node) ? node : passed.findLast((it) => its.has(it));
+  if (!to) return node;
+  its.follow(course, to.number, passed.length + 1);
+  its.keep(to, course.isBefore);
   return node;
 }
 
 function traverse(iterator, course) {
   const its = iteratorOf(iterator);
-  if (its.isAsking) throw new Refusal(native.HP_INVALID_STATE_ERROR, "the filter is being asked");
-  return its.filter === null ? sought(its, its.move(course.call), course) : filtered(its, course);
+  if (its.isAsking) its.refuse();
+  return objectOf(its.filter === null ? plain(its, course) : filtered(its, course));
 }
 
 export function createNodeIterator(document, root, show, filter) {
@@ -167,8 +220,8 @@ export const NodeIterator = known({
   name: "NodeIterator",
   is: (it) => iteratorOf(it) !== undefined,
   attributes: {
-    root: (it) => iteratorOf(it).root,
-    referenceNode: (it) => iteratorOf(it).reference,
+    root: (it) => iteratorOf(it).root.object,
+    referenceNode: (it) => iteratorOf(it).reference.object,
     pointerBeforeReferenceNode: (it) => iteratorOf(it).isBefore,
     whatToShow: (it) => iteratorOf(it).show,
     filter: (it) => iteratorOf(it).filter,
@@ -185,11 +238,10 @@ export const NodeIterator = known({
 class WalkerIs extends Traversal {
   constructor(root, show, filter) {
     super(root, show, filter);
-    this.current = root;
+    this.current = this.root;
   }
 
   set(node) {
-    numberIn(this.session, node);
     this.current = node;
     return node;
   }
@@ -197,10 +249,14 @@ class WalkerIs extends Traversal {
 
 const walkerOf = (it) => thingOf(it, WalkerIs);
 
+/** The courses over children and siblings. */
+const FORWARDS = { first: (node) => node.firstChild(), next: (node) => node.nextSibling() };
+const BACKWARDS = { first: (node) => node.lastChild(), next: (node) => node.previousSibling() };
+
 /** The standard's steps over the children of the current node, from either end. */
-function traverseChildren(its, first, next) {
+function traverseChildren(its, { first, next }) {
   let node = first(its.current);
-  while (node) {
+  while (node !== null) {
     const verdict = its.verdict(node);
     if (verdict === ACCEPT) return its.set(node);
     const child = verdict === SKIP ? first(node) : null;
@@ -211,32 +267,32 @@ function traverseChildren(its, first, next) {
 
 /** The sibling of a node or of one above it, short of the current node and of the root. */
 function upFrom(its, node, next) {
-  for (let it = node; it; ) {
+  for (let it = node; it !== null; ) {
     const sibling = next(it);
-    if (sibling) return sibling;
-    it = parentOf(it);
-    if (it === null || it === its.root || it === its.current) return null;
+    if (sibling !== null) return sibling;
+    it = it.parent();
+    if (it === its.root || it === its.current) return null;
   }
   return null;
 }
 
 /** The standard's steps over siblings, in either direction. */
-function traverseSiblings(its, next, first) {
+function traverseSiblings(its, course) {
   let node = its.current;
-  while (node && node !== its.root) {
-    const found = among(its, node, next, first);
-    if (found) return its.set(found);
-    node = parentOf(node);
-    if (!node || node === its.root || its.verdict(node) === ACCEPT) return null;
+  while (node !== null && node !== its.root) {
+    const found = among(its, node, course);
+    if (found !== null) return its.set(found);
+    node = node.parent();
+    if (node === null || node === its.root || its.verdict(node) === ACCEPT) return null;
   }
   return null;
 }
 
 /** The first that is accepted among the siblings of a node and, below those that are skipped, their children. */
-function among(its, start, next, first) {
+function among(its, start, { first, next }) {
   let node = start;
   let sibling = next(node);
-  while (sibling) {
+  while (sibling !== null) {
     node = sibling;
     const verdict = its.verdict(node);
     if (verdict === ACCEPT) return node;
@@ -248,20 +304,20 @@ function among(its, start, next, first) {
 
 /** The sibling of a node or of one above it, up to where the start's siblings are. */
 function nextShortOf(node, start, next) {
-  const above = parentOf(start);
-  for (let it = node; it && it !== above; it = parentOf(it)) {
+  const above = start.parent();
+  for (let it = node; it !== null && it !== above; it = it.parent()) {
     const sibling = next(it);
-    if (sibling) return sibling;
-    if (parentOf(it) === above) return null;
+    if (sibling !== null) return sibling;
+    if (it.parent() === above) return null;
   }
   return null;
 }
 
 function toParent(its) {
   let node = its.current;
-  while (node && node !== its.root) {
-    node = parentOf(node);
-    if (node && its.verdict(node) === ACCEPT) return its.set(node);
+  while (node !== null && node !== its.root) {
+    node = node.parent();
+    if (node !== null && its.verdict(node) === ACCEPT) return its.set(node);
   }
   return null;
 }
@@ -270,7 +326,7 @@ function toParent(its) {
 function lastBelow(its, start) {
   let node = start;
   let verdict = its.verdict(node);
-  for (let child = lastChildOf(node); verdict !== REJECT && child; child = lastChildOf(node)) {
+  for (let child = node.lastChild(); verdict !== REJECT && child !== null; child = node.lastChild()) {
     node = child;
     verdict = its.verdict(node);
   }
@@ -280,51 +336,28 @@ function lastBelow(its, start) {
 /** The nodes ahead of a node among its siblings and what is in them, backwards: where that ends, and whether with one that is accepted. */
 function backwards(its, start) {
   let last = { node: start, verdict: SKIP };
-  for (let sibling = previousOf(start); sibling && last.verdict !== ACCEPT; sibling = previousOf(last.node)) last = lastBelow(its, sibling);
+  for (let it = start.previousSibling(); it !== null && last.verdict !== ACCEPT; it = last.node.previousSibling()) last = lastBelow(its, it);
   return last;
 }
 
 function toPrevious(its) {
   let node = its.current;
-  while (node && node !== its.root) {
+  while (node !== null && node !== its.root) {
     const last = backwards(its, node);
     if (last.verdict === ACCEPT) return its.set(last.node);
-    node = last.node === its.root ? null : parentOf(last.node);
-    if (node && its.verdict(node) === ACCEPT) return its.set(node);
+    node = last.node === its.root ? null : last.node.parent();
+    if (node !== null && its.verdict(node) === ACCEPT) return its.set(node);
   }
   return null;
-}
-
-/** The node that follows all below a node, within the root. */
-function following(root, node) {
-  for (let it = node; it && it !== root; it = parentOf(it)) {
-    const sibling = nextOf(it);
-    if (sibling) return sibling;
-  }
-  return null;
-}
-
-/** The node after another one in tree order, within a root, or null. */
-function nodeAfter(node, root) {
-  return firstChildOf(node) ?? following(root, node);
-}
-
-/** The node before another one in tree order, within a root, or null. */
-function nodeBefore(node, root) {
-  if (node === root) return null;
-  let found = previousOf(node);
-  if (!found) return parentOf(node);
-  for (let last = lastChildOf(found); last; last = lastChildOf(found)) found = last;
-  return found;
 }
 
 function toNext(its) {
   let node = its.current;
   let verdict = ACCEPT;
-  while (node) {
-    const child = verdict === REJECT ? null : firstChildOf(node);
+  while (node !== null) {
+    const child = verdict === REJECT ? null : node.firstChild();
     node = child ?? following(its.root, node);
-    if (!node) return null;
+    if (node === null) return null;
     verdict = its.verdict(node);
     if (verdict === ACCEPT) return its.set(node);
   }
@@ -334,26 +367,32 @@ function toNext(its) {
 /** The moves. */
 const STEPS = {
   parentNode: toParent,
-  firstChild: (its) => traverseChildren(its, firstChildOf, nextOf),
-  lastChild: (its) => traverseChildren(its, lastChildOf, previousOf),
-  previousSibling: (its) => traverseSiblings(its, previousOf, lastChildOf),
-  nextSibling: (its) => traverseSiblings(its, nextOf, firstChildOf),
+  firstChild: (its) => traverseChildren(its, FORWARDS),
+  lastChild: (its) => traverseChildren(its, BACKWARDS),
+  previousSibling: (its) => traverseSiblings(its, BACKWARDS),
+  nextSibling: (its) => traverseSiblings(its, FORWARDS),
   previousNode: toPrevious,
   nextNode: toNext,
 };
 
-const walked = (steps) => [[], (walker) => steps(walkerOf(walker))];
+const walked = (steps) => [[], (walker) => objectOf(steps(walkerOf(walker)))];
 
 export const createTreeWalker = (document, root, show, filter) => makeThing(realmOf(document), "TreeWalker", new WalkerIs(root, show, filter));
+
+function setCurrent(walker, node) {
+  const its = walkerOf(walker);
+  numberIn(its.session, node);
+  its.set(itsOf(node));
+}
 
 export const TreeWalker = known({
   name: "TreeWalker",
   is: (it) => walkerOf(it) !== undefined,
   attributes: {
-    root: (it) => walkerOf(it).root,
+    root: (it) => walkerOf(it).root.object,
     whatToShow: (it) => walkerOf(it).show,
     filter: (it) => walkerOf(it).filter,
-    currentNode: { type: "Node", get: (it) => walkerOf(it).current, set: (it, node) => walkerOf(it).set(node) },
+    currentNode: { type: "Node", get: (it) => walkerOf(it).current.object, set: setCurrent },
   },
   operations: Object.fromEntries(Object.entries(STEPS).map(([move, steps]) => [move, walked(steps)])),
 });

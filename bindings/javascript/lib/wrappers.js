@@ -174,6 +174,26 @@ class NodeIs {
     this.next = null;
   }
 
+  parent() {
+    return (this.state & CHILD) !== 0 ? this.above : null;
+  }
+
+  firstChild() {
+    return this.stamp === this.session.links && this.first !== undefined ? this.first : this.askFirst();
+  }
+
+  lastChild() {
+    return this.stamp === this.session.links && this.last !== undefined ? this.last : this.askLast();
+  }
+
+  nextSibling() {
+    return this.stamp === this.session.links && this.next !== undefined ? this.next : this.askNext();
+  }
+
+  previousSibling() {
+    return this.stamp === this.session.links && this.previous !== undefined ? this.previous : this.askPrevious();
+  }
+
   /** Asks the module for a link: a child of the parent that is given. */
   ask(at, parent) {
     check(hp_links(this.session.index, this.number));
@@ -368,10 +388,7 @@ export const realmOf = (node) => itsOf(node).realm;
 export const keptOf = (node) => (itsOf(node).kept ??= {});
 
 /** The parent's wrapper, or null. */
-export function parentOf(node) {
-  const its = itsOf(node);
-  return (its.state & CHILD) !== 0 ? its.above.object : null;
-}
+export const parentOf = (node) => objectOf(itsOf(node).parent());
 
 /** The wrapper of the root. */
 export const rootOf = (node) => itsOf(node).root().object;
@@ -379,25 +396,10 @@ export const rootOf = (node) => itsOf(node).root().object;
 /** The Document of a node. */
 export const documentOf = (node) => itsOf(node).document().object;
 
-export function nextOf(node) {
-  const its = itsOf(node);
-  return objectOf(its.stamp === its.session.links && its.next !== undefined ? its.next : its.askNext());
-}
-
-export function previousOf(node) {
-  const its = itsOf(node);
-  return objectOf(its.stamp === its.session.links && its.previous !== undefined ? its.previous : its.askPrevious());
-}
-
-export function firstChildOf(node) {
-  const its = itsOf(node);
-  return objectOf(its.stamp === its.session.links && its.first !== undefined ? its.first : its.askFirst());
-}
-
-export function lastChildOf(node) {
-  const its = itsOf(node);
-  return objectOf(its.stamp === its.session.links && its.last !== undefined ? its.last : its.askLast());
-}
+export const nextOf = (node) => objectOf(itsOf(node).nextSibling());
+export const previousOf = (node) => objectOf(itsOf(node).previousSibling());
+export const firstChildOf = (node) => objectOf(itsOf(node).firstChild());
+export const lastChildOf = (node) => objectOf(itsOf(node).lastChild());
 
 /** Whether it is known, without asking, that a node has no child. */
 export function isKnownEmpty(node) {
@@ -641,9 +643,11 @@ export class Thing {
   }
 
   static {
+    // (the class itself is compared, since a look through prototypes takes longer than most of what is asked)
     thingOf = (it, kind) => {
       if (typeof it !== "object" || it === null || !(#its in it)) return undefined;
-      return it.#its instanceof kind ? it.#its : undefined;
+      const its = it.#its;
+      return its.constructor === kind ? its : undefined;
     };
   }
 }

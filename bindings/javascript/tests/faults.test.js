@@ -182,7 +182,7 @@ test("lists and ids stay right while the tree changes", () => {
 test("the memory of the module can be bounded, and what is refused then ends its session alone", () => {
   const session = new Session();
   const other = new Session();
-  memory.limit(memory.size);
+  memory.limit(memory.size + 262144);
   const made = [];
   try {
     assert.throws(() => {

@@ -907,6 +907,18 @@ static PyObject *call_child_at(PyObject *self, PyObject *words)
     return found;
 }
 
+static PyObject *call_data_of(PyObject *self, PyObject *words)
+{
+    uint32_t node = 0;
+    hp_text_view out;
+    PyObject *found = NULL;
+    if (is_counted(words, 1, "data_of") && uint32_of(word(words, 0), &node)) {
+        uint8_t status = hp_data_of(session_at(self), node, &out);
+        found = status ? refused(status, "data_of", self, words) : text_from(out.units, out.length);
+    }
+    return found;
+}
+
 static PyObject *call_in_use(PyObject *self, PyObject *words)
 {
     hp_counts counts;
@@ -1855,6 +1867,7 @@ static PyObject *call_read_get_attribute(PyObject *self, PyObject *words)
     { "first_child", call_first_child, METH_VARARGS, NULL }, \
     { "last_child", call_last_child, METH_VARARGS, NULL }, \
     { "child_at", call_child_at, METH_VARARGS, NULL }, \
+    { "data_of", call_data_of, METH_VARARGS, NULL }, \
     { "in_use", call_in_use, METH_VARARGS, NULL }, \
     { "data", call_data, METH_VARARGS, NULL }, \
     { "set_data", call_set_data, METH_VARARGS, NULL }, \
@@ -2236,8 +2249,9 @@ static PyObject *member_Element_get_attribute_names(PyObject *self, PyObject *no
 static PyObject *member_CharacterData_data(PyObject *self, PyObject *nothing)
 {
     (void)nothing;
-    uint8_t status = hp_data(session_of(self), number_of(self));
-    return status ? refused_of(status, "data", self, NULL, 0) : text_answer(session_of(self));
+    hp_text_view out;
+    uint8_t status = hp_data_of(session_of(self), number_of(self), &out);
+    return status ? refused_of(status == HP_NOT_THERE ? HP_TYPE_ERROR : status, "data_of", self, NULL, 0) : text_from(out.units, out.length);
 }
 
 static PyObject *member_CharacterData_data_set(PyObject *self, PyObject *words, PyObject *named)

@@ -369,10 +369,22 @@ static PyObject *read_answer(PyObject *self, PyObject *node, const void *how)
     return status ? refused_of(status, it->call, node, NULL, 0) : text_answer(session_at(self));
 }
 
+static PyObject *read_data(PyObject *self, PyObject *node, const void *how)
+{
+    (void)how;
+    uint32_t number = 0;
+    hp_text_view data;
+    if (!own_node_of(self, node, &number))
+        return NULL;
+    uint8_t status = hp_data_of(session_at(self), number, &data);
+    if (status)
+        return refused_of(status == HP_NOT_THERE ? HP_TYPE_ERROR : status, "data", node, NULL, 0);
+    return text_from(data.units, data.length);
+}
+
 static PyObject *calls_read_data_of(PyObject *self, PyObject *nodes)
 {
-    const Question how = { hp_data, "data" };
-    return read_each(self, nodes, read_answer, &how);
+    return read_each(self, nodes, read_data, NULL);
 }
 
 static PyObject *calls_read_text_content_of(PyObject *self, PyObject *nodes)

@@ -24,7 +24,7 @@ typedef struct {
 } Piece;
 
 /* Names of elements. */
-enum { MOST_NAMES = 64, MOST_KNOWN = 64 };
+enum { MOST_NAMES = 64 };
 typedef struct {
     hp_bytes at[MOST_NAMES];
     size_t count;
@@ -63,10 +63,9 @@ typedef struct {
     bool has_empty_tags;
     Buffer written;
     Opens open;
-    /* All names of elements and attributes; those of attributes that were written last; and those of the attributes of an element. */
+    /* All names of elements and attributes, and those of attributes that were written last. */
     PyObject *names;
     Piece seen[64];
-    Buffer listed;
     /* Whether a unit was written that XML may not have: a control character, a surrogate that stands alone, U+FFFE, U+FFFF. */
     bool is_doubtful;
     Other *others;
@@ -215,86 +214,50 @@ static bool add_to_names(Writing *it, const uint8_t *name, size_t length)
 
 /* ---- attributes */
 
-/* Writes the name of an attribute, and puts it among all names where it was not the last of its sort. */
-static bool push_name(Writing *it, const uint8_t *name, size_t length)
+/* Puts the name of an attribute among all names, unless it was the last of its sort that was written; it comes behind what is written. */
+static bool note_name(Writing *it, const hp_bytes *name)
 {
-    size_t mark = length * 7 + (length ? name[0] + 3u * name[length - 1] : 0);
+    const size_t length = name->length;
+    size_t mark = length * 7 + (length ? name->bytes[0] + 3u * name->bytes[length - 1] : 0);
     Piece *seen = &it->seen[mark % 64];
-    bool is_new = seen->length != length || memcmp(it->written.at + seen->at, name, length) != 0;
-    if (is_new && !add_to_names(it, name, length))
+    bool is_new = seen->length != length || memcmp(it->written.at + seen->at, name->bytes, length) != 0;
+    *seen = (Piece){ it->written.length + 1, length };
+    return !is_new || add_to_names(it, name->bytes, length);
+}
+
+static bool push_attribute(Writing *it, const hp_bytes *name, const hp_text_view *value)
+{
+    Buffer *to = &it->written;
+    const size_t length = name->length;
+    if (!note_name(it, name) || !reserve(to, length + 3))
         return false;
-    *seen = (Piece){ it->written.length, length };
-    return push(&it->written, (const char *)name, length);
+    char *at = to->at + to->length;
+    at[0] = ' ';
+    copy_few(at + 1, (const char *)name->bytes, length);
+    memcpy(at + 1 + length, "=\"", 2);
+    to->length += length + 3;
+    return push_text(it, value, &it->value) && push(to, "\"", 1);
 }
 
-/* Writes the value of an attribute, behind its name. */
-static bool push_value(Writing *it, uint32_t element, const uint8_t *name, size_t length)
-{
-    hp_text_view value;
-    return hp_get_attribute(it->session, element, name, length) == HP_OK && hp_text(it->session, &value) == HP_OK && push(&it->written, "=\"", 2) &&
-        push_text(it, &value, &it->value) && push(&it->written, "\"", 1);
-}
-
-/* Copies the names of the attributes of an element, each with its length ahead. */
-static bool list_names(Writing *it, size_t count)
-{
-    hp_bytes name;
-    it->listed.length = 0;
-    for (size_t at = 0; at < count; at++) {
-        bool done = hp_name_at(it->session, at, &name) == HP_OK && push(&it->listed, (const char *)&name.length, sizeof(name.length)) &&
-            push(&it->listed, (const char *)name.bytes, name.length);
-        if (!done)
-            return false;
-    }
-    return true;
-}
-
-/* Asks for the names of the attributes of an element, writes the attributes, and learns the names. */
-static bool push_asked(Writing *it, uint32_t element)
-{
-    Labels *labels = &it->calls->labels;
-    size_t count = 0, length = 0;
-    unsigned shape = BARE;
-    if (hp_attribute_names(it->session, element) != HP_OK || hp_count(it->session, &count) != HP_OK || !list_names(it, count))
-        return false;
-    for (size_t at = 0; count && at < it->listed.length; at += length) {
-        memcpy(&length, it->listed.at + at, sizeof(length));
-        at += sizeof(length);
-        shape = shape_with(labels, shape, it->listed.at + at, length);
-        const uint8_t *name = (const uint8_t *)it->listed.at + at;
-        if (!push(&it->written, " ", 1) || !push_name(it, name, length) || !push_value(it, element, name, length))
-            return false;
-    }
-    learn_shape(labels, it->session, element, shape);
-    return true;
-}
-
-/* Writes an attribute whose name is known. */
-static bool push_known(Writing *it, uint32_t element, unsigned label)
-{
-    const Label *name = &it->calls->labels.at[label];
-    if (!it->marks[label] && !add_to_names(it, (const uint8_t *)name->name, name->length))
-        return false;
-    it->marks[label] = IS_MARKED;
-    return push(&it->written, " ", 1) && push(&it->written, name->name, name->length) && push_value(it, element, (const uint8_t *)name->name, name->length);
-}
-
+/* Writes the attributes of an element from where they lie, and learns their names where these are not known. */
 static bool push_attributes(Writing *it, uint32_t element)
 {
-    const Labels *labels = &it->calls->labels;
-    unsigned shape = shape_place(labels, element);
-    uint16_t names[MOST_KNOWN];
-    if (shape == BARE)
+    Labels *labels = &it->calls->labels;
+    unsigned known = shape_place(labels, element), shape = BARE;
+    hp_bytes name;
+    hp_text_view value;
+    uint8_t status = HP_OK;
+    if (known == BARE)
         return true;
-    size_t count = shape ? labels->shapes[shape].count : SIZE_MAX;
-    if (count > MOST_KNOWN)
-        return push_asked(it, element);
-    for (size_t at = count; at > 0; shape = labels->shapes[shape].before)
-        names[--at] = labels->shapes[shape].label;
-    bool done = true;
-    for (size_t at = 0; done && at < count; at++)
-        done = push_known(it, element, names[at]);
-    return done;
+    size_t count = known ? labels->shapes[known].count : SIZE_MAX;
+    for (size_t at = 0; at < count && (status = hp_attribute_at(it->session, element, at, &name, &value)) == HP_OK; at++) {
+        shape = known ? known : shape_with(labels, shape, name.bytes, name.length);
+        if (!push_attribute(it, &name, &value))
+            return false;
+    }
+    if (!known && status == HP_NOT_THERE)
+        learn_shape(labels, it->session, element, shape);
+    return status == HP_OK || (!known && status == HP_NOT_THERE);
 }
 
 /* ---- elements */
@@ -382,7 +345,7 @@ static PyObject *other_name(Writing *it, uint32_t node, uint8_t part)
 static PyObject *other_data(Writing *it, uint32_t node)
 {
     hp_text_view text;
-    return hp_data(it->session, node) == HP_OK && hp_text(it->session, &text) == HP_OK ? text_from(text.units, text.length) : NULL;
+    return hp_data_of(it->session, node, &text) == HP_OK ? text_from(text.units, text.length) : NULL;
 }
 
 /* Keeps a node of another kind for the package to write. */
@@ -408,7 +371,7 @@ static bool push_other(Writing *it, const Ranked *node)
 static bool push_text_of(Writing *it, uint32_t node, bool is_plain)
 {
     hp_text_view text;
-    return hp_data(it->session, node) == HP_OK && hp_text(it->session, &text) == HP_OK && push_text(it, &text, is_plain ? NULL : &it->text);
+    return hp_data_of(it->session, node, &text) == HP_OK && push_text(it, &text, is_plain ? NULL : &it->text);
 }
 
 /* ---- all of it */
@@ -480,7 +443,6 @@ static void writing_end(Writing *it)
     }
     PyMem_Free(it->others);
     PyMem_Free(it->written.at);
-    PyMem_Free(it->listed.at);
     PyMem_Free(it->open.at);
     Py_XDECREF(it->names);
 }

@@ -74,7 +74,7 @@ MEANINGS = {
     HP_NOT_UTF8: "The bytes of a name are no UTF-8.",
     HP_BAD_LENGTHS: "Lengths and what they measure do not belong together.",
     HP_BAD_CHOICE: "A number stands for none of the choices.",
-    HP_NOT_THERE: "The last answer has no such part.",
+    HP_NOT_THERE: "The last answer, or the node, has no such part.",
 }
 
 
@@ -150,6 +150,8 @@ PARAMETERS: Dict[str, Tuple[str, ...]] = {
     "last_child": ("node",),
     "child_at": ("node", "index",),
     "children_into": ("node",),
+    "data_of": ("node",),
+    "attribute_at": ("node", "index",),
     "in_use": (),
     "data": ("node",),
     "set_data": ("node", "data",),

@@ -63,7 +63,7 @@ class BadValue(Error, ValueError):
 
 
 class NotThere(Error, LookupError):
-    """The last answer has no such part."""
+    """The last answer, or the node, has no such part."""
 
 
 KINDS: Dict[int, Type[Error]] = {
@@ -97,6 +97,7 @@ ASKED: Dict[str, str] = {
     "compare_position": "compare_document_position",
     "common_ancestor": "common_ancestor_container",
     "attribute_names": "get_attribute_names",
+    "data_of": "data",
     "set_current": "current_node",
     "release_range": "release",
     "release_static_range": "release",

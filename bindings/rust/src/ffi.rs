@@ -42,7 +42,7 @@ pub(crate) const HP_ATTRIBUTES: u8 = 0;
 pub(crate) const HP_CHARACTER_DATA: u8 = 1;
 pub(crate) const HP_CHILD_LIST: u8 = 2;
 
-/// Bytes that are lent. Before a call it holds a pointer that is not null.
+/// Bytes that are lent.
 #[repr(C)]
 #[allow(non_camel_case_types)]
 pub(crate) struct hp_bytes {
@@ -50,7 +50,7 @@ pub(crate) struct hp_bytes {
     length: usize,
 }
 
-/// UTF-16 units that are lent. Before a call it holds a pointer that is not null.
+/// UTF-16 units that are lent.
 #[repr(C)]
 #[allow(non_camel_case_types)]
 pub(crate) struct hp_text_view {
@@ -263,6 +263,8 @@ extern "C" {
     fn hp_last_child(session: *mut hp_session, node: u32, child: *mut u32) -> u8;
     fn hp_child_at(session: *mut hp_session, node: u32, index: usize, child: *mut u32) -> u8;
     fn hp_children_into(session: *mut hp_session, node: u32, numbers: *mut u32, numbers_capacity: usize, count: *mut usize) -> u8;
+    fn hp_data_of(session: *mut hp_session, node: u32, out: *mut hp_text_view) -> u8;
+    fn hp_attribute_at(session: *mut hp_session, node: u32, index: usize, name: *mut hp_bytes, value: *mut hp_text_view) -> u8;
     fn hp_in_use(session: *mut hp_session, counts: *mut hp_counts) -> u8;
     fn hp_data(session: *mut hp_session, node: u32) -> u8;
     fn hp_set_data(session: *mut hp_session, node: u32, data: *const u16, data_length: usize) -> u8;
@@ -769,6 +771,29 @@ impl Handle {
         // SAFETY: as at the head of the file.
         let status = unsafe { hp_children_into(self.session.get(), node, numbers.as_mut_ptr(), numbers.len(), &mut out) };
         if status == HP_OK { Ok(out) } else { Err(status) }
+    }
+
+    pub(crate) fn data_of(&self, node: u32) -> Result<&[u16], u8> {
+        let mut out = hp_text_view { units: NonNull::dangling().as_ptr(), length: 0 };
+        // SAFETY: as at the head of the file.
+        let status = unsafe { hp_data_of(self.session.get(), node, &mut out) };
+        if status != HP_OK {
+            return Err(status);
+        }
+        // SAFETY: what is lent lies there as long as the handle is borrowed.
+        Ok(unsafe { std::slice::from_raw_parts(out.units, out.length) })
+    }
+
+    pub(crate) fn attribute_at(&self, node: u32, index: usize) -> Result<(&[u8], &[u16]), u8> {
+        let mut name = hp_bytes { bytes: NonNull::dangling().as_ptr(), length: 0 };
+        let mut value = hp_text_view { units: NonNull::dangling().as_ptr(), length: 0 };
+        // SAFETY: as at the head of the file.
+        let status = unsafe { hp_attribute_at(self.session.get(), node, index, &mut name, &mut value) };
+        if status != HP_OK {
+            return Err(status);
+        }
+        // SAFETY: what is lent lies there as long as the handle is borrowed.
+        Ok((unsafe { std::slice::from_raw_parts(name.bytes, name.length) }, unsafe { std::slice::from_raw_parts(value.units, value.length) }))
     }
 
     pub(crate) fn in_use(&self) -> Result<hp_counts, u8> {

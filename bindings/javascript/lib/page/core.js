@@ -12,6 +12,7 @@ export { HTML, small, SVG, XML, XMLNS } from "../names.js";
 export { wanted } from "../libraries.js";
 export { contentsOf, documentOf, nameOf, Node, parentOf, setContents } from "../nodes.js";
 export { htmlCollection, stillNodeList } from "../lists.js";
+export { serializeInner } from "../serializing.js";
 export { addMembers, convertible, converted, known, makeInterface, refuseType } from "../webidl.js";
 export { isNode, keptOf, kindOf, makeThing, numberOf, realmOf, sessionOf, Thing, thingOf, Wrapper } from "../wrappers.js";
 

@@ -16,6 +16,7 @@ import {
   realmOf,
   refuse,
   refuseType,
+  serializeInner,
   sessionOf,
   setContents,
   thingOf,
@@ -74,13 +75,7 @@ const fragmentOf = (context, text) => (isOfHtml(context) ? parseFragment(text, c
 
 const outer = (element) => (isOfHtml(element) ? serialize(element) : serializeXML(element));
 
-/** What is in an element, as HTML: it is written with the element, whose start tag ends with the first `>`, since values have none. */
-function innerOfHTML(element) {
-  const whole = serialize(element);
-  return whole.slice(whole.indexOf(">") + 1, Math.max(0, whole.lastIndexOf("</")));
-}
-
-const inner = (element) => (isOfHtml(element) ? innerOfHTML(element) : [...element.childNodes].map((it) => serializeXML(it)).join(""));
+const inner = (element) => (isOfHtml(element) ? serializeInner(element) : [...element.childNodes].map((it) => serializeXML(it)).join(""));
 
 function setInner(element, text) {
   const inside = insideOf(element);
