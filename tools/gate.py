@@ -1,8 +1,8 @@
 #!/usr/bin/env python3
 """Does the long work of the gate in the best order: every crate and its tests are proved, and the edits that must fail are tried.
 
-A crate is proved as soon as those below it are, with a thread for each processor. Tests and edits fill what the proofs leave free, at a lower priority: as
-many at once as there are processors (RT_JOBS says how many else), one fewer while something is proved. All is kept beside the kit, by the sums of what was
+A crate is proved as soon as those below it are, with a thread for each processor. What nothing waits for, as tests and edits, fills what these proofs leave
+free, at a lower priority: as many at once as there are processors (RT_JOBS says how many else), one fewer while something is proved. All is kept beside the kit, by the sums of what was
 read: `rt ci`, which is the judge, then finds the proofs, and `tools/edits.py` what the edits came to. Nothing is decided here, so the status is 0 also where
 something has no proof.
 """
@@ -74,7 +74,14 @@ class Gate(edits.Edits):
                 tasks[crate.name, TESTS] = ([(it.name, start.PROOF) for it in crate.below()], crate.count(rb"\n"), self.rt.need(crate), call)
         return tasks
 
+    def is_waited_for(self, crate):
+        """Returns whether a crate is what is built, a program or an archive, or another one stands on it."""
+        above = (it for it in self.crates.values() if it.name != crate.name)
+        return crate.is_program or crate.is_static or any(crate.name == below.name for it in above for below in it.below())
+
     def prove(self, crate, given, jobs):
+        if not self.is_waited_for(crate):
+            return self.behind(super().prove, crate, given, jobs)
         with self.turns.proof():
             return super().prove(crate, given, jobs)
 

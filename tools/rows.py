@@ -15,15 +15,21 @@ each of its bytes.
 """
 import argparse
 import os
+import shutil
 import subprocess
+import sys
+import tempfile
 
 import erased
 
 ROOT = os.path.dirname(os.path.dirname(os.path.abspath(__file__)))
 DIALOGUES = os.path.join(ROOT, "dialogues")
-THEOREMS = os.path.join(ROOT, "crates/dom_model/proofs/Dialogues")
-TABLES = os.path.join(ROOT, "crates/dialogues/src")
-TESTS = os.path.join(ROOT, "crates/dialogue_cases/src")
+THEOREMS = "crates/dom_model/proofs/Dialogues"
+TABLES = "crates/dialogues/src"
+TESTS = "crates/dialogue_cases/src"
+# All that is written, and what that is written from beside the dialogues.
+WRITTEN = (THEOREMS, f"{THEOREMS}.antt", erased.THEOREMS, TABLES, TESTS)
+READ = ("crates.txt", erased.COMMANDS, erased.WATCHING)
 
 DEFAULTS = {"numbers": "4294967295", "line": "1048576"}
 
@@ -135,9 +141,9 @@ def erased_in(folder, dialogues):
             yield name, open(path).read().split(), given.decode(), due.decode()
 
 
-def write_theorems(subject, dialogues):
+def write_theorems(root, subject, dialogues):
     """The theorems of one subject's dialogues, and their lines in the file beside their folder."""
-    proofs = os.path.join(THEOREMS, module_of(subject))
+    proofs = os.path.join(root, THEOREMS, module_of(subject))
     library = proofs + ".antt"
     lines = open(library).read().splitlines()
     os.makedirs(proofs, exist_ok=True)
@@ -181,41 +187,77 @@ def row(name, given, wanted, bounds):
 
 
 def cut_test(name):
-    """The test that a dialogue is answered as is due however it comes."""
+    """The test that a dialogue is answered as is due however it comes. (All of a subject in one table cost the prover more steps than it may take.)"""
     return (
         f"\n#[test]\nfn {name}_cut_in_two(rt: HostRuntime) {{\n"
         + f"    is_answered_in_two(&rt, rt.alloc(), &{name.upper()});\n}}\n"
     )
 
 
-def write_tests(subject, dialogues):
+def write_tests(root, subject, dialogues):
     """The table of one subject's dialogues, and their tests."""
     head = f"//! Written by tools/rows.py from dialogues/{subject}.\n\n"
-    with open(os.path.join(TABLES, subject + ".rt"), "w") as out:
+    with open(os.path.join(root, TABLES, subject + ".rt"), "w") as out:
         out.write(head + "use crate::{Bytes, Dialogue};\n")
         for name, parts in dialogues.items():
             out.write(row(name, *parts))
-    with open(os.path.join(TESTS, subject + ".rt"), "w") as out:
+    with open(os.path.join(root, TESTS, subject + ".rt"), "w") as out:
         names = ", ".join(name.upper() for name in dialogues)
         out.write(head + f"use crate::cuts::is_answered_in_two;\nuse dialogues::{subject}::{{{names}}};\n")
         for name in dialogues:
             out.write(cut_test(name))
 
 
-def main():
-    argparse.ArgumentParser(description=__doc__, formatter_class=argparse.RawDescriptionHelpFormatter).parse_args()
+def write(root):
+    """Writes all of it into the crates of a repository."""
     without = []
     for subject in sorted(os.listdir(DIALOGUES)):
         folder = os.path.join(DIALOGUES, subject)
         names = sorted(entry[:-3] for entry in os.listdir(folder) if entry.endswith(".in"))
         dialogues = {name: dialogue(folder, name) for name in names}
-        write_theorems(subject, dialogues)
-        write_tests(subject, dialogues)
+        write_theorems(root, subject, dialogues)
+        write_tests(root, subject, dialogues)
         without += erased_in(folder, dialogues)
-    erased.write(ROOT, without)
+    erased.write(root, without)
     for written in (TABLES, TESTS):
-        subprocess.run(["rt", "fmt"], cwd=os.path.dirname(written), check=True)
+        subprocess.run(["rt", "fmt"], cwd=os.path.join(root, os.path.dirname(written)), check=True, stdout=subprocess.DEVNULL)
+
+
+def copy(path, to):
+    """Copies a file or a folder of the repository into another."""
+    os.makedirs(os.path.dirname(os.path.join(to, path)), exist_ok=True)
+    (shutil.copytree if os.path.isdir(os.path.join(ROOT, path)) else shutil.copyfile)(os.path.join(ROOT, path), os.path.join(to, path))
+
+
+def stale():
+    """Yields the files that are not what the dialogues give now."""
+    with tempfile.TemporaryDirectory(prefix="rows-") as root:
+        os.mkdir(os.path.join(root, ".git"))
+        for path in (*WRITTEN, *READ):
+            copy(path, root)
+        write(root)
+        for path in WRITTEN:
+            top = os.path.join(root, path)
+            files = [os.path.join(at, it) for at, _, found in os.walk(top) for it in found] or [top]
+            for file in sorted(files):
+                inside = os.path.relpath(file, root)
+                with open(file, "rb") as new, open(os.path.join(ROOT, inside), "rb") as old:
+                    if new.read() != old.read():
+                        yield inside
+
+
+def main():
+    words = argparse.ArgumentParser(description=__doc__, formatter_class=argparse.RawDescriptionHelpFormatter)
+    words.add_argument("--check", action="store_true", help="write nothing, and tell which files are not what the dialogues give now")
+    if not words.parse_args().check:
+        write(ROOT)
+        return 0
+    found = [*stale()]
+    for it in found:
+        print(f"{it} is not what the dialogues give: python3 tools/rows.py writes it")
+    print("what is written from the dialogues is as it should be" if not found else f"{len(found)} files are stale")
+    return 1 if found else 0
 
 
 if __name__ == "__main__":
-    main()
+    sys.exit(main())

@@ -1,5 +1,5 @@
 #!/usr/bin/env python3
-"""Tests tools/setup, tools/gathered.py and tools/printed.py where nothing is installed, built or proved: apt is a script that notes how it was called."""
+"""Tests tools/setup, tools/gathered.py, tools/printed.py and tools/rows.py where nothing is installed, built or proved: apt is a script that notes how it was called."""
 import glob
 import importlib.machinery
 import importlib.util
@@ -113,6 +113,12 @@ class Pages(unittest.TestCase):
                 words[it] = len(file.read().split())
         self.assertLessEqual(words["README.md"], 900)
         self.assertLessEqual(sum(words.values()), 40000)
+
+
+class Rows(unittest.TestCase):
+    def test_what_is_written_of_dialogues_is_as_they_give_it(self):
+        ran = subprocess.run([sys.executable, os.path.join(HERE, "rows.py"), "--check"], capture_output=True, text=True, check=False)
+        self.assertEqual((ran.returncode, ran.stdout), (0, "what is written from the dialogues is as it should be\n"))
 
 
 class Printed(unittest.TestCase):
