@@ -10,6 +10,7 @@ import tempfile
 
 from command_cost import empty_line, instructions, takes_words
 from command_scenes import deleted_after_the_first, inserted_beside_an_end, normalized_beside_an_end, normalized_chain, removed_beside_an_end, split_beside_an_end
+from midst_scenes import MIDST_SCENES
 from running import words_of
 
 MOST = 2.3
@@ -70,8 +71,21 @@ def transients_of_as_many_observers(count):
     return making + [["remove", 2], ["appendChild", 1, 2]], [["remove", 2]]
 
 
+def transients_told_at_once(count):
+    """Leaves go below as many observers as then have transient registrations on each of them."""
+    making = [["createElement", 0, "e"]] * 21 + [["appendChild", 1, it] for it in range(2, 22)]
+    making += [line for at in range(count) for line in (["createObserver"], ["observe", at, 1, {"attributes": True, "subtree": True}])]
+    return making + [["remove", it] for it in range(2, 22)], [["notify"]]
+
+
 def observers_of_a_node(count):
     return [["createElement", 0, "e"]] + [["createObserver"]] * count, [["observe", at, 1, SUBTREE] for at in range(count)]
+
+
+def observers_that_let_go(count):
+    """As many observers of one node are disconnected, each in its turn."""
+    making, lines = observers_of_a_node(count)
+    return making + lines, [["disconnect", at] for at in range(count)]
 
 
 def rules_of_a_filter(count):
@@ -85,6 +99,30 @@ def removals_under_a_long_filter(count):
     leaves = [["createElement", 0, "e"]] * 101 + [["appendChild", 1, it] for it in range(2, 102)]
     options = {"attributeFilter": [f"a{at}" for at in range(count)], "subtree": True}
     return leaves + [["createObserver"], ["observe", 0, 1, options]], [["remove", it] for it in range(2, 102)]
+
+
+def attributes_under_a_long_filter(count):
+    """The attributes of a filter are set, the last of them first."""
+    making = [["createElement", 0, "e"], ["createObserver"], ["observe", 0, 1, {"attributeFilter": [f"a{at}" for at in range(count)]}]]
+    return making, [["setAttribute", 1, f"a{at}", ""] for at in reversed(range(count))]
+
+
+def attributes_that_a_filter_lacks(count):
+    making = [["createElement", 0, "e"], ["createObserver"], ["observe", 0, 1, {"attributeFilter": [f"a{at}" for at in range(count)]}]]
+    return making, [["setAttribute", 1, f"b{at % 8}", str(at)] for at in range(count)]
+
+
+def name_given_many_times(count):
+    """One name stands as many times in a filter, and the attribute is set as many times."""
+    making = [["createElement", 0, "e"], ["createObserver"]]
+    return making, [["observe", 0, 1, {"attributeFilter": ["a"] * count}]] + [["setAttribute", 1, "a", str(at)] for at in range(count)]
+
+
+def observed_anew_between_removals(count):
+    """Leaves of an observed element go, and each time its observer comes to observe another node anew."""
+    leaves = range(3, count + 3)
+    making = [["createElement", 0, "e"]] * (count + 2) + [["appendChild", 1, it] for it in leaves] + [["createObserver"], ["observe", 0, 1, SUBTREE], ["observe", 0, 2, SUBTREE]]
+    return making, [line for it in leaves for line in (["remove", it], ["observe", 0, 2, SUBTREE])]
 
 
 def contents_of_an_observed_chain(count):
@@ -148,9 +186,15 @@ SCENES = (
     ("removals of leaves that share the place of iterators at depth", leaves_of_one_place, 300),
     ("notify with transient registrations of one observer on one node", transients_of_one_observer, 500),
     ("removal of a node that has transient registrations of as many observers as are above", transients_of_as_many_observers, 300),
+    ("transients of many observers told at once", transients_told_at_once, 100),
     ("observers that come to observe one node", observers_of_a_node, 500),
+    ("observers of one node that are disconnected", observers_that_let_go, 250),
     ("one step of a walker with as many rules as nodes", rules_of_a_filter, 300),
     ("removals under an observer of many attributes", removals_under_a_long_filter, 200),
+    ("setAttribute of each attribute that an observer asks for", attributes_under_a_long_filter, 500),
+    ("setAttribute of attributes that a long filter lacks", attributes_that_a_filter_lacks, 500),
+    ("setAttribute of a name that a filter has many times", name_given_many_times, 500),
+    ("removals, and the observer observes another node anew", observed_anew_between_removals, 250),
     ("deleteContents of half of an observed chain", contents_of_an_observed_chain, 300),
     ("steps of as many iterators, and as many discards", discards_behind_steps(["createIterator", 1, 1, []], ["nextNode"]), 300),
     ("steps of as many walkers, and as many discards", discards_behind_steps(["createWalker", 1, 1, []], ["walk", "nextNode"]), 300),
@@ -158,6 +202,7 @@ SCENES = (
     ("deleteData of all but one unit of each of some Texts", texts_cut_to_a_unit, 250),
     ("deleteData of the last unit of a Text, and appendData", last_unit_goes, 1000),
     ("removeAttribute of the last attribute, and setAttribute", last_attribute_goes, 500),
+    *MIDST_SCENES,
 )
 
 

@@ -25,7 +25,9 @@ sys.path[:0] = [HERE, os.path.join(HERE, "tests")]
 
 from judging import cli, pages, players
 from judging.causes import CAUSES
+from judging.commands import ASKS, COMMANDS, FORMS_IN, MAKES, TABLE, kind_of
 from judging.core import Cores, Turn
+from judging.drawing import Scene
 from judging.found import cases_of
 from judging.judge import Judge
 from judging.known import KNOWN, entry_of_case, read_known
@@ -96,6 +98,19 @@ class Words(unittest.TestCase):
     def test_not_there(self):
         self.assertEqual(said("play", "--player", "nobody", "--program", GIVEN.program)[0], 3)
         self.assertEqual(said("play", "--player", "program", "--program", "/nothing")[0], 3)
+
+
+class Table(unittest.TestCase):
+    """What stands here of the commands of docs/commands.json."""
+
+    def test_names(self):
+        arguments = {(of, argument["name"]) for it in TABLE["commands"] for of in (it["group"], it["name"]) for argument in it["arguments"]}
+        self.assertLessEqual(set(FORMS_IN), arguments)
+        self.assertLessEqual({*ASKS, *" ".join(MAKES.values()).split()}, set(COMMANDS))
+
+    def test_each_form_is_drawn(self):
+        forms = {form.rstrip("?") for it in COMMANDS.values() for form in it.arguments}
+        self.assertEqual({it for it in forms if not kind_of(it) and not hasattr(Scene, it)}, set())
 
 
 class Run(unittest.TestCase):
@@ -436,7 +451,7 @@ def main():
     if not os.access(GIVEN.program, os.X_OK):
         print(f"left out: the referee, since {given.program} is not built\n0 passed, 0 failed")
         return 0
-    names = given.only or [it.__name__ for it in (Words, Lines, Itself, Kept, Bodies, Players, Reports)]
+    names = given.only or [it.__name__ for it in (Words, Table, Lines, Itself, Kept, Bodies, Players, Reports)]
     found = unittest.defaultTestLoader.loadTestsFromNames(names, sys.modules[__name__])
     ran = unittest.TextTestRunner(verbosity=1).run(found)
     wrong_ones = len({getattr(test, "test_case", test).id() for test, _ in [*ran.failures, *ran.errors]})

@@ -7,19 +7,10 @@ import json
 import os
 import re
 
-COMMANDS = "crates/dom_model/specs/Commands/Table.antt"
+COMMANDS = "docs/commands.json"
 WATCHING = "crates/dom_model/specs/Erasure/Erasing.antt"
 THEOREMS = "crates/dom_model/proofs/Erasure/ErasedDialogues.antt"
 BY_OBSERVER = ("observe", "disconnect", "takeRecords")
-MEMBERS = {
-    "childList": "child_list",
-    "attributes": "attributes",
-    "characterData": "character_data",
-    "subtree": "subtree",
-    "attributeOldValue": "attribute_old_value",
-    "characterDataOldValue": "character_data_old_value",
-    "attributeFilter": "attribute_filter",
-}
 
 HEADER = """\
 -- Dialogues with an observer erased, or with all watchers erased: the replies that are left are the same, and they are those that stand here.
@@ -71,23 +62,23 @@ def option(value):
     return f"(Some {str(value).lower()})"
 
 
-def options(given):
-    """The options of an observer, in the order of the record."""
-    told = []
-    for name in sorted(given, key=list(MEMBERS).index):
-        value = given[name]
-        names = isinstance(value, list) and " ∷ ".join([quoted(it) for it in value] + ["[]"])
-        told.append(f"{MEMBERS[name]} = Some {f'({names})' if names else str(value).lower()}")
-    return f"(record no_options {{ {'; '.join(told)} }})"
-
-
 class Table:
     """The table of commands, as the definitions have it."""
 
     def __init__(self, root):
-        rows = re.findall(r'row \(codes "(\w+)"\) (\[\]|\(.*?\[\]\))\s+\(λ \(a : Arguments\)\.\s+(.*)\)$', read(root, COMMANDS), re.M)
-        self.rows = {name: (re.findall(r"(?:a|the)_\w+", shapes), term) for name, shapes, term in rows}
+        table = json.loads(read(root, COMMANDS))
+        self.rows = {it["name"]: ([argument["shape"] for argument in it["arguments"]], it["command"]) for it in table["commands"]}
+        self.members = [*table["flags"], *table["lists"]]
         self.watching = set(re.findall(r"^only_watches \((\w+).*\) = true$", read(root, WATCHING), re.M))
+
+    def options(self, given):
+        """The options of an observer, in the order of the record."""
+        told = []
+        for name in sorted(given, key=self.members.index):
+            value, field = given[name], re.sub(r"[A-Z]", lambda found: f"_{found[0].lower()}", name)
+            names = isinstance(value, list) and " ∷ ".join([quoted(it) for it in value] + ["[]"])
+            told.append(f"{field} = Some {f'({names})' if names else str(value).lower()}")
+        return f"(record no_options {{ {'; '.join(told)} }})"
 
     def constructor(self, line):
         return self.rows[line[0]][1].split()[0]
@@ -103,7 +94,7 @@ class Table:
             "a_flag": ("a.flag", lambda flag: str(flag).lower()),
             "a_flag_or_null": ("a.flag_or_null", option),
             "a_filter": ("a.rules", lambda rules: {0: "[]"}[len(rules)]),
-            "the_options": ("a.options", options),
+            "the_options": ("a.options", self.options),
         }
         for place, (shape, value) in enumerate(zip(shapes, given)):
             if shape == "a_number":

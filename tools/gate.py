@@ -79,6 +79,9 @@ class Gate(edits.Edits):
         above = (it for it in self.crates.values() if it.name != crate.name)
         return crate.is_program or crate.is_static or any(crate.name == below.name for it in above for below in it.below())
 
+    def is_ready(self, crate):
+        return self.is_waited_for(crate) and super().is_ready(crate)
+
     def prove(self, crate, given, jobs):
         if not self.is_waited_for(crate):
             return self.behind(super().prove, crate, given, jobs)

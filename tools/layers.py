@@ -49,7 +49,7 @@ SAYS = {
     "tree_cases": "tests of trees, points, walks",
     "store_cases": "tests of texts, slots, pages, names",
     "tree_steps": "nodes made and put, for tests",
-    "growth_marks": "marks of what takes no memory",
+    "growth_marks": "rows of tests, played",
     "uses": "callers, one module for each crate",
     MODEL: "the definitions that the others speak of, and their laws",
 }

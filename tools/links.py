@@ -4,8 +4,8 @@
 Tested are: each link to a file of the repository, and its anchor among that file's headings; each file or folder named in backticks, by its
 path from the top, from the page, or by its last parts, with or without its ending (capitals as NAME and `*` stand for any word; what lies in a folder
 `out` or `build` is made by runs, and so passed over); each name in backticks, which stands in some file beside the documents (a plain word in small
-letters may be another program's, and is tested only on the pages that tell of definitions, clauses and commands); that docs/definitions.md names
-each file of definitions and of laws of dom_model; and that docs/commands.md has a row for each command of the table, with as many arguments.
+letters may be another program's, and is tested only on the pages that tell of definitions, clauses and commands); and that docs/definitions.md names
+each file of definitions and of laws of dom_model. (tools/commands.py tests the rows of docs/commands.md.)
 """
 
 import argparse
@@ -16,14 +16,12 @@ import sys
 
 ROOT = os.path.dirname(os.path.dirname(os.path.realpath(__file__)))
 INDEX = "docs/definitions.md"
-COMMANDS = "docs/commands.md"
 MODEL = "crates/dom_model"
-TABLE = f"{MODEL}/specs/Commands/Table.antt"
 # The theorems of the dialogues, which tools/rows.py writes; the index names them by their folder.
 WRITTEN = f"{MODEL}/proofs/Dialogues/"
 PAGES = ("*.md", "docs/*.md", "crates/*/*.md")
 # The pages on which plain words are names too.
-PAGES_OF_NAMES = (COMMANDS, INDEX, "docs/proved.md", "docs/rules.md")
+PAGES_OF_NAMES = ("docs/commands.md", INDEX, "docs/proved.md", "docs/rules.md")
 SOURCES = (".rt", ".antt", ".py", ".sh", ".edit", ".c", ".h", ".rs", ".toml", ".js", ".ts", ".json")
 ENDINGS = r"\.(?:rt|antt|py|sh|md|svg|txt|edit|c|h|rs|toml|in|out|opts|js|ts|json)"
 MADE = re.compile(r"(\A|/)(out|build)(/|\Z)")
@@ -131,13 +129,6 @@ def unnamed(paths):
     return [it for it in theirs if os.path.splitext(os.path.basename(it))[0] not in {*named, "Lib"}]
 
 
-def untold():
-    """Returns the commands of the table of which the page has no row with as many arguments."""
-    shown = {(name, len(words.split())) for name, words in re.findall(r"(?m)^\| `(\w+)`([\w? ]*)\|", text_of(COMMANDS))}
-    table = re.findall(r'row \(codes "(\w+)"\) (.*?) \(λ', text_of(TABLE))
-    return [name for name, shapes in table if (name, shapes.count("∷")) not in shown]
-
-
 def not_found(names, paths):
     """Returns those of the names that are no word of the sources, which are read until each is found, and the laws last."""
     lacking = set(names)
@@ -163,7 +154,6 @@ def main():
     lacking = not_found(names - known, paths)
     found = [it for page in pages() for it in wrongs(page, known, lacking)]
     found += [f"{INDEX}: it does not name {it}" for it in unnamed(paths)]
-    found += [f"{COMMANDS}: it has no row for {it} with as many arguments as the table" for it in untold()]
     for it in found:
         print(it)
     print(f"{len(pages())} pages: {len(found)} wrong" if found else f"{len(pages())} pages: all that they point at is there")

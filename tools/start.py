@@ -202,7 +202,7 @@ class Start:
         rt.Crate.allowed = rt.handles_of(top)
         self.crates = {it.name: it for it in rt.rtlib.crates_below(top) if it.name in names}
         self.kept = store(rt, [*self.crates.values()])
-        self.running, self.done = set(), 0
+        self.running, self.proved, self.done = set(), set(), 0
         self.began, self.saying = time.monotonic(), threading.Lock()
 
     def say(self, text):
@@ -252,11 +252,17 @@ class Start:
                 self.kept.keep(crate, False, key)
         return is_proved, was_kept
 
+    def is_ready(self, crate):
+        """Returns whether a crate may be proved now, or is being proved, and others wait for it."""
+        return crate.name not in self.proved and all(it.name in self.proved for it in crate.below())
+
     def threads(self, crate, jobs):
-        """Returns how many threads a proof gets: as many as the kit reckons, or one for each processor where memory holds that. Others wait for each crate."""
+        """Returns how many threads a proof gets: as many as the kit reckons, or its share of the processors where memory holds that."""
+        # (each thread is a copy that reads anew what the others have read: four take up to two thirds more processor time than one)
+        share = -(-self.rt.processors() // max(1, sum(self.is_ready(it) for it in self.crates.values())))
         # (the kit reckons at least twice what a check was seen to take, and six tenths of that for each further thread)
         most = int(1 + (2 * self.rt.free() / self.rt.need(crate) - 1) / 0.6)
-        return max(jobs, min(self.rt.processors(), most))
+        return max(jobs, min(share, most))
 
     def prove(self, crate, given, jobs):
         """Proves and builds one crate where all below it are, and returns whether it is."""
@@ -271,6 +277,7 @@ class Start:
             if not is_proved:
                 self.tell_why(crate)
                 return False
+        self.proved.add(crate.name)
         self.done += 1
         self.say(f"{self.done} of {len(self.names)} {'kept' if was_kept else 'proved'}: {crate.name}")
         return True

@@ -1,5 +1,6 @@
 #!/usr/bin/env python3
-"""Tests tools/setup, tools/gathered.py, tools/printed.py and tools/rows.py where nothing is installed, built or proved: apt is a script that notes how it was called."""
+"""Tests tools/setup, tools/gathered.py, tools/printed.py, tools/rows.py, tools/commands.py and tools/quoted.py where nothing is installed, built or proved:
+apt is a script that notes how it was called."""
 import glob
 import importlib.machinery
 import importlib.util
@@ -12,8 +13,11 @@ import unittest
 sys.dont_write_bytecode = True
 HERE = os.path.dirname(os.path.realpath(__file__))
 sys.path.insert(0, HERE)
+import commands
+import contracts
 import gathered
 import printed
+import quoted
 
 APT = '#!/bin/sh\necho "$0 $@" >>{log}\nexit {status}\n'
 
@@ -119,6 +123,53 @@ class Rows(unittest.TestCase):
     def test_what_is_written_of_dialogues_is_as_they_give_it(self):
         ran = subprocess.run([sys.executable, os.path.join(HERE, "rows.py"), "--check"], capture_output=True, text=True, check=False)
         self.assertEqual((ran.returncode, ran.stdout), (0, "what is written from the dialogues is as it should be\n"))
+
+
+class Commands(unittest.TestCase):
+    """The table of the commands, as the definitions and the page have it."""
+
+    # What is changed in which file, and what is told then.
+    CHANGED = (
+        (commands.TABLE, 'codes "remove")', 'codes "takeOut")', "the definitions have no remove"),
+        (commands.TABLE, '"cloneNode") (a_number ∷ a_flag ∷ [])', '"cloneNode") (a_number ∷ [])', "cloneNode has 2 arguments, and 1 in the definitions"),
+        (commands.TABLE, '"setData") (a_number ∷ a_text', '"setData") (a_number ∷ a_string', "setData has text, of which the page does not say what a_string is"),
+        (commands.PAGE, "| `insertBefore` parent node child? |", "| `insertBefore` parent node child |", "insertBefore has child, which is a_number_or_null"),
+        (commands.PAGE, "| `remove` node | null |\n", "", "it has no row for remove, which the definitions have"),
+        (commands.PAGE, "`remove`, `replaceChildren`", "`replaceChildren`, `remove`", "not those of its parts"),
+        (commands.PAGE, "serves 83 commands", "serves 84 commands", "it says 84 commands"),
+        (commands.PAGE, "Six more commands", "Five more commands", "it does not say: Six more commands"),
+        (commands.LINE, 'codes "lastChild"', 'codes "finalChild"', "move has other names"),
+    )
+
+    def test_a_changed_row_is_told(self):
+        given = commands.texts()
+        self.assertEqual([*commands.wrongs(given)], [])
+        for path, old, new, told in self.CHANGED:
+            with self.subTest(new):
+                self.assertEqual(given[path].count(old), 1)
+                self.assertIn(told, "\n".join(commands.wrongs({**given, path: given[path].replace(old, new)})))
+
+    def test_the_file_is_made_of_both(self):
+        given = commands.texts()
+        with open(os.path.join(commands.ROOT, commands.MADE), encoding="utf-8") as file:
+            there = file.read()
+        self.assertEqual(commands.made(given), there)
+        for path, old, new in ((commands.PAGE, "| `length` node | number |", "| `length` node | count |"), (commands.TABLE, "λ (a : Arguments). Length", "λ (a : Arguments). Root")):
+            with self.subTest(new):
+                self.assertNotEqual(commands.made({**given, path: given[path].replace(old, new)}), there)
+
+
+class Quoted(unittest.TestCase):
+    def test_a_changed_clause_is_told_and_written(self):
+        page = "crates/dom_units/CALLING.md"
+        text, known = quoted.texts(page)[page], contracts.contracts_of(os.path.join(quoted.ROOT, os.path.dirname(page)))
+        self.assertEqual(quoted.wrong_contracts(page, text, known), [])
+        clause = "  requires enough: count ≤ length S - at\n"
+        for new in ("", clause + clause, clause.replace("≤", "<")):
+            changed = text.replace(clause, new, 1)
+            self.assertIn("fn Units::slice has other clauses", "\n".join(quoted.wrong_contracts(page, changed, known)))
+            self.assertEqual(quoted.with_contracts(changed, known), text)
+        self.assertIn("the crate has no fn Units::cut", "\n".join(quoted.wrong_contracts(page, text.replace("fn Units::slice(", "fn Units::cut("), known)))
 
 
 class Printed(unittest.TestCase):

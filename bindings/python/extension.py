@@ -291,7 +291,7 @@ def build(given):
     missing = what_is_missing(given)
     if missing:
         sys.exit(f"the extension module can't be built: {missing}")
-    words = [given.compiler, "-std=c99", "-O2", "-fPIC", "-shared", "-Wall", "-Wextra", "-Wno-missing-field-initializers", "-fvisibility=hidden"]
+    words = [given.compiler, "-std=c99", "-O3", "-fPIC", "-shared", "-Wall", "-Wextra", "-Wno-missing-field-initializers", "-fvisibility=hidden"]
     words += [f"-I{sysconfig.get_path('include')}", f"-I{given.library}", f"-I{CORE}", os.path.join(CORE, "core.c")]
     words += [os.path.join(given.library, "libhuckleport.a"), "-Wl,--exclude-libs,ALL", "-Wl,-z,noexecstack", *WRAPS]
     if subprocess.run([*words, "-o", given.to + ".new"]).returncode:

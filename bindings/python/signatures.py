@@ -1,13 +1,13 @@
 #!/usr/bin/env python3
 """Writes the modules of huckleport that say what the library has: _signatures.py (constants, and the names of what calls are handed) and
 _core.pyi (the types of the extension module), both from the exports of crates/dom_c, and _commands.py (names and arguments) from
-docs/commands.md.
+docs/commands.json.
 
 With --check nothing is written, and it fails where a module is not what the sources give.
 """
 import argparse
+import json
 import os
-import re
 import sys
 
 HERE = os.path.dirname(os.path.abspath(__file__))
@@ -204,17 +204,14 @@ def core(found):
 
 
 def commands():
-    """The table of the commands as docs/commands.md has it."""
-    with open(os.path.join(ROOT, "docs/commands.md"), encoding="utf-8") as file:
-        parts = re.split(r"^## (.*)$", file.read(), flags=re.M)
+    """The table of the commands as docs/commands.json has it."""
+    with open(os.path.join(ROOT, "docs/commands.json"), encoding="utf-8") as file:
+        found = json.load(file)["commands"]
     text = f'"""The commands of lines: their groups, names, arguments and answers. {MADE}"""\n\nfrom typing import NamedTuple, Tuple\n\n\n'
     text += 'class Command(NamedTuple):\n    group: str\n    name: str\n    arguments: Tuple[str, ...]\n    answer: str\n\n\nCOMMANDS = (\n'
-    for group, body in zip(parts[1::2], parts[2::2]):
-        if "| command | answer |" not in body:
-            continue
-        for name, arguments, answer in re.findall(r"^\| `(\w+)`([^|]*) \| ([^|]*) \|$", body, re.M):
-            words = "".join(f'"{it}", ' for it in arguments.split())
-            text += f'    Command("{group}", "{name}", ({words.rstrip()}), "{answer}"),\n'
+    for it in found:
+        words = "".join(f'"{argument["name"]}{"?" if argument["nullable"] else ""}", ' for argument in it["arguments"])
+        text += f'    Command("{it["group"].capitalize()}", "{it["name"]}", ({words.rstrip()}), "{it["answer"]}"),\n'
     return text + ")\n"
 
 

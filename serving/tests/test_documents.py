@@ -256,8 +256,10 @@ class Workers(Served):
                 it.post(MADE)
         for it in documents:
             self.assertEqual([it.reply(request) for request in range(1, 7)], replies_of(MADE * 2))
-        (held,) = self.row("select count(*) from huckleport.documents where owner is not null")
-        self.assertLessEqual(held, 3)
+        # (a worker that lost its lease begins anew under another id, and what it had waits for that lease's end)
+        named = "select count(*) as each from huckleport.documents where name like 'one of many %%' and owner is not null group by owner"
+        (held,) = self.row(f"select max(each) from ({named}) as owners")
+        self.assertLessEqual(held or 0, 3)
 
     def test_what_it_has_no_memory_for_is_another_ones(self) -> None:
         """A line that wants more than one worker may take is not acknowledged there; who may take more answers it."""

@@ -5,7 +5,7 @@
 
 #include "core.h"
 
-enum { PAGE_BITS = 10, PAGE = 1 << PAGE_BITS, LABEL_ROOM = 45, MOST_LABELS = 4096 };
+enum { PAGE_BITS = 10, PAGE = 1 << PAGE_BITS, LABEL_ROOM = 45, MOST_LABELS = 4096, MET = 64 };
 
 /* A kind, and a name where it is known. */
 typedef struct {
@@ -27,12 +27,21 @@ typedef struct {
     uint16_t label, shape;
 } Known;
 
-/* The labels, with an index by what they say; the shapes, with an index; and what is known of each number. Numbers lie in pages. */
+/* The label that was found for a name, and where that name lay: a parser has each name of a document in one place. */
+typedef struct {
+    const void *name;
+    unsigned label;
+} Met;
+
+/* The labels, with an index by what they say, and some by where a name lay; the shapes, with an index; and what is known of each number. Numbers lie
+ * in pages. */
 typedef struct {
     Label *at;
     size_t length, room;
     uint16_t *index;
     size_t index_room;
+    Met met[MET];
+    uint16_t of_kind[KINDS];
     Shape *shapes;
     uint16_t *shapes_index;
     size_t shapes_length;
@@ -130,18 +139,34 @@ static unsigned label_put(Labels *it, const Label *label)
 /* The label of a kind whose name is not known, or that has none. */
 static unsigned label_of_kind(Labels *it, uint8_t kind)
 {
+    uint16_t *known = &it->of_kind[kind];
+    if (*known && it->at[*known].kind == kind)
+        return *known;
     Label label = { kind, 0, false, "" };
-    return label_put(it, &label);
+    unsigned found = label_put(it, &label);
+    *known = (uint16_t)found;
+    return found;
+}
+
+/* Whether a label is of a kind with a name. What lies where the name lay may be another by now. */
+static bool is_label(const Label *it, uint8_t kind, const void *name, size_t length)
+{
+    return it->is_named && it->kind == kind && it->length == length && memcmp(it->name, name, length) == 0;
 }
 
 /* The label of a kind with a name; a long one is left out. */
 static unsigned label_of_name(Labels *it, uint8_t kind, const void *name, size_t length)
 {
+    Met *met = &it->met[((uintptr_t)name >> 3 ^ (uintptr_t)name >> 9) & (MET - 1)];
+    if (met->name == name && is_label(&it->at[met->label], kind, name, length))
+        return met->label;
     Label label = { kind, (uint8_t)length, true, "" };
     if (length > LABEL_ROOM)
         return label_of_kind(it, kind);
     memcpy(label.name, name, length);
     unsigned found = label_put(it, &label);
+    if (found)
+        *met = (Met){ name, found };
     return found ? found : label_of_kind(it, kind);
 }
 

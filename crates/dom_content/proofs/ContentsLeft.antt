@@ -1,5 +1,5 @@
 -- What is left of the token text once contents are deleted or extracted, and what the fragment holds of what lay between the markers.
-use Rattle.std.proofs.Common.{◌≡◌, ◌≤◌, ℕ, List, true, false, Option, None, Some, Result, Ok, Err, IfOk, OnOk, ap, sym, ◌∙◌, subst}
+use Rattle.std.proofs.Common.{◌≡◌, ◌≤◌, ℕ, List, true, false, Option, None, Some, ap, sym, ◌∙◌, subst}
 use Rattle.dom_model.specs.Forests.Forest.{Forest, entry_in}
 use Rattle.dom_model.specs.Worlds.World.{Content, Point, Range}
 use Rattle.dom_model.specs.Worlds.World as model
@@ -22,11 +22,6 @@ use Rattle.dom_edit.specs.declared.world.World.{World}
 use Rattle.dom_edit.specs.Whole.{IsWhole, Keeps, Follows, unwatched}
 use Rattle.dom_edit.proofs.Following.{keeps-unwatched, sound-unwatched}
 use Rattle.dom_content.specs.Left.{IsLeftOf, HoldsBetween, MovesBetween, CopiesBetween}
-
--- what holds of the number that a result has holds of the result
-pub told-number : {E : Type 0} (r : Result ℕ E) (n : ℕ) (P : ℕ → Type 0) → IfOk r (λ id. id ≡ n) → OnOk r (P n) → IfOk r P
-told-number (Ok id) n P e h = subst P (sym e) h
-told-number (Err x) n P e h = tt
 
 -- the token texts of a world of the code are those of each world that it keeps
 texts-kept : (v : World) (w : model.World) → Keeps v w → texts_of (unwatched v) ≡ texts_of w

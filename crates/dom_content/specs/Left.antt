@@ -1,16 +1,19 @@
--- What is left of the token text once the contents of a live range are gone, and what the fragment of them holds. Ours; the steps are those of
--- DOM Standard, "Interface Range".
+-- What is left of the token text once the contents of a live range are gone, what the fragment of them holds, and all that extracting comes to.
+-- Ours; the steps are those of DOM Standard, "Interface Range".
 use Rattle.std.specs.Prelude.{◌≡◌, ◌≤◌, ℕ, true, false, List, [], Some}
 use Rattle.dom_model.specs.Forests.Forest.{root_of}
 use Rattle.dom_model.specs.Worlds.World.{Point, Range}
 use Rattle.dom_model.specs.DataAndCopies.Data.{attributes_of}
+use Rattle.dom_model.specs.RangesAndContents.Contents.{extract}
 use Rattle.dom_model.specs.TokenText.Tokens.{Token, unmarked, texts_of, gap_among}
 use Rattle.dom_model.specs.TokenText.Gaps.{text_among, root_text}
 use Rattle.dom_model.specs.TokenText.Between.{before_mark, after_mark, between, left_before, left_after, same_shape, fragment_shape}
+use Rattle.dom_model.specs.TokenText.Edits.{extract_edits}
 use Rattle.dom_model.specs.TokenText.Originals.{label_of, opened_inside, lies_in, originals, InStep}
 use Rattle.dom_ranges.specs.Tables.{range_in}
 use Rattle.dom_edit.specs.declared.world.World.{World}
-use Rattle.dom_edit.specs.Whole.{unwatched}
+use Rattle.dom_edit.specs.Whole.{Follows, unwatched}
+use Rattle.dom_edit.specs.Markers.{StandByEdits}
 
 -- of each root in whose tree a live range begins
 abbrev pub OfRoot : World → ℕ → (ℕ → Type 0) → Type 0
@@ -52,3 +55,18 @@ pub record MovesBetween (old new : World) (r fragment : ℕ) : Type 0 where
 -- Of the nodes in the fragment of cloned contents each is new.
 pub record CopiesBetween (old new : World) (r fragment : ℕ) : Type 0 where
   pub fresh : OfRoot old r (λ root. AreOriginals old new r fragment root (λ n m. old.tree.made ≤ m))
+
+-- What extracting the contents of a live range into a fragment comes to.
+pub record Extracted (old new : World) (r fragment : ℕ) : Type 0 where
+  -- the fragment has the next number
+  pub number : fragment ≡ old.tree.made
+  -- the new world is what the definition makes of the old one
+  pub extracted : Follows old new (extract r)
+  -- all markers stand where the definition's edits of the token text leave them
+  pub markers : StandByEdits old new (extract_edits r)
+  -- the text of the range's root keeps what stood outside the range's markers
+  pub left : IsLeftOf old new r
+  -- the fragment holds what stood between them
+  pub held : HoldsBetween old new r fragment
+  -- in it each node that lay wholly between them is itself, and each other is new
+  pub moved : MovesBetween old new r fragment

@@ -12,13 +12,13 @@ ghost use Rattle.dom_model.specs.RangesAndContents.Ranges.{is_collapsed};
 ghost use Rattle.dom_model.specs.RangesAndContents.Contents.{units_into, contents_drawn, check_draw, check_extract, extracted, extract, clone_contents};
 ghost use Rattle.dom_ranges.specs.Tables.{range_in};
 ghost use Rattle.dom_edit.specs.Inserting.{AreThere};
-ghost use Rattle.dom_model.specs.TokenText.Edits.{extract_edits, clone_contents_edits};
+ghost use Rattle.dom_model.specs.TokenText.Edits.{clone_contents_edits};
 ghost use Rattle.dom_edit.specs.Whole.{IsWhole, Follows, unwatched};
 ghost use Rattle.dom_edit.specs.Keeping.{KeepsLabels};
 ghost use Rattle.dom_edit.specs.Leaving.{LeavesAll, LeavesOlder};
 ghost use Rattle.dom_edit.specs.Markers.{StandByEdits};
 ghost use Rattle.dom_edit.specs.Refusals.{IsRefused};
-ghost use Rattle.dom_content.specs.Left.{IsLeftOf, HoldsBetween, MovesBetween, CopiesBetween};
+ghost use Rattle.dom_content.specs.Left.{HoldsBetween, CopiesBetween, Extracted};
 ghost use Rattle.dom_content.specs.Paths.{HasRoom, Stays};
 ghost use Rattle.dom_content.specs.Coming.{MayDraw, IsPathTo};
 ghost use Rattle.dom_model.specs.DataAndCopies.Data.{data_of};
@@ -221,13 +221,8 @@ pub fn extract(world: &mut World, alloc: Global, range: RangeId) -> Result<NodeI
     requires whole { IsWhole world.old }
     requires held { IsSome (range_in world.old.ranges range) }
     requires room { check_extract range (unwatched world.old) ≡ None → (extract range (unwatched world.old)).made ≤ 4294967295 }
-    ensures number { IfOk result (λ id. id ≡ world.old.tree.made) }
+    ensures extracted { IfOk result (Extracted world.old world.new range) }
     ensures allowed { OnOk result (check_extract range (unwatched world.old) ≡ None) }
-    ensures extracted { OnOk result (Follows world.old world.new (extract range)) }
-    ensures markers { OnOk result (StandByEdits world.old world.new (extract_edits range)) }
-    ensures left { OnOk result (IsLeftOf world.old world.new range) }
-    ensures held { IfOk result (λ id. HoldsBetween world.old world.new range id) }
-    ensures moved { IfOk result (λ id. MovesBetween world.old world.new range id) }
     ensures refused { IfErr result (λ e. IsRefused e (check_extract range (unwatched world.old)) world.old world.new) }
     ensures kept { KeepsLabels world.old world.new }
     ensures whole { IsWhole world.new }
@@ -248,12 +243,7 @@ pub fn extract_checked(
     requires held { IsSome (range_in world.old.ranges range) }
     requires allowed { check_extract range (unwatched world.old) ≡ None }
     requires room { (extract range (unwatched world.old)).made ≤ 4294967295 }
-    ensures number { IfOk result (λ id. id ≡ world.old.tree.made) }
-    ensures extracted { OnOk result (Follows world.old world.new (extract range)) }
-    ensures markers { OnOk result (StandByEdits world.old world.new (extract_edits range)) }
-    ensures left { OnOk result (IsLeftOf world.old world.new range) }
-    ensures held { IfOk result (λ id. HoldsBetween world.old world.new range id) }
-    ensures moved { IfOk result (λ id. MovesBetween world.old world.new range id) }
+    ensures extracted { IfOk result (Extracted world.old world.new range) }
     ensures kept { KeepsLabels world.old world.new }
     ensures whole { IsWhole world.new }
 {

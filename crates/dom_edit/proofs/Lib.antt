@@ -3,6 +3,7 @@ pub mod AmongChildren
 pub mod Placing
 pub mod Following
 pub mod Covering
+pub mod CountedPlaces
 pub mod Queuing
 pub mod Leaving
 pub mod PlacedRoots

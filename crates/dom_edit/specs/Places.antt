@@ -1,10 +1,10 @@
 -- Where a node is to come in, and what a Document then refuses. DOM Standard, "Mutation algorithms".
-use Rattle.std.specs.Prelude.{◌≡◌, ℕ, Bool, true, false, List, [], ◌∷◌, ◌++◌, Option, Some, None}
+use Rattle.std.specs.Prelude.{◌≡◌, ℕ, ◌+◌, Bool, true, false, List, [], ◌∷◌, ◌++◌, Option, Some, None}
 use Rattle.std.specs.Option.{ForSome}
 use Rattle.dom_model.specs.declared.Kind.{Kind}
 use Rattle.dom_model.specs.PlainLists.Lists.{hits, from_first, up_to, past}
 use Rattle.dom_model.specs.Forests.Forest.{Forest, parent_of, children_of}
-use Rattle.dom_model.specs.MutationAlgorithms.Checks.{has_kind, common_conditions, kind_refuses, document_refuses, document_refuses_instead}
+use Rattle.dom_model.specs.MutationAlgorithms.Checks.{has_kind, count_kind, common_conditions, kind_refuses, document_refuses, document_refuses_instead}
 use Rattle.dom_model.specs.declared.DomError.{DomError}
 use Rattle.dom_model.specs.declared.DomError.TheVariants.{HierarchyRequestError}
 use Rattle.dom_model.specs.declared.Kind.TheVariants.{Element, DocumentType}
@@ -65,6 +65,12 @@ staying (Instead c) = []
 abbrev pub past_of : Option ℕ → List ℕ → List ℕ
 past_of None xs = []
 past_of (Some n) xs = past n xs
+
+-- how many nodes of a kind stand around a place: ahead of the child that it names, at it where it stays, and after it
+abbrev pub count_around : {X : Type 0} → Kind → Forest X → ℕ → Place → ℕ
+count_around kind f parent place =
+    count_kind kind f (ahead_of (child_of place) (children_of f parent))
+    + (count_kind kind f (staying place) + count_kind kind f (past_of (child_of place) (children_of f parent)))
 
 -- whether elements and doctypes stand among the nodes of a list
 pub record IsFound {X : Type 0} (f : Forest X) (ns : List ℕ) (found : Found) : Type 0 where

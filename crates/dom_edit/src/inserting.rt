@@ -187,6 +187,14 @@ impl World {
         self.queue_tree_record(alloc, parent, nodes, &[], previous, child)
     }
 
+    // Room for blocks of a parent's children, where a question about them wanted it. The world stays as it is.
+    fn make_room_for_blocks(&mut self, parent: NodeId) -> Result<(), AllocError>
+        requires { HasNode self.old.tree.forest parent }
+        ensures { self.new ≡ self.old }
+    {
+        self.tree.make_room(parent)
+    }
+
     /// Inserts a node, of which the list is what comes in with it, under a parent, before a child of it or last.
     pub(crate) fn enter(
         &mut self,
@@ -207,9 +215,11 @@ impl World {
         if nodes.is_empty() {
             return Ok(());
         }
+        self.make_room_for_blocks(parent)?;
         self.free(alloc, node, nodes)?;
         self.insert_all(alloc, suppressed, parent, child, nodes)
     }
+
     /// Inserts a node inside which no live range end stands, of which the list is what comes in with it, with a record.
     pub(crate) fn enter_unreferred(
         &mut self,
@@ -231,6 +241,7 @@ impl World {
         if nodes.is_empty() {
             return Ok(());
         }
+        self.make_room_for_blocks(parent)?;
         self.free_unreferred(alloc, node, nodes)?;
         self.insert_all(alloc, false, parent, child, nodes)
     }

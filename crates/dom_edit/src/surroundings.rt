@@ -1,12 +1,12 @@
 //! What stands among the children of a Document, around the place where a node is to come in.
 
-ghost use Rattle.std.specs.Prelude.{◌≡◌, ℕ, ◌||◌, [], ◌∷◌};
+ghost use Rattle.std.specs.Prelude.{◌≡◌, ℕ, ◌||◌, [], ◌∷◌, IfSome};
 ghost use Rattle.dom_model.specs.declared.Kind.TheVariants.{Element, DocumentType, DocumentFragment};
 ghost use Rattle.dom_model.specs.PlainLists.Lists.{is_number};
 ghost use Rattle.dom_model.specs.Forests.Forest.{HasNode, children_of};
 ghost use Rattle.dom_model.specs.MutationAlgorithms.Checks.{has_kind, count_kind};
 ghost use Rattle.dom_model.specs.Forests.Nodes.{is_of_kind};
-ghost use Rattle.dom_edit.specs.Places.{child_of, keeps_child, IsUnder, refuses, IsAmong, ahead_of, from_optional, IsFound, IsAround};
+ghost use Rattle.dom_edit.specs.Places.{child_of, keeps_child, IsUnder, refuses, IsAmong, ahead_of, from_optional, count_around, IsFound, IsAround};
 
 use crate::content::Content;
 use dom_kinds::Kind;
@@ -182,8 +182,65 @@ fn has_child(tree: &Tree<Content>, parent: NodeId, kind: Kind) -> bool
     count_children(tree, parent, kind) != 0
 }
 
-// Whether a Document refuses an element at a place.
-fn refuses_element(tree: &Tree<Content>, document: NodeId, place: Place) -> bool
+// How many nodes of a kind stand around a place among the children of a Document, where that is known without a look at them.
+fn count_around(tree: &Tree<Content>, document: NodeId, place: Place, kind: Kind) -> Option<u32>
+    requires held { HasNode tree.now.forest document }
+    requires under { IsUnder tree.now.forest document place }
+    ensures { IfSome result (λ n. n ≡ count_around kind tree.now.forest document place) }
+{
+    tree.sound();
+    let all = tree.children_of_kind(document, kind)?;
+    match place {
+        Place::Before(_) => Some(all),
+        Place::Instead(child) if tree.is_of_kind(child, kind) => Some(all.saturating_sub(1)),
+        Place::Instead(_) => Some(all),
+    }
+}
+
+// Whether a Document refuses an element at a place, where the counts of its children tell: there is another, or no doctype can be past it.
+fn element_by_count(tree: &Tree<Content>, document: NodeId, place: Place) -> Option<bool>
+    requires held { HasNode tree.now.forest document }
+    requires under { IsUnder tree.now.forest document place }
+    ensures { IfSome result (λ refused. (n : ℕ) → refused ≡ refuses place Element tree.now.forest document n) }
+{
+    tree.sound();
+    let elements = count_around(tree, document, place, Kind::Element)?;
+    if elements != 0 {
+        return Some(true);
+    }
+    if place.child().is_none() {
+        return Some(false);
+    }
+    let doctypes = count_around(tree, document, place, Kind::DocumentType)?;
+    if doctypes == 0 {
+        return Some(false);
+    }
+    None
+}
+
+// Whether a Document refuses a doctype at a place, where the counts of its children tell: there is another, or no element, or each element is ahead of it.
+fn doctype_by_count(tree: &Tree<Content>, document: NodeId, place: Place) -> Option<bool>
+    requires held { HasNode tree.now.forest document }
+    requires under { IsUnder tree.now.forest document place }
+    ensures { IfSome result (λ refused. (n : ℕ) → refused ≡ refuses place DocumentType tree.now.forest document n) }
+{
+    tree.sound();
+    let doctypes = count_around(tree, document, place, Kind::DocumentType)?;
+    if doctypes != 0 {
+        return Some(true);
+    }
+    let elements = count_around(tree, document, place, Kind::Element)?;
+    if elements == 0 {
+        return Some(false);
+    }
+    if place.child().is_none() {
+        return Some(true);
+    }
+    None
+}
+
+// Whether a Document refuses an element at a place, by a walk over its children.
+fn element_by_walk(tree: &Tree<Content>, document: NodeId, place: Place) -> bool
     requires held { HasNode tree.now.forest document }
     requires under { IsUnder tree.now.forest document place }
     ensures { (n : ℕ) → result ≡ refuses place Element tree.now.forest document n }
@@ -192,14 +249,40 @@ fn refuses_element(tree: &Tree<Content>, document: NodeId, place: Place) -> bool
     look_around(tree, document, place).refuses_element()
 }
 
-// Whether a Document refuses a doctype at a place.
-fn refuses_doctype(tree: &Tree<Content>, document: NodeId, place: Place) -> bool
+// Whether a Document refuses an element at a place.
+fn refuses_element(tree: &Tree<Content>, document: NodeId, place: Place) -> bool
+    requires held { HasNode tree.now.forest document }
+    requires under { IsUnder tree.now.forest document place }
+    ensures { (n : ℕ) → result ≡ refuses place Element tree.now.forest document n }
+{
+    let counted = place;
+    if let Some(refused) = element_by_count(tree, document, counted) {
+        return refused;
+    }
+    element_by_walk(tree, document, place)
+}
+
+// Whether a Document refuses a doctype at a place, by a walk over its children.
+fn doctype_by_walk(tree: &Tree<Content>, document: NodeId, place: Place) -> bool
     requires held { HasNode tree.now.forest document }
     requires under { IsUnder tree.now.forest document place }
     ensures { (n : ℕ) → result ≡ refuses place DocumentType tree.now.forest document n }
 {
     tree.sound();
     look_around(tree, document, place).refuses_doctype()
+}
+
+// Whether a Document refuses a doctype at a place.
+fn refuses_doctype(tree: &Tree<Content>, document: NodeId, place: Place) -> bool
+    requires held { HasNode tree.now.forest document }
+    requires under { IsUnder tree.now.forest document place }
+    ensures { (n : ℕ) → result ≡ refuses place DocumentType tree.now.forest document n }
+{
+    let counted = place;
+    if let Some(refused) = doctype_by_count(tree, document, counted) {
+        return refused;
+    }
+    doctype_by_walk(tree, document, place)
 }
 
 // Whether a Document refuses the children of a fragment at a place: more than one element, a Text, or an element that it refuses.

@@ -23,7 +23,6 @@ use std::alloc::{AllocError, Global};
 ///
 /// Each part can be borrowed beside the others. Whoever changes one keeps the world whole: what a part names is held by the tree, every
 /// node is covered by the ranges, each live range and iterator is in order.
-#[derive(Drop)]
 pub struct World {
     pub tree: Tree<Content>,
     pub ranges: Ranges,
@@ -31,6 +30,20 @@ pub struct World {
     pub iterators: NodeIterators,
     pub walkers: Walkers,
     pub observers: Observers,
+}
+
+// Whoever owns a world lets go of it by one call, and not part by part.
+impl Drop for World {
+    fn drop(self) {
+        let World {
+            tree: _,
+            ranges: _,
+            statics: _,
+            iterators: _,
+            walkers: _,
+            observers: _,
+        } = self;
+    }
 }
 
 impl World {

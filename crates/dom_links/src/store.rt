@@ -39,8 +39,8 @@ impl<T> Model for Store<T> {
 impl<T> Store<T> {
     ghost use Rattle.std.specs.Borrow.{sem};
     ghost use Rattle.dom_model.specs.PlainLists.Lists.{head_of, last_of};
-    ghost use Rattle.dom_model.specs.Forests.Arena.{entry_at, parent_in, children_in, next_in, previous_in, IsHeld, IsSound, StandsUnder, no_slots, next_slot, added, linked, unlinked, taken};
-    ghost use Rattle.dom_links.specs.Placed.{slot_of, slots_of, IsPlaced, KeepsPlaces, KeepsPlacesBut};
+    ghost use Rattle.dom_model.specs.Forests.Arena.{entry_at, parent_in, children_in, IsHeld, IsSound, no_slots, next_slot, added, taken};
+    ghost use Rattle.dom_links.specs.Placed.{slot_of, slots_of, entry_behind, parent_at, children_at, next_at, previous_at, HasParent, HasNoParent, IsChildOf, IsUnder, linked_at, unlinked_at, IsPlaced, KeepsPlaces, KeepsPlacesBut};
     ghost use Rattle.dom_links.specs.Lends.{lends_placed};
 
     /// A store with no slot. It takes no memory.
@@ -127,7 +127,7 @@ impl<T> Store<T> {
 
     pub fn parent(&self, place: Place) -> Link
         requires { IsPlaced self.now place }
-        ensures slot { slots_of self.now result ≡ parent_in (entry_at self.now.arena (slot_of self.now place)) }
+        ensures slot { slots_of self.now result ≡ parent_at self.now place }
         ensures placed { ForSome result (λ p. IsPlaced self.now p) }
     {
         self.pool.get(place.node()).parent
@@ -136,7 +136,7 @@ impl<T> Store<T> {
     /// The first child.
     pub fn first(&self, place: Place) -> Link
         requires { IsPlaced self.now place }
-        ensures slot { slots_of self.now result ≡ head_of (children_in (entry_at self.now.arena (slot_of self.now place))) }
+        ensures slot { slots_of self.now result ≡ head_of (children_at self.now place) }
         ensures placed { ForSome result (λ p. IsPlaced self.now p) }
     {
         self.pool.get(place.node()).first
@@ -145,7 +145,7 @@ impl<T> Store<T> {
     /// The last child.
     pub fn last(&self, place: Place) -> Link
         requires { IsPlaced self.now place }
-        ensures slot { slots_of self.now result ≡ last_of (children_in (entry_at self.now.arena (slot_of self.now place))) }
+        ensures slot { slots_of self.now result ≡ last_of (children_at self.now place) }
         ensures placed { ForSome result (λ p. IsPlaced self.now p) }
     {
         self.pool.get(place.node()).last
@@ -154,7 +154,7 @@ impl<T> Store<T> {
     /// The next sibling.
     pub fn next(&self, place: Place) -> Link
         requires { IsPlaced self.now place }
-        ensures slot { slots_of self.now result ≡ next_in (entry_at self.now.arena) (slot_of self.now place) }
+        ensures slot { slots_of self.now result ≡ next_at self.now place }
         ensures placed { ForSome result (λ p. IsPlaced self.now p) }
     {
         self.pool.get(place.node()).next
@@ -163,7 +163,7 @@ impl<T> Store<T> {
     /// The previous sibling.
     pub fn prev(&self, place: Place) -> Link
         requires { IsPlaced self.now place }
-        ensures slot { slots_of self.now result ≡ previous_in (entry_at self.now.arena) (slot_of self.now place) }
+        ensures slot { slots_of self.now result ≡ previous_at self.now place }
         ensures placed { ForSome result (λ p. IsPlaced self.now p) }
     {
         self.pool.get(place.node()).prev
@@ -172,14 +172,14 @@ impl<T> Store<T> {
     /// How many children there are. It takes no walk.
     pub fn count(&self, place: Place) -> u32
         requires { IsPlaced self.now place }
-        ensures { result ≡ length (children_in (entry_at self.now.arena (slot_of self.now place))) }
+        ensures { result ≡ length (children_at self.now place) }
     {
         self.pool.get(place.node()).count
     }
 
     pub fn value(&self, place: Place) -> &T
         requires { IsPlaced self.now place }
-        ensures { IfSome (entry_at self.now.arena (slot_of self.now place)) (λ e. result.now ≡ e.value) }
+        ensures { IfSome (entry_behind self.now place) (λ e. result.now ≡ e.value) }
     {
         &self.pool.get(place.node()).value
     }
@@ -187,7 +187,7 @@ impl<T> Store<T> {
     pub fn value_mut(&mut self, place: Place) -> &mut T
         requires { IsPlaced self.old place }
         ensures* writes_back { sem 𝓛 (lends_placed T.row self.entry place result) }
-        ensures value { IfSome (entry_at self.old.arena (slot_of self.old place)) (λ e. result.now ≡ e.value) }
+        ensures value { IfSome (entry_behind self.old place) (λ e. result.now ≡ e.value) }
     {
         let node = self.pool.get_mut(place.node());
         &mut node.value
@@ -197,11 +197,11 @@ impl<T> Store<T> {
     pub fn link(&mut self, parent: Place, child: Place, before: Link)
         requires parent_placed { IsPlaced self.old parent }
         requires child_placed { IsPlaced self.old child }
-        requires no_parent { parent_in (entry_at self.old.arena (slot_of self.old child)) ≡ None }
-        requires no_cycle { ¬ StandsUnder (entry_at self.old.arena) (slot_of self.old child) (slot_of self.old parent) }
-        requires before_placed { ForSome before (λ b. IsPlaced self.old b) }
-        requires before_under { ForSome before (λ b. parent_in (entry_at self.old.arena (slot_of self.old b)) ≡ Some (slot_of self.old parent)) }
-        ensures linked { self.new.arena ≡ linked self.old.arena (slot_of self.old parent) (slot_of self.old child) (slots_of self.old before) }
+        requires no_parent { HasNoParent self.old child }
+        requires no_cycle { ¬ IsUnder self.old child parent }
+        requires before_placed { ForSome before (IsPlaced self.old) }
+        requires before_under { ForSome before (IsChildOf self.old parent) }
+        ensures linked { self.new.arena ≡ linked_at self.old parent child before }
         ensures places { self.new.places ≡ self.old.places }
         ensures kept { KeepsPlaces self.old self.new }
     {
@@ -224,8 +224,8 @@ impl<T> Store<T> {
     /// Takes the child out of its parent's children. Its own children stay with it.
     pub fn unlink(&mut self, child: Place)
         requires placed { IsPlaced self.old child }
-        requires has_parent { IsSome (parent_in (entry_at self.old.arena (slot_of self.old child))) }
-        ensures unlinked { self.new.arena ≡ unlinked self.old.arena (slot_of self.old child) }
+        requires has_parent { HasParent self.old child }
+        ensures unlinked { self.new.arena ≡ unlinked_at self.old child }
         ensures places { self.new.places ≡ self.old.places }
         ensures kept { KeepsPlaces self.old self.new }
     {

@@ -1,16 +1,18 @@
 -- What stands of an observer from one origin has the same options, as registrations come in and end.
 use Rattle.std.proofs.Common.{◌≡◌, ◌≢◌, ℕ, ◌==◌, Bool, true, false, not, ◌&&◌, ◌||◌, if◌then◌else◌, List, [], ◌∷◌, find, Option, option_map, None, Some, refl, ap, sym, ◌∙◌, subst, cond}
-use Rattle.std.specs.Prelude.{is_none, is_some, unwrap_or}
+use Rattle.std.specs.Prelude.{is_none, unwrap_or}
 use Rattle.std.specs.Option.{option_map_or}
+use Rattle.std.specs.List.{list_any}
 use Rattle.std.proofs.lemmas.Bool.{true≢false}
 use Rattle.dom_model.specs.PlainLists.Lists.{among, is_number}
 use Rattle.dom_model.specs.Worlds.World.{Options, Registration}
+use Rattle.dom_model.specs.MutationObservers.Observing.{transient_of}
 use Rattle.dom_model.specs.MutationObservers.Records.{is_registered, is_transient_from}
 use Rattle.dom_model.proofs.PlainLists.Numbers.{Same, same_or, same, apart}
 use Rattle.dom_observe.specs.declared.registration.Ended.{Ended}
 use Rattle.dom_observe.specs.declared.registration.Ended.TheVariants.{From}
 use Rattle.dom_observe.specs.Watchers.{on}
-use Rattle.dom_observe.specs.Registrations.{left_by, own_at, origin, is_on, Placed, HaveSources, Agree, Added, transient_under, with_new_options}
+use Rattle.dom_observe.specs.Registrations.{left_by, own_at, from_at, origin, is_on, transient_of_any, Placed, HaveSources, Agree, Added, transient_under, with_new_options}
 use Rattle.dom_observe.proofs.Again.{find_own}
 use Rattle.dom_observe.proofs.Sources.{own-shape, left-some}
 use Rattle.dom_observe.proofs.Tables.{transient_shape}
@@ -42,9 +44,35 @@ itself m = elim (same_or m m) [ same e t ↦ t | apart ne t ↦ absurd (ne refl)
 apart_by : (a b : Bool) → a ≡ false → b ≡ false → (a || b) ≡ false
 apart_by a b e f = ap (λ c. c || b) e ∙ f
 
-alike : (o n : ℕ) (options : Options) (p : Option Registration) → option_map_or (is_registered o n) (option_map (with_new_options options) p) false ≡ option_map_or (is_registered o n) p false
-alike o n options None = refl
-alike o n options (Some r) = refl
+-- a list has a key that passes
+any_there : (p : ℕ → Bool) (k : ℕ) (keys : List ℕ) → among k keys ≡ true → p k ≡ true → list_any p keys ≡ true
+any_there p k [] there h = absurd (true≢false (sym there))
+any_there p k (j ∷ keys) there h = go (same_or j k) (any_there p k keys)
+  where
+    or_true : (b : Bool) → (b || true) ≡ true
+    or_true true = refl
+    or_true false = refl
+
+    go : Same j k → (among k keys ≡ true → p k ≡ true → list_any p keys ≡ true) → list_any p (j ∷ keys) ≡ true
+    go (same e t) rest = ap (λ b. b || list_any p keys) (ap p e ∙ h)
+    go (apart ne t) rest = let w = rw t at there in ap (λ b. p j || b) (rest w h) ∙ or_true (p j)
+
+-- a node gets a transient registration where none of its observer and origin is there
+gives-none : (u : ℕ → Option Registration) (own : List ℕ) (node : ℕ) (o : Option Registration) (r : Registration) → transient_of_any u own node o ≡ Some r
+    → (s : Registration) → o ≡ Some s → list_any (from_at u s.observer (origin s)) own ≡ false
+gives-none u own node o r some s is = go s.options.subtree (list_any (from_at u s.observer (origin s)) own) (ap (transient_of_any u own node) (sym is) ∙ some)
+  where
+    go : (b c : Bool) → (if b && not c then Some (transient_of node s) else None) ≡ Some r → c ≡ false
+    go true true h = cc h
+    go true false h = refl
+    go false c h = cc h
+
+-- an observer's registration on a node stands under one key
+pub agree-own : (u : ℕ → Option Registration) → Agree u → (o n k j : ℕ) → own_at u o n k ≡ true → own_at u o n j ≡ true → j ≡ k
+agree-own u a o n k j h g =
+    let s = own-shape o n (u k) h in
+    let t = own-shape o n (u j) g in
+    a.one k j s.0 t.0 s.1 t.1 (s.3 ∙ sym t.3) (s.2 ∙ sym t.2) (s.4 ∙ sym t.4)
 
 module _ (u v : ℕ → Option Registration) where
   -- registrations end
@@ -52,13 +80,11 @@ module _ (u v : ℕ → Option Registration) where
   agree-ended ended left a = record {
     options = a.options;
     alike = λ key r is. a.alike key r (left-some ended (u key) r (sym (left key) ∙ is)).0;
-    one = λ o n key other h g. a.one o n key other (before o n key h) (before o n other g);
+    one = λ k j r s e f. a.one k j r s (before k r e) (before j s f);
   }
     where
-      before : (o n k : ℕ) → own_at v o n k ≡ true → own_at u o n k ≡ true
-      before o n k h =
-          let s = own-shape o n (v k) h in
-          ap (λ p. option_map_or (is_registered o n) p false) ((left-some ended (u k) s.0 (sym (left k) ∙ s.1)).0 ∙ sym s.1) ∙ h
+      before : (k : ℕ) (r : Registration) → v k ≡ Some r → u k ≡ Some r
+      before k r is = (left-some ended (u k) r (sym (left k) ∙ is)).0
 
   -- the observer's registration on a node gets other options, and no transient one comes from there
   pub agree-changed : (o n key : ℕ) (options : Options) → own_at u o n key ≡ true → ((k : ℕ) (r : Registration) → u k ≡ Some r → is_transient_from o n r ≡ false)
@@ -69,7 +95,13 @@ module _ (u v : ℕ → Option Registration) where
       | same e t ↦ here r (let d : Some (with_new_options options s.0) ≡ Some r = sym (changed ∙ ap (option_map (with_new_options options)) s.1) ∙ ap v (sym e) ∙ is in cc d)
       | apart ne t ↦ there k ne r (sym (others k ne) ∙ is)
     ];
-    one = λ p m k j h g. a.one p m k j (sym (as_before p m k) ∙ h) (sym (as_before p m j) ∙ g);
+    one = λ k j r t e f at_node by from.
+        let b = was k r e in
+        let d = was j t f in
+        let here : b.0.node ≡ d.0.node = b.2 ∙ at_node ∙ sym d.2 in
+        let who : b.0.observer ≡ d.0.observer = b.3 ∙ by ∙ sym d.3 in
+        let where_from : b.0.source ≡ d.0.source = b.4 ∙ from ∙ sym d.4 in
+        a.one k j b.0 d.0 b.1 d.1 here who where_from;
   }
     where
       s : (r : Registration) × (u key ≡ Some r) × (r.observer ≡ o) × (r.node ≡ n) × (r.source ≡ None)
@@ -78,10 +110,13 @@ module _ (u v : ℕ → Option Registration) where
       given : ℕ → ℕ → Options
       given p m = if (p == o) && (m == n) then options else a.options p m
 
-      as_before : (p m k : ℕ) → own_at v p m k ≡ own_at u p m k
-      as_before p m k = elim (same_or k key) [
-        | same e t ↦ ap (own_at v p m) e ∙ ap (λ q. option_map_or (is_registered p m) q false) changed ∙ alike p m options (u key) ∙ ap (own_at u p m) (sym e)
-        | apart ne t ↦ ap (λ q. option_map_or (is_registered p m) q false) (others k ne)
+      -- what stands under a key stood there, maybe with other options
+      was : (k : ℕ) (r : Registration) → v k ≡ Some r → (t : Registration) × (u k ≡ Some t) × (t.node ≡ r.node) × (t.observer ≡ r.observer) × (t.source ≡ r.source)
+      was k r is = elim (same_or k key) [
+        | same e t ↦
+            let d : with_new_options options s.0 ≡ r = let f : Some (with_new_options options s.0) ≡ Some r = sym (changed ∙ ap (option_map (with_new_options options)) s.1) ∙ ap v (sym e) ∙ is in cc f in
+            (s.0, ap u e ∙ s.1, ap (λ (q : Registration). q.node) d, ap (λ (q : Registration). q.observer) d, ap (λ (q : Registration). q.source) d)
+        | apart ne t ↦ (r, sym (others k ne) ∙ is, refl, refl, refl)
       ]
 
       here : (r : Registration) → with_new_options options s.0 ≡ r → r.options ≡ given r.observer (origin r)
@@ -96,32 +131,38 @@ module _ (u v : ℕ → Option Registration) where
           ∙ sym (ap (λ b. if b then options else a.options r.observer (origin r)) (comes-split o n r ∙ apart_by (is_registered o n r) (is_transient_from o n r) (not_own (is_registered o n r) refl) (none k r is)))
         where
           not_own : (b : Bool) → is_registered o n r ≡ b → b ≡ false
-          not_own true e = absurd (ne (a.one o n key k own (ap (λ q. option_map_or (is_registered o n) q false) is ∙ e)))
+          not_own true e = absurd (ne (agree-own u a o n key k own (ap (λ q. option_map_or (is_registered o n) q false) is ∙ e)))
           not_own false e = refl
 
   module _ (lists : List (ℕ × List ℕ)) (r : Registration) (lists' : List (ℕ × List ℕ)) (new : Added u lists r v lists') (a : Agree u) where
-    old : (o n k : ℕ) → k ≢ new.key → own_at v o n k ≡ true → own_at u o n k ≡ true
-    old o n k ne h = ap (λ q. option_map_or (is_registered o n) q false) (sym (new.others k ne)) ∙ h
-
     under_key : (k : ℕ) → k ≡ new.key → (t : Registration) → v k ≡ Some t → r ≡ t
     under_key k e t is = let d : Some r ≡ Some t = sym new.here ∙ ap v (sym e) ∙ is in cc d
 
+    -- where none is of its observer and source on its node, it is the only one
+    only : ((k : ℕ) (t : Registration) → u k ≡ Some t → t.node ≡ r.node → t.observer ≡ r.observer → t.source ≡ r.source → ⊥)
+        → (k j : ℕ) (s t : Registration) → v k ≡ Some s → v j ≡ Some t → s.node ≡ t.node → s.observer ≡ t.observer → s.source ≡ t.source → j ≡ k
+    only none k j s t e f at_node by from = go (same_or k new.key) (same_or j new.key)
+      where
+        go : Same k new.key → Same j new.key → j ≡ k
+        go (same d _) (same g _) = g ∙ sym d
+        go (same d _) (apart ne _) =
+            let is = sym (under_key k d s e) in
+            absurd (none j t (sym (new.others j ne) ∙ f) (sym at_node ∙ ap (λ (q : Registration). q.node) is) (sym by ∙ ap (λ (q : Registration). q.observer) is) (sym from ∙ ap (λ (q : Registration). q.source) is))
+        go (apart ne _) (same g _) =
+            let is = sym (under_key j g t f) in
+            absurd (none k s (sym (new.others k ne) ∙ e) (at_node ∙ ap (λ (q : Registration). q.node) is) (by ∙ ap (λ (q : Registration). q.observer) is) (from ∙ ap (λ (q : Registration). q.source) is))
+        go (apart ne _) (apart nf _) = a.one k j s t (sym (new.others k ne) ∙ e) (sym (new.others j nf) ∙ f) at_node by from
+
     -- a transient one comes in, with the options of its origin
-    pub agree-transient : r.options ≡ a.options r.observer (origin r) → is_some r.source ≡ true → Agree v
-    agree-transient same_options source = record {
+    pub agree-transient : r.options ≡ a.options r.observer (origin r) → ((k : ℕ) (t : Registration) → u k ≡ Some t → t.node ≡ r.node → t.observer ≡ r.observer → t.source ≡ r.source → ⊥) → Agree v
+    agree-transient same_options none = record {
       options = a.options;
       alike = λ k t is. elim (same_or k new.key) [
         | same e _ ↦ subst (λ (q : Registration). q.options ≡ a.options q.observer (origin q)) (under_key k e t is) same_options
         | apart ne _ ↦ a.alike k t (sym (new.others k ne) ∙ is)
       ];
-      one = λ o n k j h g. a.one o n k j (old o n k (not_new o n k h) h) (old o n j (not_new o n j g) g);
+      one = only none;
     }
-      where
-        not_new : (o n k : ℕ) → own_at v o n k ≡ true → k ≢ new.key
-        not_new o n k h e =
-            let s = own-shape o n (v k) h in
-            let d = under_key k e s.0 s.1 in
-            true≢false (sym source ∙ ap (λ (q : Registration). is_some q.source) d ∙ ap is_some s.4)
 
     -- a lasting one comes in, where nothing comes from its node
     pub agree-lasting : r.source ≡ None → ((k : ℕ) (t : Registration) → u k ≡ Some t → comes r.observer r.node t ≡ false) → Agree v
@@ -131,7 +172,7 @@ module _ (u v : ℕ → Option Registration) where
         | same e _ ↦ subst (λ (q : Registration). q.options ≡ given q.observer (origin q)) (under_key k e t is) itself_given
         | apart ne _ ↦ a.alike k t (sym (new.others k ne) ∙ is) ∙ sym (ap (λ b. if b then r.options else a.options t.observer (origin t)) (free k t (sym (new.others k ne) ∙ is)))
       ];
-      one = λ o n k j h g. two o n k j h g (same_or k new.key) (same_or j new.key);
+      one = only none;
     }
       where
         given : ℕ → ℕ → Options
@@ -144,27 +185,30 @@ module _ (u v : ℕ → Option Registration) where
             sym (ap (λ b. if b then r.options else a.options r.observer (origin r)) test)
 
         -- no other is the observer's there
-        clash : (o n k j : ℕ) → k ≡ new.key → own_at v o n k ≡ true → j ≢ new.key → own_at v o n j ≡ true → ⊥
-        clash o n k j e h ne g =
-            let s = own-shape o n (v k) h in
-            let d = under_key k e s.0 s.1 in
-            let w = own-shape o n (u j) (old o n j ne g) in
-            let who : w.0.observer ≡ r.observer = w.2 ∙ sym (ap (λ (q : Registration). q.observer) d ∙ s.2) in
-            let where_from : origin w.0 ≡ r.node = ap (λ q. unwrap_or q w.0.node) w.4 ∙ w.3 ∙ sym (ap (λ (q : Registration). q.node) d ∙ s.3) in
-            let test : comes r.observer r.node w.0 ≡ true = (λ i. (who i == r.observer) && (where_from i == r.node)) ∙ (λ i. itself r.observer i && itself r.node i) in
-            true≢false (sym test ∙ free j w.0 w.1)
-
-        two : (o n k j : ℕ) → own_at v o n k ≡ true → own_at v o n j ≡ true → Same k new.key → Same j new.key → j ≡ k
-        two o n k j h g (same e _) (same f _) = f ∙ sym e
-        two o n k j h g (same e _) (apart ne _) = absurd (clash o n k j e h ne g)
-        two o n k j h g (apart ne _) (same f _) = absurd (clash o n j k f g ne h)
-        two o n k j h g (apart ne _) (apart nf _) = a.one o n k j (old o n k ne h) (old o n j nf g)
+        none : (k : ℕ) (t : Registration) → u k ≡ Some t → t.node ≡ r.node → t.observer ≡ r.observer → t.source ≡ r.source → ⊥
+        none k t is at_node by from =
+            let where_from : origin t ≡ r.node = ap (λ q. unwrap_or q t.node) (from ∙ lasts) ∙ at_node in
+            let test : comes r.observer r.node t ≡ true = (λ i. (by i == r.observer) && (where_from i == r.node)) ∙ (λ i. itself r.observer i && itself r.node i) in
+            true≢false (sym test ∙ free k t is)
 
 -- the options of a transient registration that a node gets are those of its origin
 pub agree-made : (u : ℕ → Option Registration) (own : List ℕ) (node key : ℕ) (r : Registration) → transient_under u own node key ≡ Some r → (a : Agree u) → r.options ≡ a.options r.observer (origin r)
 agree-made u own node key r some a =
     let s = transient_shape u own node (u key) r some in
     subst (λ (t : Registration). t.options ≡ a.options t.observer (origin t)) s.2 (a.alike key s.0 s.1)
+
+-- and no other of its observer comes from there on the node
+pub alone-made : (u : ℕ → Option Registration) (lists : List (ℕ × List ℕ)) (node key : ℕ) (r : Registration) → Placed u lists → transient_under u (on node lists) node key ≡ Some r
+    → (k : ℕ) (t : Registration) → u k ≡ Some t → t.node ≡ r.node → t.observer ≡ r.observer → t.source ≡ r.source → ⊥
+alone-made u lists node key r placed some k t is at_node by from =
+    let s = transient_shape u (on node lists) node (u key) r some in
+    let m = origin s.0 in
+    let here : t.node ≡ node = at_node ∙ sym (ap (λ (q : Registration). q.node) s.2) in
+    let who : t.observer ≡ s.0.observer = by ∙ sym (ap (λ (q : Registration). q.observer) s.2) in
+    let where_from : t.source ≡ Some m = from ∙ sym (ap (λ (q : Registration). q.source) s.2) in
+    let there : among k (on node lists) ≡ true = placed node k ∙ ap (is_on node) is ∙ ap (λ n. n == node) here ∙ itself node in
+    let test : from_at u s.0.observer m k ≡ true = ap (λ p. option_map_or (is_transient_from s.0.observer m) p false) is ∙ (λ i. (who i == s.0.observer) && is_number (where_from i) m) ∙ (λ i. itself s.0.observer i && itself m i) in
+    true≢false (sym (any_there (from_at u s.0.observer m) k (on node lists) there test) ∙ gives-none u (on node lists) node (u key) r some s.0 s.1)
 
 -- Where an observer is not registered on a node, nothing comes from there.
 module _ (u : ℕ → Option Registration) (o n : ℕ) where

@@ -140,40 +140,27 @@ stays_by u v keys ended left k = either_by (left k) (stays-or-gone ended (among 
 pub stays_off : (u v : ℕ → Option Registration) (keys : List ℕ) (ended : Ended) → ((k : ℕ) → v k ≡ (if among k keys then left_by ended (u k) else u k)) → (k : ℕ) → among k keys ≡ false → v k ≡ u k
 stays_off u v keys ended left k off = left k ∙ ap (λ b. if b then left_by ended (u k) else u k) off
 
-pub left_twice : (ended : Ended) (u v : ℕ → Option Registration) (keys : List ℕ) → ((k : ℕ) → v k ≡ (if among k keys then left_by ended (u k) else u k)) → (k : ℕ) → left_by ended (v k) ≡ left_by ended (u k)
-left_twice ended u v keys left k = ap (left_by ended) (left k) ∙ go (among k keys)
-  where
-    again : (o : Option Registration) → left_by ended (left_by ended o) ≡ left_by ended o
-    again None = refl
-    again (Some r) = by (spares ended r) refl
-      where
-        by : (b : Bool) → spares ended r ≡ b → left_by ended (if b then Some r else None) ≡ (if b then Some r else None)
-        by true e = rw e refl
-        by false e = refl
-
-    go : (b : Bool) → left_by ended (if b then left_by ended (u k) else u k) ≡ left_by ended (u k)
-    go true = again (u k)
-    go false = refl
-
 pub at-get : (P : ℕ → Type 0) (xs : List ℕ) (i x : ℕ) → AllByRecursion P xs → slice_get xs i ≡ Some x → P x
 at-get P [] zero x all h = let d : ⊥ = cc h in absurd d
 at-get P [] (suc i) x all h = let d : ⊥ = cc h in absurd d
 at-get P (y ∷ xs) zero x all h = let d : y ≡ x = cc h in subst P d all.0
 at-get P (y ∷ xs) (suc i) x all h = at-get P xs i x all.1 h
 
--- transient registrations of an observer do not stay; where no observer has any, none does
-pub passing-ended : (o : ℕ) (p : Option Registration) → passes_for o p ≡ true → left_by Transient p ≡ None
-passing-ended o None h = refl
-passing-ended o (Some r) h = go (r.observer == o) r.source h
+-- what is left has no transient registration; one that is no transient one of its observer is left
+pub none-passing : (o : ℕ) (p : Option Registration) → passes_for o (left_by Transient p) ≡ false
+none-passing o None = refl
+none-passing o (Some r) = go r.source refl
   where
-    go : (b : Bool) (s : Option ℕ) → (b && is_some s) ≡ true → (if is_none s then Some r else None) ≡ None
-    go b (Some n) g = refl
-    go true None g = absurd (true≢false (sym g))
-    go false None g = absurd (true≢false (sym g))
+    off : (b : Bool) → (b && false) ≡ false
+    off true = refl
+    off false = refl
 
-pub lasting-left : (p : Option Registration) → ((o : ℕ) → passes_for o p ≡ false) → left_by Transient p ≡ p
-lasting-left None h = refl
-lasting-left (Some r) h = go r.source (h r.observer)
+    go : (s : Option ℕ) → r.source ≡ s → passes_for o (if is_none s then Some r else None) ≡ false
+    go None e = ap (λ s. (r.observer == o) && is_some s) e ∙ off (r.observer == o)
+    go (Some n) e = refl
+
+pub lasting-left : (r : Registration) → passes_for r.observer (Some r) ≡ false → left_by Transient (Some r) ≡ Some r
+lasting-left r h = go r.source h
   where
     self_test : (r.observer == r.observer) ≡ true
     self_test = elim (same_or r.observer r.observer) [ same _ t ↦ t | apart ne _ ↦ absurd (ne refl) ]

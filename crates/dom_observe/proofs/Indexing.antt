@@ -12,12 +12,13 @@ use Rattle.dom_model.specs.MutationObservers.Observing.{transient_of}
 use Rattle.dom_model.proofs.PlainLists.Numbers.{same_or, same, apart}
 use Rattle.dom_observe.specs.declared.registration.Ended.{Ended}
 use Rattle.dom_observe.specs.declared.registration.Ended.TheVariants.{Transient, Of, From}
-use Rattle.dom_observe.specs.Registrations.{is_live, left_by, lasts_for, passes_for, Placed, Owned, Stands, Added, NewKey, transient_under, with_new_options}
+use Rattle.dom_observe.specs.Registrations.{is_live, left_by, lasts_for, passes_for, Placed, Owned, Stands, Added, NewKey, origin, transient_under, with_new_options, ByOrigin, IsPast}
 use Rattle.dom_observe.specs.Kept.{AllThere, PlacedOnce, IsIndexed}
-use Rattle.dom_observe.proofs.EndedOnes.{stays_by, stays_off}
+use Rattle.dom_observe.proofs.EndedOnes.{stays_by, stays_off, stays-or-gone, either_by}
 use Rattle.dom_observe.proofs.Hearing.{stay-last, there-last}
 use Rattle.dom_observe.proofs.Owning.{lasting-kind, passing-kind, not_both, not_both2, owned-ended, owned-other, owned-new, owned-beside, owned-changed, placed-added, placed-changed, left-from}
 use Rattle.dom_observe.proofs.KeysOnce.{once-set, once-new, once-ended, placed_once-added}
+use Rattle.dom_observe.proofs.Ordered.{ordered-filter, ordered-set, ordered-new, ordered-beside, ordered-ended, ordered-changed}
 use Rattle.dom_observe.proofs.Queued.{not_before}
 use Rattle.dom_observe.proofs.Tables.{all_at, all_imply, transient_shape}
 
@@ -30,21 +31,23 @@ indexed-pended u lists ls ps some there o held_there ix = record {
   passing = ix.passing;
   lasting_once = ix.lasting_once;
   passing_once = ix.passing_once;
+  passing_ordered = ix.passing_ordered;
   fleeting = λ p off. ix.fleeting p (not_before p some (with_last some o) (stay-last p o some) off);
   known = there-last there o some ix.known held_there;
 }
 
 module _ (u : ℕ → Option Registration) (lists : List (ℕ × List ℕ)) (r : Registration) (v : ℕ → Option Registration) (lists' : List (ℕ × List ℕ)) (a : Added u lists r v lists')
-    (keys keys' : List ℕ) (key : NewKey u r v keys keys') (ls ps : List (List ℕ)) (some : List ℕ) (there : ℕ → Bool) (ix : IsIndexed u lists ls ps some there) where
+    (place : ℕ) (keys keys' : List ℕ) (key : NewKey u r v place keys keys') (ls ps : List (List ℕ)) (some : List ℕ) (there : ℕ → Bool) (ix : IsIndexed u lists ls ps some there) where
   -- a transient registration comes in
-  pub indexed-transient : is_some r.source ≡ true → (ps' : List (List ℕ)) → r.observer < length ps → keys ≡ slice_index_or ps r.observer [] → ps' ≡ slice_set ps r.observer keys' → among r.observer some ≡ true → IsIndexed v lists' ls ps' some there
-  indexed-transient source ps' lt had set in_some = record {
+  pub indexed-transient : is_some r.source ≡ true → (ps' : List (List ℕ)) → r.observer < length ps → keys ≡ slice_index_or ps r.observer [] → ps' ≡ slice_set ps r.observer keys' → among r.observer some ≡ true → (ByOrigin u keys → IsPast u (origin r) keys place) → IsIndexed v lists' ls ps' some there
+  indexed-transient source ps' lt had set in_some past = record {
     placed = placed-added u lists r v lists' a ix.placed;
     placed_once = placed_once-added u lists r v lists' a ix.placed ix.placed_once;
-    lasting = owned-beside u v r keys keys' key lasts_for (λ j. refl) (λ j. off (r.observer == j) r.source source) ls ix.lasting;
-    passing = owned-new u v r keys keys' key passes_for passing-kind (λ j. on_its (r.observer == j) r.source source) ps ps' lt had set ix.passing;
+    lasting = owned-beside u v r place keys keys' key lasts_for (λ j. refl) (λ j. off (r.observer == j) r.source source) ls ix.lasting;
+    passing = owned-new u v r place keys keys' key passes_for passing-kind (λ j. on_its (r.observer == j) r.source source) ps ps' lt had set ix.passing;
     lasting_once = ix.lasting_once;
-    passing_once = once-new u v r keys keys' key passes_for (λ j. refl) ps ps' lt had set ix.passing ix.passing_once;
+    passing_once = once-new u v r place keys keys' key passes_for (λ j. refl) ps ps' lt had set ix.passing ix.passing_once;
+    passing_ordered = ordered-new u v r place keys keys' key ps ix.passing ix.passing_ordered (past (subst (ByOrigin u) (sym had) (ix.passing_ordered r.observer))) ps' lt had set;
     fleeting = λ p out. elim (same_or p r.observer) [
       | same e t ↦ absurd (true≢false (sym in_some ∙ ap (λ q. among q some) (sym e) ∙ out))
       | apart ne t ↦ ap (λ l. slice_index_or l p []) set ∙ get_or-set_other ps r.observer p keys' [] ne ∙ ix.fleeting p out
@@ -67,10 +70,11 @@ module _ (u : ℕ → Option Registration) (lists : List (ℕ × List ℕ)) (r :
   indexed-lasting source ls' lt had set = record {
     placed = placed-added u lists r v lists' a ix.placed;
     placed_once = placed_once-added u lists r v lists' a ix.placed ix.placed_once;
-    lasting = owned-new u v r keys keys' key lasts_for lasting-kind (λ j. ap (λ s. (r.observer == j) && is_none s) source ∙ on_its (r.observer == j)) ls ls' lt had set ix.lasting;
-    passing = owned-beside u v r keys keys' key passes_for (λ j. refl) (λ j. ap (λ s. (r.observer == j) && is_some s) source ∙ off (r.observer == j)) ps ix.passing;
-    lasting_once = once-new u v r keys keys' key lasts_for (λ j. refl) ls ls' lt had set ix.lasting ix.lasting_once;
+    lasting = owned-new u v r place keys keys' key lasts_for lasting-kind (λ j. ap (λ s. (r.observer == j) && is_none s) source ∙ on_its (r.observer == j)) ls ls' lt had set ix.lasting;
+    passing = owned-beside u v r place keys keys' key passes_for (λ j. refl) (λ j. ap (λ s. (r.observer == j) && is_some s) source ∙ off (r.observer == j)) ps ix.passing;
+    lasting_once = once-new u v r place keys keys' key lasts_for (λ j. refl) ls ls' lt had set ix.lasting ix.lasting_once;
     passing_once = ix.passing_once;
+    passing_ordered = ordered-beside u v r place keys keys' key ps ix.passing ix.passing_ordered;
     fleeting = ix.fleeting;
     known = ix.known;
   }
@@ -87,32 +91,41 @@ module _ (u : ℕ → Option Registration) (lists : List (ℕ × List ℕ)) (r :
 module _ (u v : ℕ → Option Registration) (lists lists' : List (ℕ × List ℕ)) (ls ps : List (List ℕ)) (some : List ℕ) (there : ℕ → Bool) (o : ℕ) (ended : Ended) (ix : IsIndexed u lists ls ps some there) (placed : Placed v lists') (placed_once : PlacedOnce lists') where
   pub indexed-lasting_ended : (ls' : List (List ℕ)) → o < length ls → ((k : ℕ) → v k ≡ (if among k (slice_index_or ls o []) then left_by ended (u k) else u k))
       → ls' ≡ slice_set ls o (filter (is_live v) (slice_index_or ls o [])) → IsIndexed v lists' ls' ps some there
-  indexed-lasting_ended ls' lt left set = record {
-    placed = placed;
-    placed_once = placed_once;
-    lasting = owned-ended lasts_for lasting-kind u v ls o ix.lasting (stays_by u v (slice_index_or ls o []) ended left) (stays_off u v (slice_index_or ls o []) ended left) ls' lt set;
-    passing = owned-other lasts_for lasting-kind u v ls o ix.lasting (stays_by u v (slice_index_or ls o []) ended left) (stays_off u v (slice_index_or ls o []) ended left) passes_for (λ j. refl) (not_both o) ps ix.passing;
-    lasting_once = once-ended ls ls' o (is_live v) lt set ix.lasting_once;
-    passing_once = ix.passing_once;
-    fleeting = ix.fleeting;
-    known = ix.known;
-  }
+  indexed-lasting_ended ls' lt left set =
+      let either = stays_by u v (slice_index_or ls o []) ended left in
+      let owned_passing = owned-other lasts_for lasting-kind u v ls o ix.lasting either (stays_off u v (slice_index_or ls o []) ended left) passes_for (λ j. refl) (not_both o) ps ix.passing in
+      record {
+        placed = placed;
+        placed_once = placed_once;
+        lasting = owned-ended lasts_for lasting-kind u v ls o ix.lasting (stays_by u v (slice_index_or ls o []) ended left) (stays_off u v (slice_index_or ls o []) ended left) ls' lt set;
+        passing = owned_passing;
+        lasting_once = once-ended ls ls' o (is_live v) lt set ix.lasting_once;
+        passing_once = ix.passing_once;
+        passing_ordered = ordered-ended u v ps either owned_passing ix.passing_ordered;
+        fleeting = ix.fleeting;
+        known = ix.known;
+      }
 
   pub indexed-passing_ended : (ps' : List (List ℕ)) → o < length ps → ((k : ℕ) → v k ≡ (if among k (slice_index_or ps o []) then left_by ended (u k) else u k))
       → ps' ≡ slice_set ps o (filter (is_live v) (slice_index_or ps o [])) → IsIndexed v lists' ls ps' some there
-  indexed-passing_ended ps' lt left set = record {
-    placed = placed;
-    placed_once = placed_once;
-    lasting = owned-other passes_for passing-kind u v ps o ix.passing (stays_by u v (slice_index_or ps o []) ended left) (stays_off u v (slice_index_or ps o []) ended left) lasts_for (λ j. refl) (not_both2 o) ls ix.lasting;
-    passing = owned-ended passes_for passing-kind u v ps o ix.passing (stays_by u v (slice_index_or ps o []) ended left) (stays_off u v (slice_index_or ps o []) ended left) ps' lt set;
-    lasting_once = ix.lasting_once;
-    passing_once = once-ended ps ps' o (is_live v) lt set ix.passing_once;
-    fleeting = λ p out. elim (same_or p o) [
-      | same e t ↦ ap (λ q. slice_index_or ps' q []) e ∙ ap (λ l. slice_index_or l o []) set ∙ get_or-set_same ps o (filter (is_live v) (slice_index_or ps o [])) [] lt ∙ ap (filter (is_live v)) (ap (λ q. slice_index_or ps q []) (sym e) ∙ ix.fleeting p out)
-      | apart ne t ↦ ap (λ l. slice_index_or l p []) set ∙ get_or-set_other ps o p (filter (is_live v) (slice_index_or ps o [])) [] ne ∙ ix.fleeting p out
-    ];
-    known = ix.known;
-  }
+  indexed-passing_ended ps' lt left set =
+      let keys = filter (is_live v) (slice_index_or ps o []) in
+      let owned_passing = owned-ended passes_for passing-kind u v ps o ix.passing (stays_by u v (slice_index_or ps o []) ended left) (stays_off u v (slice_index_or ps o []) ended left) ps' lt set in
+      record {
+        placed = placed;
+        placed_once = placed_once;
+        lasting = owned-other passes_for passing-kind u v ps o ix.passing (stays_by u v (slice_index_or ps o []) ended left) (stays_off u v (slice_index_or ps o []) ended left) lasts_for (λ j. refl) (not_both2 o) ls ix.lasting;
+        passing = owned_passing;
+        lasting_once = ix.lasting_once;
+        passing_once = once-ended ps ps' o (is_live v) lt set ix.passing_once;
+        passing_ordered = ordered-ended u v ps' (stays_by u v (slice_index_or ps o []) ended left) owned_passing
+            (ordered-set u ps ps' o keys lt set (ordered-filter u (is_live v) (slice_index_or ps o []) (ix.passing_ordered o)) ix.passing_ordered);
+        fleeting = λ p out. elim (same_or p o) [
+          | same e t ↦ ap (λ q. slice_index_or ps' q []) e ∙ ap (λ l. slice_index_or l o []) set ∙ get_or-set_same ps o (filter (is_live v) (slice_index_or ps o [])) [] lt ∙ ap (filter (is_live v)) (ap (λ q. slice_index_or ps q []) (sym e) ∙ ix.fleeting p out)
+          | apart ne t ↦ ap (λ l. slice_index_or l p []) set ∙ get_or-set_other ps o p (filter (is_live v) (slice_index_or ps o [])) [] ne ∙ ix.fleeting p out
+        ];
+        known = ix.known;
+      }
 
 -- whom a transient registration that is made belongs to, and that it has a source
 pub made-transient : (u0 u : ℕ → Option Registration) (own : List ℕ) (node : ℕ) (standing : List ℕ) (i d : ℕ) → i < length standing → AllByRecursion (λ k. u k ≡ u0 k) standing → (r : Registration) → transient_under u own node (slice_index_or standing i d) ≡ Some r
@@ -164,16 +177,19 @@ module _ (u v : ℕ → Option Registration) (lists lists' : List (ℕ × List �
 
   -- those that are left have transient ones only where they had, and are there by another test
   pub indexed-left : (some' : List ℕ) (there' : ℕ → Bool) → ((p : ℕ) → among p some' ≡ false → (p ≡ o) ⊎ (among p some ≡ false)) → AllThere there' some' → IsIndexed v lists' (slice_set ls o []) (slice_set ps o []) some' there'
-  indexed-left some' there' out known = record {
-    placed = placed;
-    placed_once = placed_once;
-    lasting = owned-left o (λ (r : Registration). is_none r.source) u v ls within1 left ix.lasting;
-    passing = owned-left o (λ (r : Registration). is_some r.source) u v ps within2 left ix.passing;
-    lasting_once = once-set ls (slice_set ls o []) o [] within1 refl (λ k. omega arith) ix.lasting_once;
-    passing_once = once-set ps (slice_set ps o []) o [] within2 refl (λ k. omega arith) ix.passing_once;
-    fleeting = λ p off. go p (out p off);
-    known = known;
-  }
+  indexed-left some' there' out known =
+      let owned_passing = owned-left o (λ (r : Registration). is_some r.source) u v ps within2 left ix.passing in
+      record {
+        placed = placed;
+        placed_once = placed_once;
+        lasting = owned-left o (λ (r : Registration). is_none r.source) u v ls within1 left ix.lasting;
+        passing = owned_passing;
+        lasting_once = once-set ls (slice_set ls o []) o [] within1 refl (λ k. omega arith) ix.lasting_once;
+        passing_once = once-set ps (slice_set ps o []) o [] within2 refl (λ k. omega arith) ix.passing_once;
+        passing_ordered = ordered-ended u v (slice_set ps o []) (λ k. either_by (left k) (stays-or-gone (Of o) true (u k))) owned_passing (ordered-set u ps (slice_set ps o []) o [] within2 refl tt ix.passing_ordered);
+        fleeting = λ p off. go p (out p off);
+        known = known;
+      }
     where
       go : (p : ℕ) → ((p ≡ o) ⊎ (among p some ≡ false)) → slice_index_or (slice_set ps o []) p [] ≡ []
       go p (inl e) = ap (λ q. slice_index_or (slice_set ps o []) q []) e ∙ get_or-set_same ps o [] [] within2
@@ -194,6 +210,7 @@ indexed-changed u v lists ls ps some there key options changed others ix = recor
   passing = owned-changed u v key options changed others passes_for passing-kind ps ix.passing;
   lasting_once = ix.lasting_once;
   passing_once = ix.passing_once;
+  passing_ordered = ordered-changed u v key options changed others ps ix.passing_ordered;
   fleeting = ix.fleeting;
   known = ix.known;
 }
@@ -209,6 +226,7 @@ indexed-alike u lists ls ls' ps ps' some there there' same1 same2 more ix = reco
   passing = λ i k. ap (among k) (same2 i) ∙ ix.passing i k;
   lasting_once = λ i k. subst (λ keys. hits k keys ≤ 1) (sym (same1 i)) (ix.lasting_once i k);
   passing_once = λ i k. subst (λ keys. hits k keys ≤ 1) (sym (same2 i)) (ix.passing_once i k);
+  passing_ordered = λ i. subst (ByOrigin u) (sym (same2 i)) (ix.passing_ordered i);
   fleeting = λ i off. same2 i ∙ ix.fleeting i off;
   known = all_imply (λ o. there o ≡ true) (λ o. there' o ≡ true) more some ix.known;
 }
@@ -223,6 +241,7 @@ indexed-notified u v lists lists' ls ps ps' some some' there ix placed placed_on
   passing = owned;
   lasting_once = ix.lasting_once;
   passing_once = λ i k. subst (λ keys. hits k keys ≤ 1) (sym (none i)) (omega arith);
+  passing_ordered = λ i. subst (ByOrigin v) (sym (none i)) tt;
   fleeting = λ o _. none o;
   known = subst (AllThere there) (sym gone) tt;
 }

@@ -1,6 +1,7 @@
 -- No list gets a key twice: what comes in has a key that was vacant, and what ends takes keys out.
 use Rattle.std.proofs.Common.{◌≡◌, ℕ, ◌<◌, ◌≤◌, ◌==◌, Bool, true, false, if◌then◌else◌, List, [], ◌∷◌, ◌++◌, length, filter, Option, None, refl, ap, sym, ◌∙◌, subst, arith}
 use Rattle.std.specs.Prelude.{slice_index_or, slice_set}
+use Rattle.std.specs.List.{insert}
 use Rattle.std.proofs.lemmas.List.{get_or-set_same, get_or-set_other}
 use Rattle.dom_model.specs.PlainLists.Lists.{hits, among}
 use Rattle.dom_model.specs.Worlds.World.{Registration}
@@ -8,6 +9,7 @@ use Rattle.dom_model.proofs.Forests.Climbing.{hits-append, not_among-hits}
 use Rattle.dom_model.proofs.PlainLists.Numbers.{same_or, same, apart}
 use Rattle.dom_model.proofs.RangesAndContents.DrawnPaths.{hits-filter}
 use Rattle.dom_observe.specs.Watchers.{on}
+use Rattle.dom_observe.proofs.Ordered.{hits-insert}
 use Rattle.dom_observe.specs.Kept.{PlacedOnce, HaveOnce}
 use Rattle.dom_observe.specs.Registrations.{is_on, Placed, Owned, Added, NewKey}
 
@@ -23,6 +25,13 @@ once-ended lists lists' i live lt set once =
     once-set lists lists' i (filter live (slice_index_or lists i [])) lt set
     (λ k. let few = hits-filter k live (slice_index_or lists i []) in let one = once i k in omega arith) once
 
+-- a key that is not there is put among them
+pub hits-put : (key : ℕ) (keys : List ℕ) (place : ℕ) → among key keys ≡ false → ((k : ℕ) → hits k keys ≤ 1) → (k : ℕ) → hits k (insert keys place key) ≤ 1
+hits-put key keys place new once k = let all = hits-insert k keys place key in elim (same_or key k) [
+  | same e t ↦ let none : hits k keys ≡ 0 = not_among-hits k keys (ap (λ m. among m keys) (sym e) ∙ new) in let one = rw t at all in omega arith
+  | apart ne t ↦ let few = once k in let none = rw t at all in omega arith
+]
+
 -- a key that is not there comes last
 pub hits-last : (key : ℕ) (keys : List ℕ) → among key keys ≡ false → ((k : ℕ) → hits k keys ≤ 1) → (k : ℕ) → hits k (keys ++ key ∷ []) ≤ 1
 hits-last key keys new once k = let all = hits-append k keys (key ∷ []) in elim (same_or key k) [
@@ -30,12 +39,12 @@ hits-last key keys new once k = let all = hits-append k keys (key ∷ []) in eli
   | apart ne t ↦ let few = once k in let none : hits k (key ∷ []) ≡ 0 = rw t refl in omega arith
 ]
 
-pub once-new : (u v : ℕ → Option Registration) (r : Registration) (keys keys' : List ℕ) → NewKey u r v keys keys' → (kind : ℕ → Option Registration → Bool) → ((j : ℕ) → kind j None ≡ false) → (lists lists' : List (List ℕ))
+pub once-new : (u v : ℕ → Option Registration) (r : Registration) (place : ℕ) (keys keys' : List ℕ) → NewKey u r v place keys keys' → (kind : ℕ → Option Registration → Bool) → ((j : ℕ) → kind j None ≡ false) → (lists lists' : List (List ℕ))
     → r.observer < length lists → keys ≡ slice_index_or lists r.observer [] → lists' ≡ slice_set lists r.observer keys' → Owned kind u lists → HaveOnce lists → HaveOnce lists'
-once-new u v r keys keys' a kind nothing lists lists' lt had set owned once =
+once-new u v r place keys keys' a kind nothing lists lists' lt had set owned once =
     once-set lists lists' r.observer keys' lt set
-    (λ k. subst (λ ks. hits k ks ≤ 1) (sym a.last)
-    (hits-last a.key keys
+    (λ k. subst (λ ks. hits k ks ≤ 1) (sym a.put)
+    (hits-put a.key keys place
     (ap (among a.key) had ∙ owned r.observer a.key ∙ ap (kind r.observer) a.vacant ∙ nothing r.observer)
     (λ m. subst (λ ks. hits m ks ≤ 1) (sym had) (once r.observer m)) k)) once
 

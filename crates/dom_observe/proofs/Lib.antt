@@ -5,6 +5,8 @@ pub mod Asked
 pub mod Awaiting
 pub mod Climbing
 pub mod Counting
+pub mod Distinct
+pub mod EndedFrom
 pub mod EndedOnes
 pub mod NodeByNode
 pub mod Finding
@@ -22,6 +24,7 @@ pub mod Named
 pub mod NamedRecords
 pub mod Noting
 pub mod Once
+pub mod Ordered
 pub mod Outcomes
 pub mod OwnKeys
 pub mod Owning
@@ -34,10 +37,12 @@ pub mod Registered
 pub mod Releasing
 pub mod Removals
 pub mod Rosters
+pub mod Sifting
 pub mod Sounding
 pub mod Sources
 pub mod Summed
 pub mod Tables
 pub mod Transients
+pub mod Turns
 pub mod Waiting
 pub mod Watching

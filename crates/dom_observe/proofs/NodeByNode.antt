@@ -1,19 +1,18 @@
 -- What ends, node by node.
-use Rattle.std.proofs.Common.{◌≡◌, ℕ, zero, suc, ◌+◌, ◌<◌, ◌≤◌, ◌==◌, Bool, true, false, not, ◌&&◌, if◌then◌else◌, List, [], ◌∷◌, length, filter, take, Option, None, Some, refl, ap, sym, ◌∙◌, ◌⊎◌, inl, inr, arith}
-use Rattle.std.specs.Prelude.{is_some, slice_index_or}
+use Rattle.std.proofs.Common.{◌≡◌, ℕ, zero, suc, ◌+◌, ◌<◌, ◌≤◌, ◌==◌, cond, Bool, true, false, not, ◌&&◌, if◌then◌else◌, List, [], ◌∷◌, length, filter, take, Option, None, Some, refl, ap, sym, ◌∙◌, ◌⊎◌, inl, inr, arith}
+use Rattle.std.specs.Prelude.{is_none, is_some, slice_index_or}
 use Rattle.std.proofs.lemmas.Bool.{true≢false}
 use Rattle.std.proofs.lemmas.List.{take_more}
 use Rattle.dom_model.specs.PlainLists.Lists.{among}
 use Rattle.dom_model.specs.Worlds.World.{Registration}
 use Rattle.dom_model.proofs.PlainLists.Numbers.{Same, same_or, same, apart}
 use Rattle.dom_observe.specs.declared.registration.Ending.{Ending}
+use Rattle.dom_observe.specs.declared.registration.Ended.TheVariants.{Transient}
+use Rattle.dom_observe.specs.declared.registration.Lifetime.TheVariants.{Passing}
+use Rattle.dom_observe.specs.Kept.{HaveNone}
 use Rattle.dom_observe.specs.Watchers.{on}
-use Rattle.dom_observe.specs.Registrations.{spares, left_by, left_after, goes, of_kind, ending_node, is_live, is_on, Placed}
-use Rattle.dom_observe.proofs.EndedOnes.{filter_all, among-last, either_by, live_of_placed}
-
--- what stands under a key is as before, or what is left of it
-abbrev pub Between : Ending → Option Registration → Option Registration → Type 0
-Between e p q = (q ≡ p) ⊎ (q ≡ left_after e p)
+use Rattle.dom_observe.specs.Registrations.{spares, left_by, left_after, goes, of_kind, AllLive, Between, ending_node, is_live, is_on, passes_for, Placed, Owned}
+use Rattle.dom_observe.proofs.EndedOnes.{filter_all, among-last, either_by, live_of_placed, lasting-left}
 
 pub take-whole : (xs : List ℕ) (i : ℕ) → length xs ≤ i → take i xs ≡ xs
 take-whole [] zero h = refl
@@ -61,6 +60,10 @@ module _ (e : Ending) where
   pub done-now : {p q : Option Registration} → Between e p q → left_after e q ≡ left_after e p
   done-now (inl f) = ap (left_after e) f
   done-now {p = p} (inr f) = ap (left_after e) f ∙ again p
+
+  pub between-gone : {p q : Option Registration} → Between e p q → (q ≡ p) ⊎ (q ≡ None)
+  between-gone (inl f) = inl f
+  between-gone {p = p} (inr f) = either_by f (or_gone true p)
 
   pub ends-none : (p : Option Registration) → ending_node e p ≡ None → left_after e p ≡ p
   ends-none None h = refl
@@ -122,6 +125,16 @@ module _ (e : Ending) where
         go (same f t) h = ap v (sym f) ∙ now ∙ ap (λ j. left_after e (u0 j)) f
         go (apart ne t) h = let w = rw t at h in done-still (u0 k) (done k w) (more k)
 
+  -- the keys of one more observer are gone through
+  module _ (u0 u v : ℕ → Option Registration) (lists : List (List ℕ)) (some : List ℕ) (o : ℕ) (between : (k : ℕ) → Between e (u0 k) (u k)) (more : (k : ℕ) → Between e (u k) (v k)) where
+    pub done-more : ((p : ℕ) → among p some ≡ true → (k : ℕ) → among k (slice_index_or lists p []) ≡ true → u k ≡ left_after e (u0 k)) → ((k : ℕ) → among k (slice_index_or lists o []) ≡ true → v k ≡ left_after e (u k))
+        → (p : ℕ) → (if o == p then true else among p some) ≡ true → (k : ℕ) → among k (slice_index_or lists p []) ≡ true → v k ≡ left_after e (u0 k)
+    done-more done now p h k m = go (same_or o p)
+      where
+        go : Same o p → v k ≡ left_after e (u0 k)
+        go (same f t) = now k (ap (λ q. among k (slice_index_or lists q [])) f ∙ m) ∙ done-now (between k)
+        go (apart ne t) = let g = rw t at h in done-still (u0 k) (done p g k m) (more k)
+
   -- what ends on one node has gone
   module _ (u v : ℕ → Option Registration) (lists lists' : List (ℕ × List ℕ)) (node : ℕ) (placed : Placed u lists)
       (left : (k : ℕ) → v k ≡ (if among k (on node lists) then left_after e (u k) else u k)) (kept : (n : ℕ) → on n lists' ≡ (if n == node then filter (is_live v) (on n lists) else on n lists)) where
@@ -153,6 +166,30 @@ module _ (e : Ending) where
         go (same f t) = rw t refl
         go (apart ne t) = rw t (filter_all (is_live v) (on n lists) (alive ne))
 
+  -- what ends under one key has gone
+  module _ (u v : ℕ → Option Registration) (key : ℕ) where
+    pub one-ends : (node : ℕ) → ending_node e (u key) ≡ Some node → ((k : ℕ) → v k ≡ (if k == key then None else u k)) → v key ≡ left_after e (u key)
+    one-ends node some left = left key ∙ here (same_or key key) ∙ sym (gone (u key) some)
+      where
+        here : Same key key → (if key == key then None else u key) ≡ None
+        here (same f t) = rw t refl
+        here (apart ne t) = absurd (ne refl)
+
+        gone : (p : Option Registration) → ending_node e p ≡ Some node → left_after e p ≡ None
+        gone None h = refl
+        gone (Some r) h = go (goes e (Some r)) h
+          where
+            go : (b : Bool) → (if b then Some r.node else None) ≡ Some node → (if b then None else Some r) ≡ None
+            go true g = refl
+            go false g = let d : ⊥ = cc g in absurd d
+
+    pub one-between : v key ≡ left_after e (u key) → ((k : ℕ) → v k ≡ (if k == key then None else u k)) → (k : ℕ) → Between e (u k) (v k)
+    one-between ends left k = go (same_or k key)
+      where
+        go : Same k key → Between e (u k) (v k)
+        go (same f t) = inr (ap v f ∙ ends ∙ ap (λ j. left_after e (u j)) (sym f))
+        go (apart ne t) = inl (left k ∙ ap (λ b. if b then None else u k) t)
+
   -- where all keys of the observer are gone through, what is left is what the step leaves of what stood under them
   pub all-done : (u v : ℕ → Option Registration) (keys : List ℕ) → ((k : ℕ) → among k keys ≡ of_kind e.lifetime e.observer (u k)) → ((k : ℕ) → Between e (u k) (v k)) → ((k : ℕ) → among k keys ≡ true → v k ≡ left_after e (u k))
       → (k : ℕ) → v k ≡ (if among k keys then left_by e.ended (u k) else u k)
@@ -165,3 +202,95 @@ module _ (e : Ending) where
       go true f z = done k f ∙ left ∙ ap (λ b. if b then left_by e.ended (u k) else u k) f
       go false f (inl g) = g
       go false f (inr g) = g ∙ left ∙ ap (λ b. if b then left_by e.ended (u k) else u k) f
+
+-- something stands under each of the keys of a node
+pub all_live-placed : (u : ℕ → Option Registration) (node : ℕ) (keys : List ℕ) → ((k : ℕ) → among k keys ≡ true → is_on node (u k) ≡ true) → AllLive u keys
+all_live-placed u node [] each = tt
+all_live-placed u node (k ∷ keys) each = (live_of_placed node (u k) (each k (here (same_or k k))), all_live-placed u node keys (λ j m. each j (ap (λ b. if k == j then true else b) m ∙ or_true (k == j))))
+  where
+    here : Same k k → (if k == k then true else among k keys) ≡ true
+    here (same e t) = rw t refl
+    here (apart ne t) = absurd (ne refl)
+
+    or_true : (b : Bool) → (if b then true else true) ≡ true
+    or_true true = refl
+    or_true false = refl
+
+-- What goes from under one key, with the key.
+module _ (u v : ℕ → Option Registration) (key : ℕ) (left : (k : ℕ) → v k ≡ (if k == key then None else u k)) where
+  pub one-or_gone : (k : ℕ) → (v k ≡ u k) ⊎ (v k ≡ None)
+  one-or_gone k = either_by (left k) (go (k == key))
+    where
+      go : (b : Bool) → ((if b then None else u k) ≡ u k) ⊎ ((if b then None else u k) ≡ None)
+      go true = inr refl
+      go false = inl refl
+
+  -- of live keys those that are left are the others
+  pub one-kept : (keys : List ℕ) → AllLive u keys → filter (λ k. not (k == key)) keys ≡ filter (is_live v) keys
+  one-kept [] live = refl
+  one-kept (k ∷ keys) live = (λ i. cond (here i) (k ∷ one-kept keys live.1 i) (one-kept keys live.1 i))
+    where
+      go : (b : Bool) → (k == key) ≡ b → not b ≡ is_some (if b then None else u k)
+      go true e = refl
+      go false e = sym live.0
+
+      here : not (k == key) ≡ is_live v k
+      here = go (k == key) refl ∙ ap is_some (sym (left k))
+
+  -- the others stay on the other nodes
+  pub one-swept : (lists lists' : List (ℕ × List ℕ)) (node : ℕ) → Placed u lists → is_on node (u key) ≡ true → ((n : ℕ) → on n lists' ≡ (if n == node then filter (is_live v) (on n lists) else on n lists))
+      → (n : ℕ) → on n lists' ≡ filter (is_live v) (on n lists)
+  one-swept lists lists' node placed there kept n = kept n ∙ go (same_or n node)
+    where
+      elsewhere : (n ≡ node → ⊥) → (p : Option Registration) → is_on n p ≡ true → is_on node p ≡ true → ⊥
+      elsewhere ne None h g = true≢false (sym h)
+      elsewhere ne (Some r) h g = elim (same_or r.node node) [
+        | same f t ↦ elim (same_or r.node n) [ same d _ ↦ ne (sym d ∙ f) | apart _ s ↦ true≢false (sym h ∙ s) ]
+        | apart _ t ↦ true≢false (sym g ∙ t)
+      ]
+
+      alive : (n ≡ node → ⊥) → (k : ℕ) → among k (on n lists) ≡ true → is_live v k ≡ true
+      alive ne k m = elim (same_or k key) [
+        | same f t ↦ absurd (elsewhere ne (u k) (sym (placed n k) ∙ m) (ap (λ j. is_on node (u j)) f ∙ there))
+        | apart nf t ↦ ap is_some (left k ∙ ap (λ b. if b then None else u k) t) ∙ live_of_placed n (u k) (sym (placed n k) ∙ m)
+      ]
+
+      go : Same n node → (if n == node then filter (is_live v) (on n lists) else on n lists) ≡ filter (is_live v) (on n lists)
+      go (same f t) = rw t refl
+      go (apart ne t) = rw t (filter_all (is_live v) (on n lists) (alive ne))
+
+-- every transient registration, of whichever observer
+abbrev pub every_transient : Ending
+every_transient = record { observer = None; lifetime = Passing; ended = Transient }
+
+every-left : (p : Option Registration) → left_after every_transient p ≡ left_by Transient p
+every-left None = refl
+every-left (Some r) = go r.source
+  where
+    go : (s : Option ℕ) → (if (is_some s && not (is_none s)) then None else Some r) ≡ (if is_none s then Some r else None)
+    go None = refl
+    go (Some n) = refl
+
+-- where the keys of each observer that has transient ones are gone through, none is left
+module _ (u v : ℕ → Option Registration) (lists : List (List ℕ)) (some : List ℕ) (owned : Owned passes_for u lists) (all : HaveNone some lists)
+    (between : (k : ℕ) → Between every_transient (u k) (v k)) (done : (o : ℕ) → among o some ≡ true → (k : ℕ) → among k (slice_index_or lists o []) ≡ true → v k ≡ left_after every_transient (u k)) where
+  pub transients-gone : (k : ℕ) → v k ≡ left_by Transient (u k)
+  transients-gone k = go (between k)
+    where
+      gone : (o : ℕ) (b : Bool) → among o some ≡ b → among k (slice_index_or lists o []) ≡ true → v k ≡ left_by Transient (u k)
+      gone o true g h = done o g k h ∙ every-left (u k)
+      gone o false g h = absurd (true≢false (sym h ∙ ap (among k) (all o g)))
+
+      one : (r : Registration) → u k ≡ Some r → (b : Bool) → among k (slice_index_or lists r.observer []) ≡ b → v k ≡ u k → v k ≡ left_by Transient (u k)
+      one r e true h f = gone r.observer (among r.observer some) refl h
+      one r e false h f =
+          let lasts : passes_for r.observer (Some r) ≡ false = ap (passes_for r.observer) (sym e) ∙ sym (owned r.observer k) ∙ h in
+          f ∙ sym (ap (left_by Transient) e ∙ lasting-left r lasts ∙ sym e)
+
+      stood : (p : Option Registration) → u k ≡ p → v k ≡ u k → v k ≡ left_by Transient (u k)
+      stood None e f = f ∙ e ∙ sym (ap (left_by Transient) e)
+      stood (Some r) e f = one r e (among k (slice_index_or lists r.observer [])) refl f
+
+      go : Between every_transient (u k) (v k) → v k ≡ left_by Transient (u k)
+      go (inl f) = stood (u k) refl f
+      go (inr f) = f ∙ every-left (u k)

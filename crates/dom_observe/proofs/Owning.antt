@@ -11,6 +11,7 @@ use Rattle.dom_observe.specs.declared.registration.Ended.TheVariants.{Of, From}
 use Rattle.dom_observe.specs.Watchers.{on}
 use Rattle.dom_observe.specs.Registrations.{left_by, is_live, is_on, lasts_for, passes_for, Placed, Owned, Added, NewKey, with_new_options}
 use Rattle.dom_observe.proofs.EndedOnes.{among-filter, among-last}
+use Rattle.dom_observe.proofs.Ordered.{among-insert}
 
 swapped : (m n : ℕ) → (m == n) ≡ (n == m)
 swapped m n = elim (same_or m n) [
@@ -125,13 +126,13 @@ module _ (kind : ℕ → Option Registration → Bool) (is : IsKind kind) (u v :
   owned-other kind2 nothing apart_kinds lists2 owned2 j k = owned2 j k ∙ unaffected (kind2 j) (nothing j) k (apart_kinds j (u k))
 
 -- A registration comes in.
-module _ (u v : ℕ → Option Registration) (r : Registration) (keys keys' : List ℕ) (a : NewKey u r v keys keys') where
+module _ (u v : ℕ → Option Registration) (r : Registration) (place : ℕ) (keys keys' : List ℕ) (a : NewKey u r v place keys keys') where
   pub owned-new : (kind : ℕ → Option Registration → Bool) → IsKind kind → ((j : ℕ) → kind j (Some r) ≡ (r.observer == j)) → (lists lists' : List (List ℕ)) → r.observer < length lists → keys ≡ slice_index_or lists r.observer []
       → lists' ≡ slice_set lists r.observer keys' → Owned kind u lists → Owned kind v lists'
   owned-new kind is of_kind lists lists' lt had set owned j k = elim (same_or j r.observer) [
     | same e t ↦
-        ap (among k) (ap (λ ls. slice_index_or ls j []) set ∙ ap (λ m. slice_index_or (slice_set lists r.observer keys') m []) e ∙ get_or-set_same lists r.observer keys' [] lt ∙ a.last)
-        ∙ among-last k a.key keys
+        ap (among k) (ap (λ ls. slice_index_or ls j []) set ∙ ap (λ m. slice_index_or (slice_set lists r.observer keys') m []) e ∙ get_or-set_same lists r.observer keys' [] lt ∙ a.put)
+        ∙ among-insert k keys place a.key
         ∙ here (same_or a.key k)
         ∙ ap (λ m. kind m (v k)) (sym e)
     | apart ne t ↦

@@ -3,7 +3,7 @@ use Rattle.std.proofs.Common.{◌≡◌, ℕ, zero, suc, ◌==◌, Bool, true, f
 use Rattle.std.specs.Prelude.{Vec, slice_index_or}
 use Rattle.std.specs.List.{AllByRecursion, IsDistinct, list_any, cons_option}
 use Rattle.std.specs.Cmp.{IsEquivalence}
-use Rattle.std.proofs.lemmas.Bool.{true≢false, or_parts}
+use Rattle.std.proofs.lemmas.Bool.{true≢false}
 use Rattle.std.proofs.lemmas.List.Sums.{sum_by-cons}
 use Rattle.std.proofs.lemmas.Map.Made.{length-le_from_is_member}
 use Rattle.slab.specs.Slab.{Slab, slab_len}
@@ -16,6 +16,7 @@ use Rattle.dom_observe.specs.Once.{same_registration, once}
 use Rattle.dom_observe.specs.Watchers.{on}
 use Rattle.dom_observe.specs.Registrations.{plain, at, found, listed, is_on, Placed}
 use Rattle.dom_observe.specs.Kept.{registered_nodes}
+use Rattle.dom_observe.proofs.Distinct.{distinct-none, distinct-more, distinct-first, distinct-rest, all-none}
 use Rattle.dom_observe.proofs.Keeping.{on-registered_nodes}
 use Rattle.dom_observe.proofs.Once.{same-is, same-itself, apart_from, any-once}
 use Rattle.dom_observe.proofs.Sounding.{any_found, itself}
@@ -38,22 +39,6 @@ same-equivalence = record {
 }
 
 -- Lists in which nothing comes again.
-
-distinct-none : IsDistinct same_registration []
-unfolding IsDistinct
-distinct-none = tt
-
-distinct-more : (r : Registration) (rs : List Registration) → AllByRecursion (λ s. same_registration r s ≡ false) rs → IsDistinct same_registration rs → IsDistinct same_registration (r ∷ rs)
-unfolding IsDistinct
-distinct-more r rs apart_all rest = (apart_all, rest)
-
-distinct-first : (r : Registration) (rs : List Registration) → IsDistinct same_registration (r ∷ rs) → AllByRecursion (λ s. same_registration r s ≡ false) rs
-unfolding IsDistinct
-distinct-first r rs d = d.0
-
-distinct-rest : (r : Registration) (rs : List Registration) → IsDistinct same_registration (r ∷ rs) → IsDistinct same_registration rs
-unfolding IsDistinct
-distinct-rest r rs d = d.1
 
 all-filter : (P : Registration → Type 0) (keep : Registration → Bool) (rs : List Registration) → AllByRecursion P rs → AllByRecursion P (filter keep rs)
 all-filter P keep [] h = tt
@@ -87,10 +72,6 @@ once-distinct (r ∷ rs) = distinct-more r (apart_from r (once rs)) (all-apart r
 none-of : (p : Registration → Bool) (rs : List Registration) → AllByRecursion (λ s. p s ≡ false) rs → list_any p rs ≡ false
 none-of p [] h = refl
 none-of p (r ∷ rs) h = ap (λ b. b || list_any p rs) h.0 ∙ none-of p rs h.1
-
-all-none : (p : Registration → Bool) (rs : List Registration) → list_any p rs ≡ false → AllByRecursion (λ s. p s ≡ false) rs
-all-none p [] h = tt
-all-none p (r ∷ rs) h = let f = or_parts (p r) (list_any p rs) h in (f.0, all-none p rs f.1)
 
 -- A filter that keeps what passes.
 any-kept : (p keep : Registration → Bool) → ((r : Registration) → p r ≡ true → keep r ≡ true) → (rs : List Registration) → list_any p (filter keep rs) ≡ list_any p rs

@@ -13,11 +13,12 @@ use Rattle.dom_model.specs.MutationObservers.Record.{Record}
 use Rattle.dom_model.specs.MutationObservers.Records.{is_registered}
 use Rattle.dom_model.proofs.PlainLists.Numbers.{Same, same_or, same, apart}
 use Rattle.dom_observe.specs.declared.registration.Registration as held
-use Rattle.dom_observe.specs.Once.{same_options}
+use Rattle.dom_observe.specs.Once.{same_options, same_registration}
 use Rattle.dom_observe.specs.Watchers.{Watchers, on}
 use Rattle.dom_observe.specs.Registrations.{at, found, listed, origin, is_on, StandsOn, Placed, HaveSources, Agree}
-use Rattle.dom_observe.specs.Kept.{registered_nodes, has_queue, IsKept}
+use Rattle.dom_observe.specs.Kept.{registered_nodes, has_queue, IsKept, PlacedOnce}
 use Rattle.dom_observe.specs.Sound.{IsThere, HasSource, IsSound}
+use Rattle.dom_observe.proofs.Distinct.{distinct-keys}
 use Rattle.dom_observe.proofs.Keeping.{on-registered_nodes}
 use Rattle.dom_observe.proofs.Keys.{keys_in, on-looked}
 use Rattle.dom_observe.proofs.Once.{options-itself}
@@ -50,7 +51,7 @@ pub itself : (m : ℕ) → (m == m) ≡ true
 itself m = elim (same_or m m) [ same e t ↦ t | apart ne t ↦ absurd (ne refl) ]
 
 module _ {A : Type 0} (table : Slab held.Registration) (entries : List (ℕ × Vec ℕ A)) (queues : List (Option (List Record))) (pending : List ℕ)
-    (kept : IsKept table entries queues pending) (placed : Placed (at table) (listed entries)) (have : HaveSources (at table)) (agree : Agree (at table)) where
+    (kept : IsKept table entries queues pending) (placed : Placed (at table) (listed entries)) (placed_once : PlacedOnce (listed entries)) (have : HaveSources (at table)) (agree : Agree (at table)) where
   abbrev seen : Watchers
   seen = record { nodes = registered_nodes table entries; queues = queues; pending = pending }
 
@@ -92,5 +93,6 @@ module _ {A : Type 0} (table : Slab held.Registration) (entries : List (ℕ × V
     here = λ n. all_on n (λ r. r.node ≡ n) (λ k r s is. subst (λ (t : Registration). t.node ≡ n) (its_own n k r s is) s.node);
     observers = λ n. all_on n (IsThere seen) (λ k r s is. subst (IsThere seen) (its_own n k r s is) s.observer);
     sources = λ n. all_on n (HasSource seen) (λ k r s is. has_source k r is);
+    apart = λ n. subst (IsDistinct same_registration) (sym (on-registered_nodes table n entries)) (distinct-keys (at table) (λ k j r e f. agree.one k j r r e f refl refl refl) (on n (listed entries)) (placed_once n));
     pending = kept.there;
   }

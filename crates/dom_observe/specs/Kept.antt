@@ -7,7 +7,7 @@ use Rattle.dom_model.specs.PlainLists.Lists.{hits, among}
 use Rattle.dom_model.specs.Worlds.World as model
 use Rattle.dom_model.specs.MutationObservers.Record.{Record}
 use Rattle.dom_observe.specs.declared.registration.Registration.{Registration}
-use Rattle.dom_observe.specs.Registrations.{at, found, listed, lasts_for, passes_for, AllStand, HaveKeys, Placed, Owned}
+use Rattle.dom_observe.specs.Registrations.{at, found, listed, lasts_for, passes_for, AllStand, HaveKeys, Placed, Owned, Ordered}
 use Rattle.dom_observe.specs.Watchers.{on, queue_at, records_at}
 
 -- each node with the registrations on it
@@ -49,7 +49,7 @@ abbrev pub HaveOnce : List (List ℕ) → Type 0
 HaveOnce lists = (i key : ℕ) → hits key (slice_index_or lists i []) ≤ 1
 
 -- Each node has the keys of the registrations on it, and each observer those of its own, lasting and transient ones apart, each once; and no
--- others. Only some observers have transient ones, all of whom are there.
+-- others. Those of transient ones stand by the nodes that these come from. Only some observers have transient ones, all of whom are there.
 pub record IsIndexed (under : ℕ → Option model.Registration) (lists : List (ℕ × List ℕ)) (lasts passes : List (List ℕ)) (some : List ℕ)
     (there : ℕ → Bool) : Type 0 where
   pub placed : Placed under lists
@@ -58,5 +58,6 @@ pub record IsIndexed (under : ℕ → Option model.Registration) (lists : List (
   pub passing : Owned passes_for under passes
   pub lasting_once : HaveOnce lasts
   pub passing_once : HaveOnce passes
+  pub passing_ordered : Ordered under passes
   pub fleeting : HaveNone some passes
   pub known : AllThere there some

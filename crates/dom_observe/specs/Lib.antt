@@ -12,4 +12,5 @@ pub mod Removed
 pub mod Roster
 pub mod Sound
 pub mod Telling
+pub mod Turns
 pub mod Watchers

@@ -1,7 +1,7 @@
 -- The registrations in the code's table, as those of the definitions.
-use Rattle.std.specs.Prelude.{◌≡◌, ◌≢◌, [], ◌∷◌, ◌++◌, ℕ, ◌==◌, Bool, not, ◌&&◌, ◌||◌, List, map, filter_map, Option, option_map, None, Some, is_none, is_some, slice_index_or, unwrap_or, nat_eq, Vec, if◌then◌else◌, false, true}
+use Rattle.std.specs.Prelude.{◌≡◌, ◌≢◌, ◌⊎◌, [], ◌∷◌, ◌++◌, ℕ, ◌==◌, ◌<◌, ◌≤◌, ⊤, Bool, not, ◌&&◌, ◌||◌, List, map, filter_map, take, drop, Option, option_map, None, Some, is_none, is_some, slice_index_or, unwrap_or, nat_eq, Vec, if◌then◌else◌, false, true}
 use Rattle.std.specs.Option.{option_map_or}
-use Rattle.std.specs.List.{AllByRecursion, list_any}
+use Rattle.std.specs.List.{AllByRecursion, insert, list_any}
 use Rattle.std.specs.Map.{lookup}
 use Rattle.slab.specs.Slab.{Slab, get}
 use Rattle.dom_model.specs.declared.RecordType.{RecordType}
@@ -112,10 +112,15 @@ pub record Observes (under : ℕ → Option model.Registration) (o n : ℕ) : Ty
 abbrev pub HaveSources : (ℕ → Option model.Registration) → Type 0
 HaveSources under = (key : ℕ) (r : model.Registration) (n : ℕ) → under key ≡ Some r → r.source ≡ Some n → Observes under r.observer n
 
--- of an observer those that last, or its transient ones
-abbrev pub of_kind : Lifetime → ℕ → Option model.Registration → Bool
-of_kind Lasting i o = lasts_for i o
-of_kind Passing i o = passes_for i o
+-- a registration is the observer's; where none is named, it is
+abbrev pub is_by : Option ℕ → model.Registration → Bool
+is_by None r = true
+is_by (Some i) r = r.observer == i
+
+-- of an observer, or of every one where none is named, those that last, or the transient ones
+abbrev pub of_kind : Lifetime → Option ℕ → Option model.Registration → Bool
+of_kind Lasting whose o = option_map_or (λ r. is_by whose r && is_none r.source) o false
+of_kind Passing whose o = option_map_or (λ r. is_by whose r && is_some r.source) o false
 
 -- what stands under a key ends: it is one of these, and the step does not leave it
 abbrev pub goes : Ending → Option model.Registration → Bool
@@ -124,6 +129,10 @@ goes e (Some r) = of_kind e.lifetime e.observer (Some r) && not (spares e.ended 
 
 abbrev pub left_after : Ending → Option model.Registration → Option model.Registration
 left_after e o = if goes e o then None else o
+
+-- what stands under a key is as before, or what is left of it
+abbrev pub Between : Ending → Option model.Registration → Option model.Registration → Type 0
+Between e before after = (after ≡ before) ⊎ (after ≡ left_after e before)
 
 -- the node of a registration that ends
 abbrev pub ending_node : Ending → Option model.Registration → Option ℕ
@@ -143,17 +152,40 @@ pub record Added (under : ℕ → Option model.Registration) (lists : List (ℕ 
   pub others : (other : ℕ) → other ≢ key → under' other ≡ under other
   pub keys : (n : ℕ) → on n lists' ≡ on n lists ++ (if n == r.node then key ∷ [] else [])
 
--- its key came in last among several
-pub record NewKey (under : ℕ → Option model.Registration) (r : model.Registration) (under' : ℕ → Option model.Registration) (keys keys' : List ℕ) : Type 0 where
+-- its key came in at a place among several
+pub record NewKey (under : ℕ → Option model.Registration) (r : model.Registration) (under' : ℕ → Option model.Registration) (place : ℕ) (keys keys' : List ℕ) : Type 0 where
   pub key : ℕ
   pub vacant : under key ≡ None
   pub here : under' key ≡ Some r
   pub others : (other : ℕ) → other ≢ key → under' other ≡ under other
-  pub last : keys' ≡ keys ++ key ∷ []
+  pub put : keys' ≡ insert keys place key
 
 -- where a registration comes from: a transient one from its source, a lasting one from its node
 abbrev pub origin : model.Registration → ℕ
 origin r = unwrap_or r.source r.node
+
+-- the same of what stands under a key
+abbrev pub origin_at : (ℕ → Option model.Registration) → ℕ → ℕ
+origin_at under key = option_map_or origin (under key) 0
+
+-- what stands under a key comes from no lower node than what stands under those ahead of it
+abbrev pub ByOrigin : (ℕ → Option model.Registration) → List ℕ → Type 0
+ByOrigin under [] = ⊤
+ByOrigin under (k ∷ keys) = AllByRecursion (λ j. origin_at under k ≤ origin_at under j) keys × ByOrigin under keys
+
+-- so it is with the keys of each observer
+abbrev pub Ordered : (ℕ → Option model.Registration) → List (List ℕ) → Type 0
+Ordered under lists = (i : ℕ) → ByOrigin under (slice_index_or lists i [])
+
+-- ahead of the place is what comes from lower nodes, and behind it the rest
+pub record IsFirstFrom (under : ℕ → Option model.Registration) (n : ℕ) (keys : List ℕ) (place : ℕ) : Type 0 where
+  pub ahead : AllByRecursion (λ k. origin_at under k < n) (take place keys)
+  pub behind : AllByRecursion (λ k. n ≤ origin_at under k) (drop place keys)
+
+-- behind the place is what comes from higher nodes, and ahead of it the rest
+pub record IsPast (under : ℕ → Option model.Registration) (n : ℕ) (keys : List ℕ) (place : ℕ) : Type 0 where
+  pub ahead : AllByRecursion (λ k. origin_at under k ≤ n) (take place keys)
+  pub behind : AllByRecursion (λ k. n < origin_at under k) (drop place keys)
 
 -- a transient registration of the observer, which comes from the node, stands under the key
 abbrev pub from_at : (ℕ → Option model.Registration) → ℕ → ℕ → ℕ → Bool
@@ -182,8 +214,10 @@ with_transients_of node rs (s ∷ ss) = with_transients_of node (with_transient 
 abbrev pub with_added_transients : ℕ → List model.Registration → ℕ → List model.Registration → List model.Registration
 with_added_transients node standing n rs = if node == n then with_transients_of node rs standing else rs
 
--- An observer is registered on a node under one key at most, and what stands of an observer from one origin has the same options.
+-- An observer is registered on a node under one key at most, lasting or from one source; and what stands of an observer from one origin has the same
+-- options.
 pub record Agree (under : ℕ → Option model.Registration) : Type 0 where
   pub options : ℕ → ℕ → model.Options
   pub alike : (key : ℕ) (r : model.Registration) → under key ≡ Some r → r.options ≡ options r.observer (origin r)
-  pub one : (o n key other : ℕ) → own_at under o n key ≡ true → own_at under o n other ≡ true → other ≡ key
+  pub one : (key other : ℕ) (r s : model.Registration) → under key ≡ Some r → under other ≡ Some s
+      → r.node ≡ s.node → r.observer ≡ s.observer → r.source ≡ s.source → other ≡ key

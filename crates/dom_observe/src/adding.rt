@@ -1,50 +1,55 @@
 //! Registrations that are added, and those that stand on the ancestors of a node.
 
-ghost use Rattle.std.specs.Prelude.{◌≡◌, ◌≢◌, ◌++◌, ℕ, Bool, List, OnOk, OnErr, IfOk, nat_eq, filter, flat_map, option_map, true, false};
+ghost use Rattle.std.specs.Prelude.{◌≡◌, ◌≢◌, ◌≤◌, ◌++◌, ℕ, Bool, length, List, OnOk, OnErr, IfOk, nat_eq, filter, flat_map, option_map, true, false};
 ghost use Rattle.std.specs.List.{AllByRecursion};
 ghost use Rattle.indexmap.specs.IndexMap.{IsUnique};
 ghost use Rattle.dom_model.specs.Forests.Forest.{HasNode, ancestors};
 ghost use Rattle.dom_observe.specs.Watchers.{on};
 ghost use Rattle.dom_observe.specs.Kept.{IsIndexed};
 ghost use Rattle.dom_observe.specs.Roster.{lasting_by, passing_by, queues_by, is_there};
-ghost use Rattle.dom_observe.specs.Registrations.{plain, at, found, listed, Added, NewKey, AllLive, Stands, AllStand, HaveKeys, HaveSources, Agree, deep_at, gives, transient_under, with_added_transients};
+ghost use Rattle.dom_observe.specs.Registrations.{plain, at, found, listed, Added, NewKey, AllLive, Stands, AllStand, HaveKeys, Placed, HaveSources, Agree, deep_at, gives, transient_under, with_added_transients};
 ghost use Rattle.dom_observe.specs.Naming.{names_one, NamesNone};
 ghost use Rattle.dom_observe.specs.Origins.{NotesIfAny};
 ghost use Rattle.dom_observe.specs.Refused.{IsFront};
+ghost use Rattle.dom_observe.specs.Turns.{Rising};
 
 use crate::observer_id::ObserverId;
 use crate::origins::Origins;
 use crate::registration::Registration;
 use crate::roster::Roster;
-use crate::table::{keys_on, put_key};
+use crate::table::{keys_on, next_turn, place_past, put_key};
 use crate::telling::pend;
 use dom_tree::{NodeId, Tree};
 use indexmap::{IndexMap, IndexSet};
 use slab::Slab;
 use std::alloc::{AllocError, Global};
 
-// Puts a registration last among those of its node, and its key among those of its observer.
+// Puts a registration last among those of its node, and its key at a place among those of its observer.
 pub(crate) fn add(
     table: &mut Slab<Registration>,
     nodes: &mut IndexMap<u32, Vec<usize>>,
     keys: &mut Vec<usize>,
-    registration: Registration,
+    place: usize,
+    mut registration: Registration,
     alloc: Global,
 ) -> Result<(), AllocError>
-    requires { IsUnique nat_eq nodes.old }
+    requires unique { IsUnique nat_eq nodes.old }
+    requires inside { place ≤ length keys.old.items }
     ensures ok { OnOk result (Added (at table.old) (listed nodes.old.entries) (plain registration) (at table.new) (listed nodes.new.entries)) }
-    ensures own { OnOk result (NewKey (at table.old) (plain registration) (at table.new) keys.old.items keys.new.items) }
+    ensures own { OnOk result (NewKey (at table.old) (plain registration) (at table.new) place keys.old.items keys.new.items) }
     ensures err_own { OnErr result (keys.new.items ≡ keys.old.items) }
     ensures err_table { OnErr result (table.new.slots ≡ table.old.slots) }
     ensures err_nodes { OnErr result (listed nodes.new.entries ≡ listed nodes.old.entries) }
+    ensures rising { Placed (at table.old) (listed nodes.old.entries) → Rising table.old (listed nodes.old.entries) → Rising table.new (listed nodes.new.entries) }
     ensures full { HaveKeys (listed nodes.old.entries) → HaveKeys (listed nodes.new.entries) }
     ensures unique { IsUnique nat_eq nodes.new }
 {
+    registration.turn = next_turn(table, keys_on(nodes, registration.node))?;
     table.reserve(1)?;
     let key = table.vacant_key();
-    keys.push(key)?;
+    keys.insert(place, key)?;
     if let Err(error) = put_key(nodes, registration.node, key, alloc) {
-        let _ = keys.pop();
+        let _ = keys.remove(place);
         return Err(error);
     }
     table.insert_reserved(registration);
@@ -62,7 +67,7 @@ fn gives(
     ensures { result ≡ gives (at table.now) own.now (plain registration.now) }
 {
     let origin = registration.origin();
-    registration.options.subtree && !origins.has(table, own, registration.observer, origin)
+    registration.options.subtree() && !origins.has(table, own, registration.observer, origin)
 }
 
 // The transient registration that a node with these keys gets from what stands under a key.
@@ -114,7 +119,8 @@ pub(crate) fn add_transients(
         IsIndexed (at table.old) (listed nodes.old.entries) lasts (passing_by roster.old) fleeting.old.keys p →
         IsIndexed (at table.new) (listed nodes.new.entries) lasts (passing_by roster.new) fleeting.new.keys p }
     ensures sources { HaveSources (at table.old) → HaveSources (at table.new) }
-    ensures agree { Agree (at table.old) → Agree (at table.new) }
+    ensures agree { Placed (at table.old) (listed nodes.old.entries) → Agree (at table.old) → Agree (at table.new) }
+    ensures rising { Placed (at table.old) (listed nodes.old.entries) → Rising table.old (listed nodes.old.entries) → Rising table.new (listed nodes.new.entries) }
     ensures lasting { lasting_by roster.new ≡ lasting_by roster.old }
     ensures queues { queues_by roster.new ≡ queues_by roster.old }
     ensures unique { IsUnique nat_eq nodes.new }
@@ -123,10 +129,12 @@ pub(crate) fn add_transients(
     for key in standing {
         if let Some(made) = transient_of(table, keys_on(nodes, node), &origins, *key, node)? {
             let observer = made.observer;
-            origins.note(observer, made.origin())?;
+            let origin = made.origin();
+            origins.note(observer, origin)?;
             pend(fleeting, observer)?;
             let kept = roster.get_mut(observer);
-            add(table, nodes, &mut kept.passing, made, alloc)?;
+            let place = place_past(table, kept.passing.as_slice(), origin);
+            add(table, nodes, &mut kept.passing, place, made, alloc)?;
         }
     }
     Ok(())
@@ -159,7 +167,7 @@ fn is_deep(table: &Slab<Registration>, key: usize) -> bool
     ensures { result ≡ deep_at (at table.now) key }
 {
     match table.get(key) {
-        Some(registration) => registration.options.subtree,
+        Some(registration) => registration.options.subtree(),
         None => false,
     }
 }

@@ -3,6 +3,7 @@
 
 mod adding;
 mod ending;
+mod filter;
 mod naming;
 mod notifying;
 mod observer_id;

@@ -17,7 +17,8 @@ ghost use Rattle.dom_observe.specs.Sound.{IsSound};
 ghost use Rattle.dom_observe.specs.Watchers.{queue_in, records_at, registrations_in, Watches, Steps, Answers};
 
 use crate::adding::{add, add_transients, find_standing, find_standing_deep};
-use crate::ending::{end_all, end_own, end_transients};
+use crate::ending::{end_all, end_from, end_own, end_transients};
+use crate::filter::Asked;
 use crate::naming::{is_named, is_told};
 use crate::notifying::gather;
 use crate::observer_id::ObserverId;
@@ -64,6 +65,7 @@ impl Model for Observers {
     ghost use Rattle.dom_observe.specs.Registrations.{at, listed, HaveSources, Agree};
     ghost use Rattle.dom_observe.specs.Kept.{registered_nodes, has_queue, IsKept, IsIndexed, IsAwaited};
     ghost use Rattle.dom_observe.specs.Roster.{lasting_by, passing_by, queues_by};
+    ghost use Rattle.dom_observe.specs.Turns.{Rising};
 
     ghost view = { λ o. record {
       nodes = registered_nodes o.table o.nodes.entries;
@@ -73,7 +75,8 @@ impl Model for Observers {
 
     ghost invariant = { λ o. IsKept o.table o.nodes.entries (queues_by o.roster) o.pending.keys
         × IsIndexed (at o.table) (listed o.nodes.entries) (lasting_by o.roster) (passing_by o.roster) o.fleeting.keys (has_queue (queues_by o.roster))
-        × HaveSources (at o.table) × Agree (at o.table) × IsAwaited (queues_by o.roster) o.pending.keys o.untold.keys };
+        × HaveSources (at o.table) × Agree (at o.table) × IsAwaited (queues_by o.roster) o.pending.keys o.untold.keys
+        × Rising o.table (listed o.nodes.entries) };
 }
 
 impl Observers {
@@ -162,6 +165,8 @@ impl Observers {
     }
 
     /// Registers an observer on a node ("observe"): in place of its registration there, or as a new one.
+    ///
+    /// Where a filter has more than a few names, it takes memory for a set of them too, so that a mutation asks for a name in constant time.
     pub fn observe(
         &mut self,
         observer: ObserverId,
@@ -174,7 +179,8 @@ impl Observers {
         ensures names { NamesOnly (node ∷ []) self.old self.new }
         ensures made { SameObservers self.old self.new }
     {
-        let shared = Rc::new(self.alloc, options)?;
+        let asked = Asked::new(self.alloc, options)?;
+        let shared = Rc::new(self.alloc, asked)?;
         self.register(observer, node, shared)
     }
 
@@ -183,7 +189,7 @@ impl Observers {
         &mut self,
         observer: ObserverId,
         node: NodeId,
-        options: Rc<Options>,
+        options: Rc<Asked>,
     ) -> Result<(), AllocError>
         requires held { IsSome (queue_in self.old observer) }
         ensures ok { OnOk result (Steps (observed observer node options.value) self.old self.new) }
@@ -200,13 +206,14 @@ impl Observers {
         );
         match own {
             Some(key) => {
-                let ending = Ending {
-                    observer,
-                    lifetime: Lifetime::Passing,
-                    ended: Ended::From(observer, node),
-                };
                 let kept = self.roster.get_mut(observer);
-                end_own(&mut self.table, &mut self.nodes, &mut kept.passing, &ending);
+                end_from(
+                    &mut self.table,
+                    &mut self.nodes,
+                    &mut kept.passing,
+                    observer,
+                    node,
+                );
                 set_options(&mut self.table, key, options);
                 Ok(())
             }
@@ -216,12 +223,15 @@ impl Observers {
                     observer,
                     options,
                     source: None,
+                    turn: 0,
                 };
                 let kept = self.roster.get_mut(observer);
+                let place = kept.lasting.len();
                 add(
                     &mut self.table,
                     &mut self.nodes,
                     &mut kept.lasting,
+                    place,
                     registration,
                     self.alloc,
                 )
@@ -433,7 +443,7 @@ impl Observers {
     {
         let kept = self.roster.get_mut(observer);
         let ending = Ending {
-            observer,
+            observer: Some(observer),
             lifetime: Lifetime::Passing,
             ended: Ended::TransientOf(observer),
         };

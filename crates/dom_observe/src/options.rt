@@ -2,9 +2,9 @@
 
 ghost use Rattle.std.specs.Prelude.{◌≡◌, IfOk, string_bytes, bytes_eq, map};
 ghost use Rattle.std.specs.List.{list_any};
-ghost use Rattle.dom_model.specs.MutationObservers.Records.{settled, name_passes, type_passes, asks_old_value};
+ghost use Rattle.dom_model.specs.MutationObservers.Records.{settled, name_passes};
 
-use dom_model::{DomError, RecordType};
+use dom_model::DomError;
 use std::alloc::{AllocError, Global};
 use std::marker::Model;
 
@@ -137,8 +137,8 @@ impl Options {
         })
     }
 
-    // Whether an attribute of that name passes the filter.
-    fn passes(&self, name: Option<&str>) -> bool
+    // Whether an attribute of that name passes the filter. It goes through the names.
+    pub(crate) fn passes(&self, name: Option<&str>) -> bool
         ensures { result ≡ name_passes self.now.attribute_filter (text_of name.entry) }
     {
         match &self.attribute_filter {
@@ -147,28 +147,6 @@ impl Options {
                 None => false,
                 Some(name) => is_one_of(name, names.as_slice()),
             },
-        }
-    }
-
-    // Whether a mutation of that type and name is asked for.
-    pub(crate) fn asks(&self, what: RecordType, name: Option<&str>) -> bool
-        ensures { result ≡ type_passes what (text_of name.entry) self.now }
-    {
-        match what {
-            RecordType::ChildList => self.child_list,
-            RecordType::Attributes => self.attributes && self.passes(name),
-            RecordType::CharacterData => self.character_data,
-        }
-    }
-
-    // Whether the old value is asked for with a mutation of that type.
-    pub(crate) fn asks_old_value(&self, what: RecordType) -> bool
-        ensures { result ≡ asks_old_value what self.now }
-    {
-        match what {
-            RecordType::ChildList => false,
-            RecordType::Attributes => self.attribute_old_value,
-            RecordType::CharacterData => self.character_data_old_value,
         }
     }
 }

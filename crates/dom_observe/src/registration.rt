@@ -5,8 +5,8 @@ ghost use Rattle.dom_model.specs.PlainLists.Lists.{is_number};
 ghost use Rattle.dom_model.specs.MutationObservers.Records.{type_passes, asks_old_value};
 ghost use Rattle.dom_observe.specs.Names.{text_of};
 
+use crate::filter::Asked;
 use crate::observer_id::ObserverId;
-use crate::options::Options;
 use dom_model::RecordType;
 use dom_tree::NodeId;
 use std::alloc::AllocError;
@@ -17,8 +17,10 @@ use std::rc::Rc;
 pub struct Registration {
     pub node: NodeId,
     pub observer: ObserverId,
-    pub options: Rc<Options>,
+    pub options: Rc<Asked>,
     pub source: Option<NodeId>,
+    // higher than those of the registrations that came in on the node before it; given as it comes in
+    pub turn: u64,
 }
 
 // Which registrations a step ends.
@@ -41,10 +43,10 @@ pub enum Lifetime {
     Passing,
 }
 
-// Which registrations of an observer end: those of a lifetime that a step does not leave.
+// Which registrations of an observer, or of every one where none is named, end: those of a lifetime that a step does not leave.
 #[derive(Clone, Copy, Debug)]
 pub struct Ending {
-    pub observer: ObserverId,
+    pub observer: Option<ObserverId>,
     pub lifetime: Lifetime,
     pub ended: Ended,
 }
@@ -60,7 +62,7 @@ pub struct Question<'a> {
 impl Registration {
     ghost use Rattle.dom_model.specs.MutationObservers.Records.{is_registered, is_transient_from};
     ghost use Rattle.dom_model.specs.MutationObservers.Observing.{transient_of};
-    ghost use Rattle.dom_observe.specs.Registrations.{plain, concerns, origin};
+    ghost use Rattle.dom_observe.specs.Registrations.{plain, concerns, is_by, origin};
 
     // Whether it is the observer's on the node, and not a transient one.
     pub fn is_own(&self, observer: ObserverId, node: NodeId) -> bool
@@ -76,6 +78,16 @@ impl Registration {
         self.observer == observer && self.source == Some(node)
     }
 
+    // Whether it is the observer's; where none is named, it is.
+    pub fn is_by(&self, observer: Option<ObserverId>) -> bool
+        ensures { result ≡ is_by observer (plain self.now) }
+    {
+        match observer {
+            Some(observer) => self.observer == observer,
+            None => true,
+        }
+    }
+
     // The node that it comes from: its source, or its own.
     pub fn origin(&self) -> NodeId
         ensures { result ≡ origin (plain self.now) }
@@ -87,7 +99,7 @@ impl Registration {
     pub fn concerns(&self, question: &Question<'_>) -> bool
         ensures { result ≡ concerns question.now.what question.now.target (text_of question.now.name) (plain self.now) }
     {
-        (self.node == question.target || self.options.subtree)
+        (self.node == question.target || self.options.subtree())
             && self.options.asks(question.what, question.name)
     }
 
@@ -101,6 +113,7 @@ impl Registration {
             observer: self.observer,
             options,
             source: Some(self.origin()),
+            turn: 0,
         })
     }
 }
@@ -126,17 +139,13 @@ impl Ended {
 impl Lifetime {
     ghost use Rattle.dom_observe.specs.Registrations.{plain, of_kind};
 
-    // Whether the registration is the observer's, and of this lifetime.
-    fn is_of(self, observer: ObserverId, registration: &Registration) -> bool
+    // Whether the registration is the observer's, where one is named, and of this lifetime.
+    fn is_of(self, observer: Option<ObserverId>, registration: &Registration) -> bool
         ensures { result ≡ of_kind self observer (Some (plain registration.now)) }
     {
         match self {
-            Lifetime::Lasting => {
-                registration.observer == observer && registration.source.is_none()
-            }
-            Lifetime::Passing => {
-                registration.observer == observer && registration.source.is_some()
-            }
+            Lifetime::Lasting => registration.is_by(observer) && registration.source.is_none(),
+            Lifetime::Passing => registration.is_by(observer) && registration.source.is_some(),
         }
     }
 }

@@ -16,6 +16,7 @@ use std::marker::Model;
 #[derive(Drop)]
 pub struct Observer {
     pub lasting: Vec<usize>,
+    // by the numbers of the nodes that the registrations come from
     pub passing: Vec<usize>,
     pub queue: Queue,
 }

@@ -1,14 +1,15 @@
 //! The table of registrations, and the keys that each node has in it.
 
-ghost use Rattle.std.specs.Prelude.{◌≡◌, ◌≢◌, ℕ, ◌==◌, ◌++◌, [], ◌∷◌, not, filter, find, IfOk, OnOk, OnErr, is_some, option_map, nat_eq, if◌then◌else◌, false, true};
+ghost use Rattle.std.specs.Prelude.{◌≡◌, ◌≢◌, ℕ, ◌<◌, ◌≤◌, ◌==◌, ◌++◌, [], ◌∷◌, length, remove, not, filter, find, IfOk, OnOk, OnErr, is_some, option_map, nat_eq, if◌then◌else◌, false, true};
 ghost use Rattle.indexmap.specs.IndexMap.{IsUnique};
 ghost use Rattle.dom_model.specs.PlainLists.Lists.{among};
 ghost use Rattle.slab.specs.Slab.{get};
 ghost use Rattle.dom_observe.specs.Watchers.{on};
-ghost use Rattle.dom_observe.specs.Registrations.{plain, spares, at, found, listed, AllStand, HaveKeys, is_live, left_by, own_at, from_at, with_new_options};
+ghost use Rattle.dom_observe.specs.Turns.{turn_at, Rises};
+ghost use Rattle.dom_observe.specs.Registrations.{plain, spares, at, found, listed, AllStand, HaveKeys, is_live, left_by, own_at, from_at, with_new_options, origin_at, ByOrigin, IsFirstFrom, IsPast};
 
+use crate::filter::Asked;
 use crate::observer_id::ObserverId;
-use crate::options::Options;
 use crate::registration::{Ended, Registration};
 use dom_tree::NodeId;
 use indexmap::IndexMap;
@@ -126,11 +127,71 @@ pub(crate) fn own_key(
 }
 
 // Puts other options in place of those of a registration.
-pub(crate) fn set_options(table: &mut Slab<Registration>, key: usize, options: Rc<Options>)
+pub(crate) fn set_options(table: &mut Slab<Registration>, key: usize, options: Rc<Asked>)
     ensures changed { at table.new key ≡ option_map (with_new_options options.value) (at table.old key) }
     ensures others { (other : ℕ) → other ≢ key → at table.new other ≡ at table.old other }
+    ensures turns { (other : ℕ) → turn_at table.new other ≡ turn_at table.old other }
 {
     if let Some(registration) = table.get_mut(key) {
         registration.options = options;
     }
+}
+
+// The turn of the registration under a key.
+fn turn_at(table: &Slab<Registration>, key: usize) -> u64
+    ensures { result ≡ turn_at table.now key }
+{
+    match table.get(key) {
+        Some(registration) => registration.turn,
+        None => 0,
+    }
+}
+
+// Where the registration under a key comes from.
+fn origin_at(table: &Slab<Registration>, key: usize) -> u32
+    ensures { result ≡ origin_at (at table.now) key }
+{
+    match table.get(key) {
+        Some(registration) => registration.origin().number(),
+        None => 0,
+    }
+}
+
+// The place of the first key of what comes from a node or a higher one, among keys that stand by where theirs comes from.
+pub(crate) fn place_from(table: &Slab<Registration>, keys: &[usize], node: NodeId) -> usize
+    ensures inside { result ≤ length keys.now }
+    ensures place { ByOrigin (at table.now) keys.now → IsFirstFrom (at table.now) node keys.now result }
+{
+    let number = node.number();
+    keys.partition_point(|key| origin_at(table, *key) < number)
+}
+
+// The place behind the last key of what comes from a node or a lower one.
+pub(crate) fn place_past(table: &Slab<Registration>, keys: &[usize], node: NodeId) -> usize
+    ensures inside { result ≤ length keys.now }
+    ensures place { ByOrigin (at table.now) keys.now → IsPast (at table.now) node keys.now result }
+{
+    let number = node.number();
+    keys.partition_point(|key| origin_at(table, *key) <= number)
+}
+
+// A turn behind those of a node's keys.
+pub(crate) fn next_turn(table: &Slab<Registration>, keys: &[usize]) -> Result<u64, AllocError>
+    ensures { IfOk result (λ turn. Rises (turn_at table.now) keys.now → (key : ℕ) → among key keys.now ≡ true → turn_at table.now key < turn) }
+{
+    match keys.last() {
+        Some(key) => turn_at(table, *key).checked_add(1).ok_or(AllocError),
+        None => Ok(0),
+    }
+}
+
+// The place of a key among those of its node, found by its turn.
+pub(crate) fn place_of(table: &Slab<Registration>, keys: &[usize], key: usize) -> usize
+    requires rising { Rises (turn_at table.now) keys.now }
+    requires there { among key keys.now ≡ true }
+    ensures inside { result < length keys.now }
+    ensures place { remove keys.now result ≡ filter (λ other. not (other == key)) keys.now }
+{
+    let turn = turn_at(table, key);
+    keys.partition_point(|other| turn_at(table, *other) < turn)
 }

@@ -21,7 +21,8 @@ pub fn order<X>(tree: &Tree<X>, a: Point, b: Point) -> Ordering
     order_where_met(tree, met, a, b)
 }
 
-/// How two points of one root stand. Where that asks for an index, or for which of two children comes first, and it is not found near, all siblings are numbered, so that it is known when it is asked for again. It takes no memory.
+/// How two points of one root stand. Where that asks for an index, or for which of two children comes first, and it is not found near, the
+/// indices of the siblings up to there are made known, so that it is known when it is asked for again. It takes no memory.
 pub fn found_order<X>(tree: &mut Tree<X>, a: Point, b: Point) -> Ordering
     requires a_held { HasNode tree.old.forest a.node }
     requires b_held { HasNode tree.old.forest b.node }

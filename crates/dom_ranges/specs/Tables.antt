@@ -27,6 +27,23 @@ IsCovered t n = covers t.covered n ≡ true
 abbrev pub range_in : RangeTable → ℕ → Option Range
 range_in t r = slice_index_or t.ranges r None
 
+-- the table with one range set anew
+abbrev pub with_range : ℕ → Range → RangeTable → RangeTable
+with_range r range t = record t { ranges = slice_set t.ranges r (Some range) }
+
+-- the table with one range released
+abbrev pub without_range : ℕ → RangeTable → RangeTable
+without_range r t = record t { ranges = slice_set t.ranges r None }
+
+-- a range is set to another, where there is one, and nothing else changes
+abbrev pub RangeIsSet : ℕ → Option Range → RangeTable → RangeTable → Type 0
+RangeIsSet r range old new = IfSome range (λ it. new ≡ with_range r it old)
+
+-- a live range becomes what is made of it, and nothing else changes
+abbrev pub RangeBecomes : ℕ → (Range → Range) → RangeTable → RangeTable → Type 0
+RangeBecomes r change old new =
+    IfSome (range_in old r) (λ range. new ≡ with_range r (change range) old)
+
 -- the nodes in which ends of live ranges stand
 abbrev pub live_nodes : RangeTable → List ℕ
 live_nodes t = flat_map (nodes_unless_released nodes_of_range) t.ranges

@@ -6,7 +6,7 @@ ghost use Rattle.dom_model.specs.PlainLists.Lists.{among};
 ghost use Rattle.dom_model.specs.Forests.Forest.{HasNode, inclusive_descendants};
 ghost use Rattle.dom_model.specs.Worlds.World.{Range};
 ghost use Rattle.dom_ranges.specs.Chained.{covers, covered_to, uncovered};
-ghost use Rattle.dom_ranges.specs.Tables.{IsCovered, AreCovered, range_in, slot_at, live_nodes, IsRangeIn};
+ghost use Rattle.dom_ranges.specs.Tables.{IsCovered, AreCovered, range_in, with_range, without_range, slot_at, live_nodes, IsRangeIn};
 
 use crate::chains::Chains;
 use crate::numbers::{RangeId, RangeSlot, SlotCell};
@@ -163,7 +163,7 @@ impl Ranges {
     /// Releases a range: it is adjusted no more, and its number is not used again.
     pub fn release(&mut self, r: RangeId)
         requires { IsSome (range_in self.old r) }
-        ensures { self.new ≡ record self.old { ranges = slice_set self.old.ranges r None } }
+        ensures { self.new ≡ without_range r self.old }
     {
         let slot = slot_of(&self.slots, r).unwrap();
         let last = self.numbers.len() - 1;
@@ -179,7 +179,7 @@ impl Ranges {
         requires held { IsSome (range_in self.old r) }
         requires start_covered { IsCovered self.old start.node }
         requires end_covered { IsCovered self.old end.node }
-        ensures { self.new ≡ record self.old { ranges = slice_set self.old.ranges r (Some (record { start = start; end = end })) } }
+        ensures { self.new ≡ with_range r (record { start = start; end = end }) self.old }
     {
         let slot = slot_of(&self.slots, r).unwrap();
         self.chains.place(slot.start(), start);

@@ -1,6 +1,6 @@
 //! Live ranges set anew (DOM Standard, "Interface Range").
 
-ghost use Rattle.std.specs.Prelude.{◌≡◌, slice_set, Some, None, IsSome, IfSome, OnOk, OnErr};
+ghost use Rattle.std.specs.Prelude.{◌≡◌, None, IsSome, OnOk, OnErr};
 ghost use Rattle.std.specs.Option.{ForSome};
 ghost use Rattle.dom_model.specs.declared.Kind.TheVariants.{DocumentType};
 ghost use Rattle.dom_model.specs.Forests.Forest.{HasNode, parent_of};
@@ -11,7 +11,7 @@ ghost use Rattle.dom_model.specs.Commands.Command.{SelectNode, SelectNodeContent
 ghost use Rattle.dom_model.specs.TokenText.Edits.{ends_edits_at};
 ghost use Rattle.dom_model.specs.TokenText.CommandEdits.{start_edits, end_edits, command_edits};
 ghost use Rattle.dom_ranges.specs.Markers.{StandByEdits, IsNestedAs, IsMeasuredAs, HasPoint, IsAny};
-ghost use Rattle.dom_ranges.specs.Tables.{IsCovered, range_in, StandsIn, refused};
+ghost use Rattle.dom_ranges.specs.Tables.{IsCovered, range_in, with_range, RangeIsSet, RangeBecomes, StandsIn, refused};
 
 use crate::numbers::RangeId;
 use crate::ranges::Ranges;
@@ -32,8 +32,7 @@ impl Ranges {
         requires covered { IsCovered self.old p.node }
         requires stands { ForSome (range_in self.old r) (StandsIn tree.old.forest) }
         ensures refusal { result ≡ refused (check_point X.length tree.old.forest p) }
-        ensures set { OnOk result (IfSome (range_in self.old r)
-            (λ range. self.new ≡ record self.old { ranges = slice_set self.old.ranges r (Some (start_set tree.old.forest p range)) })) }
+        ensures set { OnOk result (RangeBecomes r (start_set tree.old.forest p) self.old self.new) }
         ensures markers { OnOk result (StandByEdits (IsMeasuredAs X.length tree.old.forest) self.old self.new (start_edits r p)) }
         ensures unchanged { OnErr result (self.new ≡ self.old) }
         ensures kept { tree.new ≡ tree.old }
@@ -60,8 +59,7 @@ impl Ranges {
         requires covered { IsCovered self.old p.node }
         requires stands { ForSome (range_in self.old r) (StandsIn tree.old.forest) }
         ensures refusal { result ≡ refused (check_point X.length tree.old.forest p) }
-        ensures set { OnOk result (IfSome (range_in self.old r)
-            (λ range. self.new ≡ record self.old { ranges = slice_set self.old.ranges r (Some (end_set tree.old.forest p range)) })) }
+        ensures set { OnOk result (RangeBecomes r (end_set tree.old.forest p) self.old self.new) }
         ensures markers { OnOk result (StandByEdits (IsMeasuredAs X.length tree.old.forest) self.old self.new (end_edits r p)) }
         ensures unchanged { OnErr result (self.new ≡ self.old) }
         ensures kept { tree.new ≡ tree.old }
@@ -82,8 +80,7 @@ impl Ranges {
         requires node { HasNode tree.now.forest node }
         requires covered { ForSome (parent_of tree.now.forest node) (IsCovered self.old) }
         ensures refusal { result ≡ refused (check_parent tree.now.forest node) }
-        ensures set { OnOk result (IfSome (around tree.now.forest node)
-            (λ range. self.new ≡ record self.old { ranges = slice_set self.old.ranges r (Some range) })) }
+        ensures set { OnOk result (RangeIsSet r (around tree.now.forest node) self.old self.new) }
         ensures markers { OnOk result (StandByEdits (IsNestedAs tree.now.forest) self.old self.new (command_edits (SelectNode r node))) }
         ensures unchanged { OnErr result (self.new ≡ self.old) }
     {
@@ -100,7 +97,7 @@ impl Ranges {
         requires node { HasNode tree.now.forest node }
         requires allowed { check_parent tree.now.forest node ≡ None }
         requires covered { ForSome (parent_of tree.now.forest node) (IsCovered self.old) }
-        ensures set { IfSome (around tree.now.forest node) (λ range. self.new ≡ record self.old { ranges = slice_set self.old.ranges r (Some range) }) }
+        ensures set { RangeIsSet r (around tree.now.forest node) self.old self.new }
         ensures markers { StandByEdits (IsNestedAs tree.now.forest) self.old self.new (command_edits (SelectNode r node)) }
     {
         let (start, end) = points_around(tree, node).unwrap();
@@ -118,7 +115,8 @@ impl Ranges {
         requires node { HasNode tree.now.forest node }
         requires covered { IsCovered self.old node }
         ensures refusal { result ≡ refused (check_contents tree.now.forest node) }
-        ensures set { OnOk result (self.new ≡ record self.old { ranges = slice_set self.old.ranges r (Some (contents_of X.length tree.now.forest node)) }) }
+        ensures set { OnOk result
+            (self.new ≡ with_range r (contents_of X.length tree.now.forest node) self.old) }
         ensures markers { OnOk result (StandByEdits (IsMeasuredAs X.length tree.now.forest) self.old self.new (command_edits (SelectNodeContents r node))) }
         ensures unchanged { OnErr result (self.new ≡ self.old) }
     {
@@ -134,7 +132,7 @@ impl Ranges {
     pub fn collapse_at(&mut self, r: RangeId, p: Point)
         requires held { IsSome (range_in self.old r) }
         requires covered { IsCovered self.old p.node }
-        ensures set { self.new ≡ record self.old { ranges = slice_set self.old.ranges r (Some (collapsed_at p)) } }
+        ensures set { self.new ≡ with_range r (collapsed_at p) self.old }
         ensures markers { StandByEdits (HasPoint p) self.old self.new (ends_edits_at r (collapsed_at p)) }
     {
         self.write(r, p, p);
@@ -143,8 +141,7 @@ impl Ranges {
     /// Both ends become the start, or the end.
     pub fn collapse(&mut self, r: RangeId, to_start: bool)
         requires { IsSome (range_in self.old r) }
-        ensures set { IfSome (range_in self.old r)
-            (λ range. self.new ≡ record self.old { ranges = slice_set self.old.ranges r (Some (collapsed to_start range)) }) }
+        ensures set { RangeBecomes r (collapsed to_start) self.old self.new }
         ensures markers { StandByEdits IsAny self.old self.new (command_edits (Collapse r to_start)) }
     {
         let (start, end) = self.ends(r);

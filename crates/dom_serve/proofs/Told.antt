@@ -1,5 +1,5 @@
 -- What reads gave and what was written for them, one more read at a time.
-use Rattle.std.proofs.Common.{◌≡◌, ℕ, ◌+◌, ◌*◌, ◌<◌, true, false, List, [], ◌∷◌, ◌++◌, length, Option, Result, Ok, Err, IfOk, OnOk, IfSome, refl, sym, ap, ◌∙◌, subst, arith, take, ◌≤◌, append-nil, length-append, length-take, inr}
+use Rattle.std.proofs.Common.{◌≡◌, ℕ, ◌+◌, ◌*◌, ◌<◌, true, false, List, [], ◌∷◌, ◌++◌, length, Option, Result, Ok, Err, OnOk, IfSome, refl, sym, ap, ◌∙◌, subst, arith, take, ◌≤◌, append-nil, length-append, length-take, inr}
 use Rattle.std.specs.List.{All, AllByRecursion}
 use Rattle.std.proofs.lemmas.List.Elements.{All-push}
 use Rattle.std.specs.Io.KnownBytes.{Appends, Consumes, IsAtEnd, Keeps}
@@ -7,11 +7,12 @@ use Rattle.std.proofs.KnownBytes.{Appends-trans, Appends-nil, Consumes-nil, Cons
 use Rattle.dom_model.specs.Commands.Answer.{Bounds}
 use Rattle.dom_model.specs.Commands.Table.{whole_table}
 use Rattle.dom_model.specs.Commands.Printed.{out_of_memory_line}
-use Rattle.dom_model.specs.Commands.Output.{joined, due, whole_lines, last_piece, lines_of, output_of}
+use Rattle.dom_model.specs.Commands.Output.{joined, due, whole_lines, lines_of, output_of}
 use Rattle.dom_serve.specs.declared.fault.Fault.{Fault}
 use Rattle.dom_serve.specs.declared.fault.Fault.TheVariants.{Read, Write, Memory, InputTooLong}
 use Rattle.dom_serve.specs.declared.fault.Summary.{Summary}
 use Rattle.dom_serve.specs.declared.server.Server.{Server}
+use Rattle.dom_serve.specs.Streams.{Reading}
 use Rattle.dom_serve.specs.Writes.{IsPrefix}
 use Rattle.dom_serve.specs.Calls.{EndsWith}
 use Rattle.dom_serve.specs.Pieces.{Reads, AreWithin, EndsOnce, is_nothing, has_end, before_last}
@@ -76,35 +77,35 @@ due-nothing : (b : Bounds) → joined (due whole_table b [] false) ≡ []
 unfolding due whole_lines
 due-nothing b = refl
 
-pub so_far-none : {R : Type 0} (gives : R → List ℕ → R → Type 0) (left : R → Option (List ℕ)) (b : Bounds) (old : R) (s : Server) (taken : Option (List ℕ)) → Stands b [] s
-    → IsSoFar gives left b 0 old old s taken taken
-so_far-none gives left b old s taken h = record {
+pub so_far-none : {R : Type 0} (reading : Reading R) (b : Bounds) (old : R) (s : Server) (taken : Option (List ℕ)) → Stands b [] s
+    → IsSoFar reading b 0 old old s taken taken
+so_far-none reading b old s taken h = record {
   pieces = [];
   reads = refl;
   count = refl;
   sizes = Sizes-none;
   open_ended = refl;
   some = tt;
-  consumed = Consumes-nil (left old);
+  consumed = Consumes-nil (reading.left old);
   stands = h;
   written = subst (λ l. Appends taken taken l) (sym (due-nothing b)) (Appends-nil taken);
 }
 
-pub so_far-more : {R : Type 0} (gives : R → List ℕ → R → Type 0) (left : R → Option (List ℕ)) (b : Bounds) (turn : ℕ) (old mid new : R) (s s' : Server)
-    (taken taken' taken'' : Option (List ℕ)) (piece : List ℕ) (p : IsSoFar gives left b turn old mid s taken taken') → gives mid piece new → Consumes (left mid) (left new) piece
+pub so_far-more : {R : Type 0} (reading : Reading R) (b : Bounds) (turn : ℕ) (old mid new : R) (s s' : Server)
+    (taken taken' taken'' : Option (List ℕ)) (piece : List ℕ) (p : IsSoFar reading b turn old mid s taken taken') → reading.gives mid piece new → Consumes (reading.left mid) (reading.left new) piece
     → 0 < length piece → length piece ≤ 65536
     → Stands b (joined p.pieces ++ piece) s' × Grows (due whole_table b (joined p.pieces) false) (due whole_table b (joined p.pieces ++ piece) false) taken' taken''
-    → IsSoFar gives left b (turn + 1) old new s' taken taken''
-so_far-more gives left b turn old mid new s s' taken taken' taken'' piece p given consumed some size fed =
+    → IsSoFar reading b (turn + 1) old new s' taken taken''
+so_far-more reading b turn old mid new s s' taken taken' taken'' piece p given consumed some size fed =
     let e : joined p.pieces ++ piece ≡ joined (p.pieces ++ piece ∷ []) = sym (joined-single p.pieces piece) in
     record {
       pieces = p.pieces ++ piece ∷ [];
-      reads = Reads-more gives old mid new p.pieces piece p.reads given;
+      reads = Reads-more reading.gives old mid new p.pieces piece p.reads given;
       count = length-append p.pieces (piece ∷ []) ∙ ap (λ n. n + 1) p.count;
       sizes = Sizes-more p.pieces piece p.sizes size;
       open_ended = has_end-last p.pieces piece ∙ is_nothing-some piece some;
       some = some-more p.pieces piece p.some (is_nothing-some piece some);
-      consumed = Consumes-more left old mid new p.pieces piece p.consumed consumed;
+      consumed = Consumes-more reading.left old mid new p.pieces piece p.consumed consumed;
       stands = subst (λ l. Stands b l s') e fed.0;
       written = subst (λ l. Appends taken taken'' (joined (due whole_table b l false))) e
           (Grows-written (due whole_table b (joined p.pieces) false) (due whole_table b (joined p.pieces ++ piece) false) taken taken' taken'' p.written fed.1);
@@ -113,10 +114,10 @@ so_far-more gives left b turn old mid new s s' taken taken' taken'' piece p give
 -- ---- at the end
 
 -- a read failed
-pub told-read : {R : Type 0} (gives : R → List ℕ → R → Type 0) (fails : R → R → Type 0) (left : R → Option (List ℕ)) (b : Bounds) (turns turn : ℕ) (old mid new : R) (s : Server)
-    (taken taken' : Option (List ℕ)) → IsSoFar gives left b turn old mid s taken taken' → turn < turns → Keeps (left mid) (left new) → fails mid new
-    → IsTold gives fails left b turns old new taken taken' (Err Read)
-told-read gives fails left b turns turn old mid new s taken taken' p room kept failed = record {
+pub told-read : {R : Type 0} (reading : Reading R) (b : Bounds) (turns turn : ℕ) (old mid new : R) (s : Server)
+    (taken taken' : Option (List ℕ)) → IsSoFar reading b turn old mid s taken taken' → turn < turns → Keeps (reading.left mid) (reading.left new) → reading.fails mid new
+    → IsTold reading b turns old new taken taken' (Err Read)
+told-read reading b turns turn old mid new s taken taken' p room kept failed = record {
   pieces = p.pieces;
   text = joined (due whole_table b (joined p.pieces) false);
   last = mid;
@@ -124,15 +125,15 @@ told-read gives fails left b turns turn old mid new s taken taken' p room kept f
   ends = failed;
   within = (omega (arith, p.count), p.sizes);
   once = once-all p.pieces p.some;
-  consumed = Consumes-kept (left old) (left mid) (left new) (joined p.pieces) p.consumed kept;
+  consumed = Consumes-kept (reading.left old) (reading.left mid) (reading.left new) (joined p.pieces) p.consumed kept;
   written = p.written;
   tells = (p.open_ended, refl);
 }
 
 -- no read is left
-pub told-too_long : {R : Type 0} (gives : R → List ℕ → R → Type 0) (fails : R → R → Type 0) (left : R → Option (List ℕ)) (b : Bounds) (turn turns : ℕ) (old new : R) (s : Server) (taken taken' : Option (List ℕ))
-    → IsSoFar gives left b turn old new s taken taken' → turn ≡ turns → IsTold gives fails left b turns old new taken taken' (Err InputTooLong)
-told-too_long gives fails left b turn turns old new s taken taken' p all = record {
+pub told-too_long : {R : Type 0} (reading : Reading R) (b : Bounds) (turn turns : ℕ) (old new : R) (s : Server) (taken taken' : Option (List ℕ))
+    → IsSoFar reading b turn old new s taken taken' → turn ≡ turns → IsTold reading b turns old new taken taken' (Err InputTooLong)
+told-too_long reading b turn turns old new s taken taken' p all = record {
   pieces = p.pieces;
   text = joined (due whole_table b (joined p.pieces) false);
   last = new;
@@ -172,41 +173,41 @@ ends-broken fails after whole Memory new h = refl
 ends-broken fails after whole InputTooLong new h = absurd h
 
 -- something failed after a read
-pub told-broken : {R : Type 0} (gives : R → List ℕ → R → Type 0) (fails : R → R → Type 0) (left : R → Option (List ℕ)) (b : Bounds) (turns turn : ℕ) (old mid new : R) (s : Server)
-    (taken taken' taken'' : Option (List ℕ)) (piece : List ℕ) (fault : Fault) (p : IsSoFar gives left b turn old mid s taken taken') → turn < turns → length piece ≤ 65536
-    → gives mid piece new → Consumes (left mid) (left new) piece
+pub told-broken : {R : Type 0} (reading : Reading R) (b : Bounds) (turns turn : ℕ) (old mid new : R) (s : Server)
+    (taken taken' taken'' : Option (List ℕ)) (piece : List ℕ) (fault : Fault) (p : IsSoFar reading b turn old mid s taken taken') → turn < turns → length piece ≤ 65536
+    → reading.gives mid piece new → Consumes (reading.left mid) (reading.left new) piece
     → Breaks (due whole_table b (joined p.pieces) false) (due whole_table b (joined p.pieces ++ piece) (is_nothing piece)) taken' taken'' fault
-    → IsTold gives fails left b turns old new taken taken'' (Err fault)
-told-broken gives fails left b turns turn old mid new s taken taken' taken'' piece fault p room size given consumed q = record {
+    → IsTold reading b turns old new taken taken'' (Err fault)
+told-broken reading b turns turn old mid new s taken taken' taken'' piece fault p room size given consumed q = record {
   within = AreWithin-more turns turn p.pieces piece p.count room p.sizes size;
   once = once-more p.pieces piece p.some;
   pieces = p.pieces ++ piece ∷ [];
   text = joined (due whole_table b (joined p.pieces) false) ++ q.text;
   last = new;
-  reads = Reads-more gives old mid new p.pieces piece p.reads given;
-  ends = ends-broken fails (due whole_table b (joined p.pieces ++ piece) (is_nothing piece)) (joined (due whole_table b (joined p.pieces) false) ++ q.text) fault new q.broken;
-  consumed = Consumes-more left old mid new p.pieces piece p.consumed consumed;
+  reads = Reads-more reading.gives old mid new p.pieces piece p.reads given;
+  ends = ends-broken reading.fails (due whole_table b (joined p.pieces ++ piece) (is_nothing piece)) (joined (due whole_table b (joined p.pieces) false) ++ q.text) fault new q.broken;
+  consumed = Consumes-more reading.left old mid new p.pieces piece p.consumed consumed;
   written = Appends-trans taken taken' taken'' (joined (due whole_table b (joined p.pieces) false)) q.text p.written q.written;
   tells = Tells-broken b turns p.pieces piece q.text fault q.broken;
 }
 
 -- something failed after the read that gave nothing
-pub told-end-broken : {R : Type 0} (gives : R → List ℕ → R → Type 0) (fails : R → R → Type 0) (left : R → Option (List ℕ)) (b : Bounds) (turns turn : ℕ) (old mid new : R) (s : Server)
-    (taken taken' taken'' : Option (List ℕ)) (fault : Fault) (p : IsSoFar gives left b turn old mid s taken taken') → turn < turns → gives mid [] new
-    → Consumes (left mid) (left new) []
+pub told-end-broken : {R : Type 0} (reading : Reading R) (b : Bounds) (turns turn : ℕ) (old mid new : R) (s : Server)
+    (taken taken' taken'' : Option (List ℕ)) (fault : Fault) (p : IsSoFar reading b turn old mid s taken taken') → turn < turns → reading.gives mid [] new
+    → Consumes (reading.left mid) (reading.left new) []
     → Breaks (due whole_table b (joined p.pieces) false) (due whole_table b (joined p.pieces) true) taken' taken'' fault
-    → IsTold gives fails left b turns old new taken taken'' (Err fault)
-told-end-broken gives fails left b turns turn old mid new s taken taken' taken'' fault p room given consumed q =
-    told-broken gives fails left b turns turn old mid new s taken taken' taken'' [] fault p room (omega arith) given consumed
+    → IsTold reading b turns old new taken taken'' (Err fault)
+told-end-broken reading b turns turn old mid new s taken taken' taken'' fault p room given consumed q =
+    told-broken reading b turns turn old mid new s taken taken' taken'' [] fault p room (omega arith) given consumed
     (subst (λ l. Breaks (due whole_table b (joined p.pieces) false) (due whole_table b l true) taken' taken'' fault) (sym (append-nil (joined p.pieces))) q)
 
 -- the input ended, and all is answered
-pub told-ok : {R : Type 0} (gives : R → List ℕ → R → Type 0) (fails : R → R → Type 0) (left : R → Option (List ℕ)) (b : Bounds) (turns turn : ℕ) (old mid new : R) (s : Server)
-    (taken taken' taken'' : Option (List ℕ)) (summary : Summary) (p : IsSoFar gives left b turn old mid s taken taken') → turn < turns → gives mid [] new
-    → Consumes (left mid) (left new) [] → summary.lines ≡ length (lines_of (joined p.pieces))
+pub told-ok : {R : Type 0} (reading : Reading R) (b : Bounds) (turns turn : ℕ) (old mid new : R) (s : Server)
+    (taken taken' taken'' : Option (List ℕ)) (summary : Summary) (p : IsSoFar reading b turn old mid s taken taken') → turn < turns → reading.gives mid [] new
+    → Consumes (reading.left mid) (reading.left new) [] → summary.lines ≡ length (lines_of (joined p.pieces))
     → Grows (due whole_table b (joined p.pieces) false) (due whole_table b (joined p.pieces) true) taken' taken''
-    → IsTold gives fails left b turns old new taken taken'' (Ok summary)
-told-ok gives fails left b turns turn old mid new s taken taken' taken'' summary p room given consumed lines q =
+    → IsTold reading b turns old new taken taken'' (Ok summary)
+told-ok reading b turns turn old mid new s taken taken' taken'' summary p room given consumed lines q =
     let e : joined p.pieces ≡ joined (p.pieces ++ [] ∷ []) = sym (joined-single p.pieces [] ∙ append-nil (joined p.pieces)) in
     record {
       within = AreWithin-more turns turn p.pieces [] p.count room p.sizes (omega arith);
@@ -214,9 +215,9 @@ told-ok gives fails left b turns turn old mid new s taken taken' taken'' summary
       pieces = p.pieces ++ [] ∷ [];
       text = joined (due whole_table b (joined p.pieces) true);
       last = new;
-      reads = Reads-more gives old mid new p.pieces [] p.reads given;
+      reads = Reads-more reading.gives old mid new p.pieces [] p.reads given;
       ends = refl;
-      consumed = Consumes-more left old mid new p.pieces [] p.consumed consumed;
+      consumed = Consumes-more reading.left old mid new p.pieces [] p.consumed consumed;
       written = Grows-written (due whole_table b (joined p.pieces) false) (due whole_table b (joined p.pieces) true) taken taken' taken'' p.written q;
       tells = (has_end-last p.pieces [], ap (λ l. joined (due whole_table b l true)) e, lines ∙ ap (λ l. length (lines_of l)) e);
     }
@@ -224,16 +225,16 @@ told-ok gives fails left b turns turn old mid new s taken taken' taken'' summary
 -- ---- by what was read
 
 -- the last line was answered, or that failed
-pub told-concluded : {R : Type 0} (gives : R → List ℕ → R → Type 0) (fails : R → R → Type 0) (left : R → Option (List ℕ)) (b : Bounds) (turns turn : ℕ) (old mid new : R) (s : Server)
-    (taken taken' taken'' : Option (List ℕ)) (result : Result Summary Fault) (n : ℕ) (buffer : List ℕ) (p : IsSoFar gives left b turn old mid s taken taken') → turn < turns → n ≡ 0
-    → gives mid (take n buffer) new → Consumes (left mid) (left new) (take n buffer) → Concludes b (joined p.pieces) taken' taken'' result
-    → IsTold gives fails left b turns old new taken taken'' result
-told-concluded gives fails left b turns turn old mid new s taken taken' taken'' (Ok summary) n buffer p room e given consumed q =
-    told-ok gives fails left b turns turn old mid new s taken taken' taken'' summary p room (subst (λ m. gives mid (take m buffer) new) e given)
-    (subst (λ m. Consumes (left mid) (left new) (take m buffer)) e consumed) q.0 q.1
-told-concluded gives fails left b turns turn old mid new s taken taken' taken'' (Err fault) n buffer p room e given consumed q =
-    told-end-broken gives fails left b turns turn old mid new s taken taken' taken'' fault p room (subst (λ m. gives mid (take m buffer) new) e given)
-    (subst (λ m. Consumes (left mid) (left new) (take m buffer)) e consumed) q
+pub told-concluded : {R : Type 0} (reading : Reading R) (b : Bounds) (turns turn : ℕ) (old mid new : R) (s : Server)
+    (taken taken' taken'' : Option (List ℕ)) (result : Result Summary Fault) (n : ℕ) (buffer : List ℕ) (p : IsSoFar reading b turn old mid s taken taken') → turn < turns → n ≡ 0
+    → reading.gives mid (take n buffer) new → Consumes (reading.left mid) (reading.left new) (take n buffer) → Concludes b (joined p.pieces) taken' taken'' result
+    → IsTold reading b turns old new taken taken'' result
+told-concluded reading b turns turn old mid new s taken taken' taken'' (Ok summary) n buffer p room e given consumed q =
+    told-ok reading b turns turn old mid new s taken taken' taken'' summary p room (subst (λ m. reading.gives mid (take m buffer) new) e given)
+    (subst (λ m. Consumes (reading.left mid) (reading.left new) (take m buffer)) e consumed) q.0 q.1
+told-concluded reading b turns turn old mid new s taken taken' taken'' (Err fault) n buffer p room e given consumed q =
+    told-end-broken reading b turns turn old mid new s taken taken' taken'' fault p room (subst (λ m. reading.gives mid (take m buffer) new) e given)
+    (subst (λ m. Consumes (reading.left mid) (reading.left new) (take m buffer)) e consumed) q
 
 -- a read gave n bytes
 pub some-read : (n : ℕ) (buffer : List ℕ) → n ≤ length buffer → (n ≡ 0 → ⊥) → 0 < length (take n buffer)
@@ -243,14 +244,14 @@ pub most-read : (n : ℕ) (buffer : List ℕ) → length buffer ≡ 65536 → le
 most-read n buffer e = omega (arith, length-take n buffer)
 
 -- bytes were taken, or that failed
-pub told-fed : {R : Type 0} (gives : R → List ℕ → R → Type 0) (fails : R → R → Type 0) (left : R → Option (List ℕ)) (b : Bounds) (turns turn : ℕ) (old mid new : R) (s : Server)
-    (taken taken' taken'' : Option (List ℕ)) (piece : List ℕ) (fault : Fault) (p : IsSoFar gives left b turn old mid s taken taken') → turn < turns → 0 < length piece → length piece ≤ 65536
-    → gives mid piece new
-    → Consumes (left mid) (left new) piece
+pub told-fed : {R : Type 0} (reading : Reading R) (b : Bounds) (turns turn : ℕ) (old mid new : R) (s : Server)
+    (taken taken' taken'' : Option (List ℕ)) (piece : List ℕ) (fault : Fault) (p : IsSoFar reading b turn old mid s taken taken') → turn < turns → 0 < length piece → length piece ≤ 65536
+    → reading.gives mid piece new
+    → Consumes (reading.left mid) (reading.left new) piece
     → Breaks (due whole_table b (joined p.pieces) false) (due whole_table b (joined p.pieces ++ piece) false) taken' taken'' fault
-    → IsTold gives fails left b turns old new taken taken'' (Err fault)
-told-fed gives fails left b turns turn old mid new s taken taken' taken'' piece fault p room some size given consumed q =
-    told-broken gives fails left b turns turn old mid new s taken taken' taken'' piece fault p room size given consumed
+    → IsTold reading b turns old new taken taken'' (Err fault)
+told-fed reading b turns turn old mid new s taken taken' taken'' piece fault p room some size given consumed q =
+    told-broken reading b turns turn old mid new s taken taken' taken'' piece fault p room size given consumed
     (subst (λ t. Breaks (due whole_table b (joined p.pieces) false) (due whole_table b (joined p.pieces ++ piece) t) taken' taken'' fault) (sym (is_nothing-some piece some)) q)
 
 -- each byte ends at most one line
@@ -264,10 +265,10 @@ earlier-none : (b : Bounds) (text : List ℕ) → AnswersEarlier b [] text
 earlier-none b text = (text, sym (ap (λ l. l ++ text) (due-nothing b)))
 
 -- memory was wanting ahead of the first read
-pub told-none : {R : Type 0} (gives : R → List ℕ → R → Type 0) (fails : R → R → Type 0) (left : R → Option (List ℕ)) (b : Bounds) (turns : ℕ) (old : R) (taken taken' : Option (List ℕ)) (fault : Fault)
-    → SaysWant taken taken' fault → IsTold gives fails left b turns old old taken taken' (Err fault)
-told-none gives fails left b turns old taken taken' Read s = absurd s
-told-none gives fails left b turns old taken taken' Write s = record {
+pub told-none : {R : Type 0} (reading : Reading R) (b : Bounds) (turns : ℕ) (old : R) (taken taken' : Option (List ℕ)) (fault : Fault)
+    → SaysWant taken taken' fault → IsTold reading b turns old old taken taken' (Err fault)
+told-none reading b turns old taken taken' Read s = absurd s
+told-none reading b turns old taken taken' Write s = record {
   pieces = [];
   within = (omega arith, Sizes-none);
   once = tt;
@@ -275,11 +276,11 @@ told-none gives fails left b turns old taken taken' Write s = record {
   last = old;
   reads = refl;
   ends = refl;
-  consumed = Consumes-nil (left old);
+  consumed = Consumes-nil (reading.left old);
   written = s.2;
   tells = (inr (out_of_memory_line, ([], (due whole_table b [] false, refl), refl), s.1), earlier-none b s.0);
 }
-told-none gives fails left b turns old taken taken' Memory s = record {
+told-none reading b turns old taken taken' Memory s = record {
   pieces = [];
   within = (omega arith, Sizes-none);
   once = tt;
@@ -287,19 +288,19 @@ told-none gives fails left b turns old taken taken' Memory s = record {
   last = old;
   reads = refl;
   ends = refl;
-  consumed = Consumes-nil (left old);
+  consumed = Consumes-nil (reading.left old);
   written = s;
   tells = (([], (due whole_table b [] false, refl), refl), earlier-none b out_of_memory_line);
 }
-told-none gives fails left b turns old taken taken' InputTooLong s = absurd s
+told-none reading b turns old taken taken' InputTooLong s = absurd s
 
 -- ---- once the input ended
 
 -- what was written is the output for all of the input
-pub told-output : {R : Type 0} (gives : R → List ℕ → R → Type 0) (fails : R → R → Type 0) (left : R → Option (List ℕ)) (b : Bounds) (turns : ℕ) (old new : R) (taken taken' : Option (List ℕ))
-    (result : Result Summary Fault) → IsTold gives fails left b turns old new taken taken' result → OnOk result (IsAtEnd (left new))
-    → OnOk result (IfSome (left old) (λ input. Appends taken taken' (output_of whole_table b input)))
-told-output gives fails left b turns old new taken taken' (Ok summary) t ended =
-    Consumes-whole (left old) (left new) (joined t.pieces) (λ input. Appends taken taken' (output_of whole_table b input)) t.consumed ended
+pub told-output : {R : Type 0} (reading : Reading R) (b : Bounds) (turns : ℕ) (old new : R) (taken taken' : Option (List ℕ))
+    (result : Result Summary Fault) → IsTold reading b turns old new taken taken' result → OnOk result (IsAtEnd (reading.left new))
+    → OnOk result (IfSome (reading.left old) (λ input. Appends taken taken' (output_of whole_table b input)))
+told-output reading b turns old new taken taken' (Ok summary) t ended =
+    Consumes-whole (reading.left old) (reading.left new) (joined t.pieces) (λ input. Appends taken taken' (output_of whole_table b input)) t.consumed ended
     (subst (λ l. Appends taken taken' l) t.tells.1 t.written)
-told-output gives fails left b turns old new taken taken' (Err fault) t ended = tt
+told-output reading b turns old new taken taken' (Err fault) t ended = tt

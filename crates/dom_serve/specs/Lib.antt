@@ -1,3 +1,4 @@
+pub mod Streams
 pub mod Writes
 pub mod Pieces
 pub mod Calls

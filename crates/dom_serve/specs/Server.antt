@@ -17,6 +17,7 @@ use Rattle.dom_serve.specs.declared.fault.Fault.{Fault}
 use Rattle.dom_serve.specs.declared.fault.Fault.TheVariants.{Read, Write, Memory, InputTooLong}
 use Rattle.dom_serve.specs.declared.server.Server.{Server}
 use Rattle.dom_serve.specs.declared.fault.Summary.{Summary}
+use Rattle.dom_serve.specs.Streams.{Reading}
 use Rattle.dom_serve.specs.Writes.{AppendsFront}
 use Rattle.dom_serve.specs.Pieces.{Reads, is_nothing, has_end}
 use Rattle.dom_serve.specs.Tells.{IsCutShort, SaysOutOfMemory}
@@ -115,14 +116,14 @@ Concludes b bytes taken taken' (Err fault) =
     Breaks (due whole_table b bytes false) (due whole_table b bytes true) taken taken' fault
 
 -- the pieces that reads gave so far, none of them the end, and that what was due for them was written
-pub record IsSoFar {R : Type 0} (gives : R → List ℕ → R → Type 0) (left : R → Option (List ℕ)) (b : Bounds) (turn : ℕ) (old new : R) (s : Server)
-    (taken taken' : Option (List ℕ)) : Type 0 where
+pub record IsSoFar {R : Type 0} (reading : Reading R) (b : Bounds) (turn : ℕ) (old new : R)
+    (s : Server) (taken taken' : Option (List ℕ)) : Type 0 where
   pub pieces : List (List ℕ)
-  pub reads : Reads gives old pieces new
+  pub reads : Reads reading.gives old pieces new
   pub count : length pieces ≡ turn
   pub sizes : All (λ piece. length piece ≤ 65536) pieces
   pub open_ended : has_end pieces ≡ false
   pub some : AllByRecursion (λ piece. is_nothing piece ≡ false) pieces
-  pub consumed : Consumes (left old) (left new) (joined pieces)
+  pub consumed : Consumes (reading.left old) (reading.left new) (joined pieces)
   pub stands : Stands b (joined pieces) s
   pub written : Appends taken taken' (joined (due whole_table b (joined pieces) false))

@@ -35,11 +35,11 @@ fn read_buffer(alloc: Global) -> Result<Vec<u8>, AllocError>
 fn conclude<W: Sink>(server: &mut Server, writer: &mut W) -> Result<Summary, Fault>
     requires room { server.old.lines + 1 < 2 ^ 64 }
     ensures concludes { (b : Bounds) (bytes : List ℕ) → Stands b bytes server.old →
-        Concludes b bytes (W.taken writer.old) (W.taken writer.new) result }
+        Concludes b bytes (W.writing.taken writer.old) (W.writing.taken writer.new) result }
     ensures passed { is_write_fault result ≡ false →
-        HasAnswered W.is_passed_on writer.old server.old.lines writer.new server.new.lines }
-    ensures by_line { IsWrittenByLine W.taken W.is_passed_on (is_write_fault result) writer.old writer.new }
-    ensures writer { IsWritten W.works W.fails (is_write_fault result) writer.old writer.new }
+        HasAnswered W.writing writer.old server.old.lines writer.new server.new.lines }
+    ensures by_line { IsWrittenByLine W.writing (is_write_fault result) writer.old writer.new }
+    ensures writer { IsWritten W.writing (is_write_fault result) writer.old writer.new }
 {
     match server.finish(writer) {
         Ok(()) => Ok(Summary {
@@ -56,11 +56,12 @@ fn read_piece<R: Source, W: Sink>(
     reader: &mut R,
     buffer: &mut [u8],
 ) -> Result<usize, Failed>
-    requires passed { (_server.now.lines ≡ 0) ⊎ (W.is_passed_on _writer.now ≡ true) }
+    requires passed { (_server.now.lines ≡ 0) ⊎ (W.writing.is_passed_on _writer.now ≡ true) }
     ensures count { IfOk result (λ n. n ≤ length buffer.new) }
-    ensures bytes { ReadConsumes (R.left reader.old) (R.left reader.new) result buffer.new }
-    ensures gives { IfOk result (λ n. R.gives reader.old (take n buffer.new) reader.new) }
-    ensures fails { OnErr result (R.fails reader.old reader.new) }
+    ensures bytes { ReadConsumes
+        (R.reading.left reader.old) (R.reading.left reader.new) result buffer.new }
+    ensures gives { IfOk result (λ n. R.reading.gives reader.old (take n buffer.new) reader.new) }
+    ensures fails { OnErr result (R.reading.fails reader.old reader.new) }
 {
     reader.read(buffer)
 }
@@ -77,11 +78,12 @@ fn serve_all<R: Source, W: Sink>(
     requires lines { server.old.lines ≡ 0 }
     requires size { length buffer.old ≡ READ_SIZE }
     ensures told { (b : Bounds) → Stands b [] server.old →
-        IsTold R.gives R.fails R.left b turns reader.old reader.new (W.taken writer.old) (W.taken writer.new) result }
-    ensures at_end { OnOk result (IsAtEnd (R.left reader.new)) }
-    ensures passed { is_write_fault result ≡ false → HasPassedOn W.is_passed_on writer.old writer.new }
-    ensures by_line { IsWrittenByLine W.taken W.is_passed_on (is_write_fault result) writer.old writer.new }
-    ensures writer { IsWritten W.works W.fails (is_write_fault result) writer.old writer.new }
+        IsTold R.reading b turns reader.old reader.new
+        (W.writing.taken writer.old) (W.writing.taken writer.new) result }
+    ensures at_end { OnOk result (IsAtEnd (R.reading.left reader.new)) }
+    ensures passed { is_write_fault result ≡ false → HasPassedOn W.writing writer.old writer.new }
+    ensures by_line { IsWrittenByLine W.writing (is_write_fault result) writer.old writer.new }
+    ensures writer { IsWritten W.writing (is_write_fault result) writer.old writer.new }
 {
     for _turn in 0..turns {
         match read_piece(server, writer, reader, buffer) {
@@ -104,8 +106,8 @@ fn start(alloc: Global, limits: Limits) -> Result<(Server, Vec<u8>), AllocError>
     ensures lines { IfOk result (λ made. made.0.lines ≡ 0) }
     ensures size { IfOk result (λ made. length made.1.items ≡ READ_SIZE) }
 {
-    let server = Server::new(alloc, limits)?;
     let buffer = read_buffer(alloc)?;
+    let server = Server::new(alloc, limits)?;
     Ok((server, buffer))
 }
 
@@ -124,7 +126,7 @@ pub fn serve_within<R: Source, W: Sink>(
     requires line { 1 ≤ limits.line }
     requires bounded { (1 ≤ turns) × (turns ≤ 2 ^ 40) }
 
-    ensures { Serves R.gives R.fails R.left W.works W.fails W.taken W.is_passed_on (bounds_of limits) turns
+    ensures { Serves R.reading W.writing (bounds_of limits) turns
         reader.old reader.new writer.old writer.new result }
 {
     match start(alloc, limits) {
@@ -146,9 +148,10 @@ pub fn serve<R: Source, W: Sink>(
     requires line { 1 ≤ limits.line }
 
     // Whatever the sizes of the reads, what is written is the output for all bytes of the reader.
-    ensures output { OnOk result (IfSome (R.left reader.old) (λ input.
-        Appends (W.taken writer.old) (W.taken writer.new) (output_of whole_table (bounds_of limits) input))) }
-    ensures serves { Serves R.gives R.fails R.left W.works W.fails W.taken W.is_passed_on (bounds_of limits) (2 ^ 40)
+    ensures output { OnOk result (IfSome (R.reading.left reader.old) (λ input.
+        Appends (W.writing.taken writer.old) (W.writing.taken writer.new)
+        (output_of whole_table (bounds_of limits) input))) }
+    ensures serves { Serves R.reading W.writing (bounds_of limits) (2 ^ 40)
         reader.old reader.new writer.old writer.new result }
 {
     serve_within(alloc, limits, MOST_READS, reader, writer)

@@ -50,11 +50,12 @@ impl Server {
     fn end_line<W: Sink>(&mut self, writer: &mut W) -> Result<(), Fault>
         requires room { self.old.lines + 1 < 2 ^ 64 }
         ensures fed { (b : Bounds) (bytes : List ℕ) → Stands b bytes self.old →
-            Fed b bytes (bytes ++ 10 ∷ []) self.new (W.taken writer.old) (W.taken writer.new) result }
+            Fed b bytes (bytes ++ 10 ∷ []) self.new
+            (W.writing.taken writer.old) (W.writing.taken writer.new) result }
         ensures lines { self.new.lines ≤ self.old.lines + 1 }
-        ensures passed { is_write_fault result ≡ false → W.is_passed_on writer.new ≡ true }
-        ensures by_line { IsWrittenByLine W.taken W.is_passed_on (is_write_fault result) writer.old writer.new }
-        ensures writer { IsWritten W.works W.fails (is_write_fault result) writer.old writer.new }
+        ensures passed { is_write_fault result ≡ false → W.writing.is_passed_on writer.new ≡ true }
+        ensures by_line { IsWrittenByLine W.writing (is_write_fault result) writer.old writer.new }
+        ensures writer { IsWritten W.writing (is_write_fault result) writer.old writer.new }
     {
         if let Err(fault) = answer(
             self.alloc,
@@ -75,12 +76,13 @@ impl Server {
     fn keep<W: Sink>(&mut self, part: &[u8], writer: &mut W) -> Result<(), Fault>
         requires part { EndsNoLine part.now }
         ensures fed { (b : Bounds) (bytes : List ℕ) → Stands b bytes self.old →
-            Fed b bytes (bytes ++ part.now) self.new (W.taken writer.old) (W.taken writer.new) result }
+            Fed b bytes (bytes ++ part.now) self.new
+            (W.writing.taken writer.old) (W.writing.taken writer.new) result }
         ensures lines { self.new.lines ≡ self.old.lines }
         ensures passed { is_write_fault result ≡ false →
-            HasAnswered W.is_passed_on writer.old self.old.lines writer.new self.new.lines }
-        ensures by_line { IsWrittenByLine W.taken W.is_passed_on (is_write_fault result) writer.old writer.new }
-        ensures writer { IsWritten W.works W.fails (is_write_fault result) writer.old writer.new }
+            HasAnswered W.writing writer.old self.old.lines writer.new self.new.lines }
+        ensures by_line { IsWrittenByLine W.writing (is_write_fault result) writer.old writer.new }
+        ensures writer { IsWritten W.writing (is_write_fault result) writer.old writer.new }
     {
         if self.too_long {
             return Ok(());
@@ -101,12 +103,13 @@ impl Server {
         requires room { self.old.lines + 1 < 2 ^ 64 }
         requires rest { EndsNoLine rest.now }
         ensures fed { (b : Bounds) (bytes : List ℕ) → Stands b bytes self.old →
-            Fed b bytes (bytes ++ rest.now ++ 10 ∷ []) self.new (W.taken writer.old) (W.taken writer.new) result }
+            Fed b bytes (bytes ++ rest.now ++ 10 ∷ []) self.new
+            (W.writing.taken writer.old) (W.writing.taken writer.new) result }
         ensures lines { self.new.lines ≤ self.old.lines + 1 }
         ensures passed { is_write_fault result ≡ false →
-            HasAnswered W.is_passed_on writer.old self.old.lines writer.new self.new.lines }
-        ensures by_line { IsWrittenByLine W.taken W.is_passed_on (is_write_fault result) writer.old writer.new }
-        ensures writer { IsWritten W.works W.fails (is_write_fault result) writer.old writer.new }
+            HasAnswered W.writing writer.old self.old.lines writer.new self.new.lines }
+        ensures by_line { IsWrittenByLine W.writing (is_write_fault result) writer.old writer.new }
+        ensures writer { IsWritten W.writing (is_write_fault result) writer.old writer.new }
     {
         self.keep(rest, writer)?;
         self.end_line(writer)
@@ -116,12 +119,13 @@ impl Server {
     pub fn feed_all<W: Sink>(&mut self, piece: &[u8], writer: &mut W) -> Result<(), Fault>
         requires room { self.old.lines + length piece.now < 2 ^ 64 }
         ensures fed { (b : Bounds) (bytes : List ℕ) → Stands b bytes self.old →
-            Fed b bytes (bytes ++ piece.now) self.new (W.taken writer.old) (W.taken writer.new) result }
+            Fed b bytes (bytes ++ piece.now) self.new
+            (W.writing.taken writer.old) (W.writing.taken writer.new) result }
         ensures lines { self.new.lines ≤ self.old.lines + length piece.now }
         ensures passed { is_write_fault result ≡ false →
-            HasAnswered W.is_passed_on writer.old self.old.lines writer.new self.new.lines }
-        ensures by_line { IsWrittenByLine W.taken W.is_passed_on (is_write_fault result) writer.old writer.new }
-        ensures writer { IsWritten W.works W.fails (is_write_fault result) writer.old writer.new }
+            HasAnswered W.writing writer.old self.old.lines writer.new self.new.lines }
+        ensures by_line { IsWrittenByLine W.writing (is_write_fault result) writer.old writer.new }
+        ensures writer { IsWritten W.writing (is_write_fault result) writer.old writer.new }
     {
         let mut rest = piece;
         while let Some((line, after)) = split_line(rest) {
@@ -135,11 +139,12 @@ impl Server {
     pub fn finish<W: Sink>(&mut self, writer: &mut W) -> Result<(), Fault>
         requires room { self.old.lines + 1 < 2 ^ 64 }
         ensures finishes { (b : Bounds) (bytes : List ℕ) → Stands b bytes self.old →
-            Finishes b bytes self.new (W.taken writer.old) (W.taken writer.new) result }
+            Finishes b bytes self.new
+            (W.writing.taken writer.old) (W.writing.taken writer.new) result }
         ensures passed { is_write_fault result ≡ false →
-            HasAnswered W.is_passed_on writer.old self.old.lines writer.new self.new.lines }
-        ensures by_line { IsWrittenByLine W.taken W.is_passed_on (is_write_fault result) writer.old writer.new }
-        ensures writer { IsWritten W.works W.fails (is_write_fault result) writer.old writer.new }
+            HasAnswered W.writing writer.old self.old.lines writer.new self.new.lines }
+        ensures by_line { IsWrittenByLine W.writing (is_write_fault result) writer.old writer.new }
+        ensures writer { IsWritten W.writing (is_write_fault result) writer.old writer.new }
     {
         if self.too_long {
             return self.end_line(writer);

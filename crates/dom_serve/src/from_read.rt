@@ -14,18 +14,18 @@ pub struct FromRead<R> {
 
 impl<R: Read> FromRead<R> {
     pub fn new(inner: R) -> FromRead<R>
-        ensures { ⟦<FromRead<R> as Source>⟧.left result ≡ R.remaining inner }
+        ensures { ⟦<FromRead<R> as Source>⟧.reading.left result ≡ R.remaining inner }
     {
         FromRead { inner }
     }
 }
 
 impl<R: OneRead> Source for FromRead<R> {
-    ghost left = { λ s. R.left s.inner };
-
-    ghost gives = { λ s bytes t. R.gives s.inner bytes t.inner };
-
-    ghost fails = { λ s t. R.fails s.inner t.inner };
+    ghost reading = { record {
+      left = λ s. R.left s.inner;
+      gives = λ s bytes t. R.gives s.inner bytes t.inner;
+      fails = λ s t. R.fails s.inner t.inner;
+    } };
 
     fn read(&mut self, buf: &mut [u8]) -> Result<usize, Failed> {
         match self.inner.read_once(buf) {

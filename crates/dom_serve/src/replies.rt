@@ -74,11 +74,12 @@ pub(crate) fn answer<W: Sink>(
     writer: &mut W,
 ) -> Result<(), Fault>
     ensures answers { (w : World) → StandsFor session.old w →
-        Answers (held_step session.old.bounds kept.now too_long w) session.new (W.taken writer.old) (W.taken writer.new) result }
+        Answers (held_step session.old.bounds kept.now too_long w) session.new
+        (W.writing.taken writer.old) (W.writing.taken writer.new) result }
     ensures bounds { session.new.bounds ≡ session.old.bounds }
-    ensures passed { is_write_fault result ≡ false → W.is_passed_on writer.new ≡ true }
-    ensures by_line { IsWrittenByLine W.taken W.is_passed_on (is_write_fault result) writer.old writer.new }
-    ensures writer { IsWritten W.works W.fails (is_write_fault result) writer.old writer.new }
+    ensures passed { is_write_fault result ≡ false → W.writing.is_passed_on writer.new ≡ true }
+    ensures by_line { IsWrittenByLine W.writing (is_write_fault result) writer.old writer.new }
+    ensures writer { IsWritten W.writing (is_write_fault result) writer.old writer.new }
 {
     match reply_text(alloc, session, kept, too_long) {
         Ok(text) => match write_line(writer, &text) {

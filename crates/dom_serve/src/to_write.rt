@@ -17,8 +17,8 @@ pub struct ToWrite<W> {
 
 impl<W: Write> ToWrite<W> {
     pub fn new(inner: W) -> ToWrite<W>
-        ensures taken { ⟦<ToWrite<W> as Sink>⟧.taken result ≡ W.contents inner }
-        ensures passed { ⟦<ToWrite<W> as Sink>⟧.is_passed_on result ≡ true }
+        ensures taken { ⟦<ToWrite<W> as Sink>⟧.writing.taken result ≡ W.contents inner }
+        ensures passed { ⟦<ToWrite<W> as Sink>⟧.writing.is_passed_on result ≡ true }
     {
         ToWrite {
             inner,
@@ -28,7 +28,7 @@ impl<W: Write> ToWrite<W> {
 
     /// The std writer.
     pub fn into_inner(self) -> W
-        ensures { W.contents result ≡ ⟦<ToWrite<W> as Sink>⟧.taken self }
+        ensures { W.contents result ≡ ⟦<ToWrite<W> as Sink>⟧.writing.taken self }
     {
         let ToWrite { inner, flushed: _ } = self;
         inner
@@ -36,13 +36,12 @@ impl<W: Write> ToWrite<W> {
 }
 
 impl<W: Write> Sink for ToWrite<W> {
-    ghost taken = { λ s. W.contents s.inner };
-
-    ghost is_passed_on = { λ s. s.flushed };
-
-    ghost works = { λ s t. (bytes : List ℕ) × Appends (W.contents s.inner) (W.contents t.inner) bytes };
-
-    ghost fails = { λ s t. Keeps (W.contents s.inner) (W.contents t.inner) };
+    ghost writing = { record {
+      taken = λ s. W.contents s.inner;
+      is_passed_on = λ s. s.flushed;
+      works = λ s t. (bytes : List ℕ) × Appends (W.contents s.inner) (W.contents t.inner) bytes;
+      fails = λ s t. Keeps (W.contents s.inner) (W.contents t.inner);
+    } };
 
     fn write(&mut self, buf: &[u8]) -> Result<usize, Failed> {
         self.flushed = false;

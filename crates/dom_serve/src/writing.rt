@@ -16,8 +16,9 @@ const OUT_OF_MEMORY: &[u8] = b"{\"error\":\"out-of-memory\"}\n";
 
 /// Writes the bytes, by as many writes as that takes.
 fn write_whole<W: Sink>(writer: &mut W, bytes: &[u8]) -> Result<(), Failed>
-    ensures written { Writes (W.taken writer.old) (W.taken writer.new) bytes.now result }
-    ensures writer { IsWritten W.works W.fails (is_err result) writer.old writer.new }
+    ensures written { Writes
+        (W.writing.taken writer.old) (W.writing.taken writer.new) bytes.now result }
+    ensures writer { IsWritten W.writing (is_err result) writer.old writer.new }
 {
     let mut at = 0;
     while at < bytes.len() {
@@ -32,9 +33,10 @@ fn write_whole<W: Sink>(writer: &mut W, bytes: &[u8]) -> Result<(), Failed>
 /// Writes the bytes, by as many writes as that takes, and flushes. Where that fails, a front of them was written, and
 /// nothing more is asked of the writer.
 pub fn write_line<W: Sink>(writer: &mut W, bytes: &[u8]) -> Result<(), Failed>
-    ensures written { Writes (W.taken writer.old) (W.taken writer.new) bytes.now result }
-    ensures passed { OnOk result (W.is_passed_on writer.new ≡ true) }
-    ensures writer { IsWritten W.works W.fails (is_err result) writer.old writer.new }
+    ensures written { Writes
+        (W.writing.taken writer.old) (W.writing.taken writer.new) bytes.now result }
+    ensures passed { OnOk result (W.writing.is_passed_on writer.new ≡ true) }
+    ensures writer { IsWritten W.writing (is_err result) writer.old writer.new }
 {
     match write_whole(writer, bytes) {
         Ok(()) => writer.flush(),
@@ -51,10 +53,10 @@ fn out_of_memory_text() -> &'static [u8]
 
 /// Says that memory was wanting, and gives the fault.
 pub(crate) fn write_out_of_memory<W: Sink>(writer: &mut W) -> Fault
-    ensures written { SaysWant (W.taken writer.old) (W.taken writer.new) result }
-    ensures passed { is_write result ≡ false → W.is_passed_on writer.new ≡ true }
-    ensures by_line { IsWrittenByLine W.taken W.is_passed_on (is_write result) writer.old writer.new }
-    ensures writer { IsWritten W.works W.fails (is_write result) writer.old writer.new }
+    ensures written { SaysWant (W.writing.taken writer.old) (W.writing.taken writer.new) result }
+    ensures passed { is_write result ≡ false → W.writing.is_passed_on writer.new ≡ true }
+    ensures by_line { IsWrittenByLine W.writing (is_write result) writer.old writer.new }
+    ensures writer { IsWritten W.writing (is_write result) writer.old writer.new }
 {
     match write_line(writer, out_of_memory_text()) {
         Ok(()) => Fault::Memory,

@@ -1,6 +1,6 @@
 //! The node iterators of a session, by number (DOM Standard, "Interface NodeIterator").
 
-ghost use Rattle.std.specs.Prelude.{◌≡◌, ℕ, ◌<◌, [], ◌∷◌, ◌++◌, length, count_by, slice_set, Some, None, IsSome, is_some, IfSome, IfOk, OnOk, OnErr};
+ghost use Rattle.std.specs.Prelude.{◌≡◌, ℕ, ◌<◌, [], ◌∷◌, ◌++◌, length, count_by, Some, None, IsSome, is_some, IfSome, IfOk, OnOk, OnErr};
 ghost use Rattle.std.specs.List.{list_any, flat_map};
 ghost use Rattle.std.specs.Option.{ForSome};
 ghost use Rattle.dom_model.specs.PlainLists.Lists.{among};
@@ -8,7 +8,7 @@ ghost use Rattle.dom_model.specs.Forests.Forest.{HasNode, inclusive_descendants}
 ghost use Rattle.dom_model.specs.Traversal.Iterators.{new_iterator, next_found, previous_found, moved_to_next, moved_to_previous};
 ghost use Rattle.dom_model.specs.MutationAlgorithms.PreRemoval.{pre_removed_all};
 ghost use Rattle.dom_model.specs.MutationAlgorithms.Discarding.{nodes_unless_released, nodes_of_iterator};
-ghost use Rattle.dom_traverse.specs.Standing.{iterator_in, StandsInside};
+ghost use Rattle.dom_traverse.specs.Standing.{iterator_in, IteratorBecomes, released, StandsInside};
 
 use crate::filter::Filter;
 use crate::iterators_by_slot::IteratorsBySlot;
@@ -135,7 +135,7 @@ impl NodeIterators {
         requires held { IsSome (iterator_in self.old id) }
         requires inside { ForSome (iterator_in self.old id) (StandsInside tree.now.forest) }
         ensures found { IfSome (iterator_in self.old id) (λ i. result ≡ next_found tree.now.forest i) }
-        ensures moved { IfSome (iterator_in self.old id) (λ i. self.new ≡ slice_set self.old id (Some (moved_to_next tree.now.forest i))) }
+        ensures moved { IteratorBecomes id (moved_to_next tree.now.forest) self.old self.new }
     {
         let slot = slot_of(&self.slots, id.number());
         self.iterators.next(tree, slot)
@@ -146,7 +146,7 @@ impl NodeIterators {
         requires held { IsSome (iterator_in self.old id) }
         requires inside { ForSome (iterator_in self.old id) (StandsInside tree.now.forest) }
         ensures found { IfSome (iterator_in self.old id) (λ i. result ≡ previous_found tree.now.forest i) }
-        ensures moved { IfSome (iterator_in self.old id) (λ i. self.new ≡ slice_set self.old id (Some (moved_to_previous tree.now.forest i))) }
+        ensures moved { IteratorBecomes id (moved_to_previous tree.now.forest) self.old self.new }
     {
         let slot = slot_of(&self.slots, id.number());
         self.iterators.previous(tree, slot)
@@ -155,7 +155,7 @@ impl NodeIterators {
     /// Releases an iterator: no removal moves it any more, and it names no node. It takes no memory.
     pub fn release(&mut self, id: IteratorId)
         requires { IsSome (iterator_in self.old id) }
-        ensures { self.new ≡ slice_set self.old id None }
+        ensures { self.new ≡ released id self.old }
     {
         self.slots.sound();
         let slot = self.slots.release(id.number());

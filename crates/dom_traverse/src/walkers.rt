@@ -1,13 +1,13 @@
 //! The tree walkers of a session, by number (DOM Standard, "Interface TreeWalker").
 
-ghost use Rattle.std.specs.Prelude.{◌≡◌, ℕ, ◌<◌, [], ◌∷◌, ◌++◌, length, count_by, slice_set, Some, None, IsSome, is_some, IfSome, IfOk, OnOk, OnErr};
+ghost use Rattle.std.specs.Prelude.{◌≡◌, ℕ, ◌<◌, [], ◌∷◌, ◌++◌, length, count_by, Some, None, IsSome, is_some, IfSome, IfOk, OnOk, OnErr};
 ghost use Rattle.std.specs.List.{list_any, flat_map};
 ghost use Rattle.std.specs.Option.{ForSome};
 ghost use Rattle.dom_model.specs.PlainLists.Lists.{among};
 ghost use Rattle.dom_model.specs.Forests.Forest.{HasNode, inclusive_descendants};
-ghost use Rattle.dom_model.specs.Traversal.Walks.{new_walker, walk_found, walker_moved};
+ghost use Rattle.dom_model.specs.Traversal.Walks.{new_walker, walk_found};
 ghost use Rattle.dom_model.specs.MutationAlgorithms.Discarding.{nodes_unless_released, nodes_of_walker};
-ghost use Rattle.dom_traverse.specs.Standing.{walker_in, StandsThere};
+ghost use Rattle.dom_traverse.specs.Standing.{walker_in, WalkerBecomes, with_current, moved_by, released, StandsThere};
 
 use crate::filter::Filter;
 use crate::live::slot_of;
@@ -133,7 +133,7 @@ impl Walkers {
     /// Sets `currentNode`; it may stand outside the root.
     pub fn set_current(&mut self, id: WalkerId, node: NodeId)
         requires { IsSome (walker_in self.old id) }
-        ensures { IfSome (walker_in self.old id) (λ w. self.new ≡ slice_set self.old id (Some (record w { current = node }))) }
+        ensures { WalkerBecomes id (with_current node) self.old self.new }
     {
         let slot = slot_of(&self.slots, id.number());
         self.walkers.set_current(slot, node);
@@ -144,7 +144,7 @@ impl Walkers {
         requires held { IsSome (walker_in self.old id) }
         requires there { ForSome (walker_in self.old id) (StandsThere tree.now.forest) }
         ensures found { IfSome (walker_in self.old id) (λ w. result ≡ walk_found way tree.now.forest w) }
-        ensures moved { IfSome (walker_in self.old id) (λ w. self.new ≡ slice_set self.old id (Some (walker_moved (walk_found way tree.now.forest w) w))) }
+        ensures moved { WalkerBecomes id (moved_by way tree.now.forest) self.old self.new }
     {
         let slot = slot_of(&self.slots, id.number());
         self.walkers.step(tree, slot, way)
@@ -153,7 +153,7 @@ impl Walkers {
     /// Releases a walker: it names no node any more. It takes no memory.
     pub fn release(&mut self, id: WalkerId)
         requires { IsSome (walker_in self.old id) }
-        ensures { self.new ≡ slice_set self.old id None }
+        ensures { self.new ≡ released id self.old }
     {
         self.slots.sound();
         let slot = self.slots.release(id.number());

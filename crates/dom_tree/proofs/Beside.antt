@@ -4,16 +4,17 @@ use Rattle.std.proofs.lemmas.Bool.{cases_lt, lt-ltb, le-ltb, false≢true}
 use Rattle.std.specs.Prelude.{slice_get}
 use Rattle.dom_model.specs.PlainLists.Lists.{hits, last_of, before_from}
 use Rattle.dom_model.specs.Forests.Arena.{siblings_in}
-use Rattle.dom_model.specs.Forests.Forest.{Grove, entry_in, HasNode, parent_of, children_of, next_of, previous_of, index_of, IsForest}
+use Rattle.dom_model.specs.Forests.Forest.{Forest, Grove, entry_in, HasNode, parent_of, children_of, next_of, previous_of, index_of, IsForest}
 use Rattle.dom_model.proofs.PlainLists.Numbers.{same_or, same, apart}
 use Rattle.dom_model.proofs.Forests.Changes.{seen, nothing, just}
 use Rattle.dom_model.proofs.Forests.PutBack.{hits-after}
 use Rattle.dom_model.proofs.PlainLists.Places.{place-there}
 use Rattle.dom_model.proofs.Forests.Chains.{index-apart}
 use Rattle.dom_model.proofs.Forests.Entries.{occurs-HasNode, HasNode-occurs}
-use Rattle.dom_model.proofs.Forests.Indices.{child-parent, child-there, child-listed, child-once, index-child}
+use Rattle.dom_model.proofs.Forests.Indices.{child-parent, child-there, child-listed, child-once, index-child, parent-there}
 use Rattle.dom_model.proofs.Forests.TreeOrder.Preceding.{place-after, place-last, lt-step}
 use Rattle.dom_model.proofs.Forests.Siblings.{hits-get, index-step, index-first}
+use Rattle.dom_tree.proofs.PlacesAt.{place-get}
 
 -- the last of a list, by its index
 pub get-last : (l : List ℕ) → last_of l ≡ slice_get l (length l - 1)
@@ -53,6 +54,10 @@ lt-from a b e = ⊎_elim (λ (lt : a < b). lt) (λ (le : b ≤ a). absurd (false
 le-from : (a b : ℕ) → nat_lt a b ≡ false → b ≤ a
 le-from a b e = ⊎_elim (λ (lt : a < b). absurd (false≢true (sym e ∙ lt-ltb a b lt))) (λ (le : b ≤ a). le) (cases_lt a b)
 
+-- who has a parent is a node
+pub child-held_under : {X : Type 0} (f : Forest X) (p c : ℕ) → parent_of f c ≡ Some p → HasNode f c
+child-held_under f p c e = HasNode-occurs f c (parent-there f c p e)
+
 module _ {X : Type 0} {g : Grove X} (s : IsForest g) where
   -- a step back in a list of children
   pub child-back : (p c k j : ℕ) → HasNode g.forest p → slice_get (children_of g.forest p) k ≡ Some c → k ≡ suc j → previous_of g.forest c ≡ slice_get (children_of g.forest p) j
@@ -60,6 +65,11 @@ module _ {X : Type 0} {g : Grove X} (s : IsForest g) where
       let e2 : slice_get (children_of g.forest p) (suc j) ≡ Some c = ap (slice_get (children_of g.forest p)) (sym i) ∙ e in
       let pc = child-parent g.forest s.once c p (hits-get (children_of g.forest p) (suc j) c e2) in
       rw pc (before_from-get None (children_of g.forest p) j c (λ m. child-once g.forest s.once m p) e2)
+
+  -- a child stands at its index
+  pub child-indexed : (p c i : ℕ) → parent_of g.forest c ≡ Some p → i ≡ index_of g.forest c → slice_get (children_of g.forest p) i ≡ Some c
+  child-indexed p c i e ei =
+      ap (slice_get (children_of g.forest p)) (ei ∙ index-child g.forest c p e) ∙ place-get (children_of g.forest p) c (child-listed g.forest s.once c p (parent-there g.forest c p e) e)
 
   -- a step on
   pub forward-step : (n m : ℕ) → HasNode g.forest n → next_of g.forest n ≡ Some m → (index_of g.forest m ≡ 1 + index_of g.forest n) × ((parent_of g.forest m ≡ parent_of g.forest n) × HasNode g.forest m)

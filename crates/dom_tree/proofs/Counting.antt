@@ -13,7 +13,7 @@ use Rattle.dom_tree.specs.Numberings.{index_put, sure_put, reach_put, numbered_p
 use Rattle.dom_tree.proofs.PlacesAt.{last-there}
 use Rattle.dom_tree.proofs.Stores.{altered-at, linked-at, unlinked-at, added-new, added-old, taken-at, taken-other}
 
-hits-left_out : (x c : ℕ) (l : List ℕ) → 0 < hits x (left_out c l) → (x ≡ c → ⊥) × (0 < hits x l)
+pub hits-left_out : (x c : ℕ) (l : List ℕ) → 0 < hits x (left_out c l) → (x ≡ c → ⊥) × (0 < hits x l)
 hits-left_out x c [] h = absurd (omega arith)
 hits-left_out x c (y ∷ ys) h =
     elim (same_or y c) [
@@ -32,7 +32,7 @@ hits-left_out x c (y ∷ ys) h =
           ]
     ]
 
-hits-entered : (x c : ℕ) (b : Option ℕ) (l : List ℕ) → (x ≡ c → ⊥) → hits x (entered b c l) ≡ hits x l
+pub hits-entered : (x c : ℕ) (b : Option ℕ) (l : List ℕ) → (x ≡ c → ⊥) → hits x (entered b c l) ≡ hits x l
 hits-entered x c b [] ne = elim (same_or c x) [ same e t ↦ absurd (ne (sym e)) | apart _ t ↦ rw t refl ]
 hits-entered x c b (y ∷ ys) ne =
     elim (is_number b y) as (λ v. hits x (if v then c ∷ y ∷ ys else y ∷ entered b c ys) ≡ hits x (y ∷ ys)) [
@@ -266,7 +266,7 @@ module _ {X : Type 0} where
       go None = refl
       go (Some e) = refl
 
-  link-index : (p : ℕ) (b : Option ℕ) (c k : ℕ) (o : Option (Entry (Kept X))) → index_in (link_at p b c k o) ≡ index_in o
+  pub link-index : (p : ℕ) (b : Option ℕ) (c k : ℕ) (o : Option (Entry (Kept X))) → index_in (link_at p b c k o) ≡ index_in o
   link-index p b c k None = refl
   link-index p b c k (Some e) = refl
 
@@ -274,11 +274,11 @@ module _ {X : Type 0} where
   link-sure p b c k None = refl
   link-sure p b c k (Some e) = refl
 
-  link-reach : (p : ℕ) (b : Option ℕ) (c k : ℕ) (o : Option (Entry (Kept X))) → reach_in (link_at p b c k o) ≡ reach_in o
+  pub link-reach : (p : ℕ) (b : Option ℕ) (c k : ℕ) (o : Option (Entry (Kept X))) → reach_in (link_at p b c k o) ≡ reach_in o
   link-reach p b c k None = refl
   link-reach p b c k (Some e) = refl
 
-  link-children : (p : ℕ) (b : Option ℕ) (c k : ℕ) (o : Option (Entry (Kept X))) → (k ≡ p → ⊥) → children_in (link_at p b c k o) ≡ children_in o
+  pub link-children : (p : ℕ) (b : Option ℕ) (c k : ℕ) (o : Option (Entry (Kept X))) → (k ≡ p → ⊥) → children_in (link_at p b c k o) ≡ children_in o
   link-children p b c k None ne = refl
   link-children p b c k (Some e) ne = elim (same_or k p) [ same d t ↦ absurd (ne d) | apart _ t ↦ rw t refl ]
 
@@ -286,7 +286,7 @@ module _ {X : Type 0} where
   link-under p b c None h = absurd (false≢true h)
   link-under p b c (Some e) h = elim (same_or p p) [ same _ t ↦ rw t refl | apart ne t ↦ absurd (ne refl) ]
 
-  cut-index : (c k : ℕ) (o : Option (Entry (Kept X))) → index_in (cut_at c k o) ≡ index_in o
+  pub cut-index : (c k : ℕ) (o : Option (Entry (Kept X))) → index_in (cut_at c k o) ≡ index_in o
   cut-index c k None = refl
   cut-index c k (Some e) = refl
 
@@ -294,15 +294,15 @@ module _ {X : Type 0} where
   cut-sure c k None = refl
   cut-sure c k (Some e) = refl
 
-  cut-reach : (c k : ℕ) (o : Option (Entry (Kept X))) → reach_in (cut_at c k o) ≡ reach_in o
+  pub cut-reach : (c k : ℕ) (o : Option (Entry (Kept X))) → reach_in (cut_at c k o) ≡ reach_in o
   cut-reach c k None = refl
   cut-reach c k (Some e) = refl
 
-  cut-children : (c k : ℕ) (o : Option (Entry (Kept X))) → children_in (cut_at c k o) ≡ left_out c (children_in o)
+  pub cut-children : (c k : ℕ) (o : Option (Entry (Kept X))) → children_in (cut_at c k o) ≡ left_out c (children_in o)
   cut-children c k None = refl
   cut-children c k (Some e) = refl
 
-  some-altered : (f : Entry (Kept X) → Entry (Kept X)) (a : Arena (Kept X)) (n k : ℕ) → IsHeld a k → IsHeld (altered f a n) k
+  pub some-altered : (f : Entry (Kept X) → Entry (Kept X)) (a : Arena (Kept X)) (n k : ℕ) → IsHeld a k → IsHeld (altered f a n) k
   some-altered f a n k h =
       rw (altered-at f a n k) (elim (k == n) as (λ v. IsSome (if v then option_map f (entry_at a k) else entry_at a k)) [ true ↦ go (entry_at a k) h | false ↦ h ])
     where

@@ -1,10 +1,15 @@
 pub mod Adopting
+pub mod Asking
 pub mod Beside
+pub mod BlockTable
+pub mod BlockSteps
+pub mod BlocksKept
 pub mod Counting
 pub mod DocumentsKept
 pub mod Following
 pub mod Freeing
 pub mod Growing
+pub mod InBlocks
 pub mod Kept
 pub mod Making
 pub mod Moving
@@ -19,6 +24,7 @@ pub mod OwnedSlots
 pub mod OwnedSteps
 pub mod OwnedTrees
 pub mod Owning
+pub mod Putting
 pub mod Reading
 pub mod Referring
 pub mod ReferringByCount
@@ -29,6 +35,9 @@ pub mod Spots
 pub mod Stores
 pub mod Sums
 pub mod Taking
+pub mod Tallied
+pub mod TalliesKept
+pub mod TallyTable
 pub mod TreeOrder
 pub mod Trees
 pub mod Ways

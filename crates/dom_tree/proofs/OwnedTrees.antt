@@ -8,7 +8,8 @@ use Rattle.dom_model.proofs.Forests.Entries.{occurs-HasNode}
 use Rattle.dom_tree.specs.Owned.{document_in}
 use Rattle.dom_tree.specs.Spelled.{slot_in, shown, IsKept}
 use Rattle.dom_tree.specs.Slots.{Kept, nodes_alone, with_owned, owned_in, owning, IsStored, IsTree}
-use Rattle.dom_tree.specs.Numberings.{numbered_put, numbered_cut, IsNumbered}
+use Rattle.dom_tree.specs.Numberings.{numbered_put, numbered_cut}
+use Rattle.dom_tree.specs.Blocks.{IsRenumbered}
 use Rattle.dom_tree.proofs.Nodes.{unaltered-nodes, room-altered}
 use Rattle.dom_tree.proofs.Counting.{counted-altered}
 use Rattle.dom_tree.proofs.OwnedSlots.{altered-owned, linked-owned, unlinked-owned, put-owned, cut-owned}
@@ -47,9 +48,9 @@ module _ {X : Type 0} {a : Arena (Kept X)} {table : List (Option ℕ)} {live : �
             (λ n. ap (λ (g : Forest X). document_in g n) st.same ∙ h n) (λ n s _. c s) (k.owned e);
       }
 
-  pub numbered-tree : (b : Arena (Kept X)) (s t : ℕ) → IsNumbered a b s t → IsTree b table live strays
-  numbered-tree b s t n =
-      stays-same (record { kept = numbered-done k refl b s t n; same = ap (λ (d : Arena (Node X)). shown d table) n.nodes }) (λ m. refl) n.owned
+  pub numbered-tree : (b : Arena (Kept X)) (blocks : List (ℕ × List ℕ)) → IsRenumbered a b blocks → IsTree b table live strays
+  numbered-tree b blocks n =
+      stays-same (record { kept = numbered-done k refl b blocks n; same = ap (λ (d : Arena (Node X)). shown d table) n.nodes }) (λ m. refl) n.owned
 
   pub alter-tree : (n s : ℕ) → slot_in table n ≡ Some s → (h : Node X → Node X) → ((q : Node X) → (h q).number ≡ q.number) → ((q : Node X) → (h q).label ≡ q.label) → ((q : Node X) → (h q).document ≡ q.document) → IsTree (altered (λ (e : Entry (Kept X)). with_value (record e.value { node = h e.value.node }) e) a s) table live strays
   alter-tree n s i h hn hl hd =

@@ -14,6 +14,9 @@ use Rattle.dom_tree.specs.Places.{slots_in, called, with_arena, Leads, ArePlaced
 use Rattle.dom_tree.specs.Spelled.{number_in_slot, slot_in, shown}
 use Rattle.dom_tree.specs.Slots.{Kept, nodes_alone, IsStored, IsTree}
 use Rattle.dom_tree.specs.Numberings.{numbered_put}
+use Rattle.dom_tree.specs.Blocks.{AreBlocked}
+use Rattle.dom_tree.specs.declared.tallies.Tally.{Tally}
+use Rattle.dom_tree.specs.Tallies.{AreTallied}
 use Rattle.dom_tree.proofs.Nodes.{held-back}
 use Rattle.dom_tree.proofs.Trees.{slot-held, slot-of_child, made-is}
 
@@ -76,7 +79,7 @@ module _ {X : Type 0} (s t : Placed (Kept X)) (e : t.places ≡ s.places) where
   pub slot-back : (table : List (Option Ptr)) (n : ℕ) (p : Ptr) → Leads t (Some p) (slot_in (slots_in t table) n) → slot_in (slots_in s table) n ≡ Some (slot_of s p)
   slot-back table n p l = subst (λ ps. slot_in (map (option_map (index_of ps)) table) n ≡ Some (index_of ps p)) e (slot-led l)
 
-module _ {X : Type 0} {s : Placed (Kept X)} {table : List (Option Ptr)} {live : ℕ} {strays : Bool} (k : IsSeated s table live strays) where
+module _ {X : Type 0} {s : Placed (Kept X)} {table : List (Option Ptr)} {live : ℕ} {strays : Bool} {blocks : List (ℕ × List ℕ)} {tallies : List (ℕ × Tally)} (k : IsSeated s table live strays blocks tallies) where
   listed-slot : (n : ℕ) → IsSome (slot_in (slots_in s table) n) → IsListed s table n
   listed-slot n h =
       record {
@@ -112,11 +115,13 @@ module _ {X : Type 0} {s : Placed (Kept X)} {table : List (Option Ptr)} {live : 
           placed = still-placed n;
         }
 
-  pub seated : {live' : ℕ} {strays' : Bool} (t : Placed (Kept X)) → t.places ≡ s.places → IsTree t.arena (slots_in s table) live' strays' → IsSeated t table live' strays'
-  seated {live'} {strays'} t e h =
+  pub seated : {live' : ℕ} {strays' : Bool} {blocks' : List (ℕ × List ℕ)} {tallies' : List (ℕ × Tally)} (t : Placed (Kept X)) → t.places ≡ s.places → IsTree t.arena (slots_in s table) live' strays' → AreBlocked (entry_at t.arena) blocks' → AreTallied (entry_at (nodes_alone t.arena)) tallies' → IsSeated t table live' strays' blocks' tallies'
+  seated {live'} {strays'} {blocks'} {tallies'} t e h hb ht =
       record {
         tree = subst (λ ps. IsTree t.arena (map (option_map (index_of ps)) table) live' strays') (sym e) h;
         placed = still-placed t e h.stored;
+        blocked = hb;
+        tallied = ht;
       }
 
 -- what stands beside it shows the same forest
@@ -171,7 +176,7 @@ cleared-each P (o ∷ os) zero h (suc n) q e = h (suc n) q (λ z. omega (arith, 
 cleared-each P (o ∷ os) (suc m) h zero q e = h 0 q (λ z. omega (arith, z)) e
 cleared-each P (o ∷ os) (suc m) h (suc n) q e = cleared-each P os m (λ i r ne d. h (suc i) r (λ z. ne (omega (arith, z))) d) n q e
 
-module _ {X : Type 0} {s : Placed (Kept X)} {table : List (Option Ptr)} {live : ℕ} {strays : Bool} (k : IsSeated s table live strays) (t : Placed (Kept X)) where
+module _ {X : Type 0} {s : Placed (Kept X)} {table : List (Option Ptr)} {live : ℕ} {strays : Bool} {blocks : List (ℕ × List ℕ)} {tallies : List (ℕ × Tally)} (k : IsSeated s table live strays blocks tallies) (t : Placed (Kept X)) where
   -- one more number, at a place of its own
   module _ (kept : KeepsPlaces s t) (p : Ptr) (table' : List (Option Ptr)) (et : table' ≡ table ++ Some p ∷ []) where
     pub slots-made : slots_in t table' ≡ slots_in s table ++ Some (slot_of t p) ∷ []

@@ -1,5 +1,5 @@
 -- What the links say at a place, told of the node that stands there.
-use Rattle.std.proofs.Common.{◌≡◌, List, length, Option, Some, option_map, IfSome, refl, ap, sym, ◌∙◌, subst}
+use Rattle.std.proofs.Common.{◌≡◌, List, length, Option, option_map, IfSome, refl, ap, ◌∙◌, subst}
 use denote.RawPtr.{Ptr}
 use Rattle.dom_model.specs.PlainLists.Lists.{head_of, last_of}
 use Rattle.dom_model.specs.Forests.Arena.{entry_at, parent_in, children_in, next_in, previous_in, IsSound}

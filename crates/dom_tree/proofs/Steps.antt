@@ -4,7 +4,7 @@ use denote.RawPtr.{Ptr}
 use Rattle.dom_model.specs.PlainLists.Lists.{head_of, last_of}
 use Rattle.dom_model.specs.Forests.Arena.{entry_at, parent_in, children_in, list_under, siblings_in, next_in, previous_in, IsSound}
 use Rattle.dom_model.specs.Forests.Forest.{Grove, entry_in, HasNode, parent_of, children_of, next_of, previous_of}
-use Rattle.dom_links.specs.Placed.{Placed, slot_of, slots_of, IsPlaced}
+use Rattle.dom_links.specs.Placed.{Placed, slot_of, IsPlaced}
 use Rattle.dom_tree.specs.Places.{called, Leads}
 use Rattle.dom_tree.specs.Spelled.{slot_in, shown}
 use Rattle.dom_tree.specs.Slots.{Kept, nodes_alone, IsTree}

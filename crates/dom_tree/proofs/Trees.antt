@@ -11,7 +11,8 @@ use Rattle.dom_model.proofs.Forests.Changes.{seen, nothing, just}
 use Rattle.dom_tree.specs.Standing.{MayStand}
 use Rattle.dom_tree.specs.Spelled.{number_in_slot, slot_in, slot_for, shown, IsKept}
 use Rattle.dom_tree.specs.Slots.{Kept, node_entry, nodes_alone, indexed, index_in, sure_in, IsCounted, IsStored, IsTree}
-use Rattle.dom_tree.specs.Numberings.{index_put, sure_put, reach_put, numbered_put, numbered_cut_from, numbered_cut, IsNumbered}
+use Rattle.dom_tree.specs.Numberings.{index_put, sure_put, reach_put, numbered_put, numbered_cut_from, numbered_cut}
+use Rattle.dom_tree.specs.Blocks.{IsRenumbered}
 use Rattle.dom_tree.proofs.Kept.{Keeps, index-slot}
 use Rattle.dom_tree.proofs.Making as making
 use Rattle.dom_tree.proofs.Reading as reading
@@ -266,16 +267,16 @@ module _ {X : Type 0} {a : Arena (Kept X)} {table : List (Option ℕ)} {live : �
       same_store : altered (with_value z) a s ≡ altered (λ (d : Entry (Kept X)). with_value (record d.value { node = h d.value.node }) d) a s
       same_store = ap (λ o. record a { slots = slice_set a.slots s o }) (each (entry_at a s) j)
 
-  pub numbered-done : (d : Arena (Kept X)) (s t : ℕ) → IsNumbered a d s t → IsStored d table live
-  numbered-done d s t n =
+  pub numbered-done : (d : Arena (Kept X)) (blocks : List (ℕ × List ℕ)) → IsRenumbered a d blocks → IsStored d table live
+  numbered-done d blocks n =
       record {
         kept = subst (λ (b : Arena (Node X)). IsKept b table live) (sym n.nodes) k.stored.kept;
         counted = n.counted;
         room = (let r = k.stored.room in omega (arith, r, n.room));
       }
 
-  pub numbered-shown : (d : Arena (Kept X)) (s t : ℕ) → IsNumbered a d s t → ◌≡◌ {A = Grove X} (record { forest = shown (nodes_alone d) table; made = length table }) w
-  numbered-shown d s t n = (λ i. record { forest = shown (n.nodes i) table; made = length table }) ∙ v
+  pub numbered-shown : (d : Arena (Kept X)) (blocks : List (ℕ × List ℕ)) → IsRenumbered a d blocks → ◌≡◌ {A = Grove X} (record { forest = shown (nodes_alone d) table; made = length table }) w
+  numbered-shown d blocks n = (λ i. record { forest = shown (n.nodes i) table; made = length table }) ∙ v
 
   pub children-none : (n s : ℕ) → slot_in table n ≡ Some s → children_of w.forest n ≡ [] → children_in (entry_at a s) ≡ []
   children-none n s i h =

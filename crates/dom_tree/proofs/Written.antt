@@ -1,5 +1,5 @@
 -- The indices of children written one after another.
-use Rattle.std.proofs.Common.{◌≡◌, ℕ, suc, ◌+◌, ◌-◌, ◌<◌, ◌≤◌, min, max, Bool, true, false, List, length, Option, Some, None, IsSome, refl, ap, sym, ◌∙◌, subst, arith, add-one, ⊎_elim}
+use Rattle.std.proofs.Common.{◌≡◌, ℕ, suc, ◌+◌, ◌-◌, ◌<◌, ◌≤◌, min, max, true, false, List, length, Option, Some, None, IsSome, refl, ap, sym, ◌∙◌, subst, arith, add-one, ⊎_elim}
 use Rattle.std.proofs.lemmas.Bool.{cases_lt}
 use Rattle.std.specs.Prelude.{slice_get}
 use Rattle.dom_model.specs.PlainLists.Lists.{hits, after, before, place_in}
@@ -29,8 +29,8 @@ module _ {X : Type 0} where
   held-same a b e n h = held-back a n (subst (λ (d : Arena (Node X)). IsHeld d n) (sym e) (held-nodes b n h))
 
   -- how far the children have been written from a place on, and the next one
-  pub record IsWriting (start now : Arena (Kept X)) (p from place until : ℕ) (known : Bool) (next : Option ℕ) : Type 0 where
-    pub so_far : IsWritten start now p from place known
+  pub record IsWriting (start now : Arena (Kept X)) (p from place until : ℕ) (tell : ℕ → ℕ) (next : Option ℕ) : Type 0 where
+    pub so_far : IsWritten start now p from place tell
     pub ahead : next ≡ slice_get (children_in (entry_at start p)) place
     pub since : from ≤ place
     pub up_to : place ≤ until
@@ -45,10 +45,10 @@ module _ {X : Type 0} {start : Arena (Kept X)} (l : IsSound start) (p : ℕ) whe
   abbrev list : List ℕ
   list = children_in (entry_at start p)
 
-  once : (x : ℕ) → hits x list ≤ 1
+  pub once : (x : ℕ) → hits x list ≤ 1
   once = children-once (entry_at start) l.linked p
 
-  under : (c : ℕ) → 0 < hits c list → parent_in (entry_at start c) ≡ Some p
+  pub under : (c : ℕ) → 0 < hits c list → parent_in (entry_at start c) ≡ Some p
   under c listed = go (parent_in (entry_at start c)) (omega (arith, l.linked p c, listed))
     where
       go : (o : Option ℕ) → 0 < names o p → o ≡ Some p
@@ -56,7 +56,7 @@ module _ {X : Type 0} {start : Arena (Kept X)} (l : IsSound start) (p : ℕ) whe
       go (Some q) h = elim (same_or q p) [ same e t ↦ ap Some e | apart ne t ↦ absurd (let k = rw t at h in omega arith) ]
 
   -- a child of another is none of these
-  not_in : (q x : ℕ) → (q ≡ p → ⊥) → 0 < hits x (children_in (entry_at start q)) → hits x list ≡ 0
+  pub not_in : (q x : ℕ) → (q ≡ p → ⊥) → 0 < hits x (children_in (entry_at start q)) → hits x list ≡ 0
   not_in q x ne h =
       elim (seen (parent_in (entry_at start x))) [
         | nothing e ↦ absurd (let a = l.linked q x in let b = ap (λ o. names o q) e in omega arith)
@@ -72,7 +72,7 @@ module _ {X : Type 0} {start : Arena (Kept X)} (l : IsSound start) (p : ℕ) whe
   pub listed_under : (c : ℕ) → parent_in (entry_at start c) ≡ Some p → 0 < hits c list
   listed_under c e = omega (arith, l.linked p c, ap (λ o. names o p) e, names-itself p)
 
-  held_under : (c : ℕ) → 0 < hits c list → IsHeld start c
+  pub held_under : (c : ℕ) → 0 < hits c list → IsHeld start c
   held_under c listed = go (entry_at start c) (under c listed)
     where
       go : (o : Option (Entry (Kept X))) → parent_in o ≡ Some p → IsSome o
@@ -88,7 +88,7 @@ module _ {X : Type 0} {start : Arena (Kept X)} (l : IsSound start) (p : ℕ) whe
     pub ahead-held : IsHeld start here
     ahead-held = held_under here w.listed
 
-    before_here : previous_in (entry_at start) here ≡ before here list
+    pub before_here : previous_in (entry_at start) here ≡ before here list
     before_here = ap (λ o. before here (list_under (entry_at start) o)) (under here w.listed)
 
     pub ahead-there : passed < steps → steps ≤ place_in child list → IsSome (previous_in (entry_at start) here)
@@ -115,8 +115,8 @@ module _ {X : Type 0} {start : Arena (Kept X)} (l : IsSound start) (p : ℕ) whe
 
   -- Indices written.
 
-  pub writing-start : (from until : ℕ) (known : Bool) (next : Option ℕ) → next ≡ slice_get list from → from ≤ until → IsWriting start start p from from until known next
-  writing-start from until known next e le =
+  pub writing-start : (from until : ℕ) (tell : ℕ → ℕ) (next : Option ℕ) → next ≡ slice_get list from → from ≤ until → IsWriting start start p from from until tell next
+  writing-start from until tell next e le =
       record {
         so_far = record {
           nodes = refl;
@@ -132,7 +132,7 @@ module _ {X : Type 0} {start : Arena (Kept X)} (l : IsSound start) (p : ℕ) whe
         up_to = le;
       }
 
-  module _ {now : Arena (Kept X)} {from place until : ℕ} {known : Bool} {next : Option ℕ} (w : IsWriting start now p from place until known next) where
+  module _ {now : Arena (Kept X)} {from place until : ℕ} {tell : ℕ → ℕ} {next : Option ℕ} (w : IsWriting start now p from place until tell next) where
     pub writing-there : place < until → until ≤ length list → IsSome next
     writing-there h le = rw w.ahead (get-within list place (omega arith))
 
@@ -152,7 +152,7 @@ module _ {X : Type 0} {start : Arena (Kept X)} (l : IsSound start) (p : ℕ) whe
       pub writing-still : (now' : Arena (Kept X)) (i : ℕ) → now' ≡ indexed now c i → IsHeld now' c
       writing-still now' i e = held-same now' now (ap nodes_alone e ∙ indexed-nodes now c i) c writing-held
 
-      pub writing-next : place < until → (i : ℕ) → i ≡ told known place → (now' : Arena (Kept X)) → now' ≡ indexed now c i → (next' : Option ℕ) → next' ≡ next_in (entry_at now') c → IsWriting start now' p from (place + 1) until known next'
+      pub writing-next : place < until → (i : ℕ) → i ≡ tell place → (now' : Arena (Kept X)) → now' ≡ indexed now c i → (next' : Option ℕ) → next' ≡ next_in (entry_at now') c → IsWriting start now' p from (place + 1) until tell next'
       writing-next lt i ei now' e next' en =
           record {
             so_far = record {
@@ -175,10 +175,10 @@ module _ {X : Type 0} {start : Arena (Kept X)} (l : IsSound start) (p : ℕ) whe
           siblings : siblings_in (entry_at now') c ≡ list
           siblings = ap (list_under (entry_at now')) (parent-same now' start n c ∙ under c listed) ∙ children-same now' start n p
 
-          written : (x : ℕ) → 0 < hits x list → from ≤ place_in x list → place_in x list < place + 1 → index_in (entry_at (indexed now c i) x) ≡ told known (place_in x list)
+          written : (x : ℕ) → 0 < hits x list → from ≤ place_in x list → place_in x list < place + 1 → index_in (entry_at (indexed now c i) x) ≡ tell (place_in x list)
           written x hx a lt2 =
               elim (same_or x c) [
-                | same d t ↦ ap (λ m. index_in (entry_at (indexed now c i) m)) d ∙ indexed-index now c i writing-held ∙ ei ∙ ap (told known) (sym place_c ∙ ap (λ m. place_in m list) (sym d))
+                | same d t ↦ ap (λ m. index_in (entry_at (indexed now c i) m)) d ∙ indexed-index now c i writing-held ∙ ei ∙ ap tell (sym place_c ∙ ap (λ m. place_in m list) (sym d))
                 | apart ne t ↦
                     let far : place_in x list ≡ place → ⊥ = λ f. ne (place-apart x c list hx (f ∙ sym place_c)) in
                     indexed-other now c i x ne ∙ w.so_far.written x hx a (omega arith)
@@ -189,10 +189,10 @@ module _ {X : Type 0} {start : Arena (Kept X)} (l : IsSound start) (p : ℕ) whe
               let ne : x ≡ c → ⊥ = λ d. (let k = h (subst (λ m. 0 < hits m list) (sym d) listed) in let pl : place_in x list ≡ place = ap (λ m. place_in m list) d ∙ place_c in let k2 = k (let q = w.since in omega arith) in omega arith) in
               indexed-other now c i x ne ∙ w.so_far.untouched x (λ hx a. let k = h hx a in omega arith)
 
-    pub writing-end : until ≤ place → IsWritten start now p from until known
+    pub writing-end : until ≤ place → IsWritten start now p from until tell
     writing-end le =
         let e : place ≡ until = (let k = w.up_to in omega arith) in
-        subst (λ m. IsWritten start now p from m known) e w.so_far
+        subst (λ m. IsWritten start now p from m tell) e w.so_far
 
   -- What is known once those up to a child were written, and those behind it were made unknown.
 
@@ -203,7 +203,7 @@ module _ {X : Type 0} {start : Arena (Kept X)} (l : IsSound start) (p : ℕ) whe
     pub index-within : index < count
     index-within = omega (arith, ei, ec, place-there child list child_listed)
 
-    module _ {mid : Arena (Kept X)} (w : IsWritten start mid p from (index + 1) true) where
+    module _ {mid : Arena (Kept X)} (w : IsWritten start mid p from (index + 1) (told true)) where
       pub next-ahead : (next : Option ℕ) → next ≡ next_in (entry_at mid) child → next ≡ slice_get (children_in (entry_at mid p)) (index + 1)
       next-ahead next e =
           let n = w.nodes in
@@ -214,10 +214,12 @@ module _ {X : Type 0} {start : Arena (Kept X)} (l : IsSound start) (p : ℕ) whe
       pub mid-held : IsHeld mid p
       mid-held = held-same mid start w.nodes p hp
 
-      pub numbered : until ≡ max (min (reach_in (entry_at start p)) count) (index + 1) → {last : Arena (Kept X)} → IsWritten mid last p (index + 1) until false → (done : Arena (Kept X)) → done ≡ assured last p (index + 1) (index + 1) → IsNumbered start done p child
+      pub numbered : until ≡ max (min (reach_in (entry_at start p)) count) (index + 1) → {last : Arena (Kept X)} → IsWritten mid last p (index + 1) until (told false) → (done : Arena (Kept X)) → done ≡ assured last p (index + 1) (index + 1) → IsNumbered start done p child
       numbered eu {last} v done e = rw e (record {
         nodes = assured-nodes last p (index + 1) (index + 1) ∙ n;
         counted = counted;
+        elsewhere = λ x z. assured-index last p (index + 1) (index + 1) x ∙ elsewhere x z;
+        far = λ q ne. assured-far last p (index + 1) (index + 1) q ne ∙ v.reaches q ∙ w.reaches q;
         known = (let i = ei in let j = assured-sure last p (index + 1) (index + 1) held_last in omega arith);
         room = room-altered _ last p ∙ v.room ∙ w.room;
         owned = λ s. assured-owned last p (index + 1) (index + 1) s ∙ v.owned s ∙ w.owned s;

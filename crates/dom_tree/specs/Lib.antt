@@ -1,3 +1,5 @@
+pub mod Asked
+pub mod Blocks
 pub mod Bodies
 pub mod Following
 pub mod Lends
@@ -9,4 +11,5 @@ pub mod Slots
 pub mod Spelled
 pub mod Spots
 pub mod Standing
+pub mod Tallies
 pub mod Ways

@@ -47,10 +47,10 @@ module _ {X : Type 0} where
   numbered_cut a child = numbered_cut_from (parent_in (entry_at a child)) a child
 
   -- the same nodes, of which those among the parent's children that stand from one place on and ahead of another have another index
-  pub record IsWritten (old new : Arena (Kept X)) (parent from until : ℕ) (known : Bool) : Type 0 where
+  pub record IsWritten (old new : Arena (Kept X)) (parent from until : ℕ) (tell : ℕ → ℕ) : Type 0 where
     pub nodes : nodes_alone new ≡ nodes_alone old
     pub written : (x : ℕ) → 0 < hits x (children_in (entry_at old parent)) → from ≤ place_in x (children_in (entry_at old parent)) →
-        place_in x (children_in (entry_at old parent)) < until → index_in (entry_at new x) ≡ told known (place_in x (children_in (entry_at old parent)))
+        place_in x (children_in (entry_at old parent)) < until → index_in (entry_at new x) ≡ tell (place_in x (children_in (entry_at old parent)))
     pub untouched : (x : ℕ) → (0 < hits x (children_in (entry_at old parent)) → from ≤ place_in x (children_in (entry_at old parent)) →
         until ≤ place_in x (children_in (entry_at old parent))) → index_in (entry_at new x) ≡ index_in (entry_at old x)
     pub sures : (slot : ℕ) → sure_in (entry_at new slot) ≡ sure_in (entry_at old slot)
@@ -62,6 +62,8 @@ module _ {X : Type 0} where
   pub record IsNumbered (old new : Arena (Kept X)) (parent child : ℕ) : Type 0 where
     pub nodes : nodes_alone new ≡ nodes_alone old
     pub counted : IsCounted (entry_at new)
+    pub elsewhere : (x : ℕ) → hits x (children_in (entry_at old parent)) ≡ 0 → index_in (entry_at new x) ≡ index_in (entry_at old x)
+    pub far : (slot : ℕ) → (slot ≡ parent → ⊥) → reach_in (entry_at new slot) ≡ reach_in (entry_at old slot)
     pub known : place_in child (children_in (entry_at old parent)) < sure_in (entry_at new parent)
     pub room : length new.slots ≡ length old.slots
     pub owned : (slot : ℕ) → owned_in (entry_at new slot) ≡ owned_in (entry_at old slot)

@@ -1,5 +1,5 @@
 -- A table from numbers to places, beside a store that is asked by places.
-use Rattle.std.specs.Prelude.{◌≡◌, ℕ, Bool, List, map, Option, Some, IsSome}
+use Rattle.std.specs.Prelude.{◌≡◌, ℕ, Bool, List, map, Option, IsSome}
 use Rattle.std.specs.Option.{ForSome}
 use denote.RawPtr.{Ptr}
 use Rattle.dom_pages.specs.Numbered.{item_at}
@@ -8,6 +8,9 @@ use Rattle.dom_links.specs.Placed.{Placed, slot_of, slots_of, IsPlaced}
 use Rattle.dom_tree.specs.Spelled.{number_in_slot}
 use Rattle.dom_tree.specs.Slots.{Kept, nodes_alone, IsTree}
 use Rattle.dom_tree.specs.Numberings.{IsWritten, IsNumbered}
+use Rattle.dom_tree.specs.Blocks.{AreBlocked, IsInBlocks, IsRenumbered}
+use Rattle.dom_tree.specs.declared.tallies.Tally.{Tally}
+use Rattle.dom_tree.specs.Tallies.{AreTallied}
 
 module _ {X : Type 0} where
   -- the slots of the places in a table
@@ -37,16 +40,28 @@ module _ {X : Type 0} where
     pub placed : ForSome (item_at table n) (IsPlaced s)
 
   -- what a tree keeps
-  pub record IsSeated (s : Placed (Kept X)) (table : List (Option Ptr)) (live : ℕ) (strays : Bool) : Type 0 where
+  pub record IsSeated (s : Placed (Kept X)) (table : List (Option Ptr)) (live : ℕ) (strays : Bool) (blocks : List (ℕ × List ℕ)) (tallies : List (ℕ × Tally)) : Type 0 where
     pub tree : IsTree s.arena (slots_in s table) live strays
     pub placed : ArePlaced s table
+    pub blocked : AreBlocked (entry_at s.arena) blocks
+    pub tallied : AreTallied (entry_at (nodes_alone s.arena)) tallies
 
   -- the same places, and the indices of a parent's children written from one of them on and ahead of another
-  pub record AreWritten (old new : Placed (Kept X)) (parent : Ptr) (from until : ℕ) (known : Bool) : Type 0 where
-    pub written : IsWritten old.arena new.arena (slot_of old parent) from until known
+  pub record AreWritten (old new : Placed (Kept X)) (parent : Ptr) (from until : ℕ) (tell : ℕ → ℕ) : Type 0 where
+    pub written : IsWritten old.arena new.arena (slot_of old parent) from until tell
     pub places : new.places ≡ old.places
 
   -- the same places, and a child's index known
   pub record AreNumbered (old new : Placed (Kept X)) (parent child : Ptr) : Type 0 where
     pub numbered : IsNumbered old.arena new.arena (slot_of old parent) (slot_of old child)
+    pub places : new.places ≡ old.places
+
+  -- the same places, and the children of one in blocks
+  pub record AreInBlocks (old new : Placed (Kept X)) (parent : Ptr) : Type 0 where
+    pub blocks : IsInBlocks old.arena new.arena (slot_of old parent)
+    pub places : new.places ≡ old.places
+
+  -- the same places, and the indices kept in another way
+  pub record AreRenumbered (old new : Placed (Kept X)) (blocks : List (ℕ × List ℕ)) : Type 0 where
+    pub renumbered : IsRenumbered old.arena new.arena blocks
     pub places : new.places ≡ old.places

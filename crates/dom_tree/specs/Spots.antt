@@ -7,6 +7,7 @@ use Rattle.dom_model.specs.Forests.ForestCode.{grove_code}
 use Rattle.dom_links.specs.Placed.{Placed, IsPlaced}
 use Rattle.dom_tree.specs.Slots.{Kept}
 use Rattle.dom_tree.specs.Places.{IsSeated}
+use Rattle.dom_tree.specs.declared.tallies.Tally.{Tally}
 
 -- a node of a tree, by its number
 pub record Spot (X : Type 0) : Type 0 where
@@ -25,5 +26,7 @@ module _ {X : Type 0} where
   pub record IsSpot (s : Placed (Kept X)) (table : List (Option Ptr)) (p : Ptr) : Type 0 where
     pub live : ℕ
     pub strays : Bool
-    pub seated : IsSeated s table live strays
+    pub blocks : List (ℕ × List ℕ)
+    pub tallies : List (ℕ × Tally)
+    pub seated : IsSeated s table live strays blocks tallies
     pub placed : IsPlaced s p

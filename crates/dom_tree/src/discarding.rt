@@ -8,6 +8,7 @@ ghost use Rattle.dom_tree.specs.Owned.{document_in};
 
 use crate::nearby::place_of;
 use crate::node_id::NodeId;
+use crate::tallying::tallied_take;
 use crate::tree::Tree;
 
 impl<X> Tree<X> {
@@ -115,6 +116,8 @@ impl<X: Drop> Tree<X> {
         let place = place_of(&self.links, &self.table, id);
         self.links.sound();
         let slot = self.links.slot(place);
+        self.blocks.remove(slot);
+        tallied_take(&self.links, &mut self.tallies, place);
         let item = self.links.take(slot);
         self.links.sound();
         self.table.clear(id.number() as usize);

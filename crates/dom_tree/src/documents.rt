@@ -1,10 +1,9 @@
 //! Node documents, and how many nodes have each (DOM Standard, "Interface Node").
 
 ghost use Rattle.std.specs.Prelude.{◌≡◌, ◌+◌, ◌<◌, ◌^◌, Some, IfSome};
-ghost use Rattle.dom_model.specs.Forests.Arena.{entry_at};
 ghost use Rattle.dom_model.specs.Forests.Forest.{HasNode, with_node, in_document};
 ghost use Rattle.dom_tree.specs.Owned.{owned_by};
-ghost use Rattle.dom_links.specs.Placed.{slot_of, IsPlaced};
+ghost use Rattle.dom_links.specs.Placed.{slot_of, entry_behind, IsPlaced};
 ghost use Rattle.dom_tree.specs.Places.{with_arena};
 ghost use Rattle.dom_tree.specs.Slots.{owned_in, document_in_slot, owning, one_more, one_less, homed};
 
@@ -26,7 +25,7 @@ fn set_owned<X>(links: &mut Store<Item<X>>, place: Place, owned: u32)
 // Counts one node more for a node document.
 fn count_in<X>(links: &mut Store<Item<X>>, document: Place)
     requires placed { IsPlaced links.old document }
-    requires few { owned_in (entry_at links.old.arena (slot_of links.old document)) + 1 < 2 ^ 32 }
+    requires few { owned_in (entry_behind links.old document) + 1 < 2 ^ 32 }
     ensures { links.new ≡ with_arena (one_more links.old.arena (slot_of links.old document)) links.old }
 {
     let owned = links.value(document).owned;
@@ -36,7 +35,7 @@ fn count_in<X>(links: &mut Store<Item<X>>, document: Place)
 // Counts one node less for a node document.
 fn count_out<X>(links: &mut Store<Item<X>>, document: Place)
     requires placed { IsPlaced links.old document }
-    requires some { 0 < owned_in (entry_at links.old.arena (slot_of links.old document)) }
+    requires some { 0 < owned_in (entry_behind links.old document) }
     ensures { links.new ≡ with_arena (one_less links.old.arena (slot_of links.old document)) links.old }
 {
     let owned = links.value(document).owned;
@@ -46,7 +45,7 @@ fn count_out<X>(links: &mut Store<Item<X>>, document: Place)
 // Sets the node document of the node at a place, and answers the former one.
 fn replace_document<X>(links: &mut Store<Item<X>>, place: Place, document: NodeId) -> NodeId
     requires { IsPlaced links.old place }
-    ensures former { document_in_slot (entry_at links.old.arena (slot_of links.old place)) ≡ Some result }
+    ensures former { document_in_slot (entry_behind links.old place) ≡ Some result }
     ensures written { links.new ≡ with_arena (homed links.old.arena (slot_of links.old place) document) links.old }
 {
     let item = links.value_mut(place);

@@ -3,10 +3,11 @@
 ghost use Rattle.std.specs.Prelude.{◌≡◌, nat_lt, IsSome, IfSome};
 ghost use Rattle.dom_model.specs.Forests.Forest.{HasNode, parent_of, index_of};
 
+use crate::blocking::number_around;
 use crate::nearby::{self, place_of};
 use crate::node_id::NodeId;
 use crate::tree::Tree;
-use crate::upkeep::number_up_to;
+use std::alloc::AllocError;
 
 // How far an index is looked for before it is made known.
 const NEAR: usize = 64;
@@ -27,7 +28,7 @@ impl<X> Tree<X> {
         None
     }
 
-    // Makes an index that was found known until the list changes in front of it, with those of the siblings ahead.
+    // Makes an index that was found known: in a block, or until the list changes in front of it, with those of the siblings ahead.
     fn make_known(&mut self, id: NodeId, index: usize)
         requires held { HasNode self.old.forest id }
         requires index { index ≡ index_of self.old.forest id }
@@ -36,8 +37,18 @@ impl<X> Tree<X> {
         let place = place_of(&self.links, &self.table, id);
         self.links.sound();
         if let Some(above) = nearby::parent(&self.links, place) {
-            number_up_to(&mut self.links, above, place, index);
+            number_around(&mut self.links, &mut self.blocks, above, place, index);
         }
+    }
+
+    /// Makes room for blocks of a parent's children, where a question about them wanted it: an index is then known at any place, also between changes of the list. `Err` where more memory is refused.
+    pub fn make_room(&mut self, parent: NodeId) -> Result<(), AllocError>
+        requires { HasNode self.old.forest parent }
+        ensures { self.new ≡ self.old }
+    {
+        let place = place_of(&self.links, &self.table, parent);
+        let count = self.links.count(place);
+        self.blocks.make_room(self.links.slot(place), count)
     }
 
     /// Numbers the children of a parent, so that each child's index is known until the list changes in front of it. It takes no memory.

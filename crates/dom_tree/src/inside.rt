@@ -1,9 +1,9 @@
 //! What stands inside a node: its inclusive descendants (DOM Standard, "Trees").
 
-ghost use Rattle.std.specs.Prelude.{◌≡◌, ◌==◌, ◌≤◌, ℕ, Bool, List, length, Some, None, IsSome, IfSome, true, if◌then◌else◌};
-ghost use Rattle.std.specs.List.{list_any};
+ghost use Rattle.std.specs.Prelude.{◌≡◌, ◌==◌, ◌≤◌, ℕ, Bool, length, Some, None, IsSome, true, if◌then◌else◌};
 ghost use Rattle.dom_model.specs.PlainLists.Lists.{among, after, last_of};
 ghost use Rattle.dom_model.specs.Forests.Forest.{HasNode, parent_of, ancestors, inclusive_descendants};
+ghost use Rattle.dom_tree.specs.Asked.{first_asked};
 
 use crate::nearby::{self, number_of, place_at, place_of};
 use crate::node_id::NodeId;
@@ -63,7 +63,8 @@ impl<X> Tree<X> {
 
     /// Whether a test passes for an inclusive descendant of `top`. It asks them in tree order, and where it has asked `steps` of them, and there are more, it has no answer.
     ///
-    /// What it finds is said of a test that tells whether a node is one of some.
+    /// What it finds is said of a test whose answer at a node is always the same. Whatever the test, it has an answer where there are no more
+    /// than `steps`.
     pub fn any_inside<F: Fn(NodeId) -> bool>(
         &self,
         top: NodeId,
@@ -72,8 +73,9 @@ impl<X> Tree<X> {
     ) -> Option<bool>
         requires held { HasNode self.now.forest top }
         requires callable { F.IsAlwaysCallable test }
-        ensures found { (nodes : List ℕ) → ((n : ℕ) (passes : Bool) → F.post test n passes → passes ≡ among n nodes) →
-            IfSome result (λ any. any ≡ list_any (λ m. among m (inclusive_descendants self.now.forest top)) nodes) }
+        ensures asked { (says : ℕ → Bool) →
+            ((n : ℕ) (passes : Bool) → F.post test n passes → passes ≡ says n) →
+            result ≡ first_asked (inclusive_descendants self.now.forest top) steps says }
         ensures answered { length (inclusive_descendants self.now.forest top) ≤ steps → IsSome result }
     {
         self.sound();

@@ -1,10 +1,12 @@
 //! What kind of node a node is (DOM Standard, "Interface Node").
 
-ghost use Rattle.std.specs.Prelude.{◌≡◌};
-ghost use Rattle.dom_model.specs.Forests.Forest.{HasNode};
+ghost use Rattle.std.specs.Prelude.{◌≡◌, IfSome};
+ghost use Rattle.dom_model.specs.Forests.Forest.{HasNode, children_of};
 ghost use Rattle.dom_model.specs.Forests.Kinds.{is_character_data};
 ghost use Rattle.dom_model.specs.Forests.Nodes.{is_of_kind, kind_passes};
+ghost use Rattle.dom_model.specs.MutationAlgorithms.Checks.{count_kind};
 
+use crate::nearby::place_of;
 use crate::node_id::NodeId;
 use crate::tree::Tree;
 use dom_kinds::{Kind, is_character_data};
@@ -16,6 +18,21 @@ impl<X> Tree<X> {
         ensures { result ≡ is_of_kind kind self.now.forest id }
     {
         self.label(id).kind == kind
+    }
+
+    /// How many children of a node are of a kind, where that is known without a look at them: how many elements or doctypes a Document has. It takes no memory.
+    pub fn children_of_kind(&self, parent: NodeId, kind: Kind) -> Option<u32>
+        requires { HasNode self.now.forest parent }
+        ensures { IfSome result (λ n. n ≡ count_kind kind self.now.forest (children_of self.now.forest parent)) }
+    {
+        let place = place_of(&self.links, &self.table, parent);
+        self.links.sound();
+        let tally = self.tallies.get(self.links.slot(place))?;
+        match kind {
+            Kind::Element => Some(tally.elements),
+            Kind::DocumentType => Some(tally.doctypes),
+            _ => None,
+        }
     }
 
     /// Whether a node has character data.

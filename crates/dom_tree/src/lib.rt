@@ -2,6 +2,9 @@
 #![tactic(auto)]
 
 mod at;
+mod block_counts;
+mod blocking;
+mod blocks;
 mod body;
 mod children;
 mod discarding;
@@ -13,7 +16,10 @@ mod kinds;
 mod meeting;
 mod nearby;
 mod node_id;
+mod positions;
 mod table;
+mod tallies;
+mod tallying;
 mod tree;
 mod upkeep;
 mod walks;

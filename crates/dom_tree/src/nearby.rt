@@ -3,8 +3,7 @@
 ghost use Rattle.std.specs.Prelude.{◌≡◌, Some, option_map};
 ghost use Rattle.std.specs.Option.{ForSome};
 ghost use Rattle.dom_model.specs.PlainLists.Lists.{head_of, last_of};
-ghost use Rattle.dom_model.specs.Forests.Arena.{entry_at, parent_in, children_in, next_in, previous_in};
-ghost use Rattle.dom_links.specs.Placed.{slot_of, IsPlaced};
+ghost use Rattle.dom_links.specs.Placed.{parent_at, children_at, next_at, previous_at, IsPlaced};
 ghost use Rattle.dom_tree.specs.Spelled.{slot_in, slot_for};
 ghost use Rattle.dom_tree.specs.Places.{slots_in, called, Leads, ArePlaced, IsListed};
 
@@ -64,7 +63,7 @@ pub(crate) fn named<X>(links: &Store<Item<X>>, link: Link) -> Option<NodeId>
 /// The place of the parent.
 pub(crate) fn parent<X>(links: &Store<Item<X>>, place: Place) -> Option<Place>
     requires { IsPlaced links.now place }
-    ensures { Leads links.now result (parent_in (entry_at links.now.arena (slot_of links.now place))) }
+    ensures { Leads links.now result (parent_at links.now place) }
 {
     links.parent(place).get()
 }
@@ -72,7 +71,7 @@ pub(crate) fn parent<X>(links: &Store<Item<X>>, place: Place) -> Option<Place>
 /// The place of the first child.
 pub(crate) fn first<X>(links: &Store<Item<X>>, place: Place) -> Option<Place>
     requires { IsPlaced links.now place }
-    ensures { Leads links.now result (head_of (children_in (entry_at links.now.arena (slot_of links.now place)))) }
+    ensures { Leads links.now result (head_of (children_at links.now place)) }
 {
     links.first(place).get()
 }
@@ -80,7 +79,7 @@ pub(crate) fn first<X>(links: &Store<Item<X>>, place: Place) -> Option<Place>
 /// The place of the last child.
 pub(crate) fn last<X>(links: &Store<Item<X>>, place: Place) -> Option<Place>
     requires { IsPlaced links.now place }
-    ensures { Leads links.now result (last_of (children_in (entry_at links.now.arena (slot_of links.now place)))) }
+    ensures { Leads links.now result (last_of (children_at links.now place)) }
 {
     links.last(place).get()
 }
@@ -88,7 +87,7 @@ pub(crate) fn last<X>(links: &Store<Item<X>>, place: Place) -> Option<Place>
 /// The place of the next sibling.
 pub(crate) fn next<X>(links: &Store<Item<X>>, place: Place) -> Option<Place>
     requires { IsPlaced links.now place }
-    ensures { Leads links.now result (next_in (entry_at links.now.arena) (slot_of links.now place)) }
+    ensures { Leads links.now result (next_at links.now place) }
 {
     links.next(place).get()
 }
@@ -96,7 +95,7 @@ pub(crate) fn next<X>(links: &Store<Item<X>>, place: Place) -> Option<Place>
 /// The place of the previous sibling.
 pub(crate) fn prev<X>(links: &Store<Item<X>>, place: Place) -> Option<Place>
     requires { IsPlaced links.now place }
-    ensures { Leads links.now result (previous_in (entry_at links.now.arena) (slot_of links.now place)) }
+    ensures { Leads links.now result (previous_at links.now place) }
 {
     links.prev(place).get()
 }

@@ -4,16 +4,19 @@ ghost use Rattle.std.specs.Prelude.{◌≡◌, ◌+◌, ◌<◌, length, Some, N
 ghost use Rattle.std.specs.Borrow.{sem};
 ghost use Rattle.std.specs.Option.{ForSome};
 ghost use Rattle.dom_model.specs.PlainLists.Lists.{among, head_of, last_of};
-ghost use Rattle.dom_model.specs.Forests.Arena.{entry_at};
 ghost use Rattle.dom_model.specs.Forests.Forest.{empty, node, beside, size, entry_in, HasNode, parent_of, children_of, next_of, previous_of, ancestors, put, cut, IsForest};
-ghost use Rattle.dom_links.specs.Placed.{slot_of, IsPlaced};
+ghost use Rattle.dom_links.specs.Placed.{entry_behind, IsPlaced};
 ghost use Rattle.dom_tree.specs.Bodies.{lends_item_body};
 ghost use Rattle.dom_tree.specs.Standing.{MayStand};
 
+use crate::blocking::{block_put, blocked_cut, blocked_put};
+use crate::blocks::Blocks;
 use crate::item::Item;
 use crate::nearby::{link_to, named, place_of};
 use crate::node_id::NodeId;
 use crate::table::Table;
+use crate::tallies::Tallies;
+use crate::tallying::{tallied_cut, tallied_put};
 use crate::upkeep::{number_cut, number_put};
 use dom_kinds::Label;
 use dom_links::{Place, Store};
@@ -23,13 +26,15 @@ use std::marker::Model;
 
 /// A forest of nodes, each a root or among the children of one parent. A node keeps its number wherever it stands.
 ///
-/// `strays` is set, for good, where a node document may be no node of the tree. Until then each node's `owned` is right.
+/// `blocks` are those in which the children of long lists stand. `tallies` has for Documents how many elements and doctypes stand among their children. `strays` is set, for good, where a node document may be no node of the tree. Until then each node's `owned` is right.
 #[derive(Drop)]
 pub struct Tree<X> {
     pub(crate) links: Store<Item<X>>,
     pub(crate) table: Table,
     pub(crate) live: u64,
     pub(crate) strays: bool,
+    pub(crate) blocks: Blocks,
+    pub(crate) tallies: Tallies,
 }
 
 impl<X> Model for Tree<X> {
@@ -49,14 +54,14 @@ impl<X> Model for Tree<X> {
       made = length (slots_in t.links t.table.items);
     } };
 
-    ghost invariant = { λ t. IsSeated t.links t.table.items t.live t.strays };
+    ghost invariant = { λ t. IsSeated t.links t.table.items t.live t.strays t.blocks t.tallies };
 }
 
 // The body of the node at a place.
 fn body_in<X>(links: &mut Store<Item<X>>, place: Place) -> &mut X
     requires { IsPlaced links.old place }
     ensures* writes_back { sem 𝓛 (lends_item_body X.row links.entry place result) }
-    ensures value { IfSome (entry_at links.old.arena (slot_of links.old place)) (λ e. result.now ≡ e.value.node.body) }
+    ensures value { IfSome (entry_behind links.old place) (λ e. result.now ≡ e.value.node.body) }
 {
     let item = links.value_mut(place);
     &mut item.body
@@ -96,7 +101,9 @@ impl<X: Drop> Tree<X> {
         }) }
         ensures unchanged { OnErr result (self.new ≡ self.old) }
     {
+        let kind = label.kind;
         self.table.reserve(1)?;
+        self.tallies.reserve(kind)?;
         let id = NodeId::new(self.table.len() as u32);
         let item = Item {
             number: id,
@@ -115,6 +122,7 @@ impl<X: Drop> Tree<X> {
         let place = self.links.place(slot);
         self.table.push_reserved(place);
         self.live += 1;
+        self.tallies.start(slot, kind);
         Ok(id)
     }
 }
@@ -131,6 +139,8 @@ impl<X> Tree<X> {
             table: Pages::new(alloc),
             live: 0,
             strays: false,
+            blocks: Blocks::new(alloc),
+            tallies: Tallies::new(alloc),
         }
     }
 
@@ -272,8 +282,13 @@ impl<X> Tree<X> {
         let below = place_of(&self.links, &self.table, child);
         let next = link_to(&self.links, &self.table, before);
         self.links.sound();
+        let block = block_put(&self.links, above, next);
+        tallied_put(&self.links, &mut self.tallies, above, below);
         self.links.link(above, below, next);
         number_put(&mut self.links, above, below, next);
+        if let Some(block) = block {
+            blocked_put(&mut self.links, &mut self.blocks, above, below, block);
+        }
     }
 
     /// Takes a child from its parent: it becomes a root, with all that stands under it.
@@ -283,6 +298,8 @@ impl<X> Tree<X> {
     {
         let place = place_of(&self.links, &self.table, child);
         self.links.sound();
+        blocked_cut(&self.links, &mut self.blocks, place);
+        tallied_cut(&self.links, &mut self.tallies, place);
         number_cut(&mut self.links, place);
         self.links.unlink(place);
     }

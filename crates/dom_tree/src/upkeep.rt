@@ -1,20 +1,20 @@
 //! How the kept indices stay right, in the same time at any number of siblings.
 
-ghost use Rattle.std.specs.Prelude.{◌≡◌, ◌-◌, ◌<◌, ◌≤◌, Some, IsSome, length, slice_get};
+ghost use Rattle.std.specs.Prelude.{◌≡◌, ◌-◌, ◌^◌, ◌<◌, ◌≤◌, Some, IsSome, length, slice_get};
 ghost use Rattle.std.specs.Option.{ForSome};
 ghost use Rattle.dom_model.specs.PlainLists.Lists.{place_in};
-ghost use Rattle.dom_model.specs.Forests.Arena.{IsSound, entry_at, parent_in, children_in};
-ghost use Rattle.dom_links.specs.Placed.{slot_of, slots_of, IsPlaced};
+ghost use Rattle.dom_model.specs.Forests.Arena.{IsSound, entry_at};
+ghost use Rattle.dom_links.specs.Placed.{slot_of, slots_of, entry_behind, children_at, HasParent, IsChildOf, IsPlaced};
 ghost use Rattle.dom_tree.specs.Places.{with_arena, Leads, AreWritten, AreNumbered};
-ghost use Rattle.dom_tree.specs.Slots.{sure_in, reach_in, indexed, assured, IsCounted};
+ghost use Rattle.dom_tree.specs.Slots.{index_in, sure_in, reach_in, indexed, assured, IsCounted};
 ghost use Rattle.dom_tree.specs.Numberings.{told, is_beyond, index_put, sure_put, reach_put, numbered_put, numbered_cut};
 
 use crate::item::{Item, UNKNOWN};
 use crate::nearby;
 use dom_links::{Link, Place, Store};
 
-// Sets the kept index of a node.
-fn set_index<X>(links: &mut Store<Item<X>>, place: Place, index: u32)
+/// Sets the kept index of a node.
+pub(crate) fn set_index<X>(links: &mut Store<Item<X>>, place: Place, index: u32)
     requires { IsPlaced links.old place }
     ensures { links.new ≡ with_arena (indexed links.old.arena (slot_of links.old place) index) links.old }
 {
@@ -22,8 +22,8 @@ fn set_index<X>(links: &mut Store<Item<X>>, place: Place, index: u32)
     item.index = index;
 }
 
-// Sets how many of a node's first children have a right index, and how many may have any.
-fn set_sure<X>(links: &mut Store<Item<X>>, place: Place, sure: u32, reach: u32)
+/// Sets how many of a node's first children have a right index, and how many may have any.
+pub(crate) fn set_sure<X>(links: &mut Store<Item<X>>, place: Place, sure: u32, reach: u32)
     requires { IsPlaced links.old place }
     ensures { links.new ≡ with_arena (assured links.old.arena (slot_of links.old place) sure reach) links.old }
 {
@@ -35,15 +35,23 @@ fn set_sure<X>(links: &mut Store<Item<X>>, place: Place, sure: u32, reach: u32)
 // How many of a node's first children have a right index.
 fn sure_of<X>(links: &Store<Item<X>>, place: Place) -> u32
     requires { IsPlaced links.now place }
-    ensures { result ≡ sure_in (entry_at links.now.arena (slot_of links.now place)) }
+    ensures { result ≡ sure_in (entry_behind links.now place) }
 {
     links.value(place).sure
 }
 
-// How many of a node's first children may have an index.
-fn reach_of<X>(links: &Store<Item<X>>, place: Place) -> u32
+/// A node's kept index.
+pub(crate) fn index_of<X>(links: &Store<Item<X>>, place: Place) -> u32
     requires { IsPlaced links.now place }
-    ensures { result ≡ reach_in (entry_at links.now.arena (slot_of links.now place)) }
+    ensures { result ≡ index_in (entry_behind links.now place) }
+{
+    links.value(place).index
+}
+
+/// How many of a node's first children may have an index.
+pub(crate) fn reach_of<X>(links: &Store<Item<X>>, place: Place) -> u32
+    requires { IsPlaced links.now place }
+    ensures { result ≡ reach_in (entry_behind links.now place) }
 {
     links.value(place).reach
 }
@@ -51,7 +59,7 @@ fn reach_of<X>(links: &Store<Item<X>>, place: Place) -> u32
 // Whether the last child stands behind all that have an index.
 fn is_beyond<X>(links: &Store<Item<X>>, parent: Place) -> bool
     requires parent_placed { IsPlaced links.now parent }
-    requires child { 0 < length (children_in (entry_at links.now.arena (slot_of links.now parent))) }
+    requires child { 0 < length (children_at links.now parent) }
     ensures { result ≡ is_beyond (entry_at links.now.arena) (slot_of links.now parent) }
 {
     let last = links.count(parent) - 1;
@@ -61,7 +69,7 @@ fn is_beyond<X>(links: &Store<Item<X>>, parent: Place) -> bool
 // The index that a new child gets: that of the child behind it, or the last, which is unknown where those ahead of it are.
 fn new_index<X>(links: &Store<Item<X>>, parent: Place, before: Link) -> u32
     requires parent_placed { IsPlaced links.now parent }
-    requires child { 0 < length (children_in (entry_at links.now.arena (slot_of links.now parent))) }
+    requires child { 0 < length (children_at links.now parent) }
     requires before_placed { ForSome before (λ b. IsPlaced links.now b) }
     ensures { result ≡ index_put (entry_at links.now.arena) (slot_of links.now parent) (slots_of links.now before) }
 {
@@ -75,7 +83,7 @@ fn new_index<X>(links: &Store<Item<X>>, parent: Place, before: Link) -> u32
 // How many indices of a parent's children are right with the new child.
 fn new_sure<X>(links: &Store<Item<X>>, parent: Place, before: Link, index: u32) -> u32
     requires parent_placed { IsPlaced links.now parent }
-    requires child { 0 < length (children_in (entry_at links.now.arena (slot_of links.now parent))) }
+    requires child { 0 < length (children_at links.now parent) }
     ensures { result ≡ sure_put (entry_at links.now.arena) (slot_of links.now parent) (slots_of links.now before) index }
 {
     let count = links.count(parent);
@@ -89,8 +97,9 @@ fn new_sure<X>(links: &Store<Item<X>>, parent: Place, before: Link, index: u32) 
 // How many of a parent's children may have an index with the new child.
 fn new_reach<X>(links: &Store<Item<X>>, parent: Place, before: Link) -> u32
     requires parent_placed { IsPlaced links.now parent }
-    requires child { 0 < length (children_in (entry_at links.now.arena (slot_of links.now parent))) }
-    ensures { result ≡ reach_put (entry_at links.now.arena) (slot_of links.now parent) (slots_of links.now before) }
+    requires child { 0 < length (children_at links.now parent) }
+    ensures reach { result ≡ reach_put (entry_at links.now.arena) (slot_of links.now parent) (slots_of links.now before) }
+    ensures few { length (children_at links.now parent) < 2 ^ 32 }
 {
     let count = links.count(parent);
     let reach = reach_of(links, parent);
@@ -105,9 +114,10 @@ fn new_reach<X>(links: &Store<Item<X>>, parent: Place, before: Link) -> u32
 pub(crate) fn number_put<X>(links: &mut Store<Item<X>>, parent: Place, child: Place, before: Link)
     requires parent_placed { IsPlaced links.old parent }
     requires child_placed { IsPlaced links.old child }
-    requires child { 0 < length (children_in (entry_at links.old.arena (slot_of links.old parent))) }
+    requires child { 0 < length (children_at links.old parent) }
     requires before_placed { ForSome before (λ b. IsPlaced links.old b) }
-    ensures { links.new ≡ with_arena (numbered_put links.old.arena (slot_of links.old parent) (slot_of links.old child) (slots_of links.old before)) links.old }
+    ensures numbered { links.new ≡ with_arena (numbered_put links.old.arena (slot_of links.old parent) (slot_of links.old child) (slots_of links.old before)) links.old }
+    ensures few { length (children_at links.old parent) < 2 ^ 32 }
 {
     let index = new_index(links, parent, before);
     let sure = new_sure(links, parent, before, index);
@@ -119,7 +129,7 @@ pub(crate) fn number_put<X>(links: &mut Store<Item<X>>, parent: Place, child: Pl
 /// Keeps the indices right over a child that is about to be cut.
 pub(crate) fn number_cut<X>(links: &mut Store<Item<X>>, child: Place)
     requires placed { IsPlaced links.old child }
-    requires has_parent { IsSome (parent_in (entry_at links.old.arena (slot_of links.old child))) }
+    requires has_parent { HasParent links.old child }
     ensures { links.new ≡ with_arena (numbered_cut links.old.arena (slot_of links.old child)) links.old }
 {
     let parent = nearby::parent(links, child).unwrap();
@@ -133,10 +143,10 @@ pub(crate) fn number_cut<X>(links: &mut Store<Item<X>>, child: Place)
 fn child_ahead<X>(links: &Store<Item<X>>, parent: Place, child: Place, steps: u32) -> Place
     requires sound { IsSound links.now.arena }
     requires placed { IsPlaced links.now child }
-    requires child { parent_in (entry_at links.now.arena (slot_of links.now child)) ≡ Some (slot_of links.now parent) }
-    requires within { steps ≤ place_in (slot_of links.now child) (children_in (entry_at links.now.arena (slot_of links.now parent))) }
-    ensures { Leads links.now (Some result) (slice_get (children_in (entry_at links.now.arena (slot_of links.now parent)))
-        (place_in (slot_of links.now child) (children_in (entry_at links.now.arena (slot_of links.now parent))) - steps)) }
+    requires child { IsChildOf links.now parent child }
+    requires within { steps ≤ place_in (slot_of links.now child) (children_at links.now parent) }
+    ensures { Leads links.now (Some result) (slice_get (children_at links.now parent)
+        (place_in (slot_of links.now child) (children_at links.now parent) - steps)) }
 {
     let mut here = child;
     for _passed in 0..steps {
@@ -164,10 +174,10 @@ fn write_indices<X>(
 )
     requires placed { IsPlaced links.old parent }
     requires sound { IsSound links.old.arena }
-    requires first { Leads links.old first (slice_get (children_in (entry_at links.old.arena (slot_of links.old parent))) from) }
+    requires first { Leads links.old first (slice_get (children_at links.old parent) from) }
     requires ordered { from ≤ until }
-    requires within { until ≤ length (children_in (entry_at links.old.arena (slot_of links.old parent))) }
-    ensures { AreWritten links.old links.new parent from until known }
+    requires within { until ≤ length (children_at links.old parent) }
+    ensures { AreWritten links.old links.new parent from until (told known) }
 {
     let mut next = first;
     for place in from..until {
@@ -184,8 +194,8 @@ pub(crate) fn number_up_to<X>(links: &mut Store<Item<X>>, parent: Place, child: 
     requires child_placed { IsPlaced links.old child }
     requires sound { IsSound links.old.arena }
     requires counted { IsCounted (entry_at links.old.arena) }
-    requires child { parent_in (entry_at links.old.arena (slot_of links.old child)) ≡ Some (slot_of links.old parent) }
-    requires index { index ≡ place_in (slot_of links.old child) (children_in (entry_at links.old.arena (slot_of links.old parent))) }
+    requires child { IsChildOf links.old parent child }
+    requires index { index ≡ place_in (slot_of links.old child) (children_at links.old parent) }
     ensures { AreNumbered links.old links.new parent child }
 {
     let count = links.count(parent);

@@ -6,6 +6,7 @@ ghost use Rattle.dom_model.specs.Forests.Arena.{siblings_in};
 ghost use Rattle.dom_model.specs.Forests.Forest.{HasNode, entry_in, parent_of, children_of, index_of, root_of, ancestors, numbers, inclusive_descendants, adopted};
 ghost use Rattle.dom_model.specs.Worlds.Lengths.{length_of};
 
+use crate::blocking::index_in_block;
 use crate::body::Body;
 use crate::nearby::{self, number_of, place_at, place_of};
 use crate::node_id::NodeId;
@@ -149,6 +150,17 @@ impl<X> Tree<X> {
         None
     }
 
+    /// The number of preceding siblings of a child that stands in a block.
+    pub(crate) fn index_in_block(&self, id: NodeId) -> Option<usize>
+        requires { HasNode self.now.forest id }
+        ensures { IfSome result (λ i. i ≡ index_of self.now.forest id) }
+    {
+        let place = place_of(&self.links, &self.table, id);
+        self.links.sound();
+        let above = nearby::parent(&self.links, place)?;
+        index_in_block(&self.links, &self.blocks, above, place)
+    }
+
     // How many siblings there are, the node itself among them; 0 for a root.
     fn siblings(&self, id: NodeId) -> usize
         requires { HasNode self.now.forest id }
@@ -170,8 +182,20 @@ impl<X> Tree<X> {
         self.index_within(id, count).unwrap()
     }
 
-    /// The number of preceding siblings, where it is found in so many steps to both sides: at the first child, at a preceding sibling whose index is kept, or at the last child; 0 for a root.
+    /// The number of preceding siblings, where it stands in a block, or is found in so many steps to both sides: at the first child, at a preceding sibling whose index is kept, or at the last child; 0 for a root.
     pub fn index_within(&self, id: NodeId, steps: usize) -> Option<usize>
+        requires { HasNode self.now.forest id }
+        ensures counted { IfSome result (λ i. i ≡ index_of self.now.forest id) }
+        ensures found { index_of self.now.forest id ≤ steps → IsSome result }
+    {
+        if let Some(index) = self.index_in_block(id) {
+            return Some(index);
+        }
+        self.index_by_steps(id, steps)
+    }
+
+    // The number of preceding siblings, where it is found in so many steps to both sides.
+    fn index_by_steps(&self, id: NodeId, steps: usize) -> Option<usize>
         requires { HasNode self.now.forest id }
         ensures counted { IfSome result (λ i. i ≡ index_of self.now.forest id) }
         ensures found { index_of self.now.forest id ≤ steps → IsSome result }
@@ -200,50 +224,6 @@ impl<X> Tree<X> {
             forward = next;
         }
         None
-    }
-
-    /// The child at an index. It walks from the nearer end.
-    pub fn child_at(&self, id: NodeId, index: usize) -> Option<NodeId>
-        requires { HasNode self.now.forest id }
-        ensures { result ≡ slice_get (children_of self.now.forest id) index }
-    {
-        let count = self.count(id);
-        if index >= count {
-            return None;
-        }
-        if index < count / 2 {
-            return self.child_from_first(id, index);
-        }
-        self.child_from_last(id, count - 1 - index)
-    }
-
-    // The child so many steps after the first.
-    fn child_from_first(&self, id: NodeId, steps: usize) -> Option<NodeId>
-        requires { HasNode self.now.forest id }
-        ensures { result ≡ slice_get (children_of self.now.forest id) steps }
-    {
-        self.sound();
-        self.links.sound();
-        let mut child = nearby::first(&self.links, place_of(&self.links, &self.table, id))?;
-        for _passed in 0..steps {
-            child = nearby::next(&self.links, child)?;
-        }
-        Some(number_of(&self.links, child))
-    }
-
-    // The child so many steps before the last.
-    fn child_from_last(&self, id: NodeId, steps: usize) -> Option<NodeId>
-        requires held { HasNode self.now.forest id }
-        requires within { steps < length (children_of self.now.forest id) }
-        ensures { result ≡ slice_get (children_of self.now.forest id) (length (children_of self.now.forest id) - 1 - steps) }
-    {
-        self.sound();
-        self.links.sound();
-        let mut child = nearby::last(&self.links, place_of(&self.links, &self.table, id))?;
-        for _passed in 0..steps {
-            child = nearby::prev(&self.links, child)?;
-        }
-        Some(number_of(&self.links, child))
     }
 
     /// Sets the node document of all inclusive descendants of a node.

@@ -1,13 +1,12 @@
 //! Serving as the words ask, and the status.
 
-ghost use Rattle.std.specs.Prelude.{◌≡◌, ◌≢◌, ◌≤◌, ◌^◌, ℕ, List, [], true, Err, ◌⊎◌, IfErr, IfOk, IfSome, map};
+ghost use Rattle.std.specs.Prelude.{◌≡◌, ◌≢◌, ◌≤◌, [], true, ◌⊎◌, IfErr, IfOk, IfSome, map};
 ghost use Rattle.std.specs.Io.KnownBytes.{Appends};
 ghost use Rattle.dom_serve.specs.Calls.{HasPassedOn, IsRead, IsWritten};
 ghost use Rattle.dom_serve.specs.Limits.{bounds_of};
-ghost use Rattle.dom_serve.specs.Serves.{Serves};
 ghost use Rattle.dom_options.specs.CommandLine.{IsInRange, TellsOf, asks_for_help, bounds_asked, faults_in, has_mistake};
 ghost use Rattle.dom_serve.specs.declared.fault.Fault.TheVariants as faults;
-ghost use Rattle.domserve.specs.Statuses.{text_of, status_of, IsServed, SaysLine, IsCutOff, IsWantAhead, TellsFailure, TellsFault};
+ghost use Rattle.domserve.specs.Statuses.{text_of, status_of, IsServed, SaysLine, SaysFault, IsCutOff, ServesUpTo, IsServedAsAsked, IsHelped, CameTo, TellsFailure, TellsFault};
 
 use dom_options::{Refusal, asked_from};
 use dom_serve::{Failed, Fault, Limits, Sink, Source, serve, write_line};
@@ -37,7 +36,7 @@ fn fault_status(fault: &Fault) -> u8
 
 /// Says a text on a line of its own; that this fails is not told.
 fn say_line<E: Sink>(errors: &mut E, text: &[u8])
-    ensures { SaysLine E.taken E.works E.fails E.is_passed_on text.now errors.old errors.new }
+    ensures { SaysLine E.writing text.now errors.old errors.new }
 {
     if let Err(Failed) = write_line(errors, text) {
         return;
@@ -48,7 +47,7 @@ fn say_line<E: Sink>(errors: &mut E, text: &[u8])
 /// Says the fault, and gives its status.
 fn faulted<E: Sink>(errors: &mut E, fault: &Fault) -> u8
     ensures status { result ≡ status_of fault.now }
-    ensures says { SaysLine E.taken E.works E.fails E.is_passed_on (text_of fault.now) errors.old errors.new }
+    ensures says { SaysFault E.writing errors.old errors.new fault.now }
 {
     say_line(errors, fault_text(fault).as_bytes());
     fault_status(fault)
@@ -57,7 +56,7 @@ fn faulted<E: Sink>(errors: &mut E, fault: &Fault) -> u8
 /// Says that memory was wanting, and gives its status.
 pub(crate) fn without_memory<E: Sink>(errors: &mut E) -> u8
     ensures status { result ≡ 1 }
-    ensures says { SaysLine E.taken E.works E.fails E.is_passed_on (text_of faults.Memory) errors.old errors.new }
+    ensures says { SaysFault E.writing errors.old errors.new faults.Memory }
 {
     faulted(errors, &Fault::Memory)
 }
@@ -71,13 +70,16 @@ fn served<R: Source, W: Sink, E: Sink>(
 ) -> u8
     requires limits { IsInRange (bounds_of limits) }
     ensures range { (result ≤ 1) ⊎ (result ≡ 3) }
-    ensures served { result ≡ 0 → IfSome (R.left reader.old) (IsServed (bounds_of limits) (W.taken writer.old) (W.taken writer.new)) }
+    ensures served { result ≡ 0 → IfSome (R.reading.left reader.old)
+        (IsServed (bounds_of limits) (W.writing.taken writer.old) (W.writing.taken writer.new)) }
     ensures silent { result ≡ 0 → errors.new ≡ errors.old }
-    ensures told { result ≢ 0 → TellsFault result (λ fault. SaysLine E.taken E.works E.fails E.is_passed_on (text_of fault) errors.old errors.new) (λ fault.
-        Serves R.gives R.fails R.left W.works W.fails W.taken W.is_passed_on (bounds_of limits) (2 ^ 40) reader.old reader.new writer.old writer.new (Err fault)) }
-    ensures passed { result ≢ 3 → HasPassedOn W.is_passed_on writer.old writer.new }
-    ensures reader { TellsFailure result (λ failed. IsRead R.gives R.fails failed reader.old reader.new) }
-    ensures writer { TellsFailure result (λ failed. IsWritten W.works W.fails failed writer.old writer.new) }
+    ensures told { result ≢ 0 → TellsFault result
+        (SaysFault E.writing errors.old errors.new)
+        (ServesUpTo R.reading W.writing (bounds_of limits)
+        reader.old reader.new writer.old writer.new) }
+    ensures passed { result ≢ 3 → HasPassedOn W.writing writer.old writer.new }
+    ensures reader { TellsFailure result (λ failed. IsRead R.reading failed reader.old reader.new) }
+    ensures writer { TellsFailure result (λ failed. IsWritten W.writing failed writer.old writer.new) }
 {
     match serve(alloc, limits, reader, writer) {
         Ok(_) => 0,
@@ -87,12 +89,14 @@ fn served<R: Source, W: Sink, E: Sink>(
 
 fn helped<W: Sink, E: Sink>(text: &str, writer: &mut W, errors: &mut E) -> u8
     ensures range { (result ≡ 0) ⊎ (result ≡ 3) }
-    ensures helped { result ≡ 0 → Appends (W.taken writer.old) (W.taken writer.new) text.now }
+    ensures helped { result ≡ 0 →
+        Appends (W.writing.taken writer.old) (W.writing.taken writer.new) text.now }
     ensures silent { result ≡ 0 → errors.new ≡ errors.old }
-    ensures told { result ≢ 0 → TellsFault result (λ fault. SaysLine E.taken E.works E.fails E.is_passed_on (text_of fault) errors.old errors.new)
-        (IsCutOff W.taken W.works W.fails writer.old writer.new) }
-    ensures passed { result ≢ 3 → HasPassedOn W.is_passed_on writer.old writer.new }
-    ensures writer { TellsFailure result (λ failed. IsWritten W.works W.fails failed writer.old writer.new) }
+    ensures told { result ≢ 0 → TellsFault result
+        (SaysFault E.writing errors.old errors.new)
+        (IsCutOff W.writing writer.old writer.new) }
+    ensures passed { result ≢ 3 → HasPassedOn W.writing writer.old writer.new }
+    ensures writer { TellsFailure result (λ failed. IsWritten W.writing failed writer.old writer.new) }
 {
     match write_line(writer, text.as_bytes()) {
         Ok(()) => 0,
@@ -128,39 +132,37 @@ pub fn run<S: AsStr, R: Source, W: Sink, E: Sink>(
 ) -> u8
     ensures range { result ≤ 3 }
 
-    // At status 0 clap finds no fault in the words, and the output for all bytes of the reader was written at the limits that
-    // the words ask for; or the words ask for help, and one text was written.
-    ensures served { result ≡ 0 → ((faults_in (map S.text words.now) ≡ []) × IsInRange (bounds_asked (map S.text words.now))
-        × IfSome (R.left reader.old) (IsServed (bounds_asked (map S.text words.now)) (W.taken writer.old) (W.taken writer.new)))
-        ⊎ ((asks_for_help (faults_in (map S.text words.now)) ≡ true) × (reader.new ≡ reader.old)
-        × ((text : List ℕ) × Appends (W.taken writer.old) (W.taken writer.new) text)) }
+    // At status 0 the output was written as the words ask, or they ask for help, which was written.
+    ensures served { result ≡ 0 →
+        IsServedAsAsked R.reading W.writing (map S.text words.now)
+        reader.old reader.new writer.old writer.new
+        ⊎ IsHelped R.reading W.writing (map S.text words.now)
+        reader.old reader.new writer.old writer.new }
 
     // At status 2 clap finds a mistake in the words, and nothing was read or written.
     ensures refused { result ≡ 2 → (has_mistake (faults_in (map S.text words.now)) ≡ true)
         × (reader.new ≡ reader.old) × (writer.new ≡ writer.old) }
 
-    // At status 3 clap finds no fault in the words, or they ask for help: a mistake is no failure of a stream.
-    ensures failed { result ≡ 3 → (faults_in (map S.text words.now) ≡ []) ⊎ (asks_for_help (faults_in (map S.text words.now)) ≡ true) }
+    // At status 3 clap finds no fault in the words, or they ask for help: a mistake is no failure
+    // of a stream.
+    ensures failed { result ≡ 3 → (faults_in (map S.text words.now) ≡ [])
+        ⊎ (asks_for_help (faults_in (map S.text words.now)) ≡ true) }
 
     // At status 0 nothing was said on `errors`.
     ensures silent { result ≡ 0 → errors.new ≡ errors.old }
 
-    // At status 1 and 3 the text of a fault of that status was said whole, on a line, or, where a write or a flush of `errors` failed, a front of it.
-    // Serving came to that fault at the limits that the words ask for, and read and wrote what it tells of it; or the words ask for help, which could
-    // not be written; or memory was wanting before anything was read or written.
-    ensures told { result ≢ 0 → result ≢ 2 → TellsFault result (λ fault. SaysLine E.taken E.works E.fails E.is_passed_on (text_of fault) errors.old errors.new) (λ fault.
-        ((faults_in (map S.text words.now) ≡ []) × Serves R.gives R.fails R.left W.works W.fails W.taken W.is_passed_on
-        (bounds_asked (map S.text words.now)) (2 ^ 40) reader.old reader.new writer.old writer.new (Err fault))
-        ⊎ (((asks_for_help (faults_in (map S.text words.now)) ≡ true) × (reader.new ≡ reader.old)
-        × IsCutOff W.taken W.works W.fails writer.old writer.new fault)
-        ⊎ IsWantAhead reader.old reader.new writer.old writer.new fault)) }
+    // At status 1 and 3 the program came to one fault of that status, and said its text.
+    ensures told { result ≢ 0 → result ≢ 2 → TellsFault result
+        (SaysFault E.writing errors.old errors.new)
+        (CameTo R.reading W.writing (map S.text words.now)
+        reader.old reader.new writer.old writer.new) }
 
     // Unless the status is 3, all that was written has been passed on.
-    ensures passed { result ≢ 3 → HasPassedOn W.is_passed_on writer.old writer.new }
+    ensures passed { result ≢ 3 → HasPassedOn W.writing writer.old writer.new }
 
     // After a failed read, write or flush the status is 3, and nothing is asked of what failed.
-    ensures reader { TellsFailure result (λ failed. IsRead R.gives R.fails failed reader.old reader.new) }
-    ensures writer { TellsFailure result (λ failed. IsWritten W.works W.fails failed writer.old writer.new) }
+    ensures reader { TellsFailure result (λ failed. IsRead R.reading failed reader.old reader.new) }
+    ensures writer { TellsFailure result (λ failed. IsWritten W.writing failed writer.old writer.new) }
 {
     match limits_from(alloc, words) {
         Ok(limits) => served(alloc, limits, reader, writer, errors),

@@ -2,153 +2,135 @@
 
 ghost use Rattle.dom_edit.specs.Whole.{IsWhole};
 
-use crate::building::{Scene, expect_held, expect_units, name, played, units};
+use crate::building::{SMALL_WORLD, of_kind};
+use crate::facts::Fact;
+use crate::scenes::{Call, Change, Row, When, played};
 use dom_data::{remove_attribute, set_attribute, toggle_attribute};
-use dom_edit::World;
+use dom_edit::{Refusal, World};
 use dom_kinds::Kind;
-use dom_tree::NodeId;
-use std::alloc::{AllocError, Global};
+use dom_units::Units;
+use std::alloc::Global;
 use std::process::Abort;
 use std::test::Fail;
 
-// Sets an attribute of element 1.
-fn set(
+/// Sets an attribute of an element.
+pub(crate) fn set(
     rt: &impl Abort,
     world: &mut World,
     alloc: Global,
+    node: u32,
     key: &str,
     value: &str,
-) -> Result<(), AllocError>
+) -> Result<(), Refusal>
     requires { IsWhole world.old }
     ensures { IsWhole world.new }
 {
-    let node = NodeId::new(1);
-    let key = name(alloc, key)?;
-    let value = units(alloc, value)?;
-    assert!(rt; world.tree.holds(node));
-    assert!(rt; world.tree.is_of_kind(node, Kind::Element));
-    set_attribute(world, alloc, node, key, value)
+    let key = String::from_str(alloc, key)?;
+    let value = Units::from_str(alloc, value)?;
+    let node = of_kind(rt, world, node, Kind::Element);
+    Ok(set_attribute(world, alloc, node, key, value)?)
 }
 
-// How many attributes element 1 has.
-fn count(rt: &impl Abort, world: &World) -> usize {
-    let node = NodeId::new(1);
-    assert!(rt; world.tree.holds(node));
-    world.tree.body(node).attribute_count()
+/// Removes an attribute of an element.
+pub(crate) fn unset(
+    rt: &impl Abort,
+    world: &mut World,
+    alloc: Global,
+    node: u32,
+    key: &str,
+) -> Result<(), Refusal>
+    requires { IsWhole world.old }
+    ensures { IsWhole world.new }
+{
+    let node = of_kind(rt, world, node, Kind::Element);
+    Ok(remove_attribute(world, alloc, node, key)?)
 }
 
-// That element 1 has that attribute.
-fn expect_value(rt: &impl Abort, world: &World, key: &str, value: &str) {
-    let node = NodeId::new(1);
-    assert!(rt; world.tree.holds(node));
-    match world.tree.body(node).attribute(key) {
-        Some(found) => expect_units(rt, found.units(), value),
-        None => assert!(rt; false, "no attribute {key}"),
-    }
+/// Adds an attribute of an element or removes it, and compares whether it is there then.
+pub(crate) fn toggle(
+    rt: &impl Abort,
+    world: &mut World,
+    alloc: Global,
+    node: u32,
+    key: &str,
+    on: bool,
+) -> Result<(), Refusal>
+    requires { IsWhole world.old }
+    ensures { IsWhole world.new }
+{
+    let key = String::from_str(alloc, key)?;
+    let node = of_kind(rt, world, node, Kind::Element);
+    let is_there = toggle_attribute(world, alloc, node, key, None)?;
+    assert_eq!(rt; is_there, on);
+    Ok(())
 }
+
+const SET: Call = Call::Change(1, Change::SetAttribute("id", "mn"));
+
+const SET_ANEW: Call = Call::Change(1, Change::SetAttribute("id", "op"));
 
 // An attribute is set, and then set to another value.
-struct AnAttributeIsSet;
-
-impl Scene for AnAttributeIsSet {
-    fn play(rt: &impl Abort, world: &mut World, alloc: Global) -> Result<(), Fail> {
-        if let Err(AllocError) = set(rt, world, alloc, "id", "mn") {
-            expect_held(rt, world, 13);
-            assert_eq!(rt; count(rt, world), 0);
-            set(rt, world, alloc, "id", "mn")?;
-        }
-        assert_eq!(rt; count(rt, world), 1);
-        expect_value(rt, world, "id", "mn");
-        if let Err(AllocError) = set(rt, world, alloc, "id", "op") {
-            expect_value(rt, world, "id", "mn");
-            set(rt, world, alloc, "id", "op")?;
-        }
-        assert_eq!(rt; count(rt, world), 1);
-        expect_value(rt, world, "id", "op");
-        Ok(())
-    }
-}
+const AN_ATTRIBUTE_IS_SET: &[Row] = &[
+    Row::Try(SET),
+    Row::Then(When::Refused, &[Fact::Held(13), Fact::Attributes(1, 0)]),
+    Row::Again(SET),
+    Row::Then(
+        When::Always,
+        &[Fact::Attributes(1, 1), Fact::Attribute(1, "id", "mn")],
+    ),
+    Row::Try(SET_ANEW),
+    Row::Then(When::Refused, &[Fact::Attribute(1, "id", "mn")]),
+    Row::Again(SET_ANEW),
+    Row::Then(
+        When::Always,
+        &[Fact::Attributes(1, 1), Fact::Attribute(1, "id", "op")],
+    ),
+];
 
 #[test]
 fn an_attribute_is_set(rt: HostRuntime) -> Result<(), Fail> {
-    played::<AnAttributeIsSet>(&rt, rt.alloc())
+    played(&rt, rt.alloc(), SMALL_WORLD, AN_ATTRIBUTE_IS_SET)
 }
 
-// Removes the attribute "id" of element 1.
-fn remove(rt: &impl Abort, world: &mut World, alloc: Global) -> Result<(), AllocError>
-    requires { IsWhole world.old }
-    ensures { IsWhole world.new }
-{
-    let node = NodeId::new(1);
-    assert!(rt; world.tree.holds(node));
-    assert!(rt; world.tree.is_of_kind(node, Kind::Element));
-    remove_attribute(world, alloc, node, "id")
-}
+const REMOVE: Call = Call::Change(1, Change::RemoveAttribute("id"));
 
 // An attribute is set, and removed.
-struct AnAttributeIsRemoved;
-
-impl Scene for AnAttributeIsRemoved {
-    fn play(rt: &impl Abort, world: &mut World, alloc: Global) -> Result<(), Fail> {
-        if let Err(AllocError) = set(rt, world, alloc, "id", "mn") {
-            set(rt, world, alloc, "id", "mn")?;
-        }
-        if let Err(AllocError) = remove(rt, world, alloc) {
-            expect_held(rt, world, 13);
-            expect_value(rt, world, "id", "mn");
-            remove(rt, world, alloc)?;
-        }
-        assert_eq!(rt; count(rt, world), 0);
-        Ok(())
-    }
-}
+const AN_ATTRIBUTE_IS_REMOVED: &[Row] = &[
+    Row::Do(SET),
+    Row::Try(REMOVE),
+    Row::Then(
+        When::Refused,
+        &[Fact::Held(13), Fact::Attribute(1, "id", "mn")],
+    ),
+    Row::Again(REMOVE),
+    Row::Then(When::Always, &[Fact::Attributes(1, 0)]),
+];
 
 #[test]
 fn an_attribute_is_removed(rt: HostRuntime) -> Result<(), Fail> {
-    played::<AnAttributeIsRemoved>(&rt, rt.alloc())
+    played(&rt, rt.alloc(), SMALL_WORLD, AN_ATTRIBUTE_IS_REMOVED)
 }
 
-// Adds the attribute "id" of element 1 or removes it, and answers whether it is there.
-fn toggle(rt: &impl Abort, world: &mut World, alloc: Global) -> Result<bool, AllocError>
-    requires { IsWhole world.old }
-    ensures { IsWhole world.new }
-{
-    let node = NodeId::new(1);
-    let key = name(alloc, "id")?;
-    assert!(rt; world.tree.holds(node));
-    assert!(rt; world.tree.is_of_kind(node, Kind::Element));
-    toggle_attribute(world, alloc, node, key, None)
-}
+const ADD_BY_TOGGLING: Call = Call::Change(1, Change::ToggleAttribute("id", true));
+
+const REMOVE_BY_TOGGLING: Call = Call::Change(1, Change::ToggleAttribute("id", false));
 
 // An attribute is added with the empty value, and removed.
-struct AnAttributeIsToggled;
-
-impl Scene for AnAttributeIsToggled {
-    fn play(rt: &impl Abort, world: &mut World, alloc: Global) -> Result<(), Fail> {
-        let on = match toggle(rt, world, alloc) {
-            Ok(on) => on,
-            Err(_) => {
-                assert_eq!(rt; count(rt, world), 0);
-                toggle(rt, world, alloc)?
-            }
-        };
-        assert!(rt; on);
-        assert_eq!(rt; count(rt, world), 1);
-        expect_value(rt, world, "id", "");
-        let on = match toggle(rt, world, alloc) {
-            Ok(on) => on,
-            Err(_) => {
-                expect_value(rt, world, "id", "");
-                toggle(rt, world, alloc)?
-            }
-        };
-        assert!(rt; !on);
-        assert_eq!(rt; count(rt, world), 0);
-        Ok(())
-    }
-}
+const AN_ATTRIBUTE_IS_TOGGLED: &[Row] = &[
+    Row::Try(ADD_BY_TOGGLING),
+    Row::Then(When::Refused, &[Fact::Attributes(1, 0)]),
+    Row::Again(ADD_BY_TOGGLING),
+    Row::Then(
+        When::Always,
+        &[Fact::Attributes(1, 1), Fact::Attribute(1, "id", "")],
+    ),
+    Row::Try(REMOVE_BY_TOGGLING),
+    Row::Then(When::Refused, &[Fact::Attribute(1, "id", "")]),
+    Row::Again(REMOVE_BY_TOGGLING),
+    Row::Then(When::Always, &[Fact::Attributes(1, 0)]),
+];
 
 #[test]
 fn an_attribute_is_toggled(rt: HostRuntime) -> Result<(), Fail> {
-    played::<AnAttributeIsToggled>(&rt, rt.alloc())
+    played(&rt, rt.alloc(), SMALL_WORLD, AN_ATTRIBUTE_IS_TOGGLED)
 }

@@ -1,279 +1,303 @@
 //! What lies in a live range read, deleted, extracted and copied. Where memory is wanting, the world goes on from what it is then.
 
+ghost use Rattle.std.specs.Option.{IsSome};
+ghost use Rattle.dom_ranges.specs.Tables.{range_in};
 ghost use Rattle.dom_edit.specs.Whole.{IsWhole};
 
-use crate::building::{
-    Scene, allowed, expect_children, expect_data, expect_held, expect_root, expect_units, played,
-};
-use crate::selecting::{expect_ends, select, select_between};
+use crate::building::SMALL_WORLD;
+use crate::facts::{Fact, NEW, OLDER, expect_units};
+use crate::scenes::{Ask, Call, New, Row, When, played};
 use dom_content::{clone_contents, delete_contents, extract, range_text};
-use dom_edit::World;
+use dom_edit::{Refusal, World};
+use dom_point::{Point, checked_point, order};
 use dom_ranges::RangeId;
 use dom_tree::NodeId;
 use std::alloc::{AllocError, Global};
+use std::cmp::Ordering;
 use std::process::Abort;
 use std::test::Fail;
 
-// The data of the Texts in the range.
-struct TheTextOfARange;
+// Makes a live range between two points of one tree.
+fn range_made(
+    rt: &impl Abort,
+    world: &mut World,
+    start: Point,
+    end: Point,
+) -> Result<RangeId, AllocError>
+    requires { IsWhole world.old }
+    ensures { IsWhole world.new }
+{
+    assert!(rt; world.tree.holds(start.node));
+    assert!(rt; world.tree.holds(end.node));
+    assert!(rt; checked_point(&world.tree, start.node, start.offset).is_ok());
+    assert!(rt; checked_point(&world.tree, end.node, end.offset).is_ok());
+    assert!(rt; world.tree.root(start.node) == world.tree.root(end.node));
+    assert!(rt; order(&world.tree, start, end) != Ordering::Greater);
+    assert!(rt; world.ranges.made() < 4294967295);
+    world.ranges.make(&world.tree, start, end)
+}
 
-impl Scene for TheTextOfARange {
-    fn play(rt: &impl Abort, world: &mut World, alloc: Global) -> Result<(), Fail> {
-        let range = select(rt, world)?;
-        assert!(rt; world.ranges.holds(range));
-        let text = match range_text(world, alloc, range) {
-            Ok(text) => text,
-            Err(_) => range_text(world, alloc, range)?,
-        };
-        expect_units(rt, text.units(), "bcde");
-        Ok(())
+// Behind the first unit of a Text.
+fn behind_the_first_unit(text: u32) -> Point {
+    Point {
+        node: NodeId::new(text),
+        offset: 1,
     }
 }
+
+/// Makes live range 0, from behind the first unit of one Text to behind the first of another.
+pub(crate) fn select(
+    rt: &impl Abort,
+    world: &mut World,
+    first: u32,
+    last: u32,
+) -> Result<(), Refusal>
+    requires { IsWhole world.old }
+    ensures { IsWhole world.new }
+{
+    let (start, end) = (behind_the_first_unit(first), behind_the_first_unit(last));
+    let range = range_made(rt, world, start, end)?;
+    assert_eq!(rt; range.number(), 0);
+    Ok(())
+}
+
+/// Live range 0, which is held.
+pub(crate) fn selected(rt: &impl Abort, world: &World) -> RangeId
+    ensures { IsSome (range_in world.now.ranges result) }
+{
+    let range = RangeId::new(0);
+    assert!(rt; world.ranges.holds(range));
+    range
+}
+
+/// Compares the data of the Texts in live range 0.
+pub(crate) fn expect_range_text(
+    rt: &impl Abort,
+    world: &World,
+    alloc: Global,
+    text: &str,
+) -> Result<(), Refusal>
+    requires { IsWhole world.now }
+{
+    let range = selected(rt, world);
+    let found = range_text(world, alloc, range)?;
+    expect_units(rt, found.units(), text);
+    Ok(())
+}
+
+// The data of the Texts in the range.
+const THE_TEXT_OF_A_RANGE: &[Row] = &[
+    Row::Do(Call::Select(2, 5)),
+    Row::Do(Call::Ask(Ask::RangeText("bcde"))),
+];
 
 #[test]
 fn the_text_of_a_range(rt: HostRuntime) -> Result<(), Fail> {
-    played::<TheTextOfARange>(&rt, rt.alloc())
+    played(&rt, rt.alloc(), SMALL_WORLD, THE_TEXT_OF_A_RANGE)
 }
 
-// Deletes what lies in a live range.
-fn delete(
-    rt: &impl Abort,
-    world: &mut World,
-    alloc: Global,
-    range: RangeId,
-) -> Result<(), AllocError>
+/// Deletes what lies in live range 0.
+pub(crate) fn delete(rt: &impl Abort, world: &mut World, alloc: Global) -> Result<(), Refusal>
     requires { IsWhole world.old }
     ensures { IsWhole world.new }
 {
-    assert!(rt; world.ranges.holds(range));
-    delete_contents(world, alloc, range)
+    let range = selected(rt, world);
+    Ok(delete_contents(world, alloc, range)?)
 }
 
 // What lies in the range leaves, and both ends stand where it was.
-struct ContentsAreDeleted;
-
-impl Scene for ContentsAreDeleted {
-    fn play(rt: &impl Abort, world: &mut World, alloc: Global) -> Result<(), Fail> {
-        let range = select(rt, world)?;
-        if let Err(AllocError) = delete(rt, world, alloc, range) {
-            expect_held(rt, world, 13);
-            delete(rt, world, alloc, range)?;
-        }
-        expect_children(rt, world, 1, &[2, 5]);
-        expect_data(rt, world, 2, "a");
-        expect_data(rt, world, 5, "f");
-        expect_children(rt, world, 3, &[4]);
-        expect_root(rt, world, 3);
-        expect_ends(rt, world, range, 1, 1);
-        Ok(())
-    }
-}
+const CONTENTS_ARE_DELETED: &[Row] = &[
+    Row::Do(Call::Select(2, 5)),
+    Row::Try(Call::Delete),
+    Row::Then(When::Refused, &[Fact::Held(13)]),
+    Row::Again(Call::Delete),
+    Row::Then(
+        When::Always,
+        &[
+            Fact::Children(1, &[2, 5]),
+            Fact::Data(2, "a"),
+            Fact::Data(5, "f"),
+            Fact::Children(3, &[4]),
+            Fact::Roots(&[3]),
+            Fact::Ends(1, 1),
+        ],
+    ),
+];
 
 #[test]
 fn contents_are_deleted(rt: HostRuntime) -> Result<(), Fail> {
-    played::<ContentsAreDeleted>(&rt, rt.alloc())
+    played(&rt, rt.alloc(), SMALL_WORLD, CONTENTS_ARE_DELETED)
 }
 
-// Takes what lies in a live range into a new fragment.
-fn extracted(
+/// Takes what lies in live range 0 into a new fragment.
+pub(crate) fn extracted(
     rt: &impl Abort,
     world: &mut World,
     alloc: Global,
-    range: RangeId,
-) -> Result<NodeId, AllocError>
+) -> Result<NodeId, Refusal>
     requires { IsWhole world.old }
     ensures { IsWhole world.new }
 {
-    assert!(rt; world.ranges.holds(range));
+    let range = selected(rt, world);
     assert!(rt; world.tree.made() < 1000);
     assert!(rt; world.tree.live() < 1000);
-    allowed(rt, extract(world, alloc, range))
+    extract(world, alloc, range)
 }
 
 // What lies in the range goes into fragment 13.
-struct ContentsAreExtracted;
-
-impl Scene for ContentsAreExtracted {
-    fn play(rt: &impl Abort, world: &mut World, alloc: Global) -> Result<(), Fail> {
-        let range = select(rt, world)?;
-        match extracted(rt, world, alloc, range) {
-            Ok(fragment) => {
-                assert_eq!(rt; fragment.number(), 13);
-                expect_children(rt, world, 13, &[14, 3, 15]);
-                expect_data(rt, world, 14, "b");
-                expect_data(rt, world, 15, "e");
-            }
-            Err(_) => {
-                expect_held(rt, world, 13);
-                let fragment = extracted(rt, world, alloc, range)?;
-                expect_root(rt, world, fragment.number());
-            }
-        }
-        expect_children(rt, world, 1, &[2, 5]);
-        expect_data(rt, world, 2, "a");
-        expect_data(rt, world, 5, "f");
-        expect_ends(rt, world, range, 1, 1);
-        Ok(())
-    }
-}
+const CONTENTS_ARE_EXTRACTED: &[Row] = &[
+    Row::Do(Call::Select(2, 5)),
+    Row::Try(Call::New(New::Extract)),
+    Row::Then(
+        When::Granted,
+        &[
+            Fact::Answered(13),
+            Fact::Children(13, &[14, 3, 15]),
+            Fact::Data(14, "b"),
+            Fact::Data(15, "e"),
+        ],
+    ),
+    Row::Then(When::Refused, &[Fact::Held(13)]),
+    Row::Again(Call::New(New::Extract)),
+    Row::Then(
+        When::Always,
+        &[
+            Fact::Roots(&[NEW]),
+            Fact::Children(1, &[2, 5]),
+            Fact::Data(2, "a"),
+            Fact::Data(5, "f"),
+            Fact::Ends(1, 1),
+        ],
+    ),
+];
 
 #[test]
 fn contents_are_extracted(rt: HostRuntime) -> Result<(), Fail> {
-    played::<ContentsAreExtracted>(&rt, rt.alloc())
+    played(&rt, rt.alloc(), SMALL_WORLD, CONTENTS_ARE_EXTRACTED)
 }
 
-// Copies what lies in a live range into a new fragment.
-fn copied(
+/// Copies what lies in live range 0 into a new fragment.
+pub(crate) fn contents_copied(
     rt: &impl Abort,
     world: &mut World,
     alloc: Global,
-    range: RangeId,
-) -> Result<NodeId, AllocError>
+) -> Result<NodeId, Refusal>
     requires { IsWhole world.old }
     ensures { IsWhole world.new }
 {
-    assert!(rt; world.ranges.holds(range));
+    let range = selected(rt, world);
     assert!(rt; world.tree.made() < 1000);
     assert!(rt; world.tree.live() < 1000);
-    allowed(rt, clone_contents(world, alloc, range))
+    clone_contents(world, alloc, range)
 }
 
-// That a fragment has copies of what lies in the range, numbered behind it.
-fn expect_copies(rt: &impl Abort, world: &World, fragment: u32) {
-    assert!(rt; fragment < 1000);
-    let (first, inner, text, last) = (fragment + 1, fragment + 2, fragment + 3, fragment + 4);
-    expect_root(rt, world, fragment);
-    expect_children(rt, world, fragment, &[first, inner, last]);
-    expect_children(rt, world, inner, &[text]);
-    expect_data(rt, world, first, "b");
-    expect_data(rt, world, text, "cd");
-    expect_data(rt, world, last, "e");
-}
-
-// Copies of what lies in the range are made in a fragment.
-struct ContentsAreCopied;
-
-impl Scene for ContentsAreCopied {
-    fn play(rt: &impl Abort, world: &mut World, alloc: Global) -> Result<(), Fail> {
-        let range = select(rt, world)?;
-        let fragment = match copied(rt, world, alloc, range) {
-            Ok(fragment) => {
-                assert_eq!(rt; fragment.number(), 13);
-                fragment
-            }
-            Err(_) => {
-                expect_held(rt, world, 13);
-                copied(rt, world, alloc, range)?
-            }
-        };
-        expect_copies(rt, world, fragment.number());
-        expect_children(rt, world, 1, &[2, 3, 5]);
-        expect_children(rt, world, 3, &[4]);
-        expect_data(rt, world, 2, "ab");
-        expect_data(rt, world, 5, "ef");
-        Ok(())
-    }
-}
+// Copies of what lies in the range are made in a fragment, numbered behind it.
+const CONTENTS_ARE_COPIED: &[Row] = &[
+    Row::Do(Call::Select(2, 5)),
+    Row::Try(Call::New(New::CloneContents)),
+    Row::Then(When::Granted, &[Fact::Answered(13)]),
+    Row::Then(When::Refused, &[Fact::Held(13)]),
+    Row::Again(Call::New(New::CloneContents)),
+    Row::Then(
+        When::Always,
+        &[
+            Fact::Roots(&[NEW]),
+            Fact::Children(NEW, &[NEW + 1, NEW + 2, NEW + 4]),
+            Fact::Children(NEW + 2, &[NEW + 3]),
+            Fact::Data(NEW + 1, "b"),
+            Fact::Data(NEW + 3, "cd"),
+            Fact::Data(NEW + 4, "e"),
+            Fact::Children(1, &[2, 3, 5]),
+            Fact::Children(3, &[4]),
+            Fact::Data(2, "ab"),
+            Fact::Data(5, "ef"),
+        ],
+    ),
+];
 
 #[test]
 fn contents_are_copied(rt: HostRuntime) -> Result<(), Fail> {
-    played::<ContentsAreCopied>(&rt, rt.alloc())
+    played(&rt, rt.alloc(), SMALL_WORLD, CONTENTS_ARE_COPIED)
 }
 
-// Copies what lies in the range, and then takes it out: each at the second try where a growth is refused. It answers the fragments.
-fn copy_and_extract(
-    rt: &impl Abort,
-    world: &mut World,
-    alloc: Global,
-    range: RangeId,
-) -> Result<(NodeId, NodeId), AllocError>
-    requires { IsWhole world.old }
-    ensures { IsWhole world.new }
-{
-    let copies = match copied(rt, world, alloc, range) {
-        Ok(fragment) => fragment,
-        Err(_) => copied(rt, world, alloc, range)?,
-    };
-    expect_held(rt, world, 13);
-    let taken = match extracted(rt, world, alloc, range) {
-        Ok(fragment) => fragment,
-        Err(_) => extracted(rt, world, alloc, range)?,
-    };
-    expect_held(rt, world, 13);
-    expect_root(rt, world, copies.number());
-    expect_root(rt, world, taken.number());
-    Ok((copies, taken))
-}
-
-// That a fragment has a copy of element 3 with the end of Text 4 in it, and the front of Text 5. The element's copy has a fragment of its own
-// first, which is left empty.
-fn expect_end_of_element(rt: &impl Abort, world: &World, fragment: u32) {
-    assert!(rt; fragment < 1000);
-    let (element, text, last) = (fragment + 1, fragment + 3, fragment + 4);
-    expect_children(rt, world, fragment, &[element, last]);
-    expect_children(rt, world, element, &[text]);
-    expect_data(rt, world, text, "d");
-    expect_data(rt, world, last, "e");
-    expect_root(rt, world, fragment + 2);
-}
-
-// From inside element 3 to Text 5. What each refused growth leaves is whole; the numbers tell whether one was.
-struct ContentsThatBeginInsideAnElement;
-
-impl Scene for ContentsThatBeginInsideAnElement {
-    fn play(rt: &impl Abort, world: &mut World, alloc: Global) -> Result<(), Fail> {
-        let range = select_between(rt, world, 4, 5)?;
-        let (copies, taken) = copy_and_extract(rt, world, alloc, range)?;
-        if world.tree.made() == 23 {
-            expect_end_of_element(rt, world, copies.number());
-            expect_end_of_element(rt, world, taken.number());
-        }
-        expect_children(rt, world, 1, &[2, 3, 5]);
-        expect_children(rt, world, 3, &[4]);
-        expect_data(rt, world, 4, "c");
-        expect_data(rt, world, 5, "f");
-        expect_ends(rt, world, range, 2, 2);
-        Ok(())
-    }
-}
+// From inside element 3 to Text 5, what lies in the range is copied, and then taken out. What each refused growth leaves is whole; the numbers
+// tell whether one was. Each fragment has a copy of element 3 with the end of Text 4 in it, and the front of Text 5. The element's copy has a
+// fragment of its own first, which is left empty.
+const CONTENTS_THAT_BEGIN_INSIDE_AN_ELEMENT: &[Row] = &[
+    Row::Do(Call::Select(4, 5)),
+    Row::Do(Call::New(New::CloneContents)),
+    Row::Then(When::Always, &[Fact::Held(13)]),
+    Row::Do(Call::New(New::Extract)),
+    Row::Then(When::Always, &[Fact::Held(13), Fact::Roots(&[OLDER, NEW])]),
+    Row::Then(
+        When::Made(23),
+        &[
+            Fact::Children(OLDER, &[OLDER + 1, OLDER + 4]),
+            Fact::Children(OLDER + 1, &[OLDER + 3]),
+            Fact::Data(OLDER + 3, "d"),
+            Fact::Data(OLDER + 4, "e"),
+            Fact::Roots(&[OLDER + 2]),
+            Fact::Children(NEW, &[NEW + 1, NEW + 4]),
+            Fact::Children(NEW + 1, &[NEW + 3]),
+            Fact::Data(NEW + 3, "d"),
+            Fact::Data(NEW + 4, "e"),
+            Fact::Roots(&[NEW + 2]),
+        ],
+    ),
+    Row::Then(
+        When::Always,
+        &[
+            Fact::Children(1, &[2, 3, 5]),
+            Fact::Children(3, &[4]),
+            Fact::Data(4, "c"),
+            Fact::Data(5, "f"),
+            Fact::Ends(2, 2),
+        ],
+    ),
+];
 
 #[test]
 fn contents_that_begin_inside_an_element(rt: HostRuntime) -> Result<(), Fail> {
-    played::<ContentsThatBeginInsideAnElement>(&rt, rt.alloc())
+    let scene = CONTENTS_THAT_BEGIN_INSIDE_AN_ELEMENT;
+    played(&rt, rt.alloc(), SMALL_WORLD, scene)
 }
 
-// That a fragment has the end of Text 2, and a copy of element 3 with the front of Text 4 in it.
-fn expect_front_of_element(rt: &impl Abort, world: &World, fragment: u32) {
-    assert!(rt; fragment < 1000);
-    let (first, element, text) = (fragment + 1, fragment + 2, fragment + 4);
-    expect_children(rt, world, fragment, &[first, element]);
-    expect_children(rt, world, element, &[text]);
-    expect_data(rt, world, first, "b");
-    expect_data(rt, world, text, "c");
-    expect_root(rt, world, fragment + 3);
-}
-
-// From Text 2 to inside element 3.
-struct ContentsThatEndInsideAnElement;
-
-impl Scene for ContentsThatEndInsideAnElement {
-    fn play(rt: &impl Abort, world: &mut World, alloc: Global) -> Result<(), Fail> {
-        let range = select_between(rt, world, 2, 4)?;
-        let (copies, taken) = copy_and_extract(rt, world, alloc, range)?;
-        if world.tree.made() == 23 {
-            expect_front_of_element(rt, world, copies.number());
-            expect_front_of_element(rt, world, taken.number());
-        }
-        expect_children(rt, world, 1, &[2, 3, 5]);
-        expect_children(rt, world, 3, &[4]);
-        expect_data(rt, world, 2, "a");
-        expect_data(rt, world, 4, "d");
-        expect_ends(rt, world, range, 1, 1);
-        Ok(())
-    }
-}
+// The same from Text 2 to inside element 3. Each fragment has the end of Text 2, and a copy of element 3 with the front of Text 4 in it.
+const CONTENTS_THAT_END_INSIDE_AN_ELEMENT: &[Row] = &[
+    Row::Do(Call::Select(2, 4)),
+    Row::Do(Call::New(New::CloneContents)),
+    Row::Then(When::Always, &[Fact::Held(13)]),
+    Row::Do(Call::New(New::Extract)),
+    Row::Then(When::Always, &[Fact::Held(13), Fact::Roots(&[OLDER, NEW])]),
+    Row::Then(
+        When::Made(23),
+        &[
+            Fact::Children(OLDER, &[OLDER + 1, OLDER + 2]),
+            Fact::Children(OLDER + 2, &[OLDER + 4]),
+            Fact::Data(OLDER + 1, "b"),
+            Fact::Data(OLDER + 4, "c"),
+            Fact::Roots(&[OLDER + 3]),
+            Fact::Children(NEW, &[NEW + 1, NEW + 2]),
+            Fact::Children(NEW + 2, &[NEW + 4]),
+            Fact::Data(NEW + 1, "b"),
+            Fact::Data(NEW + 4, "c"),
+            Fact::Roots(&[NEW + 3]),
+        ],
+    ),
+    Row::Then(
+        When::Always,
+        &[
+            Fact::Children(1, &[2, 3, 5]),
+            Fact::Children(3, &[4]),
+            Fact::Data(2, "a"),
+            Fact::Data(4, "d"),
+            Fact::Ends(1, 1),
+        ],
+    ),
+];
 
 #[test]
 fn contents_that_end_inside_an_element(rt: HostRuntime) -> Result<(), Fail> {
-    played::<ContentsThatEndInsideAnElement>(&rt, rt.alloc())
+    let scene = CONTENTS_THAT_END_INSIDE_AN_ELEMENT;
+    played(&rt, rt.alloc(), SMALL_WORLD, scene)
 }

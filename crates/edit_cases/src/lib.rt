@@ -14,7 +14,9 @@ mod copies;
 #[cfg(test)]
 mod editing;
 #[cfg(test)]
-mod selecting;
+mod facts;
+#[cfg(test)]
+mod scenes;
 #[cfg(test)]
 mod texts;
 #[cfg(test)]

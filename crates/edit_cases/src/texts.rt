@@ -1,274 +1,292 @@
 //! Data, Texts and attributes that change, and the text of nodes. Where memory is wanting, the world goes on from what it is then.
 
+ghost use Rattle.std.specs.Prelude.{◌≡◌, true};
+ghost use Rattle.dom_model.specs.Forests.Kinds.{is_character_data};
+ghost use Rattle.dom_model.specs.Forests.Nodes.{kind_passes};
 ghost use Rattle.dom_edit.specs.Whole.{IsWhole};
 
-use crate::building::{
-    Scene, allowed, expect_children, expect_data, expect_held, expect_root, expect_roots,
-    expect_units, played, units,
-};
+use crate::building::{SMALL_WORLD, of_kind};
+use crate::facts::{Fact, NEW, expect_units, held};
+use crate::scenes::{Ask, Call, Change, New, Row, When, played};
 use dom_data::{
     normalize, replace_data, set_data, set_text_content, split, substring, text_content,
 };
 use dom_edit::{Refusal, World};
 use dom_kinds::{DomError, Kind};
 use dom_tree::NodeId;
-use std::alloc::{AllocError, Global};
+use dom_units::Units;
+use std::alloc::Global;
 use std::process::Abort;
 use std::test::Fail;
 
-// The data of all Texts below element 1.
-fn read_text(rt: &impl Abort, world: &World, alloc: Global) -> Result<(), AllocError>
+/// Compares the data of all Texts below a node.
+pub(crate) fn expect_text_content(
+    rt: &impl Abort,
+    world: &World,
+    alloc: Global,
+    node: u32,
+    text: &str,
+) -> Result<(), Refusal>
     requires { IsWhole world.now }
 {
-    let node = NodeId::new(1);
-    assert!(rt; world.tree.holds(node));
-    let text = match text_content(world, alloc, node) {
-        Ok(text) => text,
-        Err(AllocError) => text_content(world, alloc, node)?,
-    };
-    match text {
-        Some(text) => expect_units(rt, text.units(), "abcdef"),
+    let node = held(rt, world, node);
+    match text_content(world, alloc, node)? {
+        Some(found) => expect_units(rt, found.units(), text),
         None => assert!(rt; false, "no text"),
     }
     Ok(())
 }
 
-struct TheTextOfAnElement;
-
-impl Scene for TheTextOfAnElement {
-    fn play(rt: &impl Abort, world: &mut World, alloc: Global) -> Result<(), Fail> {
-        read_text(rt, world, alloc)?;
-        Ok(())
-    }
-}
-
 #[test]
 fn the_text_of_an_element(rt: HostRuntime) -> Result<(), Fail> {
-    played::<TheTextOfAnElement>(&rt, rt.alloc())
+    played(&rt, rt.alloc(), SMALL_WORLD, THE_TEXT_OF_AN_ELEMENT)
 }
 
-// Makes a text the text content of a node.
-fn fill(
+const THE_TEXT_OF_AN_ELEMENT: &[Row] = &[Row::Do(Call::Ask(Ask::TextContent(1, "abcdef")))];
+
+/// Makes a text the text content of a node.
+pub(crate) fn fill(
     rt: &impl Abort,
     world: &mut World,
     alloc: Global,
-    node: NodeId,
+    node: u32,
     text: &str,
-) -> Result<(), AllocError>
+) -> Result<(), Refusal>
     requires { IsWhole world.old }
     ensures { IsWhole world.new }
 {
-    let text = units(alloc, text)?;
-    assert!(rt; world.tree.holds(node));
+    let text = Units::from_str(alloc, text)?;
+    let node = held(rt, world, node);
     assert!(rt; world.tree.made() < 4294967295);
-    set_text_content(world, alloc, node, text)
+    Ok(set_text_content(world, alloc, node, text)?)
 }
 
-// A Text takes the place of the children of element 1.
-struct AnElementIsFilled;
+const FILL_AN_ELEMENT: Call = Call::Change(1, Change::SetTextContent("mn"));
 
-impl Scene for AnElementIsFilled {
-    fn play(rt: &impl Abort, world: &mut World, alloc: Global) -> Result<(), Fail> {
-        let node = NodeId::new(1);
-        let mut child = 13;
-        if let Err(AllocError) = fill(rt, world, alloc, node, "mn") {
-            expect_held(rt, world, 13);
-            // the first call may have made a Text
-            child = if world.tree.made() == 13 { 13 } else { 14 };
-            fill(rt, world, alloc, node, "mn")?;
-        }
-        expect_children(rt, world, 1, &[child]);
-        expect_data(rt, world, child, "mn");
-        expect_children(rt, world, 3, &[4]);
-        expect_roots(rt, world, &[2, 3, 5]);
-        Ok(())
-    }
-}
+// A Text takes the place of the children of element 1. Where the first call was refused, it may have made one.
+const AN_ELEMENT_IS_FILLED: &[Row] = &[
+    Row::Try(FILL_AN_ELEMENT),
+    Row::Then(When::Granted, &[Fact::Made(&[14])]),
+    Row::Then(When::Refused, &[Fact::Held(13)]),
+    Row::Again(FILL_AN_ELEMENT),
+    Row::Then(
+        When::Always,
+        &[
+            Fact::Made(&[14, 15]),
+            Fact::Children(3, &[4]),
+            Fact::Roots(&[2, 3, 5]),
+        ],
+    ),
+    Row::Then(
+        When::Made(14),
+        &[Fact::Children(1, &[13]), Fact::Data(13, "mn")],
+    ),
+    Row::Then(
+        When::Made(15),
+        &[Fact::Children(1, &[14]), Fact::Data(14, "mn")],
+    ),
+];
 
 #[test]
 fn an_element_is_filled(rt: HostRuntime) -> Result<(), Fail> {
-    played::<AnElementIsFilled>(&rt, rt.alloc())
+    played(&rt, rt.alloc(), SMALL_WORLD, AN_ELEMENT_IS_FILLED)
 }
+
+const FILL_A_TEXT: Call = Call::Change(2, Change::SetTextContent("mnop"));
 
 // All data of Text 2 is replaced.
-struct ATextIsFilled;
-
-impl Scene for ATextIsFilled {
-    fn play(rt: &impl Abort, world: &mut World, alloc: Global) -> Result<(), Fail> {
-        let node = NodeId::new(2);
-        if let Err(AllocError) = fill(rt, world, alloc, node, "mnop") {
-            expect_held(rt, world, 13);
-            expect_data(rt, world, 2, "ab");
-            fill(rt, world, alloc, node, "mnop")?;
-        }
-        expect_data(rt, world, 2, "mnop");
-        expect_children(rt, world, 1, &[2, 3, 5]);
-        Ok(())
-    }
-}
+const A_TEXT_IS_FILLED: &[Row] = &[
+    Row::Try(FILL_A_TEXT),
+    Row::Then(When::Refused, &[Fact::Held(13), Fact::Data(2, "ab")]),
+    Row::Again(FILL_A_TEXT),
+    Row::Then(
+        When::Always,
+        &[Fact::Data(2, "mnop"), Fact::Children(1, &[2, 3, 5])],
+    ),
+];
 
 #[test]
 fn a_text_is_filled(rt: HostRuntime) -> Result<(), Fail> {
-    played::<ATextIsFilled>(&rt, rt.alloc())
+    played(&rt, rt.alloc(), SMALL_WORLD, A_TEXT_IS_FILLED)
 }
 
-// Puts "m", "n" and "o" in place of all that follows the first unit of Text 2.
-fn replace(rt: &impl Abort, world: &mut World, alloc: Global) -> Result<(), AllocError>
+// A node that is held, and has data.
+fn with_data(rt: &impl Abort, world: &World, number: u32) -> NodeId
+    ensures { kind_passes is_character_data world.now.tree.forest result ≡ true }
+{
+    let node = held(rt, world, number);
+    assert!(rt; world.tree.has_data(node));
+    node
+}
+
+/// From an offset on, so many units of a node's data give way to others.
+pub(crate) fn replace_units(
+    rt: &impl Abort,
+    world: &mut World,
+    alloc: Global,
+    node: u32,
+    place: (usize, usize),
+    added: &[u16],
+) -> Result<(), Refusal>
     requires { IsWhole world.old }
     ensures { IsWhole world.new }
 {
-    let node = NodeId::new(2);
-    assert!(rt; world.tree.holds(node));
-    assert!(rt; world.tree.has_data(node));
-    allowed(rt, replace_data(world, alloc, node, 1, 9, &[109, 110, 111]))
+    let node = with_data(rt, world, node);
+    replace_data(world, alloc, node, place.0, place.1, added)
 }
+
+// "m", "n" and "o" in place of all that follows the first unit.
+const REPLACE_UNITS: Call = Call::Change(2, Change::ReplaceData(1, 9, &[109, 110, 111]));
 
 // The data of Text 2 from an offset on is replaced.
-struct UnitsAreReplaced;
-
-impl Scene for UnitsAreReplaced {
-    fn play(rt: &impl Abort, world: &mut World, alloc: Global) -> Result<(), Fail> {
-        if let Err(AllocError) = replace(rt, world, alloc) {
-            expect_held(rt, world, 13);
-            expect_data(rt, world, 2, "ab");
-            replace(rt, world, alloc)?;
-        }
-        expect_data(rt, world, 2, "amno");
-        Ok(())
-    }
-}
+const UNITS_ARE_REPLACED: &[Row] = &[
+    Row::Try(REPLACE_UNITS),
+    Row::Then(When::Refused, &[Fact::Held(13), Fact::Data(2, "ab")]),
+    Row::Again(REPLACE_UNITS),
+    Row::Then(When::Always, &[Fact::Data(2, "amno")]),
+];
 
 #[test]
 fn units_are_replaced(rt: HostRuntime) -> Result<(), Fail> {
-    played::<UnitsAreReplaced>(&rt, rt.alloc())
+    played(&rt, rt.alloc(), SMALL_WORLD, UNITS_ARE_REPLACED)
 }
 
-// Makes "m", "n" and "o" all data of comment 11.
-fn set(rt: &impl Abort, world: &mut World, alloc: Global) -> Result<(), AllocError>
+/// Makes units all data of a node.
+pub(crate) fn set_units(
+    rt: &impl Abort,
+    world: &mut World,
+    alloc: Global,
+    node: u32,
+    added: &[u16],
+) -> Result<(), Refusal>
     requires { IsWhole world.old }
     ensures { IsWhole world.new }
 {
-    let node = NodeId::new(11);
-    assert!(rt; world.tree.holds(node));
-    assert!(rt; world.tree.has_data(node));
-    set_data(world, alloc, node, &[109, 110, 111])
+    let node = with_data(rt, world, node);
+    Ok(set_data(world, alloc, node, added)?)
 }
+
+// "m", "n" and "o".
+const SET_UNITS: Call = Call::Change(11, Change::SetData(&[109, 110, 111]));
 
 // All data of comment 11 is replaced.
-struct AllDataIsSet;
-
-impl Scene for AllDataIsSet {
-    fn play(rt: &impl Abort, world: &mut World, alloc: Global) -> Result<(), Fail> {
-        if let Err(AllocError) = set(rt, world, alloc) {
-            expect_held(rt, world, 13);
-            expect_data(rt, world, 11, "kl");
-            set(rt, world, alloc)?;
-        }
-        expect_data(rt, world, 11, "mno");
-        Ok(())
-    }
-}
+const ALL_DATA_IS_SET: &[Row] = &[
+    Row::Try(SET_UNITS),
+    Row::Then(When::Refused, &[Fact::Held(13), Fact::Data(11, "kl")]),
+    Row::Again(SET_UNITS),
+    Row::Then(When::Always, &[Fact::Data(11, "mno")]),
+];
 
 #[test]
 fn all_data_is_set(rt: HostRuntime) -> Result<(), Fail> {
-    played::<AllDataIsSet>(&rt, rt.alloc())
+    played(&rt, rt.alloc(), SMALL_WORLD, ALL_DATA_IS_SET)
 }
 
-// Units of Text 5, cut at its end.
-fn read_part(rt: &impl Abort, world: &World, alloc: Global) -> Result<(), AllocError>
+/// Compares so many units of a node's data, from an offset on.
+pub(crate) fn expect_substring(
+    rt: &impl Abort,
+    world: &World,
+    alloc: Global,
+    node: u32,
+    place: (usize, usize),
+    text: &str,
+) -> Result<(), Refusal>
     requires { IsWhole world.now }
 {
-    let node = NodeId::new(5);
-    assert!(rt; world.tree.holds(node));
-    assert!(rt; world.tree.has_data(node));
-    let part = match allowed(rt, substring(world, alloc, node, 1, 9)) {
-        Ok(part) => part,
-        Err(AllocError) => allowed(rt, substring(world, alloc, node, 1, 9))?,
-    };
-    expect_units(rt, part.units(), "f");
-    match substring(world, alloc, node, 3, 0) {
-        Ok(_) => assert!(rt; false, "past the end"),
-        Err(refusal) => assert_eq!(rt; refusal, Refusal::Dom(DomError::IndexSizeError)),
-    }
+    let node = with_data(rt, world, node);
+    let part = substring(world, alloc, node, place.0, place.1)?;
+    expect_units(rt, part.units(), text);
     Ok(())
 }
 
-struct APartOfTheData;
-
-impl Scene for APartOfTheData {
-    fn play(rt: &impl Abort, world: &mut World, alloc: Global) -> Result<(), Fail> {
-        read_part(rt, world, alloc)?;
-        Ok(())
-    }
-}
+// Units of Text 5, cut at its end, and none past the end.
+const A_PART_OF_THE_DATA: &[Row] = &[
+    Row::Do(Call::Ask(Ask::Substring(5, 1, 9, "f"))),
+    Row::Fails(
+        Call::Ask(Ask::Substring(5, 3, 0, "")),
+        DomError::IndexSizeError,
+    ),
+];
 
 #[test]
 fn a_part_of_the_data(rt: HostRuntime) -> Result<(), Fail> {
-    played::<APartOfTheData>(&rt, rt.alloc())
+    played(&rt, rt.alloc(), SMALL_WORLD, A_PART_OF_THE_DATA)
 }
 
-// Splits Text 2 behind its first unit.
-fn split_first(rt: &impl Abort, world: &mut World, alloc: Global) -> Result<NodeId, AllocError>
+/// Splits a Text at an offset.
+pub(crate) fn split_at(
+    rt: &impl Abort,
+    world: &mut World,
+    alloc: Global,
+    node: u32,
+    offset: usize,
+) -> Result<NodeId, Refusal>
     requires { IsWhole world.old }
     ensures { IsWhole world.new }
 {
-    let node = NodeId::new(2);
-    assert!(rt; world.tree.holds(node));
-    assert!(rt; world.tree.is_of_kind(node, Kind::Text));
+    let node = of_kind(rt, world, node, Kind::Text);
     assert!(rt; world.tree.made() < 4294967295);
-    allowed(rt, split(world, alloc, node, 1))
+    split(world, alloc, node, offset)
 }
 
-// Text 2 is split, and the new Text stands behind it.
-struct ATextIsSplit;
-
-impl Scene for ATextIsSplit {
-    fn play(rt: &impl Abort, world: &mut World, alloc: Global) -> Result<(), Fail> {
-        match split_first(rt, world, alloc) {
-            Ok(new) => {
-                assert_eq!(rt; new.number(), 13);
-                expect_children(rt, world, 1, &[2, 13, 3, 5]);
-                expect_data(rt, world, 13, "b");
-            }
-            Err(_) => {
-                expect_held(rt, world, 13);
-                let new = split_first(rt, world, alloc)?;
-                expect_data(rt, world, new.number(), "b");
-                assert!(rt; world.tree.holds(new));
-                assert_eq!(rt; world.tree.prev(new), Some(NodeId::new(2)));
-            }
-        }
-        expect_data(rt, world, 2, "a");
-        Ok(())
-    }
-}
+// Text 2 is split behind its first unit, and the new Text stands behind it.
+const A_TEXT_IS_SPLIT: &[Row] = &[
+    Row::Try(Call::New(New::Split(2, 1))),
+    Row::Then(
+        When::Granted,
+        &[
+            Fact::Answered(13),
+            Fact::Children(1, &[2, 13, 3, 5]),
+            Fact::Data(13, "b"),
+        ],
+    ),
+    Row::Then(When::Refused, &[Fact::Held(13)]),
+    Row::Again(Call::New(New::Split(2, 1))),
+    Row::Then(
+        When::Always,
+        &[
+            Fact::Data(NEW, "b"),
+            Fact::Behind(NEW, 2),
+            Fact::Data(2, "a"),
+        ],
+    ),
+];
 
 #[test]
 fn a_text_is_split(rt: HostRuntime) -> Result<(), Fail> {
-    played::<ATextIsSplit>(&rt, rt.alloc())
+    played(&rt, rt.alloc(), SMALL_WORLD, A_TEXT_IS_SPLIT)
+}
+
+/// Joins the Texts below a node.
+pub(crate) fn join(
+    rt: &impl Abort,
+    world: &mut World,
+    alloc: Global,
+    node: u32,
+) -> Result<(), Refusal>
+    requires { IsWhole world.old }
+    ensures { IsWhole world.new }
+{
+    let node = held(rt, world, node);
+    Ok(normalize(world, alloc, node)?)
 }
 
 // The Texts in element 6 become one.
-struct TextsAreJoined;
-
-impl Scene for TextsAreJoined {
-    fn play(rt: &impl Abort, world: &mut World, alloc: Global) -> Result<(), Fail> {
-        let node = NodeId::new(6);
-        assert!(rt; world.tree.holds(node));
-        if let Err(AllocError) = normalize(world, alloc, node) {
-            expect_held(rt, world, 13);
-            assert!(rt; world.tree.holds(node));
-            normalize(world, alloc, node)?;
-        }
-        expect_children(rt, world, 6, &[8]);
-        expect_data(rt, world, 8, "ghij");
-        expect_root(rt, world, 7);
-        expect_root(rt, world, 9);
-        Ok(())
-    }
-}
+const TEXTS_ARE_JOINED: &[Row] = &[
+    Row::Try(Call::Change(6, Change::Normalize)),
+    Row::Then(When::Refused, &[Fact::Held(13)]),
+    Row::Again(Call::Change(6, Change::Normalize)),
+    Row::Then(
+        When::Always,
+        &[
+            Fact::Children(6, &[8]),
+            Fact::Data(8, "ghij"),
+            Fact::Roots(&[7, 9]),
+        ],
+    ),
+];
 
 #[test]
 fn texts_are_joined(rt: HostRuntime) -> Result<(), Fail> {
-    played::<TextsAreJoined>(&rt, rt.alloc())
+    played(&rt, rt.alloc(), SMALL_WORLD, TEXTS_ARE_JOINED)
 }

@@ -1,14 +1,12 @@
 //! Examples of a copied content, and of nodes that are made, adopted and asked about.
 
-ghost use Rattle.dom_edit.specs.Whole.{IsWhole};
-
-use crate::building::first;
+use crate::facts::Fact;
+use crate::scenes::{Ask, Call, New, Row, When, played};
 use dom_attrs::Attrs;
-use dom_edit::{Content, Refusal, World};
-use dom_kinds::{DomError, Kind, Label};
-use dom_tree::NodeId;
+use dom_edit::Content;
+use dom_kinds::{DomError, Kind};
 use dom_units::Units;
-use std::alloc::{AllocError, Global};
+use std::alloc::Global;
 use std::mem::size_of;
 use std::process::Abort;
 use std::test::Fail;
@@ -64,96 +62,22 @@ fn bytes_of_a_content(rt: HostRuntime) {
     assert_eq!(rt; size_of::<Content>(), 32);
 }
 
-// A node without a name: a Document, or a Text in a document.
-fn made(
-    rt: &impl Abort,
-    world: &mut World,
-    alloc: Global,
-    document: Option<NodeId>,
-) -> Result<NodeId, AllocError>
-    requires { IsWhole world.old }
-    ensures { IsWhole world.new }
-{
-    let kind = if document.is_some() {
-        Kind::Text
-    } else {
-        Kind::Document
-    };
-    let label = Label::nameless(kind);
-    let content = Content::nothing();
-    assert!(rt; world.tree.made() < 4294967295);
-    match document {
-        None => world.make(alloc, label, content, None),
-        Some(document) => {
-            assert!(rt; world.tree.holds(document));
-            assert!(rt; world.tree.label(document).kind == Kind::Document);
-            world.make(alloc, label, content, Some(document))
-        }
-    }
-}
-
-// The document of a node that is adopted into it, or why it is not.
-fn adopted(
-    rt: &impl Abort,
-    world: &mut World,
-    alloc: Global,
-    document: NodeId,
-    node: NodeId,
-) -> Result<NodeId, Refusal>
-    requires { IsWhole world.old }
-    ensures { IsWhole world.new }
-{
-    assert!(rt; world.tree.holds(document));
-    assert!(rt; world.tree.label(document).kind == Kind::Document);
-    assert!(rt; world.tree.holds(node));
-    world.adopt(alloc, document, node)?;
-    assert!(rt; world.tree.holds(node));
-    Ok(world.tree.document_of(node))
-}
-
-// Text 2 of document 0 is adopted into document 1, and no document is.
-fn adopt(rt: &impl Abort, world: &mut World, alloc: Global) -> Result<(), AllocError>
-    requires { IsWhole world.old }
-    ensures { IsWhole world.new }
-{
-    let first = NodeId::new(0);
-    let second = made(rt, world, alloc, None)?;
-    let text = made(rt, world, alloc, Some(first))?;
-    assert!(rt; second.number() == 1 && text.number() == 2);
-    assert!(rt; adopted(rt, world, alloc, second, text) == Ok(second));
-    assert!(rt;
-        adopted(rt, world, alloc, first, second) == Err(Refusal::Dom(DomError::NotSupportedError))
-    );
-    Ok(())
-}
-
-// Document 1 is in use then, and the Text is no child.
-fn ask(rt: &impl Abort, world: &mut World, alloc: Global)
-    requires { IsWhole world.old }
-{
-    for (node, free) in [(0, true), (1, false), (2, true)] {
-        let node = NodeId::new(node);
-        assert!(rt; world.tree.holds(node));
-        assert!(rt; world.can_discard(node) == free);
-    }
-    let (first, text) = (NodeId::new(0), NodeId::new(2));
-    assert!(rt; world.tree.holds(first));
-    assert!(rt; world.tree.holds(text));
-    assert!(rt;
-        world.remove_child(alloc, first, text) == Err(Refusal::Dom(DomError::NotFoundError))
-    );
-}
-
-fn adopt_and_ask(rt: &impl Abort, world: &mut World, alloc: Global) -> Result<(), Fail>
-    requires { IsWhole world.old }
-{
-    adopt(rt, world, alloc)?;
-    ask(rt, world, alloc);
-    Ok(())
-}
+// Text 2 of document 0 is adopted into document 1, and no document is. Document 1 is in use then, and the Text is no child.
+const ADOPTED_TEXTS: &[Row] = &[
+    Row::Do(Call::New(New::MakeDocument)),
+    Row::Then(When::Always, &[Fact::Answered(1)]),
+    Row::Do(Call::New(New::MakeBare(Kind::Text))),
+    Row::Then(When::Always, &[Fact::Answered(2)]),
+    Row::Do(Call::Adopt(1, 2)),
+    Row::Then(When::Always, &[Fact::Document(2, 1)]),
+    Row::Fails(Call::Adopt(0, 1), DomError::NotSupportedError),
+    Row::Do(Call::Ask(Ask::CanDiscard(0, true))),
+    Row::Do(Call::Ask(Ask::CanDiscard(1, false))),
+    Row::Do(Call::Ask(Ask::CanDiscard(2, true))),
+    Row::Fails(Call::RemoveChild(0, 2), DomError::NotFoundError),
+];
 
 #[test]
 fn adopted_texts(rt: HostRuntime) -> Result<(), Fail> {
-    let mut world = first(rt.alloc())?;
-    adopt_and_ask(&rt, &mut world, rt.alloc())
+    played(&rt, rt.alloc(), &[], ADOPTED_TEXTS)
 }

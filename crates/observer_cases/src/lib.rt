@@ -4,4 +4,6 @@
 #[cfg(test)]
 mod observing;
 #[cfg(test)]
+mod scenes;
+#[cfg(test)]
 mod watching;

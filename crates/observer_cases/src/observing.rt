@@ -1,7 +1,8 @@
 //! Options of observers, and the registrations of one observer on many nodes.
-use dom_kinds::{DomError, Kind, Label};
-use dom_observe::{ObserverId, Observers, Options, RawOptions, Record, settle};
-use dom_tree::NodeId;
+
+use crate::scenes::{Call, Fact, Part, Row, When, played};
+use dom_kinds::DomError;
+use dom_observe::{Options, RawOptions, settle};
 use std::alloc::{AllocError, Global};
 use std::process::Abort;
 use std::test::Fail;
@@ -19,88 +20,88 @@ pub(crate) fn nothing() -> RawOptions {
     }
 }
 
-/// A label of a Text, which these tests ask nothing of.
-pub(crate) fn label() -> Label {
-    Label::nameless(Kind::Text)
+// Two members, as they are given: whether the thing is watched, and whether its old value is asked for.
+type Member = (Option<bool>, Option<bool>);
+
+// Members of options, those of attributes first, then those of data, with whether the children are watched and whether there is an empty filter;
+// and whether attributes are watched, their old values, data, and its old values; none where the options are refused.
+type Setting = (
+    Member,
+    Member,
+    Option<bool>,
+    bool,
+    Option<(bool, bool, bool, bool)>,
+);
+
+// Asked for the old value or not, attributes are watched. So is the data, where its old value is asked for. A filter of attributes that are not
+// watched is refused, and so are old values of data that is not.
+const SETTINGS: &[Setting] = &[
+    ((None, None), (None, None), None, false, None),
+    (
+        (None, Some(false)),
+        (None, None),
+        None,
+        false,
+        Some((true, false, false, false)),
+    ),
+    (
+        (None, None),
+        (None, Some(true)),
+        None,
+        false,
+        Some((false, false, true, true)),
+    ),
+    ((Some(false), None), (None, None), Some(true), true, None),
+    (
+        (None, None),
+        (Some(false), Some(true)),
+        Some(true),
+        false,
+        None,
+    ),
+];
+
+// The options of a setting.
+fn given(alloc: Global, setting: &Setting) -> RawOptions {
+    let (attributes, data, children, filter, _) = *setting;
+    let mut given = nothing();
+    given.attributes = attributes.0;
+    given.attribute_old_value = attributes.1;
+    given.character_data = data.0;
+    given.character_data_old_value = data.1;
+    given.child_list = children;
+    if filter {
+        given.attribute_filter = Some(Vec::new(alloc));
+    }
+    given
 }
 
-/// An observer watches a node.
-pub(crate) fn watch(
-    rt: &impl Abort,
-    observers: &mut Observers,
-    observer: ObserverId,
-    node: NodeId,
-    given: RawOptions,
-) -> Result<(), AllocError> {
-    assert!(rt; observers.holds(observer));
-    match settle(given) {
-        Ok(options) => observers.observe(observer, node, options),
-        Err(_) => {
-            assert!(rt; false, "these options are in order");
-            Ok(())
+// Settles the options of a setting.
+fn settle_one(rt: &impl Abort, alloc: Global, setting: &Setting) {
+    let settled = match settle(given(alloc, setting)) {
+        Ok(options) => Some((
+            options.attributes,
+            options.attribute_old_value,
+            options.character_data,
+            options.character_data_old_value,
+        )),
+        Err(error) => {
+            assert_eq!(rt; error, DomError::TypeError);
+            None
         }
-    }
-}
-
-/// Takes the records of an observer.
-pub(crate) fn take(
-    rt: &impl Abort,
-    observers: &mut Observers,
-    observer: ObserverId,
-) -> Vec<Record> {
-    assert!(rt; observers.holds(observer));
-    observers.take(observer)
-}
-
-// Asked for the old value or not, attributes are watched.
-fn settles_attributes(rt: &impl Abort) {
-    let mut given = nothing();
-    given.attribute_old_value = Some(false);
-    match settle(given) {
-        Ok(options) => assert!(rt; options.attributes && !options.attribute_old_value),
-        Err(_) => assert!(rt; false),
-    }
-}
-
-// So is the data, where its old value is asked for.
-fn settles_data(rt: &impl Abort) {
-    let mut given = nothing();
-    given.character_data_old_value = Some(true);
-    match settle(given) {
-        Ok(options) => assert!(rt; options.character_data && options.character_data_old_value),
-        Err(_) => assert!(rt; false),
-    }
-}
-
-// A filter of attributes that are not watched is refused.
-fn refuses_a_filter(rt: &impl Abort, alloc: Global) {
-    let mut given = nothing();
-    given.child_list = Some(true);
-    given.attributes = Some(false);
-    given.attribute_filter = Some(Vec::new(alloc));
-    assert!(rt; settle(given).is_err());
-}
-
-// And so are old values of data that is not.
-fn refuses_old_values(rt: &impl Abort) {
-    let mut given = nothing();
-    given.child_list = Some(true);
-    given.character_data = Some(false);
-    given.character_data_old_value = Some(true);
-    assert!(rt; settle(given).is_err());
+    };
+    assert!(rt; settled == setting.4);
 }
 
 #[test]
 fn options_are_settled(rt: HostRuntime) {
-    assert!(rt; matches!(settle(nothing()), Err(DomError::TypeError)));
-    settles_attributes(&rt);
-    settles_data(&rt);
-    refuses_a_filter(&rt, rt.alloc());
-    refuses_old_values(&rt);
+    for setting in SETTINGS {
+        settle_one(&rt, rt.alloc(), setting);
+    }
 }
 
 // What lies below, by the attribute "id".
-fn by_id(alloc: Global) -> Result<RawOptions, Fail> {
+fn by_id(alloc: Global) -> Result<RawOptions, AllocError> {
     let id = String::from_str(alloc, "id")?;
     let names = vec![in alloc; id]?;
     let mut given = nothing();
@@ -130,38 +131,22 @@ fn options_are_copied(rt: HostRuntime) -> Result<(), Fail> {
     Ok(())
 }
 
-// The first registration on a node takes memory: where a growth is refused, it is made at the second call.
-fn twice(rt: &impl Abort, observers: &mut Observers, node: NodeId) -> Result<(), AllocError> {
-    let mut given = nothing();
-    given.child_list = Some(true);
-    if watch(rt, observers, ObserverId::new(0), node, given).is_ok() {
-        return Ok(());
-    }
-    let mut given = nothing();
-    given.child_list = Some(true);
-    watch(rt, observers, ObserverId::new(0), node, given)
-}
-
-// An observer is registered on a hundred nodes, and disconnected.
-fn watch_a_hundred(rt: &impl Abort, observers: &mut Observers) -> Result<(), Fail> {
-    assert_eq!(rt; observers.made(), 0);
-    if observers.make().is_err() {
-        let _ = observers.make()?;
-    }
-    for number in 0..100 {
-        twice(rt, observers, NodeId::new(number))?;
-    }
-    assert_eq!(rt; observers.made(), 1);
-    assert!(rt; !observers.is_idle());
-    assert!(rt; observers.holds(ObserverId::new(0)));
-    observers.disconnect(ObserverId::new(0));
-    assert!(rt; observers.is_idle());
-    Ok(())
-}
+// An observer is registered on a hundred nodes, and disconnected. The first registration on a node takes memory: where a growth is refused, it is
+// made at the second call.
+const A_HUNDRED_NODES: &[Part] = &[(
+    1,
+    &[
+        Row::Then(When::Always, &[Fact::Made(0)]),
+        Row::Do(Call::Make),
+        Row::Once(Call::WatchEach(100)),
+        Row::Then(When::Always, &[Fact::Made(1), Fact::Idle(false)]),
+        Row::Once(Call::Disconnect(0)),
+        Row::Then(When::Always, &[Fact::Idle(true)]),
+    ],
+)];
 
 // Each of the first hundred growths may be refused, and the registrations come out the same.
 #[test]
 fn a_hundred_nodes(rt: HostRuntime) -> Result<(), Fail> {
-    let mut observers = Observers::new(rt.alloc());
-    watch_a_hundred(&rt, &mut observers)
+    played(&rt, rt.alloc(), A_HUNDRED_NODES)
 }

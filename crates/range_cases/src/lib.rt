@@ -2,10 +2,12 @@
 #![tactic(auto)]
 
 #[cfg(test)]
-mod range_scenes;
+mod placing;
+#[cfg(test)]
+mod playing;
 #[cfg(test)]
 mod ranges;
 #[cfg(test)]
-mod slots;
-#[cfg(test)]
 mod statics;
+#[cfg(test)]
+mod trees;

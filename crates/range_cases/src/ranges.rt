@@ -1,374 +1,460 @@
-//! Ranges over a small tree: made, read, set anew, adjusted, released; and room that is refused.
-
-ghost use Rattle.std.specs.Prelude.{◌≡◌, [], ◌∷◌, Some, IfOk};
-
-use super::range_scenes::{
-    Units, alone, at, child, element, grow, grow_with_texts, leaves, lies, ranged, refers, release,
-    with_texts,
-};
-use super::slots::{come_and_go, make_in_slots, take_turns};
+//! Live ranges over a small tree, step by step: made, read, set anew, released over and over; and room that is refused.
+use super::placing::placed;
+use super::playing::expect;
+use super::trees::{Grown, Place, Units, at, grow};
+use dom_kinds::Kind;
 use dom_point::Point;
 use dom_ranges::{RangeId, Ranges};
 use dom_tree::{NodeId, Tree};
-use growth_marks::{begins, ends};
+use growth_marks::{Act, begins, ends};
 use std::alloc::{AllocError, Global};
-use std::process::Abort;
 use std::test::Fail;
 
-// Covers a thousand nodes, and then ten of them again.
-fn cover(ranges: &mut Ranges) -> Result<(), AllocError> {
-    ranges.cover(1000)?;
-    ranges.cover(10)
+// What is done at a turn, or what is due then, with the range or the node of that number.
+enum Step {
+    // The node comes into the tree.
+    Grow(Grown),
+    // There is room for ends in so many nodes.
+    Cover(u64),
+    // Whether there is room for ends in the node.
+    Covered(bool),
+    // Whether an end stands in the node.
+    StandsIn(bool),
+    // Whether one stands in it or in a node under it.
+    Refers(bool),
+    // The node leaves its parent.
+    Leave,
+    // The nodes of the tree are forgotten, in which no end stands.
+    Forget,
+    // The range is made from one place to the other.
+    Make(Place, Place),
+    // It has these ends.
+    Lies(Place, Place),
+    // It has those that its number tells.
+    LiesByNumber,
+    // Its start is set, or its end; whether that is done.
+    SetStart(Place, bool),
+    SetEnd(Place, bool),
+    // It is released.
+    Release,
+    // Whether it is there.
+    Held(bool),
+    // So many were made, and so many are there.
+    Made(u64, usize),
+    // One is made where its number tells, and released.
+    ComeAndGo,
+    // One is made where its number tells, and where ten more are there the first of them is released.
+    TakeTurn,
+    // What comes between these takes no memory.
+    Begins,
+    Ends,
 }
 
-// That there is room in a thousand nodes, and no end in any.
-fn has_room(rt: &impl Abort, ranges: &Ranges) {
-    assert!(rt; ranges.made() == 0);
-    assert!(rt; ranges.is_covered(NodeId::new(0)) && ranges.is_covered(NodeId::new(999)));
-    assert!(rt; !ranges.is_covered(NodeId::new(1000)));
-    assert!(rt; !ranges.stands_in(NodeId::new(5)) && !ranges.stands_in(NodeId::new(5000)));
-}
+// The first turn, the one that ends them, and what is done at each of them.
+type Row = (u32, u32, Step);
 
-#[test]
-fn room_for_nodes(rt: HostRuntime) -> Result<(), Fail> {
-    let mut ranges = Ranges::new(rt.alloc());
-    cover(&mut ranges)?;
-    has_room(&rt, &ranges);
-    Ok(())
-}
-
-// Room in more nodes than a document of the other tests has, at one call.
-#[test]
-fn room_for_five_million_nodes(rt: HostRuntime) -> Result<(), Fail> {
-    let mut ranges = Ranges::new(rt.alloc());
-    ranges.cover(5_000_001)?;
-    assert!(rt; ranges.is_covered(NodeId::new(5_000_000)));
-    assert!(rt; !ranges.is_covered(NodeId::new(5_000_001)));
-    Ok(())
-}
-
-// Covers a thousand nodes, and tries once more where the growth is refused.
-fn cover_at_last(ranges: &mut Ranges) -> Result<(), AllocError> {
-    match ranges.cover(1000) {
-        Ok(()) => Ok(()),
-        Err(AllocError) => ranges.cover(1000),
+// Makes room; where the growth is refused it tries once more.
+fn cover(ranges: &mut Ranges, count: u64) -> Result<bool, AllocError> {
+    if count > 4294967295 {
+        return Ok(false);
     }
-}
-
-// Where the first growth is refused there is no room, and the next try makes it.
-#[test]
-fn refused_room(rt: HostRuntime) -> Result<(), Fail> {
-    let mut ranges = Ranges::new(rt.alloc());
-    cover_at_last(&mut ranges)?;
-    has_room(&rt, &ranges);
-    Ok(())
-}
-
-// A range from inside 1 to behind it is made and released.
-fn make_and_release(
-    rt: &impl Abort,
-    ranges: &mut Ranges,
-    tree: &Tree<Units>,
-) -> Result<(), AllocError> {
-    let r = ranged(rt, ranges, tree, at(2, 0), at(0, 2))?;
-    lies(rt, ranges, r, at(2, 0), at(0, 2));
-    assert!(rt; ranges.stands_in(NodeId::new(2)) && !ranges.stands_in(NodeId::new(3)));
-    assert!(rt; refers(rt, ranges, tree, 1) && !refers(rt, ranges, tree, 3));
-    release(rt, ranges, r);
-    assert!(rt; !ranges.stands_in(NodeId::new(2)));
-    assert!(rt; ranges.made() == 1);
-    Ok(())
-}
-
-// 1 leaves, and what was inside it goes to where it stood.
-fn make_and_remove(
-    rt: &impl Abort,
-    ranges: &mut Ranges,
-    tree: &Tree<Units>,
-) -> Result<(), AllocError> {
-    let r = ranged(rt, ranges, tree, at(2, 0), at(0, 2))?;
-    leaves(rt, ranges, tree, 1);
-    lies(rt, ranges, r, at(0, 0), at(0, 1));
-    Ok(())
-}
-
-// 0 [ 1 [ 99 children, from 2 on ] 101 ], where more nodes stand inside 1 than there are ends
-fn grow_many(rt: &impl Abort, alloc: Global, tree: &mut Tree<Units>) -> Result<(), AllocError> {
-    grow(rt, alloc, tree, &[0])?;
-    for _ in 0..99 {
-        let _ = child(rt, alloc, tree, NodeId::new(1))?;
-    }
-    let _ = child(rt, alloc, tree, NodeId::new(0))?;
-    Ok(())
-}
-
-// Of three ranges one stands in the last children of 1, one from the first child to behind 1, and one in 101.
-fn make_three(rt: &impl Abort, ranges: &mut Ranges, tree: &Tree<Units>) -> Result<(), AllocError> {
-    ranges.cover(1000)?;
-    let _ = ranged(rt, ranges, tree, at(99, 0), at(100, 0))?;
-    assert!(rt; refers(rt, ranges, tree, 1));
-    for (start, end) in [(at(2, 0), at(0, 2)), (at(101, 0), at(101, 0))] {
-        let _ = ranged(rt, ranges, tree, start, end)?;
-    }
-    Ok(())
-}
-
-// Three ranges, and 1 leaves.
-fn make_three_and_remove(
-    rt: &impl Abort,
-    ranges: &mut Ranges,
-    tree: &Tree<Units>,
-) -> Result<(), AllocError> {
-    make_three(rt, ranges, tree)?;
-    leaves(rt, ranges, tree, 1);
-    lies(rt, ranges, RangeId::new(0), at(0, 0), at(0, 0));
-    lies(rt, ranges, RangeId::new(1), at(0, 0), at(0, 1));
-    lies(rt, ranges, RangeId::new(2), at(101, 0), at(101, 0));
-    assert!(rt; !refers(rt, ranges, tree, 1));
-    Ok(())
-}
-
-// What is done with ranges over a tree.
-#[derive(Clone, Copy)]
-enum Scene {
-    MadeAndReleased,
-    Removed,
-    RemovedWithManyInside,
-    MadeAgainAndAgain,
-    MadeByTurns,
-    MadeInReleasedSlots,
-}
-
-// The tree of a scene; the first two have 0 [ 1 [ 2 ] 3 ].
-fn grow_for(
-    rt: &impl Abort,
-    alloc: Global,
-    tree: &mut Tree<Units>,
-    scene: Scene,
-) -> Result<(), AllocError> {
-    match scene {
-        Scene::MadeAndReleased | Scene::Removed => grow(rt, alloc, tree, &[0, 1, 0]),
-        Scene::RemovedWithManyInside => grow_many(rt, alloc, tree),
-        Scene::MadeAgainAndAgain | Scene::MadeByTurns | Scene::MadeInReleasedSlots => {
-            grow_with_texts(rt, alloc, tree)
+    match ranges.cover(count) {
+        Ok(()) => Ok(true),
+        Err(AllocError) => {
+            ranges.cover(count)?;
+            Ok(true)
         }
     }
 }
 
-fn act(
-    rt: &impl Abort,
+fn lies(ranges: &Ranges, r: RangeId, start: Point, end: Point) -> bool {
+    ranges.holds(r) && ranges.ends(r) == (start, end)
+}
+
+// Where the range of a number starts and ends, where many are made: from a unit of the Text 3 to its last.
+fn by_number(number: u32) -> (Point, Point) {
+    (at((3, number as usize % 10)), at((3, 10)))
+}
+
+fn lies_by_number(ranges: &Ranges, number: u32) -> bool {
+    let (start, end) = by_number(number);
+    lies(ranges, RangeId::new(number), start, end)
+}
+
+fn release(ranges: &mut Ranges, r: RangeId) -> bool {
+    if !ranges.holds(r) {
+        return false;
+    }
+    ranges.release(r);
+    !ranges.holds(r)
+}
+
+// Sets one end of a range; none where the range or the place is not there.
+fn set(
     ranges: &mut Ranges,
-    tree: &Tree<Units>,
-    scene: Scene,
-) -> Result<(), AllocError> {
-    match scene {
-        Scene::MadeAndReleased => make_and_release(rt, ranges, tree),
-        Scene::Removed => make_and_remove(rt, ranges, tree),
-        Scene::RemovedWithManyInside => make_three_and_remove(rt, ranges, tree),
-        Scene::MadeAgainAndAgain => come_and_go(rt, ranges, tree),
-        Scene::MadeByTurns => take_turns(rt, ranges, tree),
-        Scene::MadeInReleasedSlots => make_in_slots(rt, ranges, tree),
+    tree: &mut Tree<Units>,
+    r: RangeId,
+    is_start: bool,
+    p: Point,
+) -> Option<bool> {
+    if !ranges.holds(r) || !tree.holds(p.node) || !ranges.is_covered(p.node) {
+        return None;
+    }
+    let (start, end) = ranges.ends(r);
+    if !tree.holds(start.node) || !tree.holds(end.node) {
+        return None;
+    }
+    if tree.root(start.node) != tree.root(end.node) {
+        return None;
+    }
+    if is_start {
+        Some(ranges.set_start(tree, r, p).is_ok())
+    } else {
+        Some(ranges.set_end(tree, r, p).is_ok())
     }
 }
 
-fn play(rt: &impl Abort, alloc: Global, scene: Scene) -> Result<(), AllocError> {
-    let mut tree = Tree::new(alloc);
-    grow_for(rt, alloc, &mut tree, scene)?;
-    let mut ranges = Ranges::new(alloc);
-    act(rt, &mut ranges, &tree, scene)
+// A node leaves its parent, which is covered.
+fn leave(ranges: &mut Ranges, tree: &Tree<Units>, node: NodeId) -> bool {
+    if !tree.holds(node) {
+        return false;
+    }
+    match tree.parent(node) {
+        Some(parent) => {
+            if !ranges.is_covered(parent) {
+                return false;
+            }
+            ranges.removing(tree, node);
+            true
+        }
+        None => false,
+    }
 }
 
-// Each scene has functions of its own, which a failed assertion names by its line.
+fn forget(ranges: &mut Ranges, tree: &Tree<Units>, top: NodeId) -> bool {
+    if !tree.holds(top) || ranges.refers(tree, top) {
+        return false;
+    }
+    ranges.forget(tree, top);
+    true
+}
+
+fn refers(ranges: &Ranges, tree: &Tree<Units>, node: NodeId, due: bool) -> bool {
+    tree.holds(node) && ranges.refers(tree, node) == due
+}
+
+fn come_and_go(ranges: &mut Ranges, tree: &Tree<Units>, number: u32) -> Result<bool, AllocError> {
+    let (start, end) = by_number(number);
+    let is_made = placed(ranges, tree, number, start, end)?;
+    Ok(
+        is_made
+            && lies_by_number(ranges, number)
+            && lies(ranges, RangeId::new(0), at((0, 1)), at((0, 2)))
+            && release(ranges, RangeId::new(number))
+            && !ranges.stands_in(NodeId::new(3)),
+    )
+}
+
+fn take_turn(ranges: &mut Ranges, tree: &Tree<Units>, number: u32) -> Result<bool, AllocError> {
+    let (start, end) = by_number(number);
+    let is_made = placed(ranges, tree, number, start, end)?;
+    match number.checked_sub(10) {
+        Some(first) => {
+            Ok(is_made && lies_by_number(ranges, first) && release(ranges, RangeId::new(first)))
+        }
+        None => Ok(is_made),
+    }
+}
+
+// Whether what is asked is as it is due.
+fn is_due(ranges: &Ranges, tree: &Tree<Units>, turn: u32, step: &Step) -> bool {
+    let node = NodeId::new(turn);
+    let r = RangeId::new(turn);
+    match step {
+        Step::Covered(is_covered) => ranges.is_covered(node) == *is_covered,
+        Step::StandsIn(stands) => ranges.stands_in(node) == *stands,
+        Step::Refers(due) => refers(ranges, tree, node, *due),
+        Step::Lies(start, end) => lies(ranges, r, at(*start), at(*end)),
+        Step::LiesByNumber => lies_by_number(ranges, turn),
+        Step::Held(is_held) => ranges.holds(r) == *is_held,
+        Step::Made(made, count) => ranges.made() == *made && ranges.count() == *count,
+        _ => false,
+    }
+}
+
+// What changes ranges; whether all is as it is due.
+fn change(ranges: &mut Ranges, tree: &mut Tree<Units>, turn: u32, step: &Step) -> bool {
+    let node = NodeId::new(turn);
+    let r = RangeId::new(turn);
+    match step {
+        Step::Leave => leave(ranges, tree, node),
+        Step::Forget => forget(ranges, tree, node),
+        Step::SetStart(place, due) => set(ranges, tree, r, true, at(*place)) == Some(*due),
+        Step::SetEnd(place, due) => set(ranges, tree, r, false, at(*place)) == Some(*due),
+        Step::Release => release(ranges, r),
+        _ => is_due(ranges, tree, turn, step),
+    }
+}
+
+// A tree, and live ranges over it.
+#[derive(Drop)]
+struct Ranged {
+    tree: Tree<Units>,
+    ranges: Ranges,
+}
+
+impl Act for Step {
+    type Scene = Ranged;
+
+    fn scene(alloc: Global) -> Ranged {
+        Ranged {
+            tree: Tree::new(alloc),
+            ranges: Ranges::new(alloc),
+        }
+    }
+
+    fn act(&self, alloc: Global, ranged: &mut Ranged, turn: u32) -> Result<bool, AllocError> {
+        let tree = &mut ranged.tree;
+        let ranges = &mut ranged.ranges;
+        match self {
+            Step::Grow(grown) => grow(tree, turn, grown),
+            Step::Cover(count) => cover(ranges, *count),
+            Step::Make(start, end) => placed(ranges, tree, turn, at(*start), at(*end)),
+            Step::ComeAndGo => come_and_go(ranges, tree, turn),
+            Step::TakeTurn => take_turn(ranges, tree, turn),
+            Step::Begins => begins(alloc),
+            Step::Ends => Ok(ends(alloc)),
+            _ => Ok(change(ranges, tree, turn, self)),
+        }
+    }
+}
+
+// A thousand nodes are covered, and then ten of them again.
+const ROOM: &[Row] = &[
+    (0, 1, Step::Cover(1000)),
+    (0, 1, Step::Cover(10)),
+    (0, 1, Step::Made(0, 0)),
+    (0, 1, Step::Covered(true)),
+    (999, 1000, Step::Covered(true)),
+    (1000, 1001, Step::Covered(false)),
+    (5, 6, Step::StandsIn(false)),
+    (5000, 5001, Step::StandsIn(false)),
+];
+
+#[test]
+fn room_for_nodes(rt: HostRuntime) -> Result<(), Fail> {
+    expect(&rt, rt.alloc(), ROOM)
+}
+
+// Room in more nodes than a document of the other tests has, at one call.
+const FIVE_MILLION: &[Row] = &[
+    (0, 1, Step::Cover(5_000_001)),
+    (5_000_000, 5_000_001, Step::Covered(true)),
+    (5_000_001, 5_000_002, Step::Covered(false)),
+];
+
+#[test]
+fn room_for_five_million_nodes(rt: HostRuntime) -> Result<(), Fail> {
+    expect(&rt, rt.alloc(), FIVE_MILLION)
+}
+
+// Where the first growth is refused there is no room, and the next try makes it.
+const REFUSED: &[Row] = &[
+    (0, 1, Step::Cover(1000)),
+    (0, 1, Step::Made(0, 0)),
+    (0, 1, Step::Covered(true)),
+    (999, 1000, Step::Covered(true)),
+    (1000, 1001, Step::Covered(false)),
+    (5, 6, Step::StandsIn(false)),
+    (5000, 5001, Step::StandsIn(false)),
+];
+
+#[test]
+fn refused_room(rt: HostRuntime) -> Result<(), Fail> {
+    expect(&rt, rt.alloc(), REFUSED)
+}
+
+// 0 [ 1 [ 2 ] 3 ], where a range from inside 1 to behind it is made and released.
+const MADE_AND_RELEASED: &[Row] = &[
+    (0, 1, Step::Grow((Kind::Element, None, 0))),
+    (1, 2, Step::Grow((Kind::Element, Some(0), 0))),
+    (2, 3, Step::Grow((Kind::Element, Some(1), 0))),
+    (3, 4, Step::Grow((Kind::Element, Some(0), 0))),
+    (0, 1, Step::Make((2, 0), (0, 2))),
+    (0, 1, Step::Lies((2, 0), (0, 2))),
+    (2, 3, Step::StandsIn(true)),
+    (3, 4, Step::StandsIn(false)),
+    (1, 2, Step::Refers(true)),
+    (3, 4, Step::Refers(false)),
+    (0, 1, Step::Release),
+    (2, 3, Step::StandsIn(false)),
+    (0, 1, Step::Made(1, 0)),
+];
+
+// 1 leaves, and what was inside it goes to where it stood.
+const REMOVED: &[Row] = &[
+    (0, 1, Step::Grow((Kind::Element, None, 0))),
+    (1, 2, Step::Grow((Kind::Element, Some(0), 0))),
+    (2, 3, Step::Grow((Kind::Element, Some(1), 0))),
+    (3, 4, Step::Grow((Kind::Element, Some(0), 0))),
+    (0, 1, Step::Make((2, 0), (0, 2))),
+    (1, 2, Step::Leave),
+    (0, 1, Step::Lies((0, 0), (0, 1))),
+];
+
+// 0 [ 1 [ 99 children, from 2 on ] 101 ], where more nodes stand inside 1 than there are ends. Of three ranges one stands in the last children
+// of 1, one from the first child to behind 1, and one in 101; and 1 leaves.
+const REMOVED_WITH_MANY_INSIDE: &[Row] = &[
+    (0, 1, Step::Grow((Kind::Element, None, 0))),
+    (1, 2, Step::Grow((Kind::Element, Some(0), 0))),
+    (2, 101, Step::Grow((Kind::Element, Some(1), 0))),
+    (101, 102, Step::Grow((Kind::Element, Some(0), 0))),
+    (0, 1, Step::Cover(1000)),
+    (0, 1, Step::Make((99, 0), (100, 0))),
+    (1, 2, Step::Refers(true)),
+    (1, 2, Step::Make((2, 0), (0, 2))),
+    (2, 3, Step::Make((101, 0), (101, 0))),
+    (1, 2, Step::Leave),
+    (0, 1, Step::Lies((0, 0), (0, 0))),
+    (1, 2, Step::Lies((0, 0), (0, 1))),
+    (2, 3, Step::Lies((101, 0), (101, 0))),
+    (1, 2, Step::Refers(false)),
+];
+
+// root [ a [ b ] t u ], numbered in this order, with ten units in t and six in u. A range is made and released over and over, beside one that
+// stays: two hundred come and go. Each has the next number and ends of its own, and the table of ends does not grow.
+const MADE_AGAIN_AND_AGAIN: &[Row] = &[
+    (0, 1, Step::Grow((Kind::Element, None, 0))),
+    (1, 2, Step::Grow((Kind::Element, Some(0), 0))),
+    (2, 3, Step::Grow((Kind::Element, Some(1), 0))),
+    (3, 4, Step::Grow((Kind::Text, Some(0), 10))),
+    (4, 5, Step::Grow((Kind::Text, Some(0), 6))),
+    (0, 1, Step::Make((0, 1), (0, 2))),
+    (1, 201, Step::ComeAndGo),
+    (0, 1, Step::Made(201, 1)),
+];
+
+// Over the same tree ranges are made and released by turns, ten of them live at a time, over more numbers than a page has. Each starts where
+// its number says.
+const MADE_BY_TURNS: &[Row] = &[
+    (0, 1, Step::Grow((Kind::Element, None, 0))),
+    (1, 2, Step::Grow((Kind::Element, Some(0), 0))),
+    (2, 3, Step::Grow((Kind::Element, Some(1), 0))),
+    (3, 4, Step::Grow((Kind::Text, Some(0), 10))),
+    (4, 5, Step::Grow((Kind::Text, Some(0), 6))),
+    (0, 3_000, Step::TakeTurn),
+    (0, 1, Step::Made(3_000, 10)),
+    (0, 1, Step::Held(false)),
+    (2_989, 2_990, Step::Held(false)),
+    (2_990, 3_000, Step::LiesByNumber),
+];
+
+// Over the same tree two ranges are released, the first before the second, so that each was in the last slot or had the last one come into its
+// slot. Three that are made later have slots of their own.
+const MADE_IN_RELEASED_SLOTS: &[Row] = &[
+    (0, 1, Step::Grow((Kind::Element, None, 0))),
+    (1, 2, Step::Grow((Kind::Element, Some(0), 0))),
+    (2, 3, Step::Grow((Kind::Element, Some(1), 0))),
+    (3, 4, Step::Grow((Kind::Text, Some(0), 10))),
+    (4, 5, Step::Grow((Kind::Text, Some(0), 6))),
+    (0, 1, Step::Make((0, 1), (0, 2))),
+    (1, 2, Step::Make((3, 1), (3, 2))),
+    (0, 2, Step::Release),
+    (2, 3, Step::Make((3, 3), (3, 4))),
+    (3, 4, Step::Make((4, 5), (4, 6))),
+    (4, 5, Step::Make((3, 7), (4, 0))),
+    (0, 2, Step::Held(false)),
+    (2, 3, Step::Lies((3, 3), (3, 4))),
+    (3, 4, Step::Lies((4, 5), (4, 6))),
+    (4, 5, Step::Lies((3, 7), (4, 0))),
+    (0, 1, Step::Made(5, 3)),
+];
+
 #[test]
 fn scenes(rt: HostRuntime) -> Result<(), Fail> {
-    for scene in [
-        Scene::MadeAndReleased,
-        Scene::Removed,
-        Scene::RemovedWithManyInside,
-        Scene::MadeAgainAndAgain,
-        Scene::MadeByTurns,
-        Scene::MadeInReleasedSlots,
+    for rows in [
+        MADE_AND_RELEASED,
+        REMOVED,
+        REMOVED_WITH_MANY_INSIDE,
+        MADE_AGAIN_AND_AGAIN,
+        MADE_BY_TURNS,
+        MADE_IN_RELEASED_SLOTS,
     ] {
-        play(&rt, rt.alloc(), scene)?;
+        expect(&rt, rt.alloc(), rows)?;
     }
     Ok(())
 }
 
-// Sets one end of a range whose ends stand in one tree.
-fn set(
-    rt: &impl Abort,
-    ranges: &mut Ranges,
-    tree: &mut Tree<Units>,
-    is_start: bool,
-    p: Point,
-) -> bool {
-    let r = RangeId::new(0);
-    assert!(rt; ranges.holds(r));
-    let (start, end) = ranges.ends(r);
-    assert!(rt; tree.holds(start.node));
-    assert!(rt; tree.holds(end.node));
-    assert!(rt; tree.root(start.node) == tree.root(end.node));
-    assert!(rt; tree.holds(p.node));
-    assert!(rt; ranges.is_covered(p.node));
-    if is_start {
-        ranges.set_start(tree, r, p).is_ok()
-    } else {
-        ranges.set_end(tree, r, p).is_ok()
-    }
-}
-
-// A node and an offset.
-type Place = (u32, usize);
-
-// Whether the start is set or the end, where, whether that is done, and both ends then.
-type Setting = (bool, Place, bool, Place, Place);
-
 // An end that comes to stand on the other's wrong side takes it along, and one past the length is refused.
-const SETTINGS: &[Setting] = &[
-    (true, (0, 1), true, (0, 1), (0, 2)),
-    (false, (2, 0), true, (2, 0), (2, 0)),
-    (true, (3, 4), true, (3, 4), (3, 4)),
-    (false, (3, 11), false, (3, 4), (3, 4)),
-    (false, (3, 10), true, (3, 4), (3, 10)),
+const SET_ANEW: &[Row] = &[
+    (0, 1, Step::Grow((Kind::Element, None, 0))),
+    (1, 2, Step::Grow((Kind::Element, Some(0), 0))),
+    (2, 3, Step::Grow((Kind::Element, Some(1), 0))),
+    (3, 4, Step::Grow((Kind::Text, Some(0), 10))),
+    (4, 5, Step::Grow((Kind::Text, Some(0), 6))),
+    (0, 1, Step::Cover(1000)),
+    (0, 1, Step::Make((2, 0), (0, 2))),
+    (0, 1, Step::SetStart((0, 1), true)),
+    (0, 1, Step::Lies((0, 1), (0, 2))),
+    (0, 1, Step::SetEnd((2, 0), true)),
+    (0, 1, Step::Lies((2, 0), (2, 0))),
+    (0, 1, Step::SetStart((3, 4), true)),
+    (0, 1, Step::Lies((3, 4), (3, 4))),
+    (0, 1, Step::SetEnd((3, 11), false)),
+    (0, 1, Step::Lies((3, 4), (3, 4))),
+    (0, 1, Step::SetEnd((3, 10), true)),
+    (0, 1, Step::Lies((3, 4), (3, 10))),
 ];
-
-fn set_to(rt: &impl Abort, ranges: &mut Ranges, tree: &mut Tree<Units>, setting: &Setting) {
-    let (is_start, place, is_set, start, end) = *setting;
-    assert!(rt; set(rt, ranges, tree, is_start, at(place.0, place.1)) == is_set);
-    let (start, end) = (at(start.0, start.1), at(end.0, end.1));
-    lies(rt, ranges, RangeId::new(0), start, end);
-}
-
-fn set_each(rt: &impl Abort, ranges: &mut Ranges, tree: &mut Tree<Units>) {
-    for setting in SETTINGS {
-        set_to(rt, ranges, tree, setting);
-    }
-}
 
 #[test]
 fn set_anew(rt: HostRuntime) -> Result<(), Fail> {
-    let mut tree = with_texts(&rt, rt.alloc())?;
-    let mut ranges = alone(&rt, rt.alloc(), &tree, at(2, 0), at(0, 2))?;
-    set_each(&rt, &mut ranges, &mut tree);
-    Ok(())
+    expect(&rt, rt.alloc(), SET_ANEW)
 }
 
-// Forgets the nodes of a tree in which no end stands.
-fn forget(rt: &impl Abort, ranges: &mut Ranges, tree: &Tree<Units>, top: NodeId) {
-    assert!(rt; tree.holds(top));
-    assert!(rt; !ranges.refers(tree, top));
-    ranges.forget(tree, top);
-}
+// The nodes of a tree in which no end stands are forgotten, and stay so when nodes are covered again; twice the same. Those of another tree,
+// the node 5 alone, stay.
+const FORGOTTEN: &[Row] = &[
+    (0, 1, Step::Grow((Kind::Element, None, 0))),
+    (1, 2, Step::Grow((Kind::Element, Some(0), 0))),
+    (2, 3, Step::Grow((Kind::Element, Some(1), 0))),
+    (3, 4, Step::Grow((Kind::Text, Some(0), 10))),
+    (4, 5, Step::Grow((Kind::Text, Some(0), 6))),
+    (5, 6, Step::Grow((Kind::Element, None, 0))),
+    (0, 1, Step::Cover(1000)),
+    (0, 1, Step::Make((5, 0), (5, 0))),
+    (0, 1, Step::Forget),
+    (0, 1, Step::Cover(1000)),
+    (0, 5, Step::Covered(false)),
+    (5, 10, Step::Covered(true)),
+    (0, 1, Step::Forget),
+    (0, 1, Step::Cover(1000)),
+    (0, 5, Step::Covered(false)),
+    (5, 10, Step::Covered(true)),
+    (5, 6, Step::StandsIn(true)),
+    (0, 1, Step::StandsIn(false)),
+    (0, 1, Step::Lies((5, 0), (5, 0))),
+];
 
-// Forgets the nodes of a tree, and covers nodes again: those below 5 stay forgotten.
-fn forget_and_cover(
-    rt: &impl Abort,
-    ranges: &mut Ranges,
-    tree: &Tree<Units>,
-) -> Result<(), AllocError> {
-    forget(rt, ranges, tree, NodeId::new(0));
-    ranges.cover(1000)?;
-    for n in 0..10 {
-        assert!(rt; ranges.is_covered(NodeId::new(n)) == (n >= 5));
-    }
-    Ok(())
-}
-
-// Two trees, of which the second is node 5 alone.
-fn two_trees(rt: &impl Abort, alloc: Global) -> Result<Tree<Units>, AllocError> {
-    let mut tree = with_texts(rt, alloc)?;
-    assert!(rt; element(rt, alloc, &mut tree)? == NodeId::new(5));
-    Ok(tree)
-}
-
-// Twice the same.
-fn forget_twice(
-    rt: &impl Abort,
-    ranges: &mut Ranges,
-    tree: &Tree<Units>,
-) -> Result<(), AllocError> {
-    forget_and_cover(rt, ranges, tree)?;
-    forget_and_cover(rt, ranges, tree)
-}
-
-// The nodes of a tree in which no end stands are forgotten, and stay so when nodes are covered again. Those of another tree stay.
 #[test]
 fn forgotten(rt: HostRuntime) -> Result<(), Fail> {
-    let tree = two_trees(&rt, rt.alloc())?;
-    let mut ranges = alone(&rt, rt.alloc(), &tree, at(5, 0), at(5, 0))?;
-    forget_twice(&rt, &mut ranges, &tree)?;
-    assert!(rt; ranges.stands_in(NodeId::new(5)) && !ranges.stands_in(NodeId::new(0)));
-    lies(&rt, &ranges, RangeId::new(0), at(5, 0), at(5, 0));
-    Ok(())
+    expect(&rt, rt.alloc(), FORGOTTEN)
 }
 
-// A live range alone that stands there, and the mark.
-fn ready(
-    rt: &impl Abort,
-    alloc: Global,
-    tree: &Tree<Units>,
-    start: Point,
-    end: Point,
-) -> Result<Ranges, AllocError>
-    ensures { IfOk result (λ ranges. ranges.ranges ≡ Some (record { start = start; end = end }) ∷ []) }
-{
-    let ranges = alone(rt, alloc, tree, start, end)?;
-    begins(alloc)?;
-    Ok(ranges)
-}
-
-// That the range has come to these ends, and the second mark.
-fn has_come(rt: &impl Abort, alloc: Global, ranges: &Ranges, start: Point, end: Point) {
-    lies(rt, ranges, RangeId::new(0), start, end);
-    ends(alloc);
-}
-
-#[test]
-fn a_gap_without_a_growth(rt: HostRuntime) -> Result<(), Fail> {
-    let tree = with_texts(&rt, rt.alloc())?;
-    let mut ranges = ready(&rt, rt.alloc(), &tree, at(0, 1), at(0, 3))?;
-    ranges.gap(NodeId::new(0), 1, 2);
-    has_come(&rt, rt.alloc(), &ranges, at(0, 1), at(0, 5));
-    Ok(())
-}
-
-#[test]
-fn data_spliced_without_a_growth(rt: HostRuntime) -> Result<(), Fail> {
-    let tree = with_texts(&rt, rt.alloc())?;
-    let mut ranges = ready(&rt, rt.alloc(), &tree, at(3, 2), at(3, 8))?;
-    ranges.spliced(NodeId::new(3), 1, 3, 5);
-    has_come(&rt, rt.alloc(), &ranges, at(3, 1), at(3, 10));
-    Ok(())
-}
-
-#[test]
-fn a_text_split_without_a_growth(rt: HostRuntime) -> Result<(), Fail> {
-    let tree = with_texts(&rt, rt.alloc())?;
-    let (root, t, new) = (NodeId::new(0), NodeId::new(3), NodeId::new(9));
-    let mut ranges = ready(&rt, rt.alloc(), &tree, at(3, 7), at(0, 2))?;
-    assert!(rt; ranges.is_covered(new));
-    assert!(rt; ranges.is_covered(root));
-    ranges.was_split(t, 4, new, root, 1);
-    has_come(&rt, rt.alloc(), &ranges, at(9, 3), at(0, 3));
-    Ok(())
-}
-
-#[test]
-fn texts_merged_without_a_growth(rt: HostRuntime) -> Result<(), Fail> {
-    let tree = with_texts(&rt, rt.alloc())?;
-    let (root, t, u) = (NodeId::new(0), NodeId::new(3), NodeId::new(4));
-    let mut ranges = ready(&rt, rt.alloc(), &tree, at(0, 2), at(4, 5))?;
-    assert!(rt; ranges.is_covered(t));
-    ranges.merged(u, t, 10, root, 2);
-    has_come(&rt, rt.alloc(), &ranges, at(3, 10), at(3, 15));
-    Ok(())
-}
+const WITHOUT_A_GROWTH: &[Row] = &[
+    (0, 1, Step::Grow((Kind::Element, None, 0))),
+    (1, 2, Step::Grow((Kind::Element, Some(0), 0))),
+    (2, 3, Step::Grow((Kind::Element, Some(1), 0))),
+    (3, 4, Step::Grow((Kind::Text, Some(0), 10))),
+    (4, 5, Step::Grow((Kind::Text, Some(0), 6))),
+    (0, 1, Step::Cover(1000)),
+    (0, 1, Step::Make((2, 0), (0, 2))),
+    (0, 1, Step::Begins),
+    (1, 2, Step::Leave),
+    (0, 1, Step::Lies((0, 0), (0, 1))),
+    (0, 1, Step::Ends),
+];
 
 #[test]
 fn a_node_removed_without_a_growth(rt: HostRuntime) -> Result<(), Fail> {
-    let tree = with_texts(&rt, rt.alloc())?;
-    let mut ranges = ready(&rt, rt.alloc(), &tree, at(2, 0), at(0, 2))?;
-    leaves(&rt, &mut ranges, &tree, 1);
-    has_come(&rt, rt.alloc(), &ranges, at(0, 0), at(0, 1));
-    Ok(())
+    expect(&rt, rt.alloc(), WITHOUT_A_GROWTH)
 }

@@ -1,216 +1,215 @@
-//! Static ranges over a small tree: made, read, asked for by node, and released; and many that come and go.
-
-use super::range_scenes::{Units, at, grow};
-use dom_point::Point;
+//! Static ranges over a small tree, step by step: made, read, asked for by node, and released; and many that come and go.
+use super::playing::expect;
+use super::trees::{Grown, Place, Units, at, grow};
+use dom_kinds::Kind;
 use dom_ranges::{StaticId, Statics};
 use dom_tree::{NodeId, Tree};
-use growth_marks::{begins, ends};
+use growth_marks::{Act, begins, ends};
 use std::alloc::{AllocError, Global};
-use std::process::Abort;
 use std::test::Fail;
 
-// A static range between two points.
-fn kept(
-    rt: &impl Abort,
-    statics: &mut Statics,
-    start: Point,
-    end: Point,
-) -> Result<StaticId, AllocError> {
-    assert!(rt; statics.made() < 2_000_000);
-    statics.make(start, end)
+// What is done at a turn, or what is due then, with the static range or the node of that number.
+enum Step {
+    // The node comes into the tree.
+    Grow(Grown),
+    // The static range is made from one place to the other.
+    Make(Place, Place),
+    // It is made in the node of the next number, at one point.
+    MakeCaret,
+    // It has these ends.
+    Lies(Place, Place),
+    // That of so many times the number of the turn and so much more is released.
+    Release(u32, u32),
+    // One is made in the node of its number, and released.
+    ComeAndGo,
+    // Whether it is there.
+    Held(bool),
+    // So many were made, and so many are there.
+    Made(u64, usize),
+    // Whether an end stands in the node or in one under it.
+    Refers(bool),
+    // What comes between these takes no memory.
+    Begins,
+    Ends,
 }
 
-// That the static range has these ends.
-fn lies(rt: &impl Abort, statics: &Statics, number: u32, start: Point, end: Point) {
-    let u = StaticId::new(number);
-    assert!(rt; statics.holds(u), "no static range {number}");
-    assert!(rt; statics.ends(u) == (start, end), "elsewhere: {number}");
+// The first turn, the one that ends them, and what is done at each of them.
+type Row = (u32, u32, Step);
+
+fn make(statics: &mut Statics, start: Place, end: Place, due: u32) -> Result<bool, AllocError> {
+    if statics.made() >= 2_000_000 {
+        return Ok(false);
+    }
+    Ok(statics.make(at(start), at(end))?.number() == due)
 }
 
-fn release(rt: &impl Abort, statics: &mut Statics, number: u32) {
-    let u = StaticId::new(number);
-    assert!(rt; statics.holds(u), "no static range {number}");
+fn lies(statics: &Statics, u: StaticId, start: Place, end: Place) -> bool {
+    statics.holds(u) && statics.ends(u) == (at(start), at(end))
+}
+
+fn release(statics: &mut Statics, u: StaticId) -> bool {
+    if !statics.holds(u) {
+        return false;
+    }
     statics.release(u);
-    assert!(rt; !statics.holds(u), "still there: {number}");
+    !statics.holds(u)
 }
 
-fn refers(rt: &impl Abort, statics: &Statics, tree: &Tree<Units>, node: u32) -> bool {
-    let node = NodeId::new(node);
-    assert!(rt; tree.holds(node));
-    statics.refers(tree, node)
+fn refers(statics: &Statics, tree: &Tree<Units>, node: NodeId, due: bool) -> bool {
+    tree.holds(node) && statics.refers(tree, node) == due
 }
 
-// A static range is made, and stays where it was put.
-fn keep_static(rt: &impl Abort, statics: &mut Statics) -> Result<(), AllocError> {
-    assert!(rt; statics.made() == 0);
-    let u = kept(rt, statics, at(3, 4), at(5, 6))?;
-    assert!(rt; statics.made() == 1);
-    assert!(rt; statics.holds(u));
-    assert!(rt; !statics.holds(StaticId::new(1)));
-    lies(rt, statics, 0, at(3, 4), at(5, 6));
-    Ok(())
-}
-
-// Static ranges, each at one point: the first in node 1, the next in node 2, and so on.
-fn keep_carets(rt: &impl Abort, statics: &mut Statics, count: u32) -> Result<(), AllocError> {
-    for n in 1..count.saturating_add(1) {
-        let _ = kept(rt, statics, at(n, 0), at(n, 0))?;
+// Whether what is asked is as it is due.
+fn is_due(statics: &Statics, tree: &Tree<Units>, turn: u32, step: &Step) -> bool {
+    let u = StaticId::new(turn);
+    match step {
+        Step::Lies(start, end) => lies(statics, u, *start, *end),
+        Step::Held(is_held) => statics.holds(u) == *is_held,
+        Step::Made(made, count) => statics.made() == *made && statics.count() == *count,
+        Step::Refers(due) => refers(statics, tree, NodeId::new(turn), *due),
+        _ => false,
     }
-    Ok(())
 }
 
-// Of four the first, the last and one of the others are released, and one more is made: it has the next number.
-fn release_three(rt: &impl Abort, statics: &mut Statics) -> Result<(), AllocError> {
-    keep_carets(rt, statics, 4)?;
-    for number in [0, 3, 1] {
-        release(rt, statics, number);
-        lies(rt, statics, 2, at(3, 0), at(3, 0));
+// A static range in this node, from its front to this offset.
+fn make_in(statics: &mut Statics, node: u32, end: usize, due: u32) -> Result<bool, AllocError> {
+    make(statics, (node, 0), (node, end), due)
+}
+
+fn come_and_go(statics: &mut Statics, number: u32) -> Result<bool, AllocError> {
+    let is_made = make_in(statics, number, 1, number)?;
+    Ok(is_made && release(statics, StaticId::new(number)))
+}
+
+// A tree, and static ranges over it.
+#[derive(Drop)]
+struct Ranged {
+    tree: Tree<Units>,
+    statics: Statics,
+}
+
+impl Act for Step {
+    type Scene = Ranged;
+
+    fn scene(alloc: Global) -> Ranged {
+        Ranged {
+            tree: Tree::new(alloc),
+            statics: Statics::new(alloc),
+        }
     }
-    let u = kept(rt, statics, at(9, 1), at(9, 2))?;
-    assert!(rt; u == StaticId::new(4) && statics.made() == 5);
-    for number in [0, 1, 3, 5] {
-        assert!(rt; !statics.holds(StaticId::new(number)), "there is {number}");
-    }
-    lies(rt, statics, 2, at(3, 0), at(3, 0));
-    lies(rt, statics, 4, at(9, 1), at(9, 2));
-    Ok(())
-}
 
-// A node is named until the last end in it goes: 0 [ 1 [ 2 ] 3 ], where two static ranges have ends in 2, one of them both, and the other one in 3
-fn release_in_one_node(
-    rt: &impl Abort,
-    statics: &mut Statics,
-    tree: &Tree<Units>,
-) -> Result<(), AllocError> {
-    let _ = kept(rt, statics, at(2, 0), at(2, 0))?;
-    let _ = kept(rt, statics, at(2, 0), at(3, 0))?;
-    for node in 0..4 {
-        assert!(rt; refers(rt, statics, tree, node), "not in {node}");
-    }
-    release(rt, statics, 0);
-    assert!(rt; refers(rt, statics, tree, 2) && refers(rt, statics, tree, 3));
-    release(rt, statics, 1);
-    for node in 0..4 {
-        assert!(rt; !refers(rt, statics, tree, node), "in {node}");
-    }
-    Ok(())
-}
-
-// Of a tree with more nodes than there are ends, one end after another goes.
-fn release_inside_many(
-    rt: &impl Abort,
-    statics: &mut Statics,
-    tree: &Tree<Units>,
-) -> Result<(), AllocError> {
-    let _ = kept(rt, statics, at(1, 0), at(99, 0))?;
-    let _ = kept(rt, statics, at(98, 0), at(100, 0))?;
-    assert!(rt; refers(rt, statics, tree, 1));
-    release(rt, statics, 0);
-    assert!(rt; refers(rt, statics, tree, 1));
-    release(rt, statics, 1);
-    assert!(rt; !refers(rt, statics, tree, 1));
-    Ok(())
-}
-
-// What is done with static ranges.
-#[derive(Clone, Copy)]
-enum Scene {
-    OneIsKept,
-    OneStays,
-    EndsInOneNode,
-    MoreNodesThanEnds,
-}
-
-// The tree of a scene; two need none.
-fn grow_for(
-    rt: &impl Abort,
-    alloc: Global,
-    tree: &mut Tree<Units>,
-    scene: Scene,
-) -> Result<(), AllocError> {
-    match scene {
-        Scene::OneIsKept | Scene::OneStays => Ok(()),
-        Scene::EndsInOneNode => grow(rt, alloc, tree, &[0, 1, 0]),
-        Scene::MoreNodesThanEnds => {
-            let mut parents = [1; 100];
-            parents[0] = 0;
-            grow(rt, alloc, tree, &parents)
+    fn act(&self, alloc: Global, ranged: &mut Ranged, turn: u32) -> Result<bool, AllocError> {
+        let tree = &mut ranged.tree;
+        let statics = &mut ranged.statics;
+        match self {
+            Step::Grow(grown) => grow(tree, turn, grown),
+            Step::Make(start, end) => make(statics, *start, *end, turn),
+            Step::MakeCaret => make_in(statics, turn.saturating_add(1), 0, turn),
+            Step::Release(times, more) => {
+                let number = turn.saturating_mul(*times).saturating_add(*more);
+                Ok(release(statics, StaticId::new(number)))
+            }
+            Step::ComeAndGo => come_and_go(statics, turn),
+            Step::Begins => begins(alloc),
+            Step::Ends => Ok(ends(alloc)),
+            _ => Ok(is_due(statics, tree, turn, self)),
         }
     }
 }
 
-fn act(
-    rt: &impl Abort,
-    statics: &mut Statics,
-    tree: &Tree<Units>,
-    scene: Scene,
-) -> Result<(), AllocError> {
-    match scene {
-        Scene::OneIsKept => keep_static(rt, statics),
-        Scene::OneStays => release_three(rt, statics),
-        Scene::EndsInOneNode => release_in_one_node(rt, statics, tree),
-        Scene::MoreNodesThanEnds => release_inside_many(rt, statics, tree),
-    }
-}
+// A static range is made, and stays where it was put.
+const ONE_IS_KEPT: &[Row] = &[
+    (0, 1, Step::Made(0, 0)),
+    (0, 1, Step::Make((3, 4), (5, 6))),
+    (0, 1, Step::Made(1, 1)),
+    (0, 1, Step::Held(true)),
+    (1, 2, Step::Held(false)),
+    (0, 1, Step::Lies((3, 4), (5, 6))),
+];
 
-fn play(rt: &impl Abort, alloc: Global, scene: Scene) -> Result<(), AllocError> {
-    let mut tree = Tree::new(alloc);
-    grow_for(rt, alloc, &mut tree, scene)?;
-    let mut statics = Statics::new(alloc);
-    act(rt, &mut statics, &tree, scene)
-}
+// Of four the first, the last and one of the others are released, and one more is made: it has the next number.
+const ONE_STAYS: &[Row] = &[
+    (0, 4, Step::MakeCaret),
+    (0, 1, Step::Release(1, 0)),
+    (2, 3, Step::Lies((3, 0), (3, 0))),
+    (3, 4, Step::Release(1, 0)),
+    (2, 3, Step::Lies((3, 0), (3, 0))),
+    (1, 2, Step::Release(1, 0)),
+    (2, 3, Step::Lies((3, 0), (3, 0))),
+    (4, 5, Step::Make((9, 1), (9, 2))),
+    (0, 1, Step::Made(5, 2)),
+    (0, 2, Step::Held(false)),
+    (3, 4, Step::Held(false)),
+    (5, 6, Step::Held(false)),
+    (2, 3, Step::Lies((3, 0), (3, 0))),
+    (4, 5, Step::Lies((9, 1), (9, 2))),
+];
 
-// Each scene has functions of its own, which a failed assertion names by its line.
+// A node is named until the last end in it goes: 0 [ 1 [ 2 ] 3 ], where two static ranges have ends in 2, one of them both, and the other one in 3.
+const ENDS_IN_ONE_NODE: &[Row] = &[
+    (0, 1, Step::Grow((Kind::Element, None, 0))),
+    (1, 2, Step::Grow((Kind::Element, Some(0), 0))),
+    (2, 3, Step::Grow((Kind::Element, Some(1), 0))),
+    (3, 4, Step::Grow((Kind::Element, Some(0), 0))),
+    (0, 1, Step::Make((2, 0), (2, 0))),
+    (1, 2, Step::Make((2, 0), (3, 0))),
+    (0, 4, Step::Refers(true)),
+    (0, 1, Step::Release(1, 0)),
+    (2, 4, Step::Refers(true)),
+    (1, 2, Step::Release(1, 0)),
+    (0, 4, Step::Refers(false)),
+];
+
+// Of a tree with more nodes than there are ends, one end after another goes.
+const MORE_NODES_THAN_ENDS: &[Row] = &[
+    (0, 1, Step::Grow((Kind::Element, None, 0))),
+    (1, 2, Step::Grow((Kind::Element, Some(0), 0))),
+    (2, 101, Step::Grow((Kind::Element, Some(1), 0))),
+    (0, 1, Step::Make((1, 0), (99, 0))),
+    (1, 2, Step::Make((98, 0), (100, 0))),
+    (1, 2, Step::Refers(true)),
+    (0, 1, Step::Release(1, 0)),
+    (1, 2, Step::Refers(true)),
+    (1, 2, Step::Release(1, 0)),
+    (1, 2, Step::Refers(false)),
+];
+
 #[test]
 fn scenes(rt: HostRuntime) -> Result<(), Fail> {
-    for scene in [
-        Scene::OneIsKept,
-        Scene::OneStays,
-        Scene::EndsInOneNode,
-        Scene::MoreNodesThanEnds,
+    for rows in [
+        ONE_IS_KEPT,
+        ONE_STAYS,
+        ENDS_IN_ONE_NODE,
+        MORE_NODES_THAN_ENDS,
     ] {
-        play(&rt, rt.alloc(), scene)?;
+        expect(&rt, rt.alloc(), rows)?;
     }
     Ok(())
-}
-
-// A hundred static ranges, and then the first mark.
-fn keep_a_hundred(rt: &impl Abort, alloc: Global, statics: &mut Statics) -> Result<(), AllocError> {
-    keep_carets(rt, statics, 100)?;
-    begins(alloc)
 }
 
 // All of a hundred are released, every second one from the first on, and then the others.
-fn release_a_hundred(rt: &impl Abort, statics: &mut Statics) {
-    for n in 0..100u32 {
-        release(rt, statics, n % 50 * 2 + n / 50);
-    }
-}
+const WITHOUT_A_GROWTH: &[Row] = &[
+    (0, 100, Step::MakeCaret),
+    (0, 1, Step::Begins),
+    (0, 50, Step::Release(2, 0)),
+    (0, 50, Step::Release(2, 1)),
+    (0, 1, Step::Ends),
+];
 
 #[test]
 fn released_without_a_growth(rt: HostRuntime) -> Result<(), Fail> {
-    let mut statics = Statics::new(rt.alloc());
-    keep_a_hundred(&rt, rt.alloc(), &mut statics)?;
-    release_a_hundred(&rt, &mut statics);
-    ends(rt.alloc());
-    Ok(())
+    expect(&rt, rt.alloc(), WITHOUT_A_GROWTH)
 }
 
 // A static range is made and released a million times, in one node after another, beside one that stays.
-fn come_and_go(rt: &impl Abort, statics: &mut Statics) -> Result<(), AllocError> {
-    let _ = kept(rt, statics, at(0, 1), at(0, 2))?;
-    for n in 1..1_000_001u32 {
-        let _ = kept(rt, statics, at(n, 0), at(n, 1))?;
-        release(rt, statics, n);
-    }
-    lies(rt, statics, 0, at(0, 1), at(0, 2));
-    assert!(rt; statics.made() == 1_000_001 && statics.count() == 1);
-    Ok(())
-}
+const MILLION: &[Row] = &[
+    (0, 1, Step::Make((0, 1), (0, 2))),
+    (1, 1_000_001, Step::ComeAndGo),
+    (0, 1, Step::Lies((0, 1), (0, 2))),
+    (0, 1, Step::Made(1_000_001, 1)),
+];
 
 #[test]
 fn a_million_come_and_go(rt: HostRuntime) -> Result<(), Fail> {
-    let mut statics = Statics::new(rt.alloc());
-    come_and_go(&rt, &mut statics)?;
-    Ok(())
+    expect(&rt, rt.alloc(), MILLION)
 }

@@ -33,11 +33,11 @@ fn copy_front(from: &[u8], to: &mut [u8]) -> usize
 }
 
 impl Source for Feeder<'_> {
-    ghost left = { λ s. Some s.rest.now };
-
-    ghost gives = { λ s bytes t. Consumes (Some s.rest.now) (Some t.rest.now) bytes };
-
-    ghost fails = { λ s t. Keeps (Some s.rest.now) (Some t.rest.now) };
+    ghost reading = { record {
+      left = λ s. Some s.rest.now;
+      gives = λ s bytes t. Consumes (Some s.rest.now) (Some t.rest.now) bytes;
+      fails = λ s t. Keeps (Some s.rest.now) (Some t.rest.now);
+    } };
 
     fn read(&mut self, buf: &mut [u8]) -> Result<usize, Failed> {
         if self.failed {

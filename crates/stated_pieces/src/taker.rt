@@ -39,13 +39,12 @@ impl Taker {
 }
 
 impl Sink for Taker {
-    ghost taken = { λ s. Some s.taken.items };
-
-    ghost is_passed_on = { λ s. s.flushed };
-
-    ghost works = { λ s t. (bytes : List ℕ) × Appends (Some s.taken.items) (Some t.taken.items) bytes };
-
-    ghost fails = { λ s t. Keeps (Some s.taken.items) (Some t.taken.items) };
+    ghost writing = { record {
+      taken = λ s. Some s.taken.items;
+      is_passed_on = λ s. s.flushed;
+      works = λ s t. (bytes : List ℕ) × Appends (Some s.taken.items) (Some t.taken.items) bytes;
+      fails = λ s t. Keeps (Some s.taken.items) (Some t.taken.items);
+    } };
 
     fn write(&mut self, buf: &[u8]) -> Result<usize, Failed> {
         self.flushed = false;

@@ -1,299 +1,339 @@
-//! Examples of attributes: set in place or last, taken out, compared as sets, copied, and twenty thousand of them.
+//! Examples of attributes: set in place or last, taken out, compared as sets, copied, and twenty thousand of them. Each is a list of rows.
+use super::playing::expect;
 use dom_attrs::Attrs;
 use dom_units::Units;
+use growth_marks::Act;
 use std::alloc::{AllocError, Global};
-use std::process::Abort;
+use std::mem::swap;
 use std::test::Fail;
 
-// Sets an attribute of that name and text.
+// What is done at a turn, or what is due then. A value is told by its units; none stands for no attribute.
+enum Step {
+    // There are no attributes any more.
+    New,
+    // The attributes are copied to others, over what was there.
+    Copy,
+    // The others take their place, and they that of the others.
+    Swap,
+    // An attribute of this name is set, where that one was.
+    Set(&'static str, &'static [u16], Option<&'static [u16]>),
+    // One is taken out.
+    Remove(&'static str, Option<&'static [u16]>),
+    // One is there, or is not.
+    Get(&'static str, Option<&'static [u16]>),
+    // At the number of the turn there is this one.
+    At(&'static str, &'static [u16]),
+    // There are so many.
+    Len(usize),
+    // Whether they are the same as the others, both ways.
+    Same(bool),
+    // One whose name and value tell the number of the turn is set. There was none.
+    SetNumbered,
+    // It is there.
+    GetNumbered,
+}
+
+// The first turn, the one that ends them, and what is done at each of them.
+type Row = (u32, u32, Step);
+
+// Whether a value is the one that is due.
+fn is_value(found: Option<&Units>, due: Option<&[u16]>) -> bool {
+    match found {
+        Some(units) => match due {
+            Some(due) => units.units() == due,
+            None => false,
+        },
+        None => due.is_none(),
+    }
+}
+
 fn set(
     alloc: Global,
     attrs: &mut Attrs,
     name: &str,
-    value: &str,
+    value: &[u16],
 ) -> Result<Option<Units>, AllocError> {
     let name = String::from_str(alloc, name)?;
-    let value = Units::from_str(alloc, value)?;
+    let value = Units::from_units(alloc, value)?;
     attrs.set(name, value)
 }
 
-// Takes the attribute of that name out, whose value is one unit.
-fn take_out(rt: &impl Abort, attrs: &mut Attrs, name: &str, unit: u16) {
-    match attrs.remove(name) {
-        None => assert!(rt; false, "no attribute {name}"),
-        Some(gone) => assert!(rt; gone.units() == [unit].as_slice(), "{name}"),
-    }
-}
-
-// Sets attributes of these names and texts, in this order.
-fn set_pairs(alloc: Global, attrs: &mut Attrs, pairs: &[(&str, &str)]) -> Result<(), AllocError> {
-    for (name, value) in pairs {
-        let _ = set(alloc, attrs, name, value)?;
-    }
-    Ok(())
-}
-
-// Attributes of these names and texts alone.
-fn made(alloc: Global, pairs: &[(&str, &str)]) -> Result<Attrs, AllocError> {
-    let mut attrs = Attrs::new(alloc);
-    set_pairs(alloc, &mut attrs, pairs)?;
-    Ok(attrs)
-}
-
-// That these are the attributes, in order; the values are ASCII.
-fn expect(rt: &impl Abort, attrs: &Attrs, pairs: &[(&str, &str)]) {
-    assert!(rt; attrs.len() == pairs.len());
-    let mut index = 0;
-    for (name, value) in pairs {
-        match attrs.at(index) {
-            None => assert!(rt; false, "no attribute at {index}"),
-            Some((found, units)) => {
-                assert!(rt; found == *name, "at {index}");
-                assert!(rt;
-                    units
-                        .units()
-                        .iter()
-                        .copied()
-                        .eq(value.bytes().map(u16::from)),
-                    "at {index}"
-                );
-            }
-        }
-        index = index.saturating_add(1);
-    }
-    assert!(rt; attrs.at(index).is_none());
-}
-
-// A name and a text that are set, whether the name is there, and all attributes then.
-type Setting = (
-    &'static str,
-    &'static str,
-    bool,
-    &'static [(&'static str, &'static str)],
-);
-
-// Only the third finds its name, with the empty text.
-const SETTINGS: &[Setting] = &[
-    ("k", "", false, &[("k", "")]),
-    ("a", "1", false, &[("k", ""), ("a", "1")]),
-    ("k", "2", true, &[("k", "2"), ("a", "1")]),
-    ("", "3", false, &[("k", "2"), ("a", "1"), ("", "3")]),
-];
-
-// An attribute is set, over an empty text where there is one of its name.
-fn set_over(
-    rt: &impl Abort,
-    alloc: Global,
-    attrs: &mut Attrs,
-    setting: &Setting,
-) -> Result<(), AllocError> {
-    let (name, value, is_there, pairs) = *setting;
-    match set(alloc, attrs, name, value)? {
-        None => assert!(rt; !is_there, "{name}"),
-        Some(old) => assert!(rt; is_there && old.is_empty(), "{name}"),
-    }
-    assert!(rt; !attrs.is_empty());
-    expect(rt, attrs, pairs);
-    Ok(())
-}
-
-// Each is set over those before it.
-fn set_each(rt: &impl Abort, alloc: Global, attrs: &mut Attrs) -> Result<(), AllocError> {
-    for setting in SETTINGS {
-        set_over(rt, alloc, attrs, setting)?;
-    }
-    Ok(())
-}
-
-// What is left of them without the first.
-const SECOND_AND_THIRD: &[(&str, &str)] = &[("a", "1"), ("", "3")];
-
-// There are none, some are set, and the first of these is taken out.
-fn set_and_take_out(rt: &impl Abort, alloc: Global, attrs: &mut Attrs) -> Result<(), AllocError> {
-    assert!(rt; attrs.is_empty() && attrs.get("k").is_none());
-    assert!(rt; attrs.remove("k").is_none());
-    set_each(rt, alloc, attrs)?;
-    take_out(rt, attrs, "k", 50);
-    expect(rt, attrs, SECOND_AND_THIRD);
-    assert!(rt; attrs.get("k").is_none());
-    match attrs.get("") {
-        None => assert!(rt; false, "empty name"),
-        Some(value) => assert!(rt; value.units() == [51].as_slice()),
-    }
-    Ok(())
-}
-
-#[test]
-fn set_in_place_or_last_and_taken_out(rt: HostRuntime) -> Result<(), Fail> {
-    let mut attrs = Attrs::new(rt.alloc());
-    set_and_take_out(&rt, rt.alloc(), &mut attrs)?;
-    Ok(())
-}
-
-// Five, the same without the second, the second again as the last, and those without the first.
-const FIVE: &[(&str, &str)] = &[("b", "1"), ("a", "2"), ("d", "3"), ("c", "4"), ("é", "5")];
-
-const FOUR_LEFT: &[(&str, &str)] = &[("b", "1"), ("d", "3"), ("c", "4"), ("é", "5")];
-
-const FIVE_AGAIN: &[(&str, &str)] = &[("b", "1"), ("d", "3"), ("c", "4"), ("é", "5"), ("a", "2")];
-
-const LAST_FOUR: &[(&str, &str)] = &[("d", "3"), ("c", "4"), ("é", "5"), ("a", "2")];
-
-// One of five leaves, and comes again as the last.
-fn leaves_and_comes(rt: &impl Abort, alloc: Global, attrs: &mut Attrs) -> Result<(), AllocError> {
-    take_out(rt, attrs, "a", 50);
-    expect(rt, attrs, FOUR_LEFT);
-    assert!(rt; set(alloc, attrs, "a", "2")?.is_none());
-    expect(rt, attrs, FIVE_AGAIN);
-    Ok(())
-}
-
-// The first leaves, and stays in a copy.
-fn stays_in_a_copy(rt: &impl Abort, alloc: Global, attrs: &mut Attrs) -> Result<(), AllocError> {
-    let copy = attrs.try_clone(alloc)?;
-    take_out(rt, attrs, "b", 49);
-    expect(rt, attrs, LAST_FOUR);
-    expect(rt, &copy, FIVE_AGAIN);
-    Ok(())
-}
-
-fn leave(rt: &impl Abort, alloc: Global, attrs: &mut Attrs) -> Result<(), AllocError> {
-    leaves_and_comes(rt, alloc, attrs)?;
-    stays_in_a_copy(rt, alloc, attrs)
-}
-
-#[test]
-fn the_order_stays(rt: HostRuntime) -> Result<(), Fail> {
-    let mut attrs = made(rt.alloc(), FIVE)?;
-    leave(&rt, rt.alloc(), &mut attrs)?;
-    Ok(())
-}
-
-// That attributes of these names and texts are the same as others, or not, both ways.
-fn compare(
-    rt: &impl Abort,
-    alloc: Global,
-    first: &Attrs,
-    pairs: &[(&str, &str)],
-    wanted: bool,
-) -> Result<(), AllocError> {
-    let second = made(alloc, pairs)?;
-    assert!(rt; first.same(&second) == wanted);
-    assert!(rt; second.same(first) == wanted);
-    Ok(())
-}
-
-const TWO: &[(&str, &str)] = &[("a", "1"), ("b", "2")];
-
-// Attributes, and whether those two are the same.
-const OTHERS: &[(&[(&str, &str)], bool)] = &[
-    (&[("b", "2"), ("a", "1")], true),
-    (&[("a", "1")], false),
-    (&[("a", "1"), ("b", "2"), ("c", "")], false),
-    (&[("a", "1"), ("b", "1")], false),
-    (&[("a", "1"), ("c", "2")], false),
-    (&[], false),
-];
-
-// Each beside those two.
-fn compare_each(rt: &impl Abort, alloc: Global, first: &Attrs) -> Result<(), AllocError> {
-    for (pairs, wanted) in OTHERS {
-        compare(rt, alloc, first, pairs, *wanted)?;
-    }
-    assert!(rt; Attrs::new(alloc).same(&Attrs::new(alloc)));
-    Ok(())
-}
-
-#[test]
-fn compared_as_sets(rt: HostRuntime) -> Result<(), Fail> {
-    let first = made(rt.alloc(), TWO)?;
-    compare_each(&rt, rt.alloc(), &first)?;
-    Ok(())
-}
-
-// A call that is refused leaves the attributes as they were.
-fn try_to_set(
-    rt: &impl Abort,
+// Sets an attribute, and tells what was there. Where the growth is refused all is as it was, and the next try sets it.
+fn set_at_last(
     alloc: Global,
     attrs: &mut Attrs,
     name: &str,
-) -> Result<(), AllocError> {
-    let key = String::from_str(alloc, name)?;
+    value: &[u16],
+    due: Option<&[u16]>,
+) -> Result<bool, AllocError> {
     let before = attrs.len();
-    match attrs.set(key, Units::new(alloc)) {
-        Ok(_) => assert!(rt; attrs.get(name).is_some()),
-        Err(_) => {
-            assert!(rt; attrs.get(name).is_none());
-            assert!(rt; attrs.len() == before);
+    match set(alloc, attrs, name, value) {
+        Ok(former) => Ok(is_value(former.as_ref(), due)),
+        Err(AllocError) => {
+            if attrs.len() != before || attrs.get(name).is_some() != due.is_some() {
+                return Ok(false);
+            }
+            Ok(is_value(set(alloc, attrs, name, value)?.as_ref(), due))
         }
     }
-    Ok(())
 }
 
-const TWELVE: &[&str] = &["a", "b", "c", "d", "e", "f", "g", "h", "i", "j", "k", "l"];
-
-// Twelve are set, or refused, one after another.
-fn try_each(rt: &impl Abort, alloc: Global, attrs: &mut Attrs) -> Result<(), AllocError> {
-    for name in TWELVE {
-        try_to_set(rt, alloc, attrs, name)?;
+fn is_at(attrs: &Attrs, index: usize, name: &str, value: &[u16]) -> bool {
+    match attrs.at(index) {
+        Some((found, units)) => found == name && units.units() == value,
+        None => false,
     }
-    Ok(())
 }
+
+// The name of the attribute of that number.
+fn name_of(alloc: Global, number: u32) -> Result<String, AllocError> {
+    format!(in alloc; "data-{number}")
+}
+
+fn set_numbered(alloc: Global, attrs: &mut Attrs, number: u32) -> Result<bool, AllocError> {
+    let name = name_of(alloc, number)?;
+    set_at_last(
+        alloc,
+        attrs,
+        name.as_str(),
+        &[(number % 65536) as u16],
+        None,
+    )
+}
+
+fn get_numbered(alloc: Global, attrs: &Attrs, number: u32) -> Result<bool, AllocError> {
+    let name = name_of(alloc, number)?;
+    Ok(is_value(attrs.get(name.as_str()), Some(&[(number % 65536) as u16])))
+}
+
+fn has_len(attrs: &Attrs, len: usize) -> bool {
+    attrs.len() == len && attrs.is_empty() == (len == 0) && attrs.at(len).is_none()
+}
+
+// Attributes, and others beside them.
+#[derive(Drop)]
+struct Both {
+    attrs: Attrs,
+    others: Attrs,
+}
+
+fn copy(alloc: Global, both: &mut Both) -> Result<bool, AllocError> {
+    both.others = both.attrs.try_clone(alloc)?;
+    Ok(true)
+}
+
+fn renew(alloc: Global, both: &mut Both) -> bool {
+    both.attrs = Attrs::new(alloc);
+    true
+}
+
+fn exchange(both: &mut Both) -> bool {
+    swap(&mut both.attrs, &mut both.others);
+    true
+}
+
+// Whether what is asked is as it is due.
+fn is_due(both: &Both, turn: u32, step: &Step) -> bool {
+    let attrs = &both.attrs;
+    match step {
+        Step::Get(name, value) => is_value(attrs.get(name), *value),
+        Step::At(name, value) => is_at(attrs, turn as usize, name, value),
+        Step::Len(len) => has_len(attrs, *len),
+        Step::Same(are_same) => {
+            attrs.same(&both.others) == *are_same && both.others.same(attrs) == *are_same
+        }
+        _ => false,
+    }
+}
+
+impl Act for Step {
+    type Scene = Both;
+
+    fn scene(alloc: Global) -> Both {
+        Both {
+            attrs: Attrs::new(alloc),
+            others: Attrs::new(alloc),
+        }
+    }
+
+    fn act(&self, alloc: Global, both: &mut Both, turn: u32) -> Result<bool, AllocError> {
+        match self {
+            Step::New => Ok(renew(alloc, both)),
+            Step::Copy => copy(alloc, both),
+            Step::Swap => Ok(exchange(both)),
+            Step::Set(name, value, due) => set_at_last(alloc, &mut both.attrs, name, value, *due),
+            Step::Remove(name, due) => Ok(is_value(both.attrs.remove(name).as_ref(), *due)),
+            Step::SetNumbered => set_numbered(alloc, &mut both.attrs, turn),
+            Step::GetNumbered => get_numbered(alloc, &both.attrs, turn),
+            _ => Ok(is_due(both, turn, self)),
+        }
+    }
+}
+
+// The texts 1 to 5.
+const ONE: &[u16] = &[49];
+
+const TWO: &[u16] = &[50];
+
+const THREE: &[u16] = &[51];
+
+const FOUR: &[u16] = &[52];
+
+const FIVE: &[u16] = &[53];
+
+// There are none, some are set, each over those before it, and the first of these is taken out.
+const SET_AND_TAKEN_OUT: &[Row] = &[
+    (0, 1, Step::Len(0)),
+    (0, 1, Step::Get("k", None)),
+    (0, 1, Step::Remove("k", None)),
+    (0, 1, Step::Set("k", &[], None)),
+    (0, 1, Step::Len(1)),
+    (0, 1, Step::At("k", &[])),
+    (0, 1, Step::Set("a", ONE, None)),
+    (0, 1, Step::Len(2)),
+    (0, 1, Step::At("k", &[])),
+    (1, 2, Step::At("a", ONE)),
+    (0, 1, Step::Set("k", TWO, Some(&[]))),
+    (0, 1, Step::Len(2)),
+    (0, 1, Step::At("k", TWO)),
+    (1, 2, Step::At("a", ONE)),
+    (0, 1, Step::Set("", THREE, None)),
+    (0, 1, Step::Len(3)),
+    (0, 1, Step::At("k", TWO)),
+    (1, 2, Step::At("a", ONE)),
+    (2, 3, Step::At("", THREE)),
+    (0, 1, Step::Remove("k", Some(TWO))),
+    (0, 1, Step::Len(2)),
+    (0, 1, Step::At("a", ONE)),
+    (1, 2, Step::At("", THREE)),
+    (0, 1, Step::Get("k", None)),
+    (0, 1, Step::Get("", Some(THREE))),
+];
+
+#[test]
+fn set_in_place_or_last_and_taken_out(rt: HostRuntime) -> Result<(), Fail> {
+    expect(&rt, rt.alloc(), SET_AND_TAKEN_OUT)
+}
+
+// One of five leaves, and comes again as the last. The first leaves, and stays in a copy.
+const ORDER: &[Row] = &[
+    (0, 1, Step::Set("b", ONE, None)),
+    (0, 1, Step::Set("a", TWO, None)),
+    (0, 1, Step::Set("d", THREE, None)),
+    (0, 1, Step::Set("c", FOUR, None)),
+    (0, 1, Step::Set("é", FIVE, None)),
+    (0, 1, Step::Remove("a", Some(TWO))),
+    (0, 1, Step::Len(4)),
+    (0, 1, Step::At("b", ONE)),
+    (1, 2, Step::At("d", THREE)),
+    (2, 3, Step::At("c", FOUR)),
+    (3, 4, Step::At("é", FIVE)),
+    (0, 1, Step::Set("a", TWO, None)),
+    (0, 1, Step::Len(5)),
+    (0, 1, Step::At("b", ONE)),
+    (1, 2, Step::At("d", THREE)),
+    (2, 3, Step::At("c", FOUR)),
+    (3, 4, Step::At("é", FIVE)),
+    (4, 5, Step::At("a", TWO)),
+    (0, 1, Step::Copy),
+    (0, 1, Step::Remove("b", Some(ONE))),
+    (0, 1, Step::Len(4)),
+    (0, 1, Step::At("d", THREE)),
+    (1, 2, Step::At("c", FOUR)),
+    (2, 3, Step::At("é", FIVE)),
+    (3, 4, Step::At("a", TWO)),
+    (0, 1, Step::Swap),
+    (0, 1, Step::Len(5)),
+    (0, 1, Step::At("b", ONE)),
+    (1, 2, Step::At("d", THREE)),
+    (2, 3, Step::At("c", FOUR)),
+    (3, 4, Step::At("é", FIVE)),
+    (4, 5, Step::At("a", TWO)),
+];
+
+#[test]
+fn the_order_stays(rt: HostRuntime) -> Result<(), Fail> {
+    expect(&rt, rt.alloc(), ORDER)
+}
+
+// None beside none, and then others beside a=1, b=2.
+const COMPARED: &[Row] = &[
+    (0, 1, Step::Same(true)),
+    (0, 1, Step::Set("a", ONE, None)),
+    (0, 1, Step::Set("b", TWO, None)),
+    (0, 1, Step::Copy),
+    (0, 1, Step::New),
+    (0, 1, Step::Set("b", TWO, None)),
+    (0, 1, Step::Set("a", ONE, None)),
+    (0, 1, Step::Same(true)),
+    (0, 1, Step::New),
+    (0, 1, Step::Set("a", ONE, None)),
+    (0, 1, Step::Same(false)),
+    (0, 1, Step::New),
+    (0, 1, Step::Set("a", ONE, None)),
+    (0, 1, Step::Set("b", TWO, None)),
+    (0, 1, Step::Set("c", &[], None)),
+    (0, 1, Step::Same(false)),
+    (0, 1, Step::New),
+    (0, 1, Step::Set("a", ONE, None)),
+    (0, 1, Step::Set("b", ONE, None)),
+    (0, 1, Step::Same(false)),
+    (0, 1, Step::New),
+    (0, 1, Step::Set("a", ONE, None)),
+    (0, 1, Step::Set("c", TWO, None)),
+    (0, 1, Step::Same(false)),
+    (0, 1, Step::New),
+    (0, 1, Step::Same(false)),
+];
+
+#[test]
+fn compared_as_sets(rt: HostRuntime) -> Result<(), Fail> {
+    expect(&rt, rt.alloc(), COMPARED)
+}
+
+// A call that is refused leaves the attributes as they were.
+const TWELVE: &[Row] = &[
+    (0, 1, Step::Set("a", &[], None)),
+    (0, 1, Step::Get("a", Some(&[]))),
+    (0, 1, Step::Set("b", &[], None)),
+    (0, 1, Step::Get("b", Some(&[]))),
+    (0, 1, Step::Set("c", &[], None)),
+    (0, 1, Step::Get("c", Some(&[]))),
+    (0, 1, Step::Set("d", &[], None)),
+    (0, 1, Step::Get("d", Some(&[]))),
+    (0, 1, Step::Set("e", &[], None)),
+    (0, 1, Step::Get("e", Some(&[]))),
+    (0, 1, Step::Set("f", &[], None)),
+    (0, 1, Step::Get("f", Some(&[]))),
+    (0, 1, Step::Set("g", &[], None)),
+    (0, 1, Step::Get("g", Some(&[]))),
+    (0, 1, Step::Set("h", &[], None)),
+    (0, 1, Step::Get("h", Some(&[]))),
+    (0, 1, Step::Set("i", &[], None)),
+    (0, 1, Step::Get("i", Some(&[]))),
+    (0, 1, Step::Set("j", &[], None)),
+    (0, 1, Step::Get("j", Some(&[]))),
+    (0, 1, Step::Set("k", &[], None)),
+    (0, 1, Step::Get("k", Some(&[]))),
+    (0, 1, Step::Set("l", &[], None)),
+    (0, 1, Step::Get("l", Some(&[]))),
+];
 
 #[test]
 fn refused_growth(rt: HostRuntime) -> Result<(), Fail> {
-    let mut attrs = Attrs::new(rt.alloc());
-    try_each(&rt, rt.alloc(), &mut attrs)?;
-    Ok(())
-}
-
-// Sets an attribute whose name and value tell its number; there was none of that name.
-fn set_numbered(
-    rt: &impl Abort,
-    alloc: Global,
-    attrs: &mut Attrs,
-    number: u16,
-) -> Result<(), Fail> {
-    let name = format!(in alloc; "data-{number}")?;
-    let value = Units::from_units(alloc, &[number])?;
-    assert!(rt; attrs.set(name, value)?.is_none());
-    Ok(())
-}
-
-// That the attribute of that number is there.
-fn expect_numbered(rt: &impl Abort, alloc: Global, attrs: &Attrs, number: u16) -> Result<(), Fail> {
-    let name = format!(in alloc; "data-{number}")?;
-    let value = attrs.get(name.as_str()).ok_or("lost")?;
-    assert!(rt; value.units() == [number].as_slice());
-    Ok(())
-}
-
-fn set_all(rt: &impl Abort, alloc: Global, attrs: &mut Attrs) -> Result<(), Fail> {
-    for number in 0..20_000u16 {
-        set_numbered(rt, alloc, attrs, number)?;
-    }
-    assert!(rt; attrs.len() == 20_000);
-    Ok(())
-}
-
-fn expect_all(rt: &impl Abort, alloc: Global, attrs: &Attrs) -> Result<(), Fail> {
-    for number in 0..20_000u16 {
-        expect_numbered(rt, alloc, attrs, number)?;
-    }
-    Ok(())
+    expect(&rt, rt.alloc(), TWELVE)
 }
 
 // All are set and found, and a copy is the same.
-fn set_find_and_copy(rt: &impl Abort, alloc: Global, attrs: &mut Attrs) -> Result<(), Fail> {
-    set_all(rt, alloc, attrs)?;
-    expect_all(rt, alloc, attrs)?;
-    let copy = attrs.try_clone(alloc)?;
-    assert!(rt; copy.same(attrs));
-    Ok(())
-}
+const TWENTY_THOUSAND: &[Row] = &[
+    (0, 20_000, Step::SetNumbered),
+    (0, 1, Step::Len(20_000)),
+    (0, 20_000, Step::GetNumbered),
+    (0, 1, Step::Copy),
+    (0, 1, Step::Same(true)),
+];
 
 #[test]
 fn twenty_thousand(rt: HostRuntime) -> Result<(), Fail> {
-    let mut attrs = Attrs::new(rt.alloc());
-    set_find_and_copy(&rt, rt.alloc(), &mut attrs)
+    expect(&rt, rt.alloc(), TWENTY_THOUSAND)
 }

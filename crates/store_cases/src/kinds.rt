@@ -1,22 +1,21 @@
 //! Examples of names at the edges of the rules, of numbers, names and codes, and of a copied label.
+use super::playing::expect;
 use dom_kinds::{
     DomError, Exception, Kind, Label, NodeType, is_attribute_name, is_doctype_name, is_element_name,
 };
-use growth_marks::{begins, ends};
+use growth_marks::{Act, begins, ends};
 use std::alloc::{AllocError, Global};
 use std::mem::size_of;
-use std::process::Abort;
 use std::test::Fail;
 
 // What a name may be.
-#[derive(Clone, Copy)]
 enum Naming {
     Element,
     Attribute,
     Doctype,
 }
 
-fn allows(naming: Naming, name: &str) -> bool {
+fn allows(naming: &Naming, name: &str) -> bool {
     match naming {
         Naming::Element => is_element_name(name),
         Naming::Attribute => is_attribute_name(name),
@@ -24,64 +23,132 @@ fn allows(naming: Naming, name: &str) -> bool {
     }
 }
 
-// That all of these are allowed, or none.
-fn are(rt: &impl Abort, naming: Naming, are_allowed: bool, names: &[&str]) {
-    for name in names {
-        assert!(rt; allows(naming, name) == are_allowed, "{name}");
+// A label with that name and, of a doctype, with that public id; the system id is empty.
+fn labelled(alloc: Global, kind: Kind, name: &str, public_id: &str) -> Result<Label, AllocError> {
+    if kind != Kind::DocumentType {
+        return Label::named(alloc, kind, name);
+    }
+    let name = String::from_str(alloc, name)?;
+    let public_id = String::from_str(alloc, public_id)?;
+    Label::doctype(alloc, name, public_id, String::new(alloc))
+}
+
+fn has(label: &Label, kind: Kind, name: &str, public_id: &str) -> bool {
+    label.kind == kind
+        && label.name() == name
+        && label.public_id() == public_id
+        && label.system_id() == ""
+}
+
+// Whether a label and a copy of it have what it was made with.
+fn is_copied(alloc: Global, kind: Kind, name: &str, public_id: &str) -> Result<bool, AllocError> {
+    let label = labelled(alloc, kind, name, public_id)?;
+    let copy = label.try_clone(alloc)?;
+    Ok(has(&label, kind, name, public_id) && has(&copy, kind, name, public_id))
+}
+
+// What is asked of names and labels.
+enum Step {
+    // Whether that name is allowed.
+    Name(Naming, &'static str, bool),
+    // A label of that kind, with that name and that public id, and a copy of it.
+    Label(Kind, &'static str, &'static str),
+    // The name of a node of a kind that has none of its own.
+    NodeName(Kind, &'static str),
+    // What comes between these takes no memory.
+    Begins,
+    Ends,
+}
+
+impl Act for Step {
+    type Scene = ();
+
+    fn scene(_alloc: Global) -> () {}
+
+    fn act(&self, alloc: Global, _scene: &mut (), _turn: u32) -> Result<bool, AllocError> {
+        match self {
+            Step::Name(naming, name, is_allowed) => Ok(allows(naming, name) == *is_allowed),
+            Step::Label(kind, name, public_id) => is_copied(alloc, *kind, name, public_id),
+            Step::NodeName(kind, name) => Ok(Label::nameless(*kind).node_name() == *name),
+            Step::Begins => begins(alloc),
+            Step::Ends => Ok(ends(alloc)),
+        }
     }
 }
 
-// Names that may all be of a kind, or none of them.
-const NAMES: &[(Naming, bool, &[&str])] = &[
-    (
-        Naming::Element,
-        true,
-        &[
-            "a",
-            "Z",
-            ":",
-            "_",
-            "é",
-            "a1",
-            "a=b",
-            "a\u{7F}",
-            "é-1.x:y_",
-            ":é",
-            "a\"<",
-            "\u{80}",
-        ],
-    ),
-    (
-        Naming::Element,
-        false,
-        &[
-            "", "1a", "-", ".", "=", "a b", "a\t", "a\n", "a\u{C}", "a\r", "a\0", "a/", "a>",
-            "\u{7F}", "_=", "_\u{7F}", ": ", "é/", "@", "[", "`", "{",
-        ],
-    ),
-    (
-        Naming::Attribute,
-        true,
-        &["1", "a<b", "\u{7F}", "\u{80}", "-", "\"", "é"],
-    ),
-    (
-        Naming::Attribute,
-        false,
-        &["", " ", "a\t", "\n", "\u{C}b", "\r", "\0", "a/", "a=b", ">"],
-    ),
-    (Naming::Doctype, true, &["", "html", "1/=", "\u{7F}", "é"]),
-    (
-        Naming::Doctype,
-        false,
-        &[" ", "a\t", "\n", "\u{C}", "a\rb", "\0", "a>"],
-    ),
+// The first turn, the one that ends them, and what is asked.
+type Row = (u32, u32, Step);
+
+// A name, and whether it may be that.
+const NAMES: &[Row] = &[
+    (0, 1, Step::Name(Naming::Element, "a", true)),
+    (0, 1, Step::Name(Naming::Element, "Z", true)),
+    (0, 1, Step::Name(Naming::Element, ":", true)),
+    (0, 1, Step::Name(Naming::Element, "_", true)),
+    (0, 1, Step::Name(Naming::Element, "é", true)),
+    (0, 1, Step::Name(Naming::Element, "a1", true)),
+    (0, 1, Step::Name(Naming::Element, "a=b", true)),
+    (0, 1, Step::Name(Naming::Element, "a\u{7F}", true)),
+    (0, 1, Step::Name(Naming::Element, "é-1.x:y_", true)),
+    (0, 1, Step::Name(Naming::Element, ":é", true)),
+    (0, 1, Step::Name(Naming::Element, "a\"<", true)),
+    (0, 1, Step::Name(Naming::Element, "\u{80}", true)),
+    (0, 1, Step::Name(Naming::Element, "", false)),
+    (0, 1, Step::Name(Naming::Element, "1a", false)),
+    (0, 1, Step::Name(Naming::Element, "-", false)),
+    (0, 1, Step::Name(Naming::Element, ".", false)),
+    (0, 1, Step::Name(Naming::Element, "=", false)),
+    (0, 1, Step::Name(Naming::Element, "a b", false)),
+    (0, 1, Step::Name(Naming::Element, "a\t", false)),
+    (0, 1, Step::Name(Naming::Element, "a\n", false)),
+    (0, 1, Step::Name(Naming::Element, "a\u{C}", false)),
+    (0, 1, Step::Name(Naming::Element, "a\r", false)),
+    (0, 1, Step::Name(Naming::Element, "a\0", false)),
+    (0, 1, Step::Name(Naming::Element, "a/", false)),
+    (0, 1, Step::Name(Naming::Element, "a>", false)),
+    (0, 1, Step::Name(Naming::Element, "\u{7F}", false)),
+    (0, 1, Step::Name(Naming::Element, "_=", false)),
+    (0, 1, Step::Name(Naming::Element, "_\u{7F}", false)),
+    (0, 1, Step::Name(Naming::Element, ": ", false)),
+    (0, 1, Step::Name(Naming::Element, "é/", false)),
+    (0, 1, Step::Name(Naming::Element, "@", false)),
+    (0, 1, Step::Name(Naming::Element, "[", false)),
+    (0, 1, Step::Name(Naming::Element, "`", false)),
+    (0, 1, Step::Name(Naming::Element, "{", false)),
+    (0, 1, Step::Name(Naming::Attribute, "1", true)),
+    (0, 1, Step::Name(Naming::Attribute, "a<b", true)),
+    (0, 1, Step::Name(Naming::Attribute, "\u{7F}", true)),
+    (0, 1, Step::Name(Naming::Attribute, "\u{80}", true)),
+    (0, 1, Step::Name(Naming::Attribute, "-", true)),
+    (0, 1, Step::Name(Naming::Attribute, "\"", true)),
+    (0, 1, Step::Name(Naming::Attribute, "é", true)),
+    (0, 1, Step::Name(Naming::Attribute, "", false)),
+    (0, 1, Step::Name(Naming::Attribute, " ", false)),
+    (0, 1, Step::Name(Naming::Attribute, "a\t", false)),
+    (0, 1, Step::Name(Naming::Attribute, "\n", false)),
+    (0, 1, Step::Name(Naming::Attribute, "\u{C}b", false)),
+    (0, 1, Step::Name(Naming::Attribute, "\r", false)),
+    (0, 1, Step::Name(Naming::Attribute, "\0", false)),
+    (0, 1, Step::Name(Naming::Attribute, "a/", false)),
+    (0, 1, Step::Name(Naming::Attribute, "a=b", false)),
+    (0, 1, Step::Name(Naming::Attribute, ">", false)),
+    (0, 1, Step::Name(Naming::Doctype, "", true)),
+    (0, 1, Step::Name(Naming::Doctype, "html", true)),
+    (0, 1, Step::Name(Naming::Doctype, "1/=", true)),
+    (0, 1, Step::Name(Naming::Doctype, "\u{7F}", true)),
+    (0, 1, Step::Name(Naming::Doctype, "é", true)),
+    (0, 1, Step::Name(Naming::Doctype, " ", false)),
+    (0, 1, Step::Name(Naming::Doctype, "a\t", false)),
+    (0, 1, Step::Name(Naming::Doctype, "\n", false)),
+    (0, 1, Step::Name(Naming::Doctype, "\u{C}", false)),
+    (0, 1, Step::Name(Naming::Doctype, "a\rb", false)),
+    (0, 1, Step::Name(Naming::Doctype, "\0", false)),
+    (0, 1, Step::Name(Naming::Doctype, "a>", false)),
 ];
 
 #[test]
-fn names_of_each_kind(rt: HostRuntime) {
-    for (naming, are_allowed, names) in NAMES {
-        are(&rt, *naming, *are_allowed, names);
-    }
+fn names_of_each_kind(rt: HostRuntime) -> Result<(), Fail> {
+    expect(&rt, rt.alloc(), NAMES)
 }
 
 #[test]
@@ -94,59 +161,34 @@ fn numbers_names_and_bytes(rt: HostRuntime) {
     assert!(rt; size_of::<Label>() == 32);
 }
 
-// That a label and a copy of it have that name and that public id, and no system id.
-fn expect_copied(
-    rt: &impl Abort,
-    alloc: Global,
-    label: &Label,
-    kind: Kind,
-    name: &str,
-    public_id: &str,
-) -> Result<(), AllocError> {
-    let copy = label.try_clone(alloc)?;
-    for made in [label, &copy] {
-        assert!(rt; made.kind == kind, "{name}");
-        assert!(rt; made.name() == name, "{name}");
-        assert!(rt; made.public_id() == public_id, "{name}");
-        assert!(rt; made.system_id() == "", "{name}");
-    }
-    Ok(())
-}
-
-// The same of a doctype with a public id.
-fn expect_doctype(rt: &impl Abort, alloc: Global) -> Result<(), AllocError> {
-    let name = String::from_str(alloc, "html")?;
-    let public_id = String::from_str(alloc, "é")?;
-    let label = Label::doctype(alloc, name, public_id, String::new(alloc))?;
-    expect_copied(rt, alloc, &label, Kind::DocumentType, "html", "é")
-}
-
-// The same of elements of these names.
-fn expect_elements(rt: &impl Abort, alloc: Global, names: &[&str]) -> Result<(), AllocError> {
-    for name in names {
-        let label = Label::named(alloc, Kind::Element, name)?;
-        expect_copied(rt, alloc, &label, Kind::Element, name, "")?;
-    }
-    Ok(())
-}
+const COPIED: &[Row] = &[
+    (0, 1, Step::Label(Kind::DocumentType, "html", "é")),
+    (0, 1, Step::Label(Kind::Element, "abcdefghi", "")),
+    (0, 1, Step::Label(Kind::Element, "élément", "")),
+    (
+        0,
+        1,
+        Step::Label(Kind::Element, "un-nom-très-très-très-long", ""),
+    ),
+];
 
 #[test]
 fn copied_labels(rt: HostRuntime) -> Result<(), Fail> {
-    expect_doctype(&rt, rt.alloc())?;
-    expect_elements(
-        &rt,
-        rt.alloc(),
-        &["abcdefghi", "élément", "un-nom-très-très-très-long"],
-    )?;
-    Ok(())
+    expect(&rt, rt.alloc(), COPIED)
 }
 
 // Names of up to 8 bytes lie in the label.
+const SHORT: &[Row] = &[
+    (0, 1, Step::Begins),
+    (0, 1, Step::Label(Kind::Element, "", "")),
+    (0, 1, Step::Label(Kind::Element, "p", "")),
+    (0, 1, Step::Label(Kind::Element, "été-ab", "")),
+    (0, 1, Step::Label(Kind::Element, "abcdefgh", "")),
+    (0, 1, Step::NodeName(Kind::Text, "#text")),
+    (0, 1, Step::Ends),
+];
+
 #[test]
 fn short_names_without_a_growth(rt: HostRuntime) -> Result<(), Fail> {
-    begins(rt.alloc())?;
-    expect_elements(&rt, rt.alloc(), &["", "p", "été-ab", "abcdefgh"])?;
-    assert!(rt; Label::nameless(Kind::Text).node_name() == "#text");
-    ends(rt.alloc());
-    Ok(())
+    expect(&rt, rt.alloc(), SHORT)
 }

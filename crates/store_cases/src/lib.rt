@@ -11,6 +11,8 @@ mod links;
 #[cfg(test)]
 mod pages;
 #[cfg(test)]
+mod playing;
+#[cfg(test)]
 mod slotted;
 #[cfg(test)]
 mod units;

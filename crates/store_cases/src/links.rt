@@ -1,303 +1,322 @@
-//! Slots that are linked, cut, taken and taken again, and the memory under them.
+//! Slots that are linked, cut, taken and taken again, and the memory under them. Each test is a list of rows.
+use super::playing::expect;
 use dom_links::{Links, Node, Slot};
-use growth_marks::{begins, ends};
+use growth_marks::{Act, begins, ends};
 use std::alloc::{AllocError, Global};
 use std::mem::size_of;
-use std::process::Abort;
 use std::test::Fail;
 
-fn added<T: Drop>(rt: &impl Abort, links: &mut Links<T>, value: T) -> Slot {
-    let slot = links.add(value);
-    assert!(rt; slot.is_ok());
-    slot.unwrap()
+// What is done at a turn with the slot of that number, or what is due then.
+enum Step {
+    // A value comes into the slot: the number of the turn and so much more.
+    Add(u32),
+    // The same value is taken out of it.
+    Take(u32),
+    // The slot comes under this one, before that one or last.
+    Put(u32, Option<u32>),
+    // It leaves its parent.
+    Cut,
+    // Its value is set.
+    Set(u32),
+    // It has the same value, the number of the turn and so much more.
+    Value(u32),
+    // Whether it is held.
+    Held(bool),
+    // It has so many children, and this is the first and that the last.
+    Children(usize, Option<u32>, Option<u32>),
+    // It stands under this one, between these.
+    Stands(u32, Option<u32>, Option<u32>),
+    // It stands under this one, between the slots of the last number and of the next.
+    InRow(u32),
+    // What comes between these takes no memory.
+    Begins,
+    Ends,
 }
 
-fn taken<T>(rt: &impl Abort, links: &mut Links<T>, slot: Slot) -> T {
-    assert!(rt; links.holds(slot));
-    assert!(rt; links.parent(slot).is_none() && links.count(slot) == 0);
-    links.take(slot)
+// The first turn, the one that ends them, and what is done at each of them.
+type Row = (u32, u32, Step);
+
+// Adds a value. Where the growth is refused the value comes back, and the next try takes it.
+fn add(links: &mut Links<u32>, value: u32, due: Slot) -> Result<bool, AllocError> {
+    match links.add(value) {
+        Ok(slot) => Ok(slot == due),
+        Err(refused) => {
+            if refused.value != value {
+                return Ok(false);
+            }
+            match links.add(refused.value) {
+                Ok(slot) => Ok(slot == due),
+                Err(_) => Err(AllocError),
+            }
+        }
+    }
 }
 
-/// Links a child that has no children of its own.
-fn put(rt: &impl Abort, links: &mut Links<u32>, parent: Slot, child: Slot, before: Option<Slot>) {
-    assert!(rt; parent != child && links.holds(parent) && links.holds(child));
-    assert!(rt; links.parent(child).is_none() && links.count(child) == 0);
+fn take(links: &mut Links<u32>, slot: Slot, due: u32) -> bool {
+    if !links.holds(slot) || links.parent(slot).is_some() || links.count(slot) != 0 {
+        return false;
+    }
+    links.take(slot) == due
+}
+
+// Links a child that has no children of its own.
+fn put(links: &mut Links<u32>, parent: Slot, child: Slot, before: Option<Slot>) -> bool {
+    if parent == child || !links.holds(parent) || !links.holds(child) {
+        return false;
+    }
+    if links.parent(child).is_some() || links.count(child) != 0 {
+        return false;
+    }
     links.sound();
     match before {
         Some(next) => {
-            assert!(rt; links.holds(next));
-            assert!(rt; links.parent(next) == Some(parent));
+            if !links.holds(next) || links.parent(next) != Some(parent) {
+                return false;
+            }
             links.link(parent, child, Some(next));
         }
         None => links.link(parent, child, None),
     }
+    true
 }
 
-fn cut(rt: &impl Abort, links: &mut Links<u32>, child: Slot) {
-    assert!(rt; links.holds(child));
-    assert!(rt; links.parent(child).is_some());
+fn cut(links: &mut Links<u32>, child: Slot) -> bool {
+    if !links.holds(child) || links.parent(child).is_none() {
+        return false;
+    }
     links.unlink(child);
-    assert!(rt; links.holds(child));
-    assert!(rt; links.parent(child).is_none());
-    assert!(rt; links.next(child).is_none() && links.prev(child).is_none());
+    links.holds(child)
+        && links.parent(child).is_none()
+        && links.next(child).is_none()
+        && links.prev(child).is_none()
 }
 
-/// The children of a parent, from the first on.
-fn come_in_order(rt: &impl Abort, links: &Links<u32>, parent: Slot, children: &[Slot]) {
-    assert!(rt; links.holds(parent));
-    let mut at = links.first(parent);
-    for child in children {
-        assert!(rt; at == Some(*child) && links.holds(*child));
-        assert!(rt; links.parent(*child) == Some(parent));
-        at = links.next(*child);
+fn set(links: &mut Links<u32>, slot: Slot, value: u32) -> bool {
+    if !links.holds(slot) {
+        return false;
     }
-    assert!(rt; at.is_none());
-}
-
-/// The same from the last back.
-fn come_in_reverse(rt: &impl Abort, links: &Links<u32>, parent: Slot, children: &[Slot]) {
-    assert!(rt; links.holds(parent));
-    let mut at = links.last(parent);
-    for child in children.iter().rev() {
-        assert!(rt; at == Some(*child) && links.holds(*child));
-        at = links.prev(*child);
-    }
-    assert!(rt; at.is_none());
-}
-
-/// Both, and how many there are.
-fn has_children(rt: &impl Abort, links: &Links<u32>, parent: Slot, children: &[Slot]) {
-    assert!(rt; links.holds(parent));
-    assert!(rt; links.count(parent) == children.len());
-    come_in_order(rt, links, parent, children);
-    come_in_reverse(rt, links, parent, children);
-}
-
-// A child comes before another, or last, or it leaves; and the children then.
-fn comes(
-    rt: &impl Abort,
-    links: &mut Links<u32>,
-    top: Slot,
-    child: Slot,
-    before: Option<Slot>,
-    children: &[Slot],
-) {
-    put(rt, links, top, child, before);
-    has_children(rt, links, top, children);
-}
-
-fn leaves(rt: &impl Abort, links: &mut Links<u32>, top: Slot, child: Slot, children: &[Slot]) {
-    cut(rt, links, child);
-    has_children(rt, links, top, children);
-}
-
-// Three children come and go.
-fn come_and_leave(rt: &impl Abort, links: &mut Links<u32>, top: Slot, a: Slot, b: Slot, c: Slot) {
-    comes(rt, links, top, a, None, &[a]);
-    comes(rt, links, top, c, None, &[a, c]);
-    comes(rt, links, top, b, Some(c), &[a, b, c]);
-    leaves(rt, links, top, b, &[a, c]);
-    comes(rt, links, top, b, Some(a), &[b, a, c]);
-    leaves(rt, links, top, c, &[b, a]);
-    leaves(rt, links, top, b, &[a]);
-    leaves(rt, links, top, a, &[]);
-}
-
-fn have_orders(rt: &impl Abort, links: &mut Links<u32>) {
-    let top = added(rt, links, 10);
-    let a = added(rt, links, 11);
-    let b = added(rt, links, 12);
-    let c = added(rt, links, 13);
-    come_and_leave(rt, links, top, a, b, c);
-}
-
-#[test]
-fn order_of_children(rt: HostRuntime) {
-    let mut links = Links::new(rt.alloc());
-    have_orders(&rt, &mut links);
-}
-
-// That a node has that value.
-fn has(rt: &impl Abort, links: &Links<u32>, slot: Slot, value: u32) {
-    assert!(rt; links.holds(slot));
-    assert!(rt; *links.value(slot) == value, "{value}");
-}
-
-// Two of three slots are free then.
-fn take_two(rt: &impl Abort, links: &mut Links<u32>, a: Slot, b: Slot, c: Slot) {
-    assert!(rt; taken(rt, links, a) == 1);
-    assert!(rt; taken(rt, links, b) == 2);
-    assert!(rt; !links.holds(a) && !links.holds(b) && links.holds(c));
-}
-
-// The last that became free comes first, and a slot of its own once none is free.
-fn come_again(rt: &impl Abort, links: &mut Links<u32>, a: Slot, b: Slot, c: Slot) {
-    assert!(rt; added(rt, links, 4) == b);
-    assert!(rt; added(rt, links, 5) == a);
-    let d = added(rt, links, 6);
-    assert!(rt; d != a && d != b && d != c);
-}
-
-fn change(rt: &impl Abort, links: &mut Links<u32>, slot: Slot, value: u32) {
-    assert!(rt; links.holds(slot));
     *links.value_mut(slot) = value;
+    true
 }
 
-fn take_and_add(rt: &impl Abort, links: &mut Links<u32>) {
-    let a = added(rt, links, 1);
-    let b = added(rt, links, 2);
-    let c = added(rt, links, 3);
-    take_two(rt, links, a, b, c);
-    come_again(rt, links, a, b, c);
-    has(rt, links, a, 5);
-    change(rt, links, a, 7);
-    has(rt, links, a, 7);
+fn has_children(
+    links: &Links<u32>,
+    parent: Slot,
+    count: usize,
+    first: Option<Slot>,
+    last: Option<Slot>,
+) -> bool {
+    links.holds(parent)
+        && links.count(parent) == count
+        && links.first(parent) == first
+        && links.last(parent) == last
 }
 
-#[test]
-fn taken_slots_come_again(rt: HostRuntime) {
-    let mut links = Links::new(rt.alloc());
-    take_and_add(&rt, &mut links);
+fn stands(
+    links: &Links<u32>,
+    child: Slot,
+    parent: Slot,
+    previous: Option<Slot>,
+    next: Option<Slot>,
+) -> bool {
+    links.holds(child)
+        && links.parent(child) == Some(parent)
+        && links.prev(child) == previous
+        && links.next(child) == next
 }
 
-// Adds a thousand nodes, each with its number, and tells where they are.
-fn add_thousand(
-    rt: &impl Abort,
-    links: &mut Links<u32>,
-    slots: &mut Vec<Slot>,
-) -> Result<(), AllocError> {
-    for value in 0..1000u32 {
-        slots.push(added(rt, links, value))?;
-    }
-    Ok(())
+fn slot_at(number: u32) -> Slot {
+    Slot::at(number as usize)
 }
 
-// Puts roots last under a parent, one after another.
-fn put_all(rt: &impl Abort, links: &mut Links<u32>, parent: Slot, slots: &[Slot]) {
-    for slot in slots {
-        put(rt, links, parent, *slot, None);
-    }
-}
-
-fn cut_all(rt: &impl Abort, links: &mut Links<u32>, slots: &[Slot]) {
-    for slot in slots {
-        cut(rt, links, *slot);
+fn slot_if(number: Option<u32>) -> Option<Slot> {
+    match number {
+        Some(number) => Some(slot_at(number)),
+        None => None,
     }
 }
 
-// That each node has its number.
-fn have_numbers(rt: &impl Abort, links: &Links<u32>, slots: &[Slot]) {
-    let mut value = 0u32;
-    for slot in slots {
-        assert!(rt; links.holds(*slot));
-        assert!(rt; *links.value(*slot) == value);
-        value = value.wrapping_add(1);
+// Whether what is asked of a slot is as it is due.
+fn is_due(links: &Links<u32>, turn: u32, step: &Step) -> bool {
+    let slot = slot_at(turn);
+    match step {
+        Step::Value(more) => { links.holds(slot) && *links.value(slot) == more.wrapping_add(turn) }
+        Step::Held(is_held) => links.holds(slot) == *is_held,
+        Step::Children(count, first, last) => {
+            has_children(links, slot, *count, slot_if(*first), slot_if(*last))
+        }
+        Step::Stands(parent, previous, next) => stands(
+            links,
+            slot,
+            slot_at(*parent),
+            slot_if(*previous),
+            slot_if(*next),
+        ),
+        Step::InRow(parent) => stands(
+            links,
+            slot,
+            slot_at(*parent),
+            slot_if(turn.checked_sub(1)),
+            slot_if(turn.checked_add(1)),
+        ),
+        _ => false,
     }
 }
 
-fn take_all(rt: &impl Abort, links: &mut Links<u32>, slots: &[Slot]) {
-    for slot in slots {
-        assert!(rt; taken(rt, links, *slot) < 1000);
+impl Act for Step {
+    type Scene = Links<u32>;
+
+    fn scene(alloc: Global) -> Links<u32> {
+        Links::new(alloc)
     }
-}
 
-// A thousand nodes are put in, cut and taken out, and the last slot comes again.
-fn come_and_go(
-    rt: &impl Abort,
-    links: &mut Links<u32>,
-    slots: &mut Vec<Slot>,
-) -> Result<(), AllocError> {
-    let top = added(rt, links, 5000);
-    add_thousand(rt, links, slots)?;
-    put_all(rt, links, top, slots.as_slice());
-    has_children(rt, links, top, slots.as_slice());
-    have_numbers(rt, links, slots.as_slice());
-    cut_all(rt, links, slots.as_slice());
-    has_children(rt, links, top, &[]);
-    take_all(rt, links, slots.as_slice());
-    let last = slots.pop();
-    assert!(rt; Some(added(rt, links, 1)) == last);
-    Ok(())
-}
-
-#[test]
-fn a_thousand_children(rt: HostRuntime) -> Result<(), Fail> {
-    let mut links = Links::new(rt.alloc());
-    let mut slots = Vec::new(rt.alloc());
-    come_and_go(&rt, &mut links, &mut slots)?;
-    Ok(())
-}
-
-// A thousand nodes and one for their parent, and the first mark.
-fn add_all(
-    rt: &impl Abort,
-    alloc: Global,
-    links: &mut Links<u32>,
-    slots: &mut Vec<Slot>,
-) -> Result<Slot, AllocError> {
-    let top = added(rt, links, 5000);
-    add_thousand(rt, links, slots)?;
-    begins(alloc)?;
-    Ok(top)
-}
-
-fn link_and_take(rt: &impl Abort, links: &mut Links<u32>, top: Slot, slots: &[Slot]) {
-    put_all(rt, links, top, slots);
-    has_children(rt, links, top, slots);
-    cut_all(rt, links, slots);
-    has_children(rt, links, top, &[]);
-    take_all(rt, links, slots);
-}
-
-// All nodes stand before the first link.
-#[test]
-fn a_thousand_links_without_a_growth(rt: HostRuntime) -> Result<(), Fail> {
-    let mut links = Links::new(rt.alloc());
-    let mut slots = Vec::new(rt.alloc());
-    let top = add_all(&rt, rt.alloc(), &mut links, &mut slots)?;
-    link_and_take(&rt, &mut links, top, slots.as_slice());
-    ends(rt.alloc());
-    Ok(())
-}
-
-// Where a growth is refused the value comes back, and the next try takes it.
-#[test]
-fn a_refused_add_hands_the_value_back(rt: HostRuntime) {
-    let mut links = Links::new(rt.alloc());
-    for value in 0..1000u32 {
-        if let Err(refused) = links.add(value) {
-            assert!(rt; refused.value == value);
-            assert!(rt; links.add(refused.value).is_ok());
+    fn act(&self, alloc: Global, links: &mut Links<u32>, turn: u32) -> Result<bool, AllocError> {
+        let slot = slot_at(turn);
+        match self {
+            Step::Add(more) => add(links, more.wrapping_add(turn), slot),
+            Step::Take(more) => Ok(take(links, slot, more.wrapping_add(turn))),
+            Step::Put(parent, before) => Ok(put(links, slot_at(*parent), slot, slot_if(*before))),
+            Step::Cut => Ok(cut(links, slot)),
+            Step::Set(value) => Ok(set(links, slot, *value)),
+            Step::Begins => begins(alloc),
+            Step::Ends => Ok(ends(alloc)),
+            _ => Ok(is_due(links, turn, self)),
         }
     }
 }
 
+// Four slots: one for the parent, and three for the children that come and go.
+const ORDER_OF_CHILDREN: &[Row] = &[
+    (0, 4, Step::Add(10)),
+    (1, 2, Step::Put(0, None)),
+    (0, 1, Step::Children(1, Some(1), Some(1))),
+    (1, 2, Step::Stands(0, None, None)),
+    (3, 4, Step::Put(0, None)),
+    (0, 1, Step::Children(2, Some(1), Some(3))),
+    (1, 2, Step::Stands(0, None, Some(3))),
+    (3, 4, Step::Stands(0, Some(1), None)),
+    (2, 3, Step::Put(0, Some(3))),
+    (0, 1, Step::Children(3, Some(1), Some(3))),
+    (1, 2, Step::Stands(0, None, Some(2))),
+    (2, 3, Step::Stands(0, Some(1), Some(3))),
+    (3, 4, Step::Stands(0, Some(2), None)),
+    (2, 3, Step::Cut),
+    (0, 1, Step::Children(2, Some(1), Some(3))),
+    (1, 2, Step::Stands(0, None, Some(3))),
+    (3, 4, Step::Stands(0, Some(1), None)),
+    (2, 3, Step::Put(0, Some(1))),
+    (0, 1, Step::Children(3, Some(2), Some(3))),
+    (2, 3, Step::Stands(0, None, Some(1))),
+    (1, 2, Step::Stands(0, Some(2), Some(3))),
+    (3, 4, Step::Stands(0, Some(1), None)),
+    (3, 4, Step::Cut),
+    (0, 1, Step::Children(2, Some(2), Some(1))),
+    (2, 3, Step::Stands(0, None, Some(1))),
+    (1, 2, Step::Stands(0, Some(2), None)),
+    (2, 3, Step::Cut),
+    (0, 1, Step::Children(1, Some(1), Some(1))),
+    (1, 2, Step::Stands(0, None, None)),
+    (1, 2, Step::Cut),
+    (0, 1, Step::Children(0, None, None)),
+];
+
+#[test]
+fn order_of_children(rt: HostRuntime) -> Result<(), Fail> {
+    expect(&rt, rt.alloc(), ORDER_OF_CHILDREN)
+}
+
+// The last slot that became free comes first, and one of its own once none is free.
+const TAKEN_SLOTS: &[Row] = &[
+    (0, 3, Step::Add(1)),
+    (0, 2, Step::Take(1)),
+    (0, 2, Step::Held(false)),
+    (2, 3, Step::Held(true)),
+    (1, 2, Step::Add(3)),
+    (0, 1, Step::Add(5)),
+    (3, 4, Step::Add(3)),
+    (0, 1, Step::Value(5)),
+    (0, 1, Step::Set(7)),
+    (0, 1, Step::Value(7)),
+];
+
+#[test]
+fn taken_slots_come_again(rt: HostRuntime) -> Result<(), Fail> {
+    expect(&rt, rt.alloc(), TAKEN_SLOTS)
+}
+
+// A thousand nodes, each with its number, are put under one, cut and taken out, and the last slot comes again.
+const THOUSAND: &[Row] = &[
+    (0, 1_000, Step::Add(0)),
+    (1_000, 1_001, Step::Add(4_000)),
+    (0, 1_000, Step::Put(1_000, None)),
+    (1_000, 1_001, Step::Children(1_000, Some(0), Some(999))),
+    (0, 1, Step::Stands(1_000, None, Some(1))),
+    (1, 999, Step::InRow(1_000)),
+    (999, 1_000, Step::Stands(1_000, Some(998), None)),
+    (0, 1_000, Step::Value(0)),
+    (0, 1_000, Step::Cut),
+    (1_000, 1_001, Step::Children(0, None, None)),
+    (0, 1_000, Step::Take(0)),
+    (999, 1_000, Step::Add(2)),
+];
+
+#[test]
+fn a_thousand_children(rt: HostRuntime) -> Result<(), Fail> {
+    expect(&rt, rt.alloc(), THOUSAND)
+}
+
+// All nodes stand before the first link.
+const WITHOUT_A_GROWTH: &[Row] = &[
+    (0, 1_000, Step::Add(0)),
+    (1_000, 1_001, Step::Add(4_000)),
+    (0, 1, Step::Begins),
+    (0, 1_000, Step::Put(1_000, None)),
+    (1_000, 1_001, Step::Children(1_000, Some(0), Some(999))),
+    (0, 1, Step::Stands(1_000, None, Some(1))),
+    (1, 999, Step::InRow(1_000)),
+    (999, 1_000, Step::Stands(1_000, Some(998), None)),
+    (0, 1_000, Step::Cut),
+    (1_000, 1_001, Step::Children(0, None, None)),
+    (0, 1_000, Step::Take(0)),
+    (0, 1, Step::Ends),
+];
+
+#[test]
+fn a_thousand_links_without_a_growth(rt: HostRuntime) -> Result<(), Fail> {
+    expect(&rt, rt.alloc(), WITHOUT_A_GROWTH)
+}
+
+// Where a growth is refused the value comes back, and the next try takes it.
+const REFUSED: &[Row] = &[(0, 1_000, Step::Add(0))];
+
+#[test]
+fn a_refused_add_hands_the_value_back(rt: HostRuntime) -> Result<(), Fail> {
+    expect(&rt, rt.alloc(), REFUSED)
+}
+
 // More slots than a document of the other tests has.
-#[test]
-fn five_million_slots(rt: HostRuntime) {
-    let mut links = Links::new(rt.alloc());
-    for value in 0..5_000_001u32 {
-        assert!(rt; links.add(value).is_ok());
-    }
-}
-
-/// Two items, the second under the first: it is reached by the pointer of the first and changed, and both are taken out.
-fn through_a_pointer(rt: &impl Abort, links: &mut Links<u32>) {
-    let first = added(rt, links, 1);
-    let second = added(rt, links, 2);
-    put(rt, links, first, second, None);
-    assert!(rt; links.holds(first));
-    assert!(rt; links.first(first) == Some(second) && links.holds(second));
-    *links.value_mut(second) = 7;
-    cut(rt, links, second);
-    assert!(rt; taken(rt, links, second) == 7);
-    assert!(rt; taken(rt, links, first) == 1);
-}
+const FIVE_MILLION: &[Row] = &[(0, 5_000_001, Step::Add(0))];
 
 #[test]
-fn puts_reads_changes_and_takes(rt: HostRuntime) {
-    let mut links = Links::new(rt.alloc());
-    through_a_pointer(&rt, &mut links);
+fn five_million_slots(rt: HostRuntime) -> Result<(), Fail> {
+    expect(&rt, rt.alloc(), FIVE_MILLION)
+}
+
+// Two items, the second under the first: it is reached from the first and changed, and both are taken out.
+const REACHED: &[Row] = &[
+    (0, 2, Step::Add(1)),
+    (1, 2, Step::Put(0, None)),
+    (0, 1, Step::Children(1, Some(1), Some(1))),
+    (1, 2, Step::Held(true)),
+    (1, 2, Step::Set(7)),
+    (1, 2, Step::Cut),
+    (1, 2, Step::Take(6)),
+    (0, 1, Step::Take(1)),
+];
+
+#[test]
+fn puts_reads_changes_and_takes(rt: HostRuntime) -> Result<(), Fail> {
+    expect(&rt, rt.alloc(), REACHED)
 }
 
 // Five links and two numbers of four bytes stand beside the value.

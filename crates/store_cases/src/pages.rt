@@ -1,239 +1,239 @@
-//! Examples of tables: numbers over three pages, pages that give their memory back, and room that is made at once.
-
-ghost use Rattle.std.specs.Prelude.{◌≤◌, OnOk};
-
+//! Examples of tables: numbers over three pages, pages that give their memory back, and room that is made at once. Each is a list of rows.
+use super::playing::expect;
 use dom_pages::Pages;
-use growth_marks::{begins, ends};
+use growth_marks::{Act, begins, ends};
 use std::alloc::{AllocError, Global};
-use std::process::Abort;
 use std::test::Fail;
 
-// Makes room for so many more numbers.
-fn reserve(rt: &impl Abort, pages: &mut Pages<usize>, additional: usize) -> Result<(), AllocError>
-    ensures room { OnOk result (additional ≤ pages.new.room) }
-{
-    assert!(rt; pages.len() < 1_000_000 && additional < 1_000_000);
-    pages.reserve(additional)
+// What is done at a turn, or what is due then.
+enum Step {
+    // Room is made for so many more numbers.
+    Room(usize),
+    // The number of the turn is given out, for itself.
+    GiveOut,
+    // It is taken back.
+    TakeBack,
+    // Both.
+    ComeAndGo,
+    // Something else is put under it.
+    Put(usize),
+    // So many numbers were given out.
+    Len(usize),
+    // This stands under the number of the turn.
+    Item(Option<usize>),
+    // The number stands under itself.
+    Itself,
+    // Whether the page of the turn has its memory.
+    Present(bool),
+    // What comes between these takes no memory.
+    Begins,
+    Ends,
 }
 
-// Gives out the numbers of a range, each for itself.
-fn give_out(
-    rt: &impl Abort,
-    pages: &mut Pages<usize>,
-    from: usize,
-    to: usize,
-) -> Result<(), AllocError> {
-    for number in from..to {
-        reserve(rt, pages, 1)?;
-        pages.push_reserved(number);
+// The first turn, the one that ends them, and what is done at each of them.
+type Row = (u32, u32, Step);
+
+fn reserve(pages: &mut Pages<usize>, additional: usize) -> Result<bool, AllocError> {
+    if pages.len() >= 1_000_000 || additional >= 1_000_000 {
+        return Ok(false);
     }
-    Ok(())
+    pages.reserve(additional)?;
+    Ok(true)
 }
 
-// Takes the numbers of a range back.
-fn take_back(rt: &impl Abort, pages: &mut Pages<usize>, from: usize, to: usize) {
-    for number in from..to {
-        assert!(rt; number < pages.len(), "no number {number}");
-        pages.clear(number);
+fn give_out(pages: &mut Pages<usize>, number: usize) -> Result<bool, AllocError> {
+    if pages.len() >= 1_000_000 {
+        return Ok(false);
     }
+    pages.reserve(1)?;
+    pages.push_reserved(number);
+    Ok(true)
 }
 
-// Puts something else under a number.
-fn put(rt: &impl Abort, pages: &mut Pages<usize>, number: usize, item: usize) {
-    assert!(rt; pages.get(number).is_some(), "nothing at {number}");
+fn take_back(pages: &mut Pages<usize>, number: usize) -> bool {
+    if number >= pages.len() {
+        return false;
+    }
+    pages.clear(number);
+    true
+}
+
+fn put(pages: &mut Pages<usize>, number: usize, item: usize) -> bool {
+    if pages.get(number).is_none() {
+        return false;
+    }
     pages.set(number, item);
+    true
 }
 
-// That these items stand under these numbers.
-fn expect(rt: &impl Abort, pages: &Pages<usize>, items: &[(usize, Option<usize>)]) {
-    for (number, item) in items {
-        assert!(rt; pages.get(*number) == *item, "at {number}");
+// Whether the page of that index has its memory.
+fn is_present_at(pages: &Pages<usize>, page: usize) -> bool {
+    pages.is_present(page.saturating_mul(1024))
+}
+
+fn come_and_go(pages: &mut Pages<usize>, number: usize) -> Result<bool, AllocError> {
+    let is_out = give_out(pages, number)?;
+    Ok(is_out && take_back(pages, number))
+}
+
+impl Act for Step {
+    type Scene = Pages<usize>;
+
+    fn scene(alloc: Global) -> Pages<usize> {
+        Pages::new(alloc)
+    }
+
+    fn act(&self, alloc: Global, pages: &mut Pages<usize>, turn: u32) -> Result<bool, AllocError> {
+        let number = turn as usize;
+        match self {
+            Step::Room(additional) => reserve(pages, *additional),
+            Step::GiveOut => give_out(pages, number),
+            Step::TakeBack => Ok(take_back(pages, number)),
+            Step::ComeAndGo => come_and_go(pages, number),
+            Step::Put(item) => Ok(put(pages, number, *item)),
+            Step::Len(len) => Ok(pages.len() == *len),
+            Step::Item(item) => Ok(pages.get(number) == *item),
+            Step::Itself => Ok(pages.get(number) == Some(number)),
+            Step::Present(is_present) => Ok(is_present_at(pages, number) == *is_present),
+            Step::Begins => begins(alloc),
+            Step::Ends => Ok(ends(alloc)),
+        }
     }
 }
 
-// That of the first pages these have their memory.
-fn expect_present(rt: &impl Abort, pages: &Pages<usize>, present: &[bool]) {
-    let mut number = 0;
-    for is_present in present {
-        assert!(rt; pages.is_present(number) == *is_present, "page of {number}");
-        number = number.saturating_add(1024);
-    }
-}
+const NONE_AT_FIRST: &[Row] = &[
+    (0, 1, Step::Len(0)),
+    (0, 1, Step::Item(None)),
+    (1024, 1025, Step::Item(None)),
+    (0, 1, Step::Present(false)),
+];
 
 #[test]
-fn none_at_first(rt: HostRuntime) {
-    let pages = Pages::new(rt.alloc());
-    assert!(rt; pages.len() == 0);
-    expect(&rt, &pages, &[(0, None), (1024, None)]);
-    expect_present(&rt, &pages, &[false]);
+fn none_at_first(rt: HostRuntime) -> Result<(), Fail> {
+    expect(&rt, rt.alloc(), NONE_AT_FIRST)
 }
 
-// The third page is in use in part.
-const IN_USE_IN_PART: &[(usize, Option<usize>)] = &[
-    (0, Some(0)),
-    (1022, Some(1022)),
-    (1023, Some(7)),
-    (1024, Some(8)),
-    (1025, Some(1025)),
-    (2048, Some(2048)),
-    (2499, Some(2499)),
-    (2500, None),
-    (4000, None),
+// The third page is in use in part. Then the first is emptied, and numbers are given out on into the fourth.
+const OVER_PAGES: &[Row] = &[
+    (0, 2500, Step::GiveOut),
+    (0, 1, Step::Len(2500)),
+    (1023, 1024, Step::Put(7)),
+    (1024, 1025, Step::Put(8)),
+    (0, 1, Step::Item(Some(0))),
+    (1022, 1023, Step::Item(Some(1022))),
+    (1023, 1024, Step::Item(Some(7))),
+    (1024, 1025, Step::Item(Some(8))),
+    (1025, 1026, Step::Item(Some(1025))),
+    (2048, 2049, Step::Item(Some(2048))),
+    (2499, 2500, Step::Item(Some(2499))),
+    (2500, 2501, Step::Item(None)),
+    (4000, 4001, Step::Item(None)),
+    (0, 1024, Step::TakeBack),
+    (2500, 3100, Step::GiveOut),
+    (0, 1, Step::Len(3100)),
+    (0, 1, Step::Item(None)),
+    (1023, 1024, Step::Item(None)),
+    (1024, 1025, Step::Item(Some(8))),
+    (2499, 2500, Step::Item(Some(2499))),
+    (2500, 2501, Step::Item(Some(2500))),
+    (3099, 3100, Step::Item(Some(3099))),
+    (3100, 3101, Step::Item(None)),
 ];
-
-fn use_in_part(rt: &impl Abort, pages: &mut Pages<usize>) -> Result<(), AllocError> {
-    give_out(rt, pages, 0, 2500)?;
-    assert!(rt; pages.len() == 2500);
-    put(rt, pages, 1023, 7);
-    put(rt, pages, 1024, 8);
-    expect(rt, pages, IN_USE_IN_PART);
-    Ok(())
-}
-
-// The first is emptied, and numbers are given out on into the fourth.
-const WITHOUT_THE_FIRST: &[(usize, Option<usize>)] = &[
-    (0, None),
-    (1023, None),
-    (1024, Some(8)),
-    (2499, Some(2499)),
-    (2500, Some(2500)),
-    (3099, Some(3099)),
-    (3100, None),
-];
-
-fn empty_the_first(rt: &impl Abort, pages: &mut Pages<usize>) -> Result<(), AllocError> {
-    take_back(rt, pages, 0, 1024);
-    give_out(rt, pages, 2500, 3100)?;
-    assert!(rt; pages.len() == 3100);
-    expect(rt, pages, WITHOUT_THE_FIRST);
-    Ok(())
-}
 
 #[test]
 fn over_pages(rt: HostRuntime) -> Result<(), Fail> {
-    let mut pages = Pages::new(rt.alloc());
-    use_in_part(&rt, &mut pages)?;
-    empty_the_first(&rt, &mut pages)?;
-    Ok(())
+    expect(&rt, rt.alloc(), OVER_PAGES)
 }
 
-// Numbers that are taken back, from one on and up to another, and which pages have their memory then. A page gives it back with the last of
-// its numbers, and a number may be taken back twice.
-const TAKEN_BACK: &[(usize, usize, &[bool])] = &[
-    (1, 1024, &[true, true, false]),
-    (1, 1024, &[true, true, false]),
-    (0, 1, &[false, true, false]),
-    (0, 2047, &[false, true, false]),
+// A page gives its memory back with the last of its numbers, and a number may be taken back twice.
+const GIVEN_BACK: &[Row] = &[
+    (0, 2048, Step::GiveOut),
+    (1, 1024, Step::TakeBack),
+    (0, 2, Step::Present(true)),
+    (2, 3, Step::Present(false)),
+    (1, 1024, Step::TakeBack),
+    (0, 2, Step::Present(true)),
+    (2, 3, Step::Present(false)),
+    (0, 1, Step::TakeBack),
+    (0, 1, Step::Present(false)),
+    (1, 2, Step::Present(true)),
+    (2, 3, Step::Present(false)),
+    (0, 2047, Step::TakeBack),
+    (0, 1, Step::Present(false)),
+    (1, 2, Step::Present(true)),
+    (2, 3, Step::Present(false)),
+    (1023, 1024, Step::Item(None)),
+    (2046, 2047, Step::Item(None)),
+    (2047, 2048, Step::Item(Some(2047))),
 ];
-
-const ONE_LEFT: &[(usize, Option<usize>)] = &[(1023, None), (2046, None), (2047, Some(2047))];
-
-fn take_each_back(rt: &impl Abort, pages: &mut Pages<usize>) {
-    for (from, to, present) in TAKEN_BACK {
-        take_back(rt, pages, *from, *to);
-        expect_present(rt, pages, present);
-    }
-    expect(rt, pages, ONE_LEFT);
-}
 
 #[test]
 fn given_back(rt: HostRuntime) -> Result<(), Fail> {
-    let mut pages = Pages::new(rt.alloc());
-    give_out(&rt, &mut pages, 0, 2048)?;
-    take_each_back(&rt, &mut pages);
-    Ok(())
-}
-
-fn take_turns(rt: &impl Abort, pages: &mut Pages<usize>) -> Result<(), AllocError> {
-    for number in 0..2000 {
-        give_out(rt, pages, number, number.saturating_add(1))?;
-        take_back(rt, pages, number, number.saturating_add(1));
-    }
-    Ok(())
+    expect(&rt, rt.alloc(), GIVEN_BACK)
 }
 
 // The page of the next number stays, so that giving out and taking back by turns asks for memory once a page.
+const BY_TURNS: &[Row] = &[
+    (0, 2000, Step::ComeAndGo),
+    (0, 1, Step::Len(2000)),
+    (0, 1, Step::Present(false)),
+    (1, 2, Step::Present(true)),
+    (2, 3, Step::Present(false)),
+];
+
 #[test]
 fn by_turns(rt: HostRuntime) -> Result<(), Fail> {
-    let mut pages = Pages::new(rt.alloc());
-    take_turns(&rt, &mut pages)?;
-    assert!(rt; pages.len() == 2000);
-    expect_present(&rt, &pages, &[false, true, false]);
-    Ok(())
-}
-
-// Room that is made for more numbers, and which pages have their memory then.
-const ROOM: &[(usize, &[bool])] = &[(1023, &[true, false]), (2048, &[true, true, true, false])];
-
-const ONE_GIVEN_OUT: &[(usize, Option<usize>)] = &[(0, Some(0)), (1, None)];
-
-fn make_room(rt: &impl Abort, pages: &mut Pages<usize>) -> Result<(), AllocError> {
-    give_out(rt, pages, 0, 1)?;
-    for (additional, present) in ROOM {
-        reserve(rt, pages, *additional)?;
-        expect_present(rt, pages, present);
-    }
-    Ok(())
+    expect(&rt, rt.alloc(), BY_TURNS)
 }
 
 // Room for many numbers is made at once.
+const ROOM: &[Row] = &[
+    (0, 1, Step::GiveOut),
+    (0, 1, Step::Room(1023)),
+    (0, 1, Step::Present(true)),
+    (1, 2, Step::Present(false)),
+    (0, 1, Step::Room(2048)),
+    (0, 3, Step::Present(true)),
+    (3, 4, Step::Present(false)),
+    (0, 1, Step::Len(1)),
+    (0, 1, Step::Item(Some(0))),
+    (1, 2, Step::Item(None)),
+    (0, 3, Step::Present(true)),
+    (3, 4, Step::Present(false)),
+];
+
 #[test]
 fn room(rt: HostRuntime) -> Result<(), Fail> {
-    let mut pages = Pages::new(rt.alloc());
-    make_room(&rt, &mut pages)?;
-    assert!(rt; pages.len() == 1);
-    expect(&rt, &pages, ONE_GIVEN_OUT);
-    expect_present(&rt, &pages, &[true, true, true, false]);
-    Ok(())
+    expect(&rt, rt.alloc(), ROOM)
 }
 
 // Room for more numbers than a page or four have, at one call.
+const ROOM_FOR_MANY: &[Row] = &[(0, 1, Step::Room(20_000)), (0, 19, Step::Present(true))];
+
 #[test]
 fn room_for_many(rt: HostRuntime) -> Result<(), Fail> {
-    let mut pages = Pages::new(rt.alloc());
-    reserve(&rt, &mut pages, 20_000)?;
-    expect_present(&rt, &pages, &[true; 19]);
-    Ok(())
+    expect(&rt, rt.alloc(), ROOM_FOR_MANY)
 }
 
-// That each number has itself, up to that one.
-fn expect_each(rt: &impl Abort, pages: &Pages<usize>, count: usize) {
-    for number in 0..count {
-        assert!(rt; pages.get(number) == Some(number), "at {number}");
-    }
-}
+// In room that is there numbers are read, one is given out and changed, and most are taken back.
+const WITHOUT_A_GROWTH: &[Row] = &[
+    (0, 2500, Step::GiveOut),
+    (0, 1, Step::Room(1)),
+    (0, 1, Step::Begins),
+    (0, 2500, Step::Itself),
+    (2500, 2501, Step::Item(None)),
+    (0, 1, Step::Len(2500)),
+    (2500, 2501, Step::GiveOut),
+    (2500, 2501, Step::Put(7)),
+    (0, 3, Step::Present(true)),
+    (0, 1500, Step::TakeBack),
+    (0, 1, Step::Ends),
+    (1499, 1500, Step::Item(None)),
+    (1500, 1501, Step::Item(Some(1500))),
+    (2500, 2501, Step::Item(Some(7))),
+];
 
-// 2,500 numbers, room for one more, and the first mark.
-fn make_ready(rt: &impl Abort, alloc: Global, pages: &mut Pages<usize>) -> Result<(), AllocError>
-    ensures room { OnOk result (1 ≤ pages.new.room) }
-{
-    give_out(rt, pages, 0, 2500)?;
-    reserve(rt, pages, 1)?;
-    begins(alloc)
-}
-
-// Numbers are read, one is given out and changed, and most are taken back.
-fn read_and_change(rt: &impl Abort, pages: &mut Pages<usize>)
-    requires { 1 ≤ pages.old.room }
-{
-    expect_each(rt, pages, 2500);
-    assert!(rt; pages.get(2500).is_none());
-    assert!(rt; pages.len() == 2500);
-    pages.push_reserved(2500);
-    put(rt, pages, 2500, 7);
-    expect_present(rt, pages, &[true, true, true, false]);
-    take_back(rt, pages, 0, 1500);
-}
-
-const LATER_ONES: &[(usize, Option<usize>)] = &[(1499, None), (1500, Some(1500)), (2500, Some(7))];
-
-// In room that is there.
 #[test]
 fn numbers_without_a_growth(rt: HostRuntime) -> Result<(), Fail> {
-    let mut pages = Pages::new(rt.alloc());
-    make_ready(&rt, rt.alloc(), &mut pages)?;
-    read_and_change(&rt, &mut pages);
-    ends(rt.alloc());
-    expect(&rt, &pages, LATER_ONES);
-    Ok(())
+    expect(&rt, rt.alloc(), WITHOUT_A_GROWTH)
 }

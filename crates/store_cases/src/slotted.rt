@@ -1,126 +1,41 @@
 //! Examples of numbers that are given out and released: none comes again, their slots have no gaps, and items that are kept by slot stay with
-//! their numbers.
+//! their numbers. Each is a list of rows.
 
-ghost use Rattle.std.specs.Prelude.{◌≤◌, OnOk};
+ghost use Rattle.std.specs.Prelude.{◌≤◌};
 
+use super::playing::expect;
 use dom_slots::Slots;
-use growth_marks::{begins, ends};
+use growth_marks::{Act, begins, ends};
 use std::alloc::{AllocError, Global};
-use std::process::Abort;
 use std::test::Fail;
 
-// Makes room for so many more numbers.
-fn reserve(rt: &impl Abort, slots: &mut Slots, additional: usize) -> Result<(), AllocError>
-    ensures room { OnOk result (additional ≤ slots.new.room) }
-{
-    assert!(rt; slots.made() < 1_000_000 && additional < 1_000_000);
-    slots.reserve(additional)
-}
-
-// Gives out the next number.
-fn make(rt: &impl Abort, slots: &mut Slots) -> Result<u32, AllocError> {
-    reserve(rt, slots, 1)?;
-    Ok(slots.push_reserved())
-}
-
-// Gives out so many numbers.
-fn make_all(rt: &impl Abort, slots: &mut Slots, count: usize) -> Result<(), AllocError> {
-    for _ in 0..count {
-        let _ = make(rt, slots)?;
-    }
-    Ok(())
-}
-
-// Releases a number, which has no slot then.
-fn release(rt: &impl Abort, slots: &mut Slots, number: u32) -> usize {
-    assert!(rt; slots.slot(number).is_some(), "no slot of {number}");
-    let slot = slots.release(number);
-    assert!(rt; slots.slot(number).is_none());
-    slot
-}
-
-// Releases the numbers of a range.
-fn release_all(rt: &impl Abort, slots: &mut Slots, from: u32, to: u32) {
-    for number in from..to {
-        let _ = release(rt, slots, number);
-    }
-}
-
-// That these are the live numbers, by slot, and that each has its slot.
-fn expect(rt: &impl Abort, slots: &Slots, numbers: &[u32]) {
-    assert!(rt; slots.count() == numbers.len());
-    for (slot, number) in numbers.iter().enumerate() {
-        assert!(rt; slot < slots.count());
-        assert!(rt; slots.number(slot) == *number);
-        assert!(rt; slots.slot(*number) == Some(slot));
-    }
-}
-
-// A number that is given out, or released.
-#[derive(Clone, Copy)]
+// What is done at a turn, or what is due then.
 enum Step {
-    // Gives out so many.
-    MakeAll(usize),
-    // Gives out this one.
-    Make(u32),
-    // Releases a number, which has this slot.
-    Release(u32, usize),
-    // Releases the numbers of a range.
-    ReleaseAll(u32, u32),
+    // Room is made for so many more numbers and their items.
+    Room(usize),
+    // The number of the turn is given out, and comes into the last slot.
+    Make,
+    // So many times the number of the turn is released. It has this slot, where one is said.
+    Release(u32, Option<usize>),
+    // The number of the turn is given out and released.
+    ComeAndGo,
+    // So many numbers were given out, and so many of them are live.
+    Made(u64, usize),
+    // This number lies in the slot of the turn.
+    Number(u32),
+    // A number with its item does.
+    Item,
+    // Whether this number has a slot.
+    Live(u32, bool),
+    // Whether the page of so many times the number of the turn has its memory.
+    Present(u32, bool),
+    // What comes between these takes no memory.
+    Begins,
+    Ends,
 }
 
-fn take(rt: &impl Abort, slots: &mut Slots, step: Step) -> Result<(), AllocError> {
-    match step {
-        Step::MakeAll(count) => make_all(rt, slots, count)?,
-        Step::Make(due) => {
-            let number = make(rt, slots)?;
-            assert!(rt; number == due, "{number}");
-        }
-        Step::Release(number, due) => {
-            let slot = release(rt, slots, number);
-            assert!(rt; slot == due, "{number}");
-        }
-        Step::ReleaseAll(from, to) => release_all(rt, slots, from, to),
-    }
-    Ok(())
-}
-
-// Steps, and the live numbers then, by slot: the last comes into the slot of the one that is released, and the next number is a new one.
-const STEPS: &[(Step, &[u32])] = &[
-    (Step::MakeAll(4), &[0, 1, 2, 3]),
-    (Step::Release(1, 1), &[0, 3, 2]),
-    (Step::Make(4), &[0, 3, 2, 4]),
-    (Step::Release(4, 3), &[0, 3, 2]),
-    (Step::Release(0, 0), &[2, 3]),
-    (Step::ReleaseAll(2, 4), &[]),
-    (Step::Make(5), &[5]),
-];
-
-fn take_each(rt: &impl Abort, slots: &mut Slots) -> Result<(), AllocError> {
-    for (step, live) in STEPS {
-        take(rt, slots, *step)?;
-        expect(rt, slots, live);
-    }
-    Ok(())
-}
-
-fn have_none(rt: &impl Abort, slots: &Slots, numbers: &[u32]) {
-    for number in numbers {
-        assert!(rt; slots.slot(*number).is_none(), "{number}");
-    }
-}
-
-#[test]
-fn none_comes_again(rt: HostRuntime) -> Result<(), Fail> {
-    let mut slots = Slots::new(rt.alloc());
-    expect(&rt, &slots, &[]);
-    assert!(rt; slots.made() == 0 && !slots.is_present(0));
-    have_none(&rt, &slots, &[0]);
-    take_each(&rt, &mut slots)?;
-    assert!(rt; slots.made() == 6);
-    have_none(&rt, &slots, &[3, 6, u32::MAX]);
-    Ok(())
-}
+// The first turn, the one that ends them, and what is done at each of them.
+type Row = (u32, u32, Step);
 
 // Numbers, and an item for each by its slot.
 #[derive(Drop)]
@@ -134,194 +49,250 @@ fn item_of(number: u32) -> u64 {
     u64::from(number).wrapping_mul(1_000_003)
 }
 
-impl Items {
-    fn new(alloc: Global) -> Items {
+fn reserve(items: &mut Items, additional: usize) -> Result<bool, AllocError> {
+    if items.slots.made() >= 1_000_000 || additional >= 1_000_000 {
+        return Ok(false);
+    }
+    items.slots.reserve(additional)?;
+    items.items.reserve(additional)?;
+    Ok(true)
+}
+
+// Gives out the next number in room that is there. It has to be this one, in this slot.
+fn make_reserved(slots: &mut Slots, due: u32, slot: usize) -> bool
+    requires { 1 ≤ slots.old.room }
+{
+    let number = slots.push_reserved();
+    number == due && slots.slot(number) == Some(slot)
+}
+
+// The same in room that is made. Where the growth is refused all is as it was, and the next try makes the room.
+fn make(slots: &mut Slots, due: u32) -> Result<bool, AllocError> {
+    let (made, live) = (slots.made(), slots.count());
+    if made >= 1_000_000 {
+        return Ok(false);
+    }
+    match slots.reserve(1) {
+        Ok(()) => Ok(make_reserved(slots, due, live)),
+        Err(AllocError) => {
+            if slots.made() != made || slots.count() != live {
+                return Ok(false);
+            }
+            slots.reserve(1)?;
+            Ok(make_reserved(slots, due, live))
+        }
+    }
+}
+
+// Puts an item last; where the growth is refused it tries once more.
+fn push(items: &mut Vec<u64>, item: u64) -> Result<bool, AllocError> {
+    if items.push(item).is_err() {
+        items.push(item)?;
+    }
+    Ok(true)
+}
+
+// Releases a number, which has no slot then, and takes its item out.
+fn release(items: &mut Items, number: u32, due: Option<usize>) -> bool {
+    if items.slots.slot(number).is_none() {
+        return false;
+    }
+    let slot = items.slots.release(number);
+    if items.slots.slot(number).is_some() || slot >= items.items.len() {
+        return false;
+    }
+    items.items.swap_remove(slot) == item_of(number) && (due.is_none() || due == Some(slot))
+}
+
+// The number in a slot, where that number has the slot and its item is there.
+fn number_in(items: &Items, slot: usize) -> Option<u32> {
+    if slot >= items.slots.count() {
+        return None;
+    }
+    let number = items.slots.number(slot);
+    if items.slots.slot(number) != Some(slot) || items.items.get(slot) != Some(&item_of(number)) {
+        return None;
+    }
+    Some(number)
+}
+
+// Whether what is asked is as it is due.
+fn is_due(items: &Items, turn: u32, step: &Step) -> bool {
+    let slots = &items.slots;
+    match step {
+        Step::Made(made, live) => {
+            slots.made() == *made && slots.count() == *live && items.items.len() == *live
+        }
+        Step::Number(number) => number_in(items, turn as usize) == Some(*number),
+        Step::Item => number_in(items, turn as usize).is_some(),
+        Step::Live(number, is_live) => slots.slot(*number).is_some() == *is_live,
+        Step::Present(times, is_present) => {
+            slots.is_present(turn.saturating_mul(*times)) == *is_present
+        }
+        _ => false,
+    }
+}
+
+// The next number comes with its item.
+fn come(items: &mut Items, number: u32) -> Result<bool, AllocError> {
+    if !make(&mut items.slots, number)? {
+        return Ok(false);
+    }
+    push(&mut items.items, item_of(number))
+}
+
+fn come_and_go(items: &mut Items, number: u32) -> Result<bool, AllocError> {
+    let is_in = come(items, number)?;
+    Ok(is_in && release(items, number, None))
+}
+
+impl Act for Step {
+    type Scene = Items;
+
+    fn scene(alloc: Global) -> Items {
         Items {
             slots: Slots::new(alloc),
             items: Vec::new(alloc),
         }
     }
 
-    // The next number, with its item.
-    fn make(&mut self, rt: &impl Abort) -> Result<u32, AllocError> {
-        let number = make(rt, &mut self.slots)?;
-        self.items.reserve(1)?;
-        self.items.push_reserved(item_of(number));
-        Ok(number)
-    }
-
-    // Releases a number, and takes its item out.
-    fn release(&mut self, rt: &impl Abort, number: u32) {
-        let slot = release(rt, &mut self.slots, number);
-        assert!(rt; slot < self.items.len());
-        assert!(rt; self.items.swap_remove(slot) == item_of(number));
-    }
-
-    // That there is an item to each slot, that of the number there, and that the number has the slot.
-    fn expect(&self, rt: &impl Abort, count: usize) {
-        assert!(rt; (self.slots.count(), self.items.len()) == (count, count));
-        for (slot, item) in self.items.iter().enumerate() {
-            assert!(rt; slot < self.slots.count());
-            let number = self.slots.number(slot);
-            assert!(rt; self.slots.slot(number) == Some(slot));
-            assert!(rt; *item == item_of(number));
+    fn act(&self, alloc: Global, items: &mut Items, turn: u32) -> Result<bool, AllocError> {
+        match self {
+            Step::Room(additional) => reserve(items, *additional),
+            Step::Make => come(items, turn),
+            Step::Release(times, slot) => Ok(release(items, turn.saturating_mul(*times), *slot)),
+            Step::ComeAndGo => come_and_go(items, turn),
+            Step::Begins => begins(alloc),
+            Step::Ends => Ok(ends(alloc)),
+            _ => Ok(is_due(items, turn, self)),
         }
     }
 }
 
-// So many come, and every third of the first so many goes.
-fn come_and_go(
-    rt: &impl Abort,
-    items: &mut Items,
-    count: usize,
-    gone: u32,
-) -> Result<(), AllocError> {
-    for _ in 0..count {
-        let _ = items.make(rt)?;
-    }
-    for number in 0..gone {
-        if number % 3 == 0 && items.slots.slot(number).is_some() {
-            items.release(rt, number);
-        }
-    }
-    Ok(())
+// The last comes into the slot of the one that is released, and the next number is a new one.
+const NONE_COMES_AGAIN: &[Row] = &[
+    (0, 1, Step::Made(0, 0)),
+    (0, 1, Step::Present(1, false)),
+    (0, 1, Step::Live(0, false)),
+    (0, 4, Step::Make),
+    (0, 1, Step::Made(4, 4)),
+    (0, 1, Step::Number(0)),
+    (1, 2, Step::Number(1)),
+    (2, 3, Step::Number(2)),
+    (3, 4, Step::Number(3)),
+    (1, 2, Step::Release(1, Some(1))),
+    (0, 1, Step::Made(4, 3)),
+    (0, 1, Step::Number(0)),
+    (1, 2, Step::Number(3)),
+    (2, 3, Step::Number(2)),
+    (4, 5, Step::Make),
+    (0, 1, Step::Made(5, 4)),
+    (0, 1, Step::Number(0)),
+    (1, 2, Step::Number(3)),
+    (2, 3, Step::Number(2)),
+    (3, 4, Step::Number(4)),
+    (4, 5, Step::Release(1, Some(3))),
+    (0, 1, Step::Made(5, 3)),
+    (0, 1, Step::Number(0)),
+    (1, 2, Step::Number(3)),
+    (2, 3, Step::Number(2)),
+    (0, 1, Step::Release(1, Some(0))),
+    (0, 1, Step::Made(5, 2)),
+    (0, 1, Step::Number(2)),
+    (1, 2, Step::Number(3)),
+    (2, 4, Step::Release(1, None)),
+    (0, 1, Step::Made(5, 0)),
+    (5, 6, Step::Make),
+    (0, 1, Step::Made(6, 1)),
+    (0, 1, Step::Number(5)),
+    (0, 1, Step::Live(3, false)),
+    (0, 1, Step::Live(6, false)),
+    (0, 1, Step::Live(u32::MAX, false)),
+];
+
+#[test]
+fn none_comes_again(rt: HostRuntime) -> Result<(), Fail> {
+    expect(&rt, rt.alloc(), NONE_COMES_AGAIN)
 }
 
-// Two thousand of three thousand and of twice as many are live, without gaps, each with its item.
+// Every third of three thousand is released, and of three thousand more: two thousand and then twice as many are live, without gaps, each with
+// its item.
+const ITEMS_BY_SLOT: &[Row] = &[
+    (0, 3_000, Step::Make),
+    (0, 1_000, Step::Release(3, None)),
+    (0, 1, Step::Made(3_000, 2_000)),
+    (0, 2_000, Step::Item),
+    (3_000, 6_000, Step::Make),
+    (1_000, 2_000, Step::Release(3, None)),
+    (0, 1, Step::Made(6_000, 4_000)),
+    (0, 4_000, Step::Item),
+    (0, 1, Step::Live(5_997, false)),
+    (0, 1, Step::Live(5_999, true)),
+];
+
 #[test]
 fn items_by_slot(rt: HostRuntime) -> Result<(), Fail> {
-    let mut items = Items::new(rt.alloc());
-    come_and_go(&rt, &mut items, 3_000, 3_000)?;
-    items.expect(&rt, 2_000);
-    come_and_go(&rt, &mut items, 3_000, 6_000)?;
-    items.expect(&rt, 4_000);
-    assert!(rt; items.slots.slot(5_997).is_none() && items.slots.slot(5_999).is_some());
-    Ok(())
-}
-
-// That of the pages of the first numbers that of this number alone has its memory.
-fn expect_page(rt: &impl Abort, slots: &Slots, present: u32) {
-    let mut number = 0;
-    for page in 0..200u32 {
-        assert!(rt;
-            slots.is_present(number) == (page == present / 1024),
-            "page of {number}"
-        );
-        number = number.saturating_add(1024);
-    }
+    expect(&rt, rt.alloc(), ITEMS_BY_SLOT)
 }
 
 // A hundred thousand numbers are live at once, and released: the page of the next number is left.
+const AT_ONCE: &[Row] = &[
+    (0, 100_000, Step::Make),
+    (0, 1, Step::Made(100_000, 100_000)),
+    (0, 100_000, Step::Release(1, None)),
+    (0, 1, Step::Made(100_000, 0)),
+    (0, 97, Step::Present(1024, false)),
+    (97, 98, Step::Present(1024, true)),
+    (98, 200, Step::Present(1024, false)),
+];
+
 #[test]
 fn a_hundred_thousand_at_once(rt: HostRuntime) -> Result<(), Fail> {
-    let mut slots = Slots::new(rt.alloc());
-    make_all(&rt, &mut slots, 100_000)?;
-    assert!(rt; slots.count() == 100_000);
-    release_all(&rt, &mut slots, 0, 100_000);
-    has_made(&rt, &slots, 100_000, 0);
-    expect_page(&rt, &slots, 100_000);
-    Ok(())
-}
-
-// So many come and go by turns, beside one of them that stays.
-fn take_turns(
-    rt: &impl Abort,
-    slots: &mut Slots,
-    count: u32,
-    stays: u32,
-) -> Result<(), AllocError> {
-    for _ in 0..count {
-        let number = make(rt, slots)?;
-        if number != stays {
-            let _ = release(rt, slots, number);
-        }
-    }
-    Ok(())
+    expect(&rt, rt.alloc(), AT_ONCE)
 }
 
 // A hundred thousand come and go by turns, beside one that was made half-way and stays.
+const BY_TURNS: &[Row] = &[
+    (0, 50_000, Step::ComeAndGo),
+    (50_000, 50_001, Step::Make),
+    (50_001, 100_000, Step::ComeAndGo),
+    (0, 1, Step::Made(100_000, 1)),
+    (0, 1, Step::Number(50_000)),
+    (50_000, 50_001, Step::Present(1, true)),
+    (100_000, 100_001, Step::Present(1, true)),
+    (50_000, 50_001, Step::Release(1, None)),
+    (0, 97, Step::Present(1024, false)),
+    (97, 98, Step::Present(1024, true)),
+    (98, 200, Step::Present(1024, false)),
+];
+
 #[test]
 fn a_hundred_thousand_by_turns(rt: HostRuntime) -> Result<(), Fail> {
-    let mut slots = Slots::new(rt.alloc());
-    take_turns(&rt, &mut slots, 100_000, 50_000)?;
-    expect(&rt, &slots, &[50_000]);
-    assert!(rt; slots.made() == 100_000);
-    assert!(rt; slots.is_present(50_000) && slots.is_present(100_000));
-    let _ = release(&rt, &mut slots, 50_000);
-    expect_page(&rt, &slots, 100_000);
-    Ok(())
-}
-
-// Makes room for a number, and tries once more where the growth is refused: then all is as it was.
-fn reserve_at_last(rt: &impl Abort, slots: &mut Slots) -> Result<(), AllocError>
-    ensures room { OnOk result (1 ≤ slots.new.room) }
-{
-    let (made, live) = (slots.made(), slots.count());
-    if reserve(rt, slots, 1).is_ok() {
-        return Ok(());
-    }
-    has_made(rt, slots, made, live);
-    reserve(rt, slots, 1)
-}
-
-// That the next numbers are given out in order, each with its slot.
-fn give_out(rt: &impl Abort, slots: &mut Slots, count: u32) -> Result<(), AllocError> {
-    for number in 0..count {
-        reserve_at_last(rt, slots)?;
-        let made = slots.push_reserved();
-        assert!(rt; made == number);
-        assert!(rt; slots.slot(number) == Some(number as usize));
-    }
-    Ok(())
+    expect(&rt, rt.alloc(), BY_TURNS)
 }
 
 // Where a growth is refused nothing has happened, and the next try makes the room.
+const REFUSED_ROOM: &[Row] = &[(0, 3_000, Step::Make), (0, 1, Step::Made(3_000, 3_000))];
+
 #[test]
 fn refused_room(rt: HostRuntime) -> Result<(), Fail> {
-    let mut slots = Slots::new(rt.alloc());
-    give_out(&rt, &mut slots, 3_000)?;
-    has_made(&rt, &slots, 3_000, 3_000);
-    Ok(())
-}
-
-// How many numbers were given out, and how many of them are live.
-fn has_made(rt: &impl Abort, slots: &Slots, made: u64, live: usize) {
-    assert!(rt; slots.made() == made);
-    assert!(rt; slots.count() == live);
-}
-
-// 2,500 numbers, room for one more, and the first mark.
-fn make_ready(rt: &impl Abort, alloc: Global, slots: &mut Slots) -> Result<(), AllocError>
-    ensures room { OnOk result (1 ≤ slots.new.room) }
-{
-    make_all(rt, slots, 2_500)?;
-    begins_after(rt, alloc, slots)
-}
-
-fn begins_after(rt: &impl Abort, alloc: Global, slots: &mut Slots) -> Result<(), AllocError>
-    ensures room { OnOk result (1 ≤ slots.new.room) }
-{
-    reserve(rt, slots, 1)?;
-    begins(alloc)
-}
-
-// One more number is given out, and most are released.
-fn make_and_release(rt: &impl Abort, slots: &mut Slots)
-    requires { 1 ≤ slots.old.room }
-{
-    let next = slots.push_reserved();
-    assert!(rt; next == 2_500 && slots.slot(next) == Some(2_500));
-    release_all(rt, slots, 0, 2_400);
-    has_made(rt, slots, 2_501, 101);
+    expect(&rt, rt.alloc(), REFUSED_ROOM)
 }
 
 // Numbers are given out in room that is there, looked up and released.
+const WITHOUT_A_GROWTH: &[Row] = &[
+    (0, 2_500, Step::Make),
+    (0, 1, Step::Room(1)),
+    (0, 1, Step::Begins),
+    (2_500, 2_501, Step::Make),
+    (0, 2_400, Step::Release(1, None)),
+    (0, 1, Step::Made(2_501, 101)),
+    (0, 1, Step::Ends),
+    (0, 1, Step::Present(1, false)),
+    (2_400, 2_401, Step::Present(1, true)),
+];
+
 #[test]
 fn numbers_without_a_growth(rt: HostRuntime) -> Result<(), Fail> {
-    let mut slots = Slots::new(rt.alloc());
-    make_ready(&rt, rt.alloc(), &mut slots)?;
-    make_and_release(&rt, &mut slots);
-    ends(rt.alloc());
-    assert!(rt; !slots.is_present(0) && slots.is_present(2_400));
-    Ok(())
+    expect(&rt, rt.alloc(), WITHOUT_A_GROWTH)
 }

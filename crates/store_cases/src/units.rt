@@ -1,166 +1,232 @@
-//! Examples of texts: pairs, lone surrogates and the empty text, and parts replaced.
+//! Examples of texts: pairs, lone surrogates and the empty text, and parts replaced. Each is a list of rows.
+use super::playing::expect;
 use dom_units::Units;
+use growth_marks::Act;
 use std::alloc::{AllocError, Global};
-use std::process::Abort;
+use std::mem::swap;
 use std::test::Fail;
+
+// What is done with a text, or what is due of it.
+enum Step {
+    // It is made of characters.
+    Text(&'static str),
+    // It is made of units.
+    Units(&'static [u16]),
+    // It is the empty one.
+    New,
+    // It is copied to another, over what was there.
+    Copy,
+    // The other takes its place, and it that of the other.
+    Swap,
+    // It has these units.
+    Is(&'static [u16]),
+    // From this unit on it has these.
+    Slice(usize, &'static [u16]),
+    // It is these characters, or it is no text.
+    Reads(Option<&'static str>),
+    // It has these units; and then from where on how many are replaced by which.
+    Splice(&'static [u16], usize, usize, &'static [u16]),
+}
+
+fn is(data: &Units, due: &[u16]) -> bool {
+    data.len() == due.len() && data.is_empty() == due.is_empty() && data.units() == due
+}
+
+fn has_slice(data: &Units, at: usize, due: &[u16]) -> bool {
+    at <= data.len() && due.len() <= data.len() - at && data.slice(at, due.len()) == due
+}
+
+fn reads(alloc: Global, data: &Units, due: Option<&str>) -> Result<bool, AllocError> {
+    let text = data.to_text(alloc)?;
+    let is_read = match (&text, due) {
+        (Some(text), Some(due)) => text.as_str() == due,
+        (text, due) => text.is_none() && due.is_none(),
+    };
+    Ok(is_read && data.is_well_formed() == due.is_some())
+}
+
+fn splice(data: &mut Units, at: usize, count: usize, added: &[u16]) -> Result<bool, AllocError> {
+    if at > data.len() || count > data.len() - at {
+        return Ok(false);
+    }
+    data.splice(at, count, added)?;
+    Ok(true)
+}
+
+// Replaces a part. Where the growth is refused the text is as it was, and the next try replaces it.
+fn splice_at_last(
+    data: &mut Units,
+    before: &[u16],
+    at: usize,
+    count: usize,
+    added: &[u16],
+) -> Result<bool, AllocError> {
+    if !is(data, before) {
+        return Ok(false);
+    }
+    match splice(data, at, count, added) {
+        Ok(is_done) => Ok(is_done),
+        Err(AllocError) => Ok(is(data, before) && splice(data, at, count, added)?),
+    }
+}
+
+// A text, and another beside it.
+#[derive(Drop)]
+struct Both {
+    data: Units,
+    other: Units,
+}
+
+fn renew(both: &mut Both, data: Units) -> bool {
+    both.data = data;
+    true
+}
+
+fn copy(alloc: Global, both: &mut Both) -> Result<bool, AllocError> {
+    both.other = both.data.try_clone(alloc)?;
+    Ok(true)
+}
+
+fn exchange(both: &mut Both) -> bool {
+    swap(&mut both.data, &mut both.other);
+    true
+}
+
+impl Act for Step {
+    type Scene = Both;
+
+    fn scene(alloc: Global) -> Both {
+        Both {
+            data: Units::new(alloc),
+            other: Units::new(alloc),
+        }
+    }
+
+    fn act(&self, alloc: Global, both: &mut Both, _turn: u32) -> Result<bool, AllocError> {
+        match self {
+            Step::Text(text) => Ok(renew(both, Units::from_str(alloc, text)?)),
+            Step::Units(units) => Ok(renew(both, Units::from_units(alloc, units)?)),
+            Step::New => Ok(renew(both, Units::new(alloc))),
+            Step::Copy => copy(alloc, both),
+            Step::Swap => Ok(exchange(both)),
+            Step::Is(due) => Ok(is(&both.data, due)),
+            Step::Slice(at, due) => Ok(has_slice(&both.data, *at, due)),
+            Step::Reads(due) => reads(alloc, &both.data, *due),
+            Step::Splice(before, at, count, added) => {
+                splice_at_last(&mut both.data, before, *at, *count, added)
+            }
+        }
+    }
+}
+
+// The first turn, the one that ends them, and what is done at each of them.
+type Row = (u32, u32, Step);
 
 // A text of the characters at the edges of what one, two, three and four bytes of UTF-8 hold, and its units.
 const EDGES: &str = "\u{0}\u{7F}\u{80}\u{7FF}\u{800}\u{D7FF}\u{E000}\u{FFFF}\u{10000}\u{10FFFF}";
 
-const UNITS_OF_EDGES: [u16; 12] = [
+const UNITS_OF_EDGES: &[u16] = &[
     0, 0x7F, 0x80, 0x7FF, 0x800, 0xD7FF, 0xE000, 0xFFFF, 0xD800, 0xDC00, 0xDBFF, 0xDFFF,
 ];
 
-// That a text has these units.
-fn has_units(rt: &impl Abort, alloc: Global, text: &str, wanted: &[u16]) -> Result<(), AllocError> {
-    let units = Units::from_str(alloc, text)?;
-    assert!(rt; units.len() == wanted.len());
-    assert!(rt; units.units() == wanted);
-    Ok(())
-}
-
-const TEXTS: &[(&str, &[u16])] = &[("", &[]), ("a😀b", &[97, 55357, 56832, 98])];
-
-// Each text has these units.
-fn have_units(rt: &impl Abort, alloc: Global) -> Result<(), AllocError> {
-    for (text, wanted) in TEXTS {
-        has_units(rt, alloc, text, wanted)?;
-    }
-    has_units(rt, alloc, EDGES, &UNITS_OF_EDGES)
-}
-
-// A part that cuts a pair.
-fn cuts_a_pair(rt: &impl Abort, alloc: Global) -> Result<(), AllocError> {
-    let smile = Units::from_str(alloc, "a😀b")?;
-    assert!(rt; smile.len() == 4);
-    assert!(rt; smile.slice(2, 2) == [56832, 98].as_slice());
-    Ok(())
-}
-
-// That units are well formed, and are this text.
-fn reads(rt: &impl Abort, alloc: Global, units: &Units, wanted: &str) -> Result<(), AllocError> {
-    assert!(rt; units.is_well_formed());
-    match units.to_text(alloc)? {
-        None => assert!(rt; false, "{wanted}"),
-        Some(text) => assert!(rt; text.as_str() == wanted, "{wanted}"),
-    }
-    Ok(())
-}
-
-fn read_edges(rt: &impl Abort, alloc: Global) -> Result<(), AllocError> {
-    let edges = Units::from_units(alloc, &UNITS_OF_EDGES)?;
-    reads(rt, alloc, &edges, EDGES)
-}
-
-// That three units are no text.
-fn is_no_text(
-    rt: &impl Abort,
-    alloc: Global,
-    units: &[u16],
-    case: usize,
-) -> Result<(), AllocError> {
-    let units = Units::from_units(alloc, units)?;
-    assert!(rt; !units.is_well_formed(), "{case}");
-    assert!(rt; units.to_text(alloc)?.is_none(), "{case}");
-    assert!(rt; units.len() == 3, "{case}");
-    Ok(())
-}
-
-// Lone surrogates.
-const LONE: &[[u16; 3]] = &[
-    [0xD800, 97, 97],
-    [97, 0xDBFF, 97],
-    [97, 97, 0xDBFF],
-    [0xDC00, 97, 97],
-    [97, 97, 0xDFFF],
-    [0xDC00, 0xD800, 97],
-    [0xD800, 0xD800, 0xDC00],
-    [0xD800, 0xDC00, 0xDC00],
+// Texts and their units, a part that cuts a pair, and lone surrogates.
+const TEXTS_AND_UNITS: &[Row] = &[
+    (0, 1, Step::Text("")),
+    (0, 1, Step::Is(&[])),
+    (0, 1, Step::Text("a😀b")),
+    (0, 1, Step::Is(&[97, 55357, 56832, 98])),
+    (0, 1, Step::Slice(2, &[56832, 98])),
+    (0, 1, Step::Text(EDGES)),
+    (0, 1, Step::Is(UNITS_OF_EDGES)),
+    (0, 1, Step::Units(UNITS_OF_EDGES)),
+    (0, 1, Step::Reads(Some(EDGES))),
+    (0, 1, Step::New),
+    (0, 1, Step::Reads(Some(""))),
+    (0, 1, Step::Units(&[0xD800, 97, 97])),
+    (0, 1, Step::Reads(None)),
+    (0, 1, Step::Is(&[0xD800, 97, 97])),
+    (0, 1, Step::Units(&[97, 0xDBFF, 97])),
+    (0, 1, Step::Reads(None)),
+    (0, 1, Step::Is(&[97, 0xDBFF, 97])),
+    (0, 1, Step::Units(&[97, 97, 0xDBFF])),
+    (0, 1, Step::Reads(None)),
+    (0, 1, Step::Is(&[97, 97, 0xDBFF])),
+    (0, 1, Step::Units(&[0xDC00, 97, 97])),
+    (0, 1, Step::Reads(None)),
+    (0, 1, Step::Is(&[0xDC00, 97, 97])),
+    (0, 1, Step::Units(&[97, 97, 0xDFFF])),
+    (0, 1, Step::Reads(None)),
+    (0, 1, Step::Is(&[97, 97, 0xDFFF])),
+    (0, 1, Step::Units(&[0xDC00, 0xD800, 97])),
+    (0, 1, Step::Reads(None)),
+    (0, 1, Step::Is(&[0xDC00, 0xD800, 97])),
+    (0, 1, Step::Units(&[0xD800, 0xD800, 0xDC00])),
+    (0, 1, Step::Reads(None)),
+    (0, 1, Step::Is(&[0xD800, 0xD800, 0xDC00])),
+    (0, 1, Step::Units(&[0xD800, 0xDC00, 0xDC00])),
+    (0, 1, Step::Reads(None)),
+    (0, 1, Step::Is(&[0xD800, 0xDC00, 0xDC00])),
 ];
-
-fn are_no_text(rt: &impl Abort, alloc: Global) -> Result<(), AllocError> {
-    for (case, units) in LONE.iter().enumerate() {
-        is_no_text(rt, alloc, units, case)?;
-    }
-    Ok(())
-}
 
 #[test]
 fn texts_and_units(rt: HostRuntime) -> Result<(), Fail> {
-    have_units(&rt, rt.alloc())?;
-    cuts_a_pair(&rt, rt.alloc())?;
-    read_edges(&rt, rt.alloc())?;
-    reads(&rt, rt.alloc(), &Units::new(rt.alloc()), "")?;
-    are_no_text(&rt, rt.alloc())?;
-    Ok(())
+    expect(&rt, rt.alloc(), TEXTS_AND_UNITS)
 }
 
-// That seven units of which some are replaced are this text.
-fn replaced(
-    rt: &impl Abort,
-    alloc: Global,
-    at: usize,
-    count: usize,
-    wanted: &str,
-) -> Result<(), AllocError> {
-    let mut data = Units::from_str(alloc, "abcdefg")?;
-    assert!(rt; at <= data.len() && count <= data.len() - at);
-    data.splice(at, count, &[88, 89])?;
-    reads(rt, alloc, &data, wanted)
-}
+// The units of abcdefg, and of XY.
+const SEVEN: &[u16] = &[97, 98, 99, 100, 101, 102, 103];
 
-// From where on how many are replaced by X and Y, and the text then.
-const REPLACED: &[(usize, usize, &str)] = &[
-    (2, 3, "abXYfg"),
-    (7, 0, "abcdefgXY"),
-    (0, 1, "XYbcdefg"),
-    (1, 2, "aXYdefg"),
-    (0, 7, "XY"),
+const XY: &[u16] = &[88, 89];
+
+const REPLACED: &[Row] = &[
+    (0, 1, Step::Text("abcdefg")),
+    (0, 1, Step::Splice(SEVEN, 2, 3, XY)),
+    (0, 1, Step::Reads(Some("abXYfg"))),
+    (0, 1, Step::Text("abcdefg")),
+    (0, 1, Step::Splice(SEVEN, 7, 0, XY)),
+    (0, 1, Step::Reads(Some("abcdefgXY"))),
+    (0, 1, Step::Text("abcdefg")),
+    (0, 1, Step::Splice(SEVEN, 0, 1, XY)),
+    (0, 1, Step::Reads(Some("XYbcdefg"))),
+    (0, 1, Step::Text("abcdefg")),
+    (0, 1, Step::Splice(SEVEN, 1, 2, XY)),
+    (0, 1, Step::Reads(Some("aXYdefg"))),
+    (0, 1, Step::Text("abcdefg")),
+    (0, 1, Step::Splice(SEVEN, 0, 7, XY)),
+    (0, 1, Step::Reads(Some("XY"))),
 ];
-
-fn replace_each(rt: &impl Abort, alloc: Global) -> Result<(), AllocError> {
-    for (at, count, wanted) in REPLACED {
-        replaced(rt, alloc, *at, *count, wanted)?;
-    }
-    Ok(())
-}
 
 #[test]
 fn replaced_parts(rt: HostRuntime) -> Result<(), Fail> {
-    replace_each(&rt, rt.alloc())?;
-    Ok(())
+    expect(&rt, rt.alloc(), REPLACED)
 }
 
 // A text of two units is emptied and gets another.
-fn empty_and_fill(rt: &impl Abort, data: &mut Units) -> Result<(), AllocError> {
-    assert!(rt; data.len() == 2);
-    data.splice(0, 2, &[])?;
-    assert!(rt; data.is_empty());
-    data.splice(0, 0, &[88])?;
-    assert!(rt; data.units() == [88].as_slice());
-    Ok(())
-}
+const EMPTIED: &[Row] = &[
+    (0, 1, Step::Units(&[97, 98])),
+    (0, 1, Step::Copy),
+    (0, 1, Step::Swap),
+    (0, 1, Step::Splice(&[97, 98], 0, 2, &[])),
+    (0, 1, Step::Is(&[])),
+    (0, 1, Step::Splice(&[], 0, 0, &[88])),
+    (0, 1, Step::Is(&[88])),
+    (0, 1, Step::Swap),
+    (0, 1, Step::Is(&[97, 98])),
+];
 
 #[test]
 fn emptied_beside_a_copy(rt: HostRuntime) -> Result<(), Fail> {
-    let data = Units::from_units(rt.alloc(), &[97, 98])?;
-    let mut copy = data.try_clone(rt.alloc())?;
-    empty_and_fill(&rt, &mut copy)?;
-    assert!(rt; data.units() == [97, 98].as_slice());
-    Ok(())
+    expect(&rt, rt.alloc(), EMPTIED)
 }
 
 // Where the growth is refused the text is as it was.
+const REFUSED: &[Row] = &[
+    (0, 1, Step::Units(&[1, 2, 3])),
+    (0, 1, Step::Splice(&[1, 2, 3], 1, 1, &[7, 8, 9])),
+    (0, 1, Step::Is(&[1, 7, 8, 9, 3])),
+];
+
 #[test]
 fn refused_growth(rt: HostRuntime) -> Result<(), Fail> {
-    let alloc = rt.alloc();
-    let mut data = Units::from_units(alloc, &[1, 2, 3])?;
-    assert!(rt; data.len() == 3);
-    let grown = data.splice(1, 1, &[7, 8, 9]);
-    let wanted = match grown {
-        Ok(()) => [1, 7, 8, 9, 3].as_slice(),
-        Err(_) => [1, 2, 3].as_slice(),
-    };
-    assert!(rt; data.units() == wanted);
-    Ok(())
+    expect(&rt, rt.alloc(), REFUSED)
 }

@@ -4,10 +4,14 @@
 #[cfg(test)]
 mod counted;
 #[cfg(test)]
+mod filters;
+#[cfg(test)]
+mod iterators;
+#[cfg(test)]
+mod playing;
+#[cfg(test)]
 mod points;
 #[cfg(test)]
-mod releases;
-#[cfg(test)]
-mod traversal;
-#[cfg(test)]
 mod tree;
+#[cfg(test)]
+mod walkers;

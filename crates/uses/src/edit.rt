@@ -1,6 +1,6 @@
 //! Calls of `dom_edit`.
 
-ghost use Rattle.std.specs.Prelude.{◌≡◌, ◌<◌, true, IfOk, OnOk};
+ghost use Rattle.std.specs.Prelude.{◌≡◌, ◌<◌, ℕ, List, true, IfOk, OnOk};
 ghost use Rattle.dom_model.specs.declared.Kind.TheVariants.{Document};
 ghost use Rattle.dom_model.specs.Forests.Forest.{HasNode, entry_in};
 ghost use Rattle.dom_model.specs.Forests.Nodes.{is_of_kind};
@@ -90,12 +90,13 @@ pub fn append_text(
     Ok(child)
 }
 
-/// Where the ends of a live range stand that had all the data of a Text, once the Text is removed: in its parent, where it stood.
-pub fn ends_after_removal(alloc: Global, text: &str) -> Result<(Point, Point), AllocError>
+/// Where the ends of a live range stand that had all the data of the Text, once the Text is removed: in its parent, where it stood.
+pub fn remove_text(alloc: Global, world: &mut World) -> Result<(Point, Point), AllocError>
+    requires keeps { (text : List ℕ) × Keeps world.old (paragraph text) }
+    requires whole { IsWhole world.old }
     ensures start { IfOk result (λ ends. ends.0 ≡ record { node = 1; offset = 0 }) }
     ensures end { IfOk result (λ ends. ends.1 ≡ record { node = 1; offset = 0 }) }
 {
-    let mut world = paragraph(alloc, text)?;
     let node = NodeId::new(2);
     let start = Point { node, offset: 0 };
     let end = Point {
@@ -105,4 +106,13 @@ pub fn ends_after_removal(alloc: Global, text: &str) -> Result<(Point, Point), A
     let range = world.ranges.make(&world.tree, start, end)?;
     world.remove(alloc, node)?;
     Ok(world.ranges.ends(range))
+}
+
+/// The same of a Text with that data in a world of its own.
+pub fn ends_after_removal(alloc: Global, text: &str) -> Result<(Point, Point), AllocError>
+    ensures start { IfOk result (λ ends. ends.0 ≡ record { node = 1; offset = 0 }) }
+    ensures end { IfOk result (λ ends. ends.1 ≡ record { node = 1; offset = 0 }) }
+{
+    let mut world = paragraph(alloc, text)?;
+    remove_text(alloc, &mut world)
 }

@@ -4,6 +4,7 @@ import { mkdirSync, readFileSync, writeFileSync } from "node:fs";
 import { join } from "node:path";
 import { fileURLToPath } from "node:url";
 
+import { groups } from "./commands.js";
 import { all } from "./dialogues.js";
 
 const place = (path) => fileURLToPath(new URL(path, import.meta.url));
@@ -35,7 +36,7 @@ export function page() {
   const script = bundled(place("page/page.js"));
   return readFileSync(place("page/index.html"), "utf8")
     .replace('<link rel="stylesheet" href="style.css">', () => `<style>\n${style}</style>`)
-    .replace('<script type="module" src="page.js"></script>', () => `<script>\n${given({ dialogues: all() })}\n</script>\n<script type="module">\n${script}</script>`);
+    .replace('<script type="module" src="page.js"></script>', () => `<script>\n${given({ dialogues: all(), groups: groups() })}\n</script>\n<script type="module">\n${script}</script>`);
 }
 
 // Writes the page into a folder, and returns its path.

@@ -9,10 +9,11 @@ import { after, before, describe, test } from "node:test";
 import { fileURLToPath, pathToFileURL } from "node:url";
 
 import { Browser, missing } from "./browser.js";
+import { groups, table } from "./commands.js";
 import { dialogue, linesOf as cut, names } from "./dialogues.js";
 import { Firefox, missing as missingFirefox } from "./firefox.js";
 import { hasBundler, make, MODULE } from "./make.js";
-import { GROUPS, openPlace, template } from "./page/commands.js";
+import { openPlace, template } from "./page/commands.js";
 import { tokenText } from "./page/token_text.js";
 
 const place = (path) => fileURLToPath(new URL(path, import.meta.url));
@@ -41,18 +42,16 @@ test("token texts of rows and ends", () => {
   assert.equal(written(tokenText(rows, [[0, [1, 1, 2, 2]], [3, [2, 0, 4, 1]]])), '<p>"[3a\\ud83d]0\\ude00\\["[0<!--\\ud83d--><?t b]3?></p>');
 });
 
-test("the commands are those of docs/commands.md, in its order", () => {
-  const rows = [...document("commands.md").matchAll(/^\| (\w+) \| ((?:`\w+`(?:, )?)+) \|$/gm)];
-  const listed = rows.map(([, group, its]) => [group, its.replaceAll("`", "").split(", ")]);
-  assert.deepEqual(Object.entries(GROUPS).map(([group, its]) => [group, its.map((it) => it.split(" ")[0])]), listed);
-  for (const command of Object.values(GROUPS).flat()) assert.ok(document("commands.md").includes(`\`${command.split(" ")[0]}\`${command.replace(/^\w+/, "")} |`), command);
-});
-
-test("a command that is clicked is a line of JSON once its places are filled", () => {
-  for (const command of Object.values(GROUPS).flat()) {
+test("a command that is clicked is a line of JSON once its places, which are of numbers alone, are filled", () => {
+  const commands = Object.values(groups()).flat();
+  assert.deepEqual(commands.map((it) => it.split(" ")[0]), table().map((it) => it.name));
+  for (const [at, command] of commands.entries()) {
     let line = template(command);
-    for (let open = openPlace(line); open; open = openPlace(line)) line = line.slice(0, open[0]) + 1 + line.slice(open[1]);
-    assert.equal(JSON.parse(line).length, command.split(" ").length);
+    for (let open = openPlace(line); open; open = openPlace(line)) line = `${line.slice(0, open[0])}-1${line.slice(open[1])}`;
+    const shapes = table()[at].arguments.map((it) => it.shape);
+    const [, ...given] = JSON.parse(line);
+    assert.equal(given.length, shapes.length);
+    for (const [place, value] of given.entries()) assert.ok(value !== -1 || shapes[place].startsWith("a_number"), command);
   }
 });
 

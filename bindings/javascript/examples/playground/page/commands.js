@@ -1,24 +1,5 @@
-// The commands by their groups, with their arguments, as docs/commands.md lists them; "?" marks one that may be null.
-export const GROUPS = {
-  making: ["newDocument", "createElement document name", "createText document text", "createComment document text", "createPI document target text",
-    "createDoctype document name public system", "createFragment document"],
-  trees: ["insertBefore parent node child?", "appendChild parent node", "adoptNode document node", "replaceChild parent node child", "removeChild parent child",
-    "remove node", "replaceChildren parent node?", "importNode document node deep", "cloneNode node deep", "normalize node", "discard node"],
-  questions: ["node node", "children node", "index node", "length node", "root node", "contains node other?", "isEqual node other?",
-    "comparePosition node other", "textContent node", "setTextContent node text?", "tree node"],
-  data: ["data node", "setData node text", "appendData node text", "insertData node offset text", "deleteData node offset count",
-    "replaceData node offset count text", "substringData node offset count", "splitText node offset"],
-  attributes: ["setAttribute element name value", "getAttribute element name", "hasAttribute element name", "removeAttribute element name",
-    "toggleAttribute element name force?", "attributeNames element"],
-  ranges: ["createRange document", "cloneRange range", "range range", "setStart range node offset", "setEnd range node offset", "setStartBefore range node",
-    "setStartAfter range node", "setEndBefore range node", "setEndAfter range node", "collapse range to_start", "selectNode range node",
-    "selectNodeContents range node", "compareBoundaryPoints range how other", "comparePoint range node offset", "isPointInRange range node offset",
-    "intersectsNode range node", "commonAncestor range", "releaseRange range", "createStaticRange node offset node offset", "staticRange static"],
-  contents: ["rangeText range", "deleteContents range", "extractContents range", "cloneContents range", "insertNode range node", "surroundContents range node"],
-  traversal: ["createIterator root show filter", "createWalker root show filter", "iterator iterator", "nextNode iterator", "previousNode iterator",
-    "walker walker", "setCurrent walker node", "walk walker move"],
-  observers: ["createObserver", "observe observer node options", "disconnect observer", "takeRecords observer", "notify", "pending"],
-};
+// The commands by their groups, with their arguments, as the page was made with them; "?" marks one that may be null.
+export const groups = () => globalThis.groups ?? {};
 
 // What stands for an argument until it is typed over.
 const STANDS_FOR = {

@@ -1,5 +1,5 @@
 // The page: which lines are played, which step is shown, and what is typed or clicked.
-import { GROUPS, openPlace, template } from "./commands.js";
+import { groups, openPlace, template } from "./commands.js";
 import { dialogue, names } from "./dialogues.js";
 import { element, others, records, tokenTexts, trees } from "./drawing.js";
 import { play as played } from "./play.js";
@@ -90,7 +90,7 @@ function fill(number) {
 }
 
 function drawCommands(group) {
-  const buttons = GROUPS[group].map((command) => {
+  const buttons = groups()[group].map((command) => {
     const it = element("button", "", command.split(" ")[0]);
     it.type = "button";
     it.title = command;
@@ -161,7 +161,7 @@ function follow() {
   }
 }
 
-part("group").append(...Object.keys(GROUPS).map((group) => new Option(group)));
+part("group").append(...Object.keys(groups()).map((group) => new Option(group)));
 drawCommands("making");
 listen();
 drawDialogues();

@@ -4,9 +4,8 @@ use Rattle.std.proofs.lemmas.Result.{err_from_is_err_and}
 use Rattle.dom_model.specs.Worlds.World.{Range}
 use Rattle.dom_model.specs.RangesAndContents.Contents.{extracted, extract}
 use Rattle.dom_edit.specs.Refusals.{IsRefused}
-use Rattle.dom_content.specs.Left.{HoldsBetween, MovesBetween}
-use Rattle.dom_content.proofs.ContentsLeft.{left-extracted, held-extracted, moved-extracted}
-use Rattle.dom_content.proofs.ContentsMarked.{asked-range, markers-extracted}
+use Rattle.dom_content.proofs.ContentsExtracted.{told-fragment}
+use Rattle.dom_content.proofs.ContentsMarked.{asked-range}
 use Rattle.dom_content.proofs.Deleted.{follows-alike}
 use Rattle.dom_content.proofs.DrawnContents.{range-extracted, room-extracted}
 use Rattle.dom_content.proofs.RangeTexts.{range-held}
@@ -40,21 +39,5 @@ pub returns-clause-extracted : goal.returns-clause-extracted
 returns-clause-extracted c =
     let v = c.args.world.now in
     let range : Range = record { start = c.ends-start.result.0; end = c.ends-start.result.1 } in
-    follows-alike v c.extract_parts.new.world (extracted c.args.range range) (extract c.args.range) (λ w k. range-extracted v c.args.range range c.ends-start.ensures.ends w k) c.in_ok-fragment.ensures.extracted
-
-pub returns-clause-markers : goal.returns-clause-markers
-returns-clause-markers c =
-    markers-extracted c.args.world.now c.extract_parts.new.world c.args.range c.requires.whole c.in_ok-fragment.ensures.whole (returns-clause-allowed c) (returns-clause-extracted c)
-
-pub returns-clause-left : goal.returns-clause-left
-returns-clause-left c = left-extracted c.args.world.now c.extract_parts.new.world c.args.range c.requires.whole (returns-clause-allowed c) (returns-clause-extracted c)
-
-pub returns-clause-held : goal.returns-clause-held
-returns-clause-held c =
-    subst (λ id. HoldsBetween c.args.world.now c.extract_parts.new.world c.args.range id) (sym c.in_ok-fragment.ensures.number)
-    (held-extracted c.args.world.now c.extract_parts.new.world c.args.range c.requires.whole (returns-clause-allowed c) (returns-clause-extracted c))
-
-pub returns-clause-moved : goal.returns-clause-moved
-returns-clause-moved c =
-    subst (λ id. MovesBetween c.args.world.now c.extract_parts.new.world c.args.range id) (sym c.in_ok-fragment.ensures.number)
-    (moved-extracted c.args.world.now c.extract_parts.new.world c.args.range c.requires.whole (returns-clause-allowed c) (returns-clause-extracted c))
+    told-fragment v c.extract_parts.new.world c.args.range c.requires.whole c.in_ok-fragment.ensures.whole (returns-clause-allowed c) c.in_ok-fragment.fragment c.in_ok-fragment.ensures.number
+    (follows-alike v c.extract_parts.new.world (extracted c.args.range range) (extract c.args.range) (λ w k. range-extracted v c.args.range range c.ends-start.ensures.ends w k) c.in_ok-fragment.ensures.extracted)

@@ -3,9 +3,7 @@ use Rattle.dom_model.specs.Worlds.World.{Range}
 use Rattle.dom_model.specs.RangesAndContents.Contents.{extracted, extract}
 use Rattle.dom_model.proofs.TokenText.EditsMade.EditsOfDrawnContents.{check-range}
 use Rattle.dom_edit.specs.Whole.{unwatched}
-use Rattle.dom_content.specs.Left.{HoldsBetween, MovesBetween}
-use Rattle.dom_content.proofs.ContentsLeft.{told-number, left-extracted, held-extracted, moved-extracted}
-use Rattle.dom_content.proofs.ContentsMarked.{markers-extracted}
+use Rattle.dom_content.proofs.ContentsExtracted.{told-result}
 use Rattle.dom_content.proofs.RangeTexts.{range-held}
 use Rattle.dom_content.proofs.Deleted.{follows-alike}
 use Rattle.dom_content.proofs.DrawnContents.{range-extracted, room-extracted}
@@ -27,32 +25,7 @@ pub returns-clause-extracted : goal.returns-clause-extracted
 returns-clause-extracted c =
     let v = c.args.world.now in
     let range : Range = record { start = c.ends-start.result.0; end = c.ends-start.result.1 } in
-    on_ok_weaker c.extract_parts.result
+    told-result v c.extract_parts.new.world c.args.range c.requires.whole c.extract_parts.ensures.whole c.requires.allowed c.extract_parts.result c.extract_parts.ensures.number
+    (on_ok_weaker c.extract_parts.result
     (follows-alike v c.extract_parts.new.world (extracted c.args.range range) (extract c.args.range) (λ w k. range-extracted v c.args.range range c.ends-start.ensures.ends w k))
-    c.extract_parts.ensures.extracted
-
-pub returns-clause-markers : goal.returns-clause-markers
-returns-clause-markers c =
-    on_ok_weaker c.extract_parts.result
-    (markers-extracted c.args.world.now c.extract_parts.new.world c.args.range c.requires.whole c.extract_parts.ensures.whole c.requires.allowed)
-    (returns-clause-extracted c)
-
-pub returns-clause-left : goal.returns-clause-left
-returns-clause-left c =
-    on_ok_weaker c.extract_parts.result
-    (left-extracted c.args.world.now c.extract_parts.new.world c.args.range c.requires.whole c.requires.allowed)
-    (returns-clause-extracted c)
-
-pub returns-clause-held : goal.returns-clause-held
-returns-clause-held c =
-    told-number c.extract_parts.result c.args.world.now.tree.made (λ id. HoldsBetween c.args.world.now c.extract_parts.new.world c.args.range id) c.extract_parts.ensures.number
-    (on_ok_weaker c.extract_parts.result
-    (held-extracted c.args.world.now c.extract_parts.new.world c.args.range c.requires.whole c.requires.allowed)
-    (returns-clause-extracted c))
-
-pub returns-clause-moved : goal.returns-clause-moved
-returns-clause-moved c =
-    told-number c.extract_parts.result c.args.world.now.tree.made (λ id. MovesBetween c.args.world.now c.extract_parts.new.world c.args.range id) c.extract_parts.ensures.number
-    (on_ok_weaker c.extract_parts.result
-    (moved-extracted c.args.world.now c.extract_parts.new.world c.args.range c.requires.whole c.requires.allowed)
-    (returns-clause-extracted c))
+    c.extract_parts.ensures.extracted)

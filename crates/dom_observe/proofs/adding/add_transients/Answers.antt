@@ -3,8 +3,8 @@ use Rattle.std.proofs.Common.{◌≡◌, refl, List, if◌then◌else◌, ◌==�
 use Rattle.std.specs.Prelude.{slice_index_or, slice_set, filter_map}
 use Rattle.std.specs.List.{AllByRecursion}
 use Rattle.dom_observe.specs.Watchers.{on}
-use Rattle.dom_observe.specs.Registrations.{plain, at, found, listed, AllStand, HaveSources, Agree, transient_under}
-use Rattle.dom_observe.proofs.Agreeing.{agree-made, agree-transient}
+use Rattle.dom_observe.specs.Registrations.{plain, at, found, listed, AllStand, HaveSources, Agree, transient_under, ByOrigin, IsPast}
+use Rattle.dom_observe.proofs.Agreeing.{agree-made, alone-made, agree-transient}
 use Rattle.dom_observe.specs.Naming.{NamesNone}
 use Rattle.dom_observe.proofs.Holding.{none-added, none-made}
 use Rattle.dom_observe.specs.Refused.{IsFront}
@@ -16,6 +16,7 @@ use Rattle.dom_observe.proofs.Rosters.{has-kept, within-passing, passing-there, 
 use Rattle.dom_model.specs.PlainLists.LastOnce.{with_last}
 use Rattle.dom_observe.specs.Origins.{NotesIfAny, AlsoNotes}
 use Rattle.dom_observe.proofs.Noting.{noted-added}
+use Rattle.dom_observe.proofs.Owning.{placed-added}
 use Rattle.dom_observe.proofs.Refusing.{front-same, front-added, elsewhere-same}
 use Rattle.dom_observe.proofs.Sources.{sources-added, source-made}
 use Rattle.dom_observe.proofs.Tables.{alike_self, turn-none, turn-added, turn-alike, turn-stands, all_live-added}
@@ -37,7 +38,9 @@ loop-key-init c = record {
   names = λ p here keys none. none;
   indexed = λ lasts there bounded ix. ix;
   sources = λ have. have;
-  agree = λ have. have;
+  placed = λ placed. placed;
+  rising = λ placed rising. rising;
+  agree = λ placed have. have;
   lasting = refl;
   queues = refl;
   full = λ full. full;
@@ -68,8 +71,11 @@ returns-in_err-add-clause-sources c = λ have.
     subst (λ slots. HaveSources (λ k. option_map plain (slice_index_or slots k None))) (sym c.in_err-add.ensures.err_table) (c.loop-key.invariant.sources have)
 
 pub returns-in_err-add-clause-agree : goal.returns-in_err-add-clause-agree
-returns-in_err-add-clause-agree c = λ have.
-    subst (λ slots. Agree (λ k. option_map plain (slice_index_or slots k None))) (sym c.in_err-add.ensures.err_table) (c.loop-key.invariant.agree have)
+returns-in_err-add-clause-agree c = λ placed have.
+    subst (λ slots. Agree (λ k. option_map plain (slice_index_or slots k None))) (sym c.in_err-add.ensures.err_table) (c.loop-key.invariant.agree placed have)
+
+pub returns-in_err-add-clause-rising : goal.returns-in_err-add-clause-rising
+returns-in_err-add-clause-rising c = λ placed rising. c.add.ensures.rising (c.loop-key.invariant.placed placed) (c.loop-key.invariant.rising placed rising)
 
 pub returns-in_err-add-clause-full : goal.returns-in_err-add-clause-full
 returns-in_err-add-clause-full c = λ full. c.add.ensures.full (c.loop-key.invariant.full full)
@@ -137,7 +143,7 @@ loop-key-preserved c =
           rw (w.table-is, w.nodes-is, w.roster-is, w.fleeting-is, w.origins-is) (record {
             unique = w.add.ensures.unique;
             noted = noted-added u lists (plain w.in-Some.made) v lists' a inv.live c.args.node (slice_index_or keys i 0) some c.loop-key.origins.noted w.note.new.self.noted inv.noted
-                (subst (λ n. AlsoNotes w.in-Some.made.observer n c.loop-key.origins.noted w.note.new.self.noted) w.origin.ensures w.in_ok-note.ensures);
+                (subst (λ n. AlsoNotes w.in-Some.made.observer n c.loop-key.origins.noted w.note.new.self.noted) w.origin-origin.ensures w.in_ok-note.ensures);
             live = all_live-added u lists (plain w.in-Some.made) v lists' a inv.live;
             standing = turn-alike u0 u lists0 lists c.args.node keys i 0 c.loop-key-test.true inv.live inv.standing inv.has (plain w.in-Some.made) some v lists' a c.requires.standing;
             has = turn-added u0 u lists0 lists c.args.node keys i 0 c.loop-key-test.true inv.live inv.standing inv.has (plain w.in-Some.made) some v lists' a;
@@ -153,14 +159,20 @@ loop-key-preserved c =
                 let ps = passing_by c.loop-key.roster in
                 let ps' = passing_by (slice_set c.loop-key.roster o (Some (record kept { passing = w.add.new.keys }))) in
                 subst (λ some. IsIndexed v lists' lasts ps' some there) (sym w.in_ok-pend.ensures.ok)
-                (indexed-transient u lists (plain w.in-Some.made) v lists' a kept.passing.items w.add.new.keys.items w.in_ok-add.ensures.own lasts ps (with_last c.loop-key.fleeting.keys o) there
+                (indexed-transient u lists (plain w.in-Some.made) v lists' a w.place_past-place.result kept.passing.items w.add.new.keys.items w.in_ok-add.ensures.own lasts ps (with_last c.loop-key.fleeting.keys o) there
                 (indexed-pended u lists lasts ps c.loop-key.fleeting.keys there o (shape.0 there bounded) (inv.indexed lasts there bounded ix)) shape.1 ps'
-                (within-passing c.loop-key.roster o held_there) (sym (passing-there c.loop-key.roster o kept w.get_mut-kept.ensures.value)) (passing-set c.loop-key.roster o (record kept { passing = w.add.new.keys })) (last-there o c.loop-key.fleeting.keys));
+                (within-passing c.loop-key.roster o held_there) (sym (passing-there c.loop-key.roster o kept w.get_mut-kept.ensures.value)) (passing-set c.loop-key.roster o (record kept { passing = w.add.new.keys })) (last-there o c.loop-key.fleeting.keys)
+                (λ ordered.
+                let found_place = w.place_past-place.ensures.place (subst (ByOrigin u) (sym w.as_slice.ensures.value) ordered) in
+                subst (λ n. IsPast u n kept.passing.items w.place_past-place.result) w.origin-origin.ensures
+                (subst (λ ks. IsPast u w.origin-origin.result ks w.place_past-place.result) w.as_slice.ensures.value found_place)));
             sources = λ have. sources-added u v lists (plain w.in-Some.made) lists' a (source-made u own c.args.node (slice_index_or keys i 0) (plain w.in-Some.made) some (inv.sources have)) (inv.sources have);
-            agree = λ have.
-                let before = inv.agree have in
+            placed = λ placed. placed-added u lists (plain w.in-Some.made) v lists' a (inv.placed placed);
+            rising = λ placed rising. w.add.ensures.rising (inv.placed placed) (inv.rising placed rising);
+            agree = λ placed have.
+                let before = inv.agree placed have in
                 agree-transient u v lists (plain w.in-Some.made) lists' a before (agree-made u own c.args.node (slice_index_or keys i 0) (plain w.in-Some.made) some before)
-                (made-transient u0 u own c.args.node keys i 0 c.loop-key-test.true inv.standing (plain w.in-Some.made) some).1;
+                (alone-made u lists c.args.node (slice_index_or keys i 0) (plain w.in-Some.made) (inv.placed placed) some);
             lasting = lasting-same c.loop-key.roster w.in-Some.made.observer w.get_mut-kept.result.now w.get_mut-kept.ensures.value (record w.get_mut-kept.result.now { passing = w.add.new.keys }) refl ∙ inv.lasting;
             queues = queues-same c.loop-key.roster w.in-Some.made.observer w.get_mut-kept.result.now w.get_mut-kept.ensures.value (record w.get_mut-kept.result.now { passing = w.add.new.keys }) refl ∙ inv.queues;
             full = λ full. w.add.ensures.full (inv.full full);
@@ -177,6 +189,8 @@ loop-key-preserved c =
             names = inv.names;
             indexed = inv.indexed;
             sources = inv.sources;
+            placed = inv.placed;
+            rising = inv.rising;
             agree = inv.agree;
             lasting = inv.lasting;
             queues = inv.queues;

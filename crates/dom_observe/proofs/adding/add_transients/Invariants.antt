@@ -7,7 +7,8 @@ use Rattle.dom_observe.specs.Kept.{IsIndexed}
 use Rattle.dom_observe.specs.Roster.{lasting_by, passing_by, queues_by}
 use Rattle.dom_observe.specs.Naming.{names_one, NamesNone}
 use Rattle.dom_observe.specs.Origins.{NotesIfAny}
-use Rattle.dom_observe.specs.Registrations.{at, found, listed, AllLive, Stands, AllStand, HaveKeys, HaveSources, Agree, with_added_transients}
+use Rattle.dom_observe.specs.Registrations.{at, found, listed, AllLive, Stands, AllStand, HaveKeys, Placed, HaveSources, Agree, with_added_transients}
+use Rattle.dom_observe.specs.Turns.{Rising}
 use Rattle.dom_observe.proofs.adding.add_transients.Given as goal
 
 abbrev pub invariant-loop-key : goal.invariant-loop-key
@@ -24,7 +25,9 @@ invariant-loop-key l = record {
       → IsIndexed (at l.initial.table) (listed l.initial.nodes.entries) lasts (passing_by l.initial.roster) l.initial.fleeting.keys there
       → IsIndexed (at l.table) (listed l.nodes.entries) lasts (passing_by l.roster) l.fleeting.keys there;
   sources : HaveSources (at l.initial.table) → HaveSources (at l.table);
-  agree : Agree (at l.initial.table) → Agree (at l.table);
+  placed : Placed (at l.initial.table) (listed l.initial.nodes.entries) → Placed (at l.table) (listed l.nodes.entries);
+  rising : Placed (at l.initial.table) (listed l.initial.nodes.entries) → Rising l.initial.table (listed l.initial.nodes.entries) → Rising l.table (listed l.nodes.entries);
+  agree : Placed (at l.initial.table) (listed l.initial.nodes.entries) → Agree (at l.initial.table) → Agree (at l.table);
   lasting : lasting_by l.roster ≡ lasting_by l.initial.roster;
   queues : queues_by l.roster ≡ queues_by l.initial.roster;
   full : HaveKeys (listed l.initial.nodes.entries) → HaveKeys (listed l.nodes.entries);

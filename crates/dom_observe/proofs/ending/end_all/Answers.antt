@@ -7,6 +7,7 @@ use Rattle.dom_observe.specs.Watchers.{on}
 use Rattle.dom_observe.specs.Registrations.{at, listed, is_live, left_by}
 use Rattle.dom_observe.proofs.EndedOnes.{filter_none, stays_by, swept-two}
 use Rattle.dom_observe.proofs.Owning.{left-of, none-left_of, passing-left_of}
+use Rattle.dom_observe.proofs.Turns.{fewer-two, rising-swept}
 use Rattle.dom_observe.proofs.ending.end_all.Goals as goal
 
 pub end_own-requires-2-clause-owned : goal.end_own-requires-2-clause-owned
@@ -56,3 +57,10 @@ returns-clause-passing c =
 
 pub returns-clause-full : goal.returns-clause-full
 returns-clause-full c = λ full. c.end_own-2.ensures.full (c.end_own.ensures.full full)
+
+pub end_own-requires-2-clause-rising : goal.end_own-requires-2-clause-rising
+end_own-requires-2-clause-rising c =
+    rising-swept c.args.table.now c.end_own.new.table (listed c.args.nodes.now.entries) (listed c.end_own.new.nodes.entries) c.end_own.ensures.fewer c.end_own.ensures.swept c.requires.rising
+
+pub returns-clause-fewer : goal.returns-clause-fewer
+returns-clause-fewer c = fewer-two c.args.table.now c.end_own.new.table c.end_own-2.new.table c.end_own.ensures.fewer c.end_own-2.ensures.fewer

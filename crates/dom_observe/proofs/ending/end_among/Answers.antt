@@ -5,7 +5,8 @@ use Rattle.dom_model.specs.PlainLists.Lists.{among}
 use Rattle.dom_observe.specs.Watchers.{on}
 use Rattle.dom_observe.specs.Registrations.{at, listed, ending_node}
 use Rattle.dom_observe.proofs.EndedOnes.{swept-none, swept-two, placed-left}
-use Rattle.dom_observe.proofs.NodeByNode.{between-two, done-now, ends-none, done-next, on-between, on-or_gone, on-done, on-swept, take-whole, all-done}
+use Rattle.dom_observe.proofs.NodeByNode.{between-two, done-now, ends-none, done-next, on-between, on-or_gone, on-done, on-swept, take-whole}
+use Rattle.dom_observe.proofs.Turns.{fewer-two}
 use Rattle.dom_observe.proofs.ending.end_among.Goals as goal
 use Rattle.dom_observe.proofs.ending.end_among.Goals.{in-Some, in_default}
 
@@ -15,6 +16,7 @@ loop-key-init c = record {
   between = λ k. inl refl;
   done = λ k h. let d : ⊥ = cc h in absurd d;
   swept = swept-none (at c.args.table.now) (listed c.args.nodes.now.entries) c.requires.placed;
+  fewer = λ k. inl refl;
   placed = c.requires.placed;
   full = λ full. full;
 }
@@ -45,6 +47,7 @@ loop-key-preserved c =
             between = λ k. between-two e (inv.between k) (more k);
             done = done-next e u0 u v keys i 0 c.loop-key-test.true inv.done more now;
             swept = λ n. swept-two u v (on n lists0) (on n lists) (on n lists') or_gone (inv.swept n) (swept n);
+            fewer = fewer-two c.args.table.now c.loop-key.table w.end_on.new.table inv.fewer w.end_on.ensures.fewer;
             placed = placed-left u v lists lists' or_gone swept inv.placed;
             full = λ full. w.end_on.ensures.full (inv.full full);
           })
@@ -55,15 +58,13 @@ loop-key-preserved c =
             between = inv.between;
             done = done-next e u0 u u keys i 0 c.loop-key-test.true inv.done (λ k. inl refl) (sym (ends-none e (u key) none) ∙ done-now e (inv.between key));
             swept = inv.swept;
+            fewer = inv.fewer;
             placed = inv.placed;
             full = inv.full;
           })
     ]
 
-pub returns-clause-left : goal.returns-clause-left
-returns-clause-left c =
-    let inv = c.loop-key.invariant in
-    let keys = c.args.keys.now in
-    let i = c.loop-key.key-index in
-    let whole = take-whole keys i (omega (arith, c.loop-key-test.false)) in
-    all-done c.args.ending.now (at c.args.table.now) (at c.loop-key.table) keys c.requires.owned inv.between (λ k m. inv.done k (ap (among k) whole ∙ m))
+pub returns-clause-done : goal.returns-clause-done
+returns-clause-done c = λ k m.
+    let whole = take-whole c.args.keys.now c.loop-key.key-index (omega (arith, c.loop-key-test.false)) in
+    c.loop-key.invariant.done k (ap (among k) whole ∙ m)

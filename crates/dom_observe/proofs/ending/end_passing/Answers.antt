@@ -1,35 +1,82 @@
--- The keys of the observer's transient registrations are gone through; the others, and its queue, stay.
-use Rattle.std.proofs.Common.{if◌then◌else◌, filter, refl, ap, sym, ◌∙◌}
-use Rattle.std.specs.Prelude.{slice_set}
+-- The keys of the next observer are gone through.
+use Rattle.std.proofs.Common.{◌≡◌, ℕ, suc, ◌+◌, true, [], Some, None, take, refl, ap, sym, ◌∙◌, inl, option_copied, arith}
+use Rattle.std.specs.Prelude.{slice_get, slice_index_or}
 use Rattle.dom_model.specs.PlainLists.Lists.{among}
-use Rattle.dom_observe.specs.declared.registration.Ended.TheVariants.{Transient}
-use Rattle.dom_observe.specs.Registrations.{at, is_live, left_by}
-use Rattle.dom_observe.specs.Roster.{passing_by}
-use Rattle.dom_observe.proofs.Rosters.{has-kept, passing-there, passing-set, lasting-same, queues-same}
+use Rattle.dom_observe.specs.Watchers.{on}
+use Rattle.dom_observe.specs.Registrations.{at, listed}
+use Rattle.dom_observe.specs.Kept.{has_queue}
+use Rattle.dom_observe.specs.Roster.{passing_by, queues_by}
+use Rattle.dom_observe.proofs.EndedOnes.{swept-none, swept-two, at-get, among-last}
+use Rattle.dom_observe.proofs.Gathered.{take-next}
+use Rattle.dom_observe.proofs.Hearing.{take-none}
+use Rattle.dom_observe.proofs.NodeByNode.{every_transient, between-two, between-gone, done-more, take-whole, transients-gone}
+use Rattle.dom_observe.proofs.Rosters.{has-kept, passing-there}
+use Rattle.dom_observe.proofs.Turns.{fewer-two}
 use Rattle.dom_observe.proofs.ending.end_passing.Goals as goal
+use Rattle.dom_observe.proofs.ending.end_passing.Goals.{in-Some, in_default}
 
-pub get_mut-kept-requires : goal.get_mut-kept-requires
-get_mut-kept-requires c = sym (has-kept c.args.roster.now c.args.observer) ∙ c.requires.there
+pub get-kept-requires : goal.get-kept-requires
+get-kept-requires c =
+    let next : slice_get c.args.fleeting.now.keys c.loop-index.index ≡ Some c.in-Some.observer.now = sym c.get_index.ensures.key ∙ ap option_copied c.in-Some.is in
+    sym (has-kept c.args.roster.now c.in-Some.observer.now)
+    ∙ at-get (λ o. has_queue (queues_by c.args.roster.now) o ≡ true) c.args.fleeting.now.keys c.loop-index.index c.in-Some.observer.now c.requires.there next
 
-pub end_own-requires-clause-owned : goal.end_own-requires-clause-owned
-end_own-requires-clause-owned c = λ k.
-    ap (among k) (sym (passing-there c.args.roster.now c.args.observer c.get_mut-kept.result.now c.get_mut-kept.ensures.value)) ∙ c.requires.owned c.args.observer k
+pub loop-index-init : goal.loop-index-init
+loop-index-init c = record {
+  unique = c.requires.unique;
+  between = λ k. inl refl;
+  done = λ o h. let d : ⊥ = cc h in absurd d;
+  swept = swept-none (at c.args.table.now) (listed c.args.nodes.now.entries) c.requires.placed;
+  fewer = λ k. inl refl;
+  placed = c.requires.placed;
+  full = λ full. full;
+}
+
+pub loop-index-preserved : goal.loop-index-preserved
+loop-index-preserved c =
+    let inv = c.loop-index.invariant in
+    let keys = c.args.fleeting.now.keys in
+    let i = c.loop-index.index in
+    let next : i + 1 ≡ suc i = omega arith in
+    let u0 = at c.args.table.now in
+    let u = at c.loop-index.table in
+    let ps = passing_by c.args.roster.now in
+    elim c.match-get_index.branch [
+      | in-Some w ↦
+          let o = w.in-Some.observer.now in
+          let there : slice_get keys i ≡ Some o = sym c.get_index.ensures.key ∙ ap option_copied w.in-Some.is in
+          let v = at w.end_among.new.table in
+          let own = passing-there c.args.roster.now o w.get-kept.result.now w.get-kept.ensures in
+          let either = λ (k : ℕ). between-gone every_transient (w.end_among.ensures.between k) in
+          let now = λ (k : ℕ) (m : among k (slice_index_or ps o []) ≡ true). w.end_among.ensures.done k (ap (among k) (w.as_slice.ensures.value ∙ sym own) ∙ m) in
+          rw (w.table-is, w.nodes-is) (record {
+            unique = w.end_among.ensures.unique;
+            between = λ k. between-two every_transient (inv.between k) (w.end_among.ensures.between k);
+            done = λ p h. done-more every_transient u0 u v ps (take i keys) o inv.between w.end_among.ensures.between inv.done now p
+                (sym (ap (among p) (ap (λ j. take j keys) next ∙ take-next keys i o there) ∙ among-last p o (take i keys)) ∙ h);
+            swept = λ n. swept-two u v (on n (listed c.args.nodes.now.entries)) (on n (listed c.loop-index.nodes.entries)) (on n (listed w.end_among.new.nodes.entries)) either (inv.swept n) (w.end_among.ensures.swept n);
+            fewer = fewer-two c.args.table.now c.loop-index.table w.end_among.new.table inv.fewer w.end_among.ensures.fewer;
+            placed = w.end_among.ensures.placed;
+            full = λ full. w.end_among.ensures.full (inv.full full);
+          })
+      | in_default w ↦
+          let none : slice_get keys i ≡ None = sym c.get_index.ensures.key ∙ ap option_copied w.in_default.is in
+          let same_keys : take (i + 1) keys ≡ take i keys = ap (λ j. take j keys) next ∙ take-none keys i none in
+          rw (w.table-is, w.nodes-is) (record {
+            unique = inv.unique;
+            between = inv.between;
+            done = λ p h. inv.done p (ap (among p) (sym same_keys) ∙ h);
+            swept = inv.swept;
+            fewer = inv.fewer;
+            placed = inv.placed;
+            full = inv.full;
+          })
+    ]
 
 pub returns-clause-left : goal.returns-clause-left
-returns-clause-left c = λ k.
-    c.end_own.ensures.left k
-    ∙ ap (λ ks. if among k ks then left_by Transient (at c.args.table.now k) else at c.args.table.now k) (sym (passing-there c.args.roster.now c.args.observer c.get_mut-kept.result.now c.get_mut-kept.ensures.value))
-
-pub returns-clause-keys : goal.returns-clause-keys
-returns-clause-keys c =
-    let roster = c.args.roster.now in
-    let kept = c.get_mut-kept.result.now in
-    passing-set roster c.args.observer (record kept { passing = c.end_own.new.keys })
-    ∙ ap (slice_set (passing_by roster) c.args.observer)
-    (c.end_own.ensures.keys ∙ ap (filter (is_live (at c.end_own.new.table))) (sym (passing-there roster c.args.observer kept c.get_mut-kept.ensures.value)))
-
-pub returns-clause-lasting : goal.returns-clause-lasting
-returns-clause-lasting c = lasting-same c.args.roster.now c.args.observer c.get_mut-kept.result.now c.get_mut-kept.ensures.value (record c.get_mut-kept.result.now { passing = c.end_own.new.keys }) refl
-
-pub returns-clause-queues : goal.returns-clause-queues
-returns-clause-queues c = queues-same c.args.roster.now c.args.observer c.get_mut-kept.result.now c.get_mut-kept.ensures.value (record c.get_mut-kept.result.now { passing = c.end_own.new.keys }) refl
+returns-clause-left c =
+    let inv = c.loop-index.invariant in
+    let keys = c.args.fleeting.now.keys in
+    let whole = take-whole keys c.loop-index.index (omega (arith, c.loop-index-test.false, c.len-index-end.ensures.len)) in
+    transients-gone (at c.args.table.now) (at c.loop-index.table) (passing_by c.args.roster.now) keys c.requires.owned c.requires.all inv.between
+    (λ o h. inv.done o (ap (among o) whole ∙ h))

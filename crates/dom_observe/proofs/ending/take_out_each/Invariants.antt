@@ -2,9 +2,11 @@
 use Rattle.std.proofs.Common.{◌≡◌, ℕ, if◌then◌else◌, take}
 use Rattle.dom_model.specs.PlainLists.Lists.{among}
 use Rattle.dom_observe.specs.Registrations.{at, left_after}
+use Rattle.dom_observe.specs.Turns.{Fewer}
 use Rattle.dom_observe.proofs.ending.take_out_each.Given as goal
 
 abbrev pub invariant-loop-key : goal.invariant-loop-key
 invariant-loop-key l = record {
   left : (k : ℕ) → at l.table k ≡ (if among k (take l.key-index l.keys) then left_after l.ending (at l.initial.table k) else at l.initial.table k);
+  fewer : Fewer l.initial.table l.table;
 }

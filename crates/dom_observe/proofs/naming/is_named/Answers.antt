@@ -1,11 +1,13 @@
 -- The walk tells, or each node with keys.
 use Rattle.std.proofs.Common.{rules, of_calls}
 use Rattle.std.specs.Map.{keys_of}
+use Rattle.dom_model.specs.PlainLists.Lists.{among}
+use Rattle.dom_tree.proofs.Asking.{asked-found}
 use Rattle.dom_observe.proofs.Outcomes.{by_either}
 use Rattle.dom_observe.proofs.naming.is_named.Goals as goal
 
 pub returns : goal.returns
 returns g c =
     by_either c.any_inside.result _ c.unwrap_or_else.result _ c.unwrap_or_else.ensures
-    (c.any_inside.ensures.found (keys_of c.args.nodes.now.entries) (λ n passes called. search (rules, of_calls)))
+    (asked-found _ _ (keys_of c.args.nodes.now.entries) (c.any_inside.ensures.asked (λ m. among m (keys_of c.args.nodes.now.entries)) (λ n passes called. search (rules, of_calls))))
     (λ called. search (rules, of_calls))

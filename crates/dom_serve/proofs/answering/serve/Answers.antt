@@ -4,4 +4,4 @@ use Rattle.dom_serve.proofs.answering.serve.Goals as goal
 
 pub returns-clause-output : goal.returns-clause-output
 returns-clause-output g c =
-    told-output g.R.Source.gives g.R.Source.fails g.R.Source.left (bounds_of c.args.limits) 1099511627776 _ _ _ _ c.serve_within.result c.serve_within.ensures.told c.serve_within.ensures.at_end
+    told-output g.R.Source.reading (bounds_of c.args.limits) 1099511627776 _ _ _ _ c.serve_within.result c.serve_within.ensures.told c.serve_within.ensures.at_end

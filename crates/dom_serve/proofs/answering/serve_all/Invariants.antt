@@ -7,11 +7,11 @@ use Rattle.dom_serve.proofs.answering.serve_all.Given as goal
 
 abbrev pub invariant-loop-turn : goal.invariant-loop-turn
 invariant-loop-turn g l = record {
-  passed : HasAnswered g.W.Sink.is_passed_on l.fn.writer 0 l.writer l.server.lines;
-  by_line : IsWrittenByLine g.W.Sink.taken g.W.Sink.is_passed_on false l.fn.writer l.writer;
-  writer : IsWritten g.W.Sink.works g.W.Sink.fails false l.fn.writer l.writer;
+  passed : HasAnswered g.W.Sink.writing l.fn.writer 0 l.writer l.server.lines;
+  by_line : IsWrittenByLine g.W.Sink.writing false l.fn.writer l.writer;
+  writer : IsWritten g.W.Sink.writing false l.fn.writer l.writer;
   lines : l.server.lines ≤ 65536 * l._turn;
   size : length l.buffer ≡ 65536;
   so_far : (b : Bounds) → Stands b [] l.fn.server
-      → IsSoFar g.R.Source.gives g.R.Source.left b l._turn l.fn.reader l.reader l.server (g.W.Sink.taken l.fn.writer) (g.W.Sink.taken l.writer);
+      → IsSoFar g.R.Source.reading b l._turn l.fn.reader l.reader l.server (g.W.Sink.writing.taken l.fn.writer) (g.W.Sink.writing.taken l.writer);
 }

@@ -14,8 +14,8 @@ returns-in-Ok g c = record {
 
 pub returns-in-Err : goal.returns-in-Err
 returns-in-Err g c = record {
-  told = told-none g.R.Source.gives g.R.Source.fails g.R.Source.left (bounds_of c.args.limits) c.args.turns c.args.reader.now (g.W.Sink.taken c.args.writer.now)
-      (g.W.Sink.taken c.write_out_of_memory.new.writer) c.write_out_of_memory.result c.write_out_of_memory.ensures.written;
+  told = told-none g.R.Source.reading (bounds_of c.args.limits) c.args.turns c.args.reader.now (g.W.Sink.writing.taken c.args.writer.now)
+      (g.W.Sink.writing.taken c.write_out_of_memory.new.writer) c.write_out_of_memory.result c.write_out_of_memory.ensures.written;
   at_end = tt;
   passed_on = λ e. inr (c.write_out_of_memory.ensures.passed e);
   by_line = c.write_out_of_memory.ensures.by_line;

@@ -1,13 +1,13 @@
 use Rattle.dom_serve.specs.ByLine.{PassesLine, CutsLine}
-use Rattle.dom_serve.proofs.Calls.{IsWritten-one, IsWritten-failed}
+use Rattle.dom_serve.proofs.Calls.{IsCalled-one, IsCalled-failed}
 use Rattle.dom_serve.proofs.writing.write_out_of_memory.Goals as goal
 
 pub returns-in-Ok-clause-by_line : goal.returns-in-Ok-clause-by_line
 returns-in-Ok-clause-by_line g c =
-    IsWritten-one (PassesLine g.W.Sink.taken g.W.Sink.is_passed_on) (CutsLine g.W.Sink.taken) c.args.writer.now c.write_line.new.writer
+    IsCalled-one (PassesLine g.W.Sink.writing) (CutsLine g.W.Sink.writing) c.args.writer.now c.write_line.new.writer
     (c.out_of_memory_text.result.now, c.out_of_memory_text.ensures.line, c.in-Ok.ensures.written, c.in-Ok.ensures.passed)
 
 pub returns-in-Err-clause-by_line : goal.returns-in-Err-clause-by_line
 returns-in-Err-clause-by_line g c =
-    IsWritten-failed (PassesLine g.W.Sink.taken g.W.Sink.is_passed_on) (CutsLine g.W.Sink.taken) c.args.writer.now c.write_line.new.writer
+    IsCalled-failed (PassesLine g.W.Sink.writing) (CutsLine g.W.Sink.writing) c.args.writer.now c.write_line.new.writer
     (c.out_of_memory_text.result.now, c.out_of_memory_text.ensures.line, c.in-Err.ensures.written)

@@ -1,15 +1,15 @@
 use Rattle.std.proofs.Common.{true, false, tests, rules, arith}
 use Rattle.std.proofs.lemmas.Grind.{common_steps}
 use Rattle.dom_serve.proofs.Texts.{within, Appends-more, AppendsFront-kept}
-use Rattle.dom_serve.proofs.Calls.{IsWritten-one, IsWritten-failed, IsWritten-more}
+use Rattle.dom_serve.proofs.Calls.{IsCalled-one, IsCalled-failed, IsCalled-more}
 use Rattle.dom_serve.proofs.writing.write_whole.Goals as goal
 
 pub loop-at-preserved : goal.loop-at-preserved
 loop-at-preserved g c = record {
   bound = within c.args.bytes.now c.loop-at.at c.in-Ok.n c.loop-at.invariant.bound c.in-Ok.ensures.count;
   written = Appends-more _ _ _ c.args.bytes.now c.loop-at.at c.in-Ok.n c.loop-at.invariant.written c.in-Ok.ensures.bytes;
-  writer = IsWritten-more g.W.Sink.works g.W.Sink.fails false c.args.writer.now c.loop-at.writer c.write.new.self c.loop-at.invariant.writer
-      (IsWritten-one g.W.Sink.works g.W.Sink.fails c.loop-at.writer c.write.new.self c.in-Ok.ensures.works);
+  writer = IsCalled-more g.W.Sink.writing.works g.W.Sink.writing.fails false c.args.writer.now c.loop-at.writer c.write.new.self c.loop-at.invariant.writer
+      (IsCalled-one g.W.Sink.writing.works g.W.Sink.writing.fails c.loop-at.writer c.write.new.self c.in-Ok.ensures.works);
 }
 
 pub returns-in-Err-clause-written : goal.returns-in-Err-clause-written
@@ -17,8 +17,8 @@ returns-in-Err-clause-written g c = AppendsFront-kept _ _ _ c.args.bytes.now c.l
 
 pub returns-in-Err-clause-writer : goal.returns-in-Err-clause-writer
 returns-in-Err-clause-writer g c =
-    IsWritten-more g.W.Sink.works g.W.Sink.fails true c.args.writer.now c.loop-at.writer c.write.new.self c.loop-at.invariant.writer
-    (IsWritten-failed g.W.Sink.works g.W.Sink.fails c.loop-at.writer c.write.new.self c.in-Err.ensures.fails)
+    IsCalled-more g.W.Sink.writing.works g.W.Sink.writing.fails true c.args.writer.now c.loop-at.writer c.write.new.self c.loop-at.invariant.writer
+    (IsCalled-failed g.W.Sink.writing.works g.W.Sink.writing.fails c.loop-at.writer c.write.new.self c.in-Err.ensures.fails)
 
 pub returns-clause-written : goal.returns-clause-written
 returns-clause-written g c = grind (arith, common_steps)

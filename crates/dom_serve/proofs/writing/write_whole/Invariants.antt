@@ -6,8 +6,8 @@ use Rattle.dom_serve.proofs.writing.write_whole.Given as goal
 abbrev pub invariant-loop-at : goal.invariant-loop-at
 invariant-loop-at g l = record {
   bound : l.at ≤ length l.bytes;
-  written : Appends (g.W.Sink.taken l.fn.writer) (g.W.Sink.taken l.writer) (take l.at l.bytes);
-  writer : IsWritten g.W.Sink.works g.W.Sink.fails false l.fn.writer l.writer;
+  written : Appends (g.W.Sink.writing.taken l.fn.writer) (g.W.Sink.writing.taken l.writer) (take l.at l.bytes);
+  writer : IsWritten g.W.Sink.writing false l.fn.writer l.writer;
 }
 
 abbrev pub decreases-loop-at : goal.decreases-loop-at

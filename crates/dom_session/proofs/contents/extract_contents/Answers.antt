@@ -25,9 +25,9 @@ returns-in-Ok c =
     let live : is_some (range_in v.ranges c.args.range) ≡ true = cc in
     let room : nat_lt c.args.numbers (v.tree.made + (2 * size v.tree.forest + 8)) ≡ false = cc in
     record {
-      step = rw (c.number.ensures ∙ c.in-Ok.ensures.number) (step-follows (numbered c.args.numbers) (ExtractContents c.args.range) (Done (Number v.tree.made)) v c.extract.new.world (extract c.args.range) refl
+      step = rw (c.number.ensures ∙ c.in-Ok.ensures.extracted.number) (step-follows (numbered c.args.numbers) (ExtractContents c.args.range) (Done (Number v.tree.made)) v c.extract.new.world (extract c.args.range) refl
           (λ w shown. answer-extract_contents v (numbered c.args.numbers) w shown c.args.range live room None c.in-Ok.ensures.allowed)
-          c.in-Ok.ensures.extracted c.extract.ensures.whole);
+          c.in-Ok.ensures.extracted.extracted c.extract.ensures.whole);
       left = tt;
     }
 

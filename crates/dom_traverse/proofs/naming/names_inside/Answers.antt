@@ -1,11 +1,13 @@
 -- What the walk asks of a node is whether it is named.
 use Rattle.std.proofs.Common.{◌≡◌, sym, ◌∙◌, rules, of_calls}
+use Rattle.dom_model.specs.PlainLists.Lists.{among}
+use Rattle.dom_tree.proofs.Asking.{asked-found}
 use Rattle.dom_traverse.specs.Naming.{is_named}
 use Rattle.dom_traverse.proofs.naming.names_inside.Goals as goal
 
 pub returns : goal.returns
 returns g c =
     λ nodes names.
-    c.any_inside.ensures.found nodes (λ n passes called.
+    asked-found _ _ nodes (c.any_inside.ensures.asked (λ m. among m nodes) (λ n passes called.
     let e : passes ≡ is_named c.args.roots.now c.args.standing.now n = search (rules, of_calls) in
-    e ∙ sym (names n))
+    e ∙ sym (names n)))

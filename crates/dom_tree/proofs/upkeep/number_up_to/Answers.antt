@@ -6,7 +6,7 @@ use Rattle.dom_model.proofs.PlainLists.Places.{place-there}
 use Rattle.dom_links.specs.Placed.{Placed, index_of, slot_of, slots_of}
 use Rattle.dom_tree.specs.Places.{Leads}
 use Rattle.dom_tree.specs.Slots.{Kept, assured}
-use Rattle.dom_tree.specs.Numberings.{IsWritten}
+use Rattle.dom_tree.specs.Numberings.{told, IsWritten}
 use Rattle.dom_tree.proofs.Written.{children-same, held-same, listed_under, next-ahead, numbered}
 use Rattle.dom_tree.proofs.Steps.{led}
 use Rattle.dom_tree.proofs.Places.{placed-still}
@@ -109,7 +109,7 @@ returns g c =
     let mid = c.write_indices.new.links in
     let last = c.write_indices-2.new.links in
     let places = c.write_indices-2.ensures.places ∙ c.write_indices.ensures.places in
-    let behind = subst (λ ps. IsWritten mid.arena last.arena (index_of ps c.args.parent) (c.args.index + 1) c.max-until.result false) c.write_indices.ensures.places c.write_indices-2.ensures.written in
+    let behind = subst (λ ps. IsWritten mid.arena last.arena (index_of ps c.args.parent) (c.args.index + 1) c.max-until.result (told false)) c.write_indices.ensures.places c.write_indices-2.ensures.written in
     let arena = ap (λ (q : Placed (Kept g.row.X.Denot)). q.arena) c.set_sure.ensures ∙ ap (λ ps. assured last.arena (index_of ps c.args.parent) (c.args.index + 1) (c.args.index + 1)) places in
     record {
       numbered = numbered c.requires.sound p c.requires.counted c.requires.parent_placed.held child c.min-from.result c.args.index c.count-count.result c.max-until.result c.requires.child c.requires.index

@@ -1,6 +1,7 @@
 -- Each child gets its index, and the next one comes.
 use Rattle.std.proofs.Common.{IsSome, refl, sym, ◌∙◌, subst}
 use Rattle.dom_links.specs.Placed.{slot_of, slots_of}
+use Rattle.dom_tree.specs.Numberings.{told}
 use Rattle.dom_tree.proofs.Written.{writing-start, writing-there, writing-end}
 use Rattle.dom_tree.proofs.Writing.{written-places, written-placed, written-next}
 use Rattle.dom_tree.proofs.Places.{some-mapped}
@@ -8,7 +9,7 @@ use Rattle.dom_tree.proofs.upkeep.write_indices.Goals as goal
 
 pub loop-place-init : goal.loop-place-init
 loop-place-init g c = record {
-  writing = writing-start c.requires.sound (slot_of c.args.links.now c.args.parent) c.args.from c.args.until c.args.known (slots_of c.args.links.now c.args.first) c.requires.first.slot c.requires.ordered;
+  writing = writing-start c.requires.sound (slot_of c.args.links.now c.args.parent) c.args.from c.args.until (told c.args.known) (slots_of c.args.links.now c.args.first) c.requires.first.slot c.requires.ordered;
   places = refl;
   placed = c.requires.first.placed;
 }

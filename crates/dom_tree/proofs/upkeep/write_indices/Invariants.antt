@@ -2,12 +2,13 @@
 use Rattle.std.proofs.Common.{◌≡◌}
 use Rattle.std.specs.Option.{ForSome}
 use Rattle.dom_links.specs.Placed.{slot_of, slots_of, IsPlaced}
+use Rattle.dom_tree.specs.Numberings.{told}
 use Rattle.dom_tree.proofs.Written.{IsWriting}
 use Rattle.dom_tree.proofs.upkeep.write_indices.Given as goal
 
 abbrev pub invariant-loop-place : goal.invariant-loop-place
 invariant-loop-place g l = record {
-  writing : IsWriting l.fn.links.arena l.links.arena (slot_of l.fn.links l.fn.parent) l.fn.from l.place l.fn.until l.fn.known (slots_of l.fn.links l.next);
+  writing : IsWriting l.fn.links.arena l.links.arena (slot_of l.fn.links l.fn.parent) l.fn.from l.place l.fn.until (told l.fn.known) (slots_of l.fn.links l.next);
   places : l.links.places ≡ l.fn.links.places;
   placed : ForSome l.next (IsPlaced l.links);
 }

@@ -5,7 +5,7 @@ use Rattle.domserve.proofs.running.served.Goals as goal
 
 pub returns-in-Err-clause-passed : goal.returns-in-Err-clause-passed
 returns-in-Err-clause-passed g c =
-    passed-told c.in-Err.fault c.faulted.result (HasPassedOn g.W.Sink.is_passed_on c.args.writer.now c.serve.new.writer) c.faulted.ensures.status c.in-Err.ensures.serves.passed_on
+    passed-told c.in-Err.fault c.faulted.result (HasPassedOn g.W.Sink.writing c.args.writer.now c.serve.new.writer) c.faulted.ensures.status c.in-Err.ensures.serves.passed_on
 
 pub returns-in-Ok-clause-reader : goal.returns-in-Ok-clause-reader
 returns-in-Ok-clause-reader g c = let t = c.in-Ok.ensures.serves.told in inl (t.pieces, t.last, t.reads, t.ends)
@@ -13,7 +13,7 @@ returns-in-Ok-clause-reader g c = let t = c.in-Ok.ensures.serves.told in inl (t.
 pub returns-in-Err-clause-reader : goal.returns-in-Err-clause-reader
 returns-in-Err-clause-reader g c =
     let t = c.in-Err.ensures.serves.told in
-    reader-told c.in-Err.fault c.faulted.result (λ failed. IsRead g.R.Source.gives g.R.Source.fails failed c.args.reader.now c.serve.new.reader) c.faulted.ensures.status
+    reader-told c.in-Err.fault c.faulted.result (λ failed. IsRead g.R.Source.reading failed c.args.reader.now c.serve.new.reader) c.faulted.ensures.status
     (t.pieces, t.last, t.reads, t.ends)
 
 pub returns-in-Ok-clause-writer : goal.returns-in-Ok-clause-writer
@@ -21,7 +21,7 @@ returns-in-Ok-clause-writer g c = inl c.in-Ok.ensures.serves.asked
 
 pub returns-in-Err-clause-writer : goal.returns-in-Err-clause-writer
 returns-in-Err-clause-writer g c =
-    writer-told c.in-Err.fault c.faulted.result (λ failed. IsWritten g.W.Sink.works g.W.Sink.fails failed c.args.writer.now c.serve.new.writer) c.faulted.ensures.status
+    writer-told c.in-Err.fault c.faulted.result (λ failed. IsWritten g.W.Sink.writing failed c.args.writer.now c.serve.new.writer) c.faulted.ensures.status
     c.in-Err.ensures.serves.asked
 
 pub returns-in-Err-clause-silent : goal.returns-in-Err-clause-silent

@@ -23,6 +23,7 @@ use Rattle.dom_observe.proofs.Sources.{sources-ended}
 use Rattle.dom_observe.proofs.Tables.{all_imply}
 use Rattle.dom_observe.proofs.Watching.{watches-filtered, watches-taken}
 use Rattle.std.proofs.lemmas.List.{length-set}
+use Rattle.dom_observe.proofs.Turns.{rising-swept}
 use Rattle.dom_observe.proofs.observers.Observers.disconnect.Goals as goal
 
 pub get_mut-kept-requires : goal.get_mut-kept-requires
@@ -63,6 +64,7 @@ invariant_of-self c =
       sources-ended u v (Of o) c.end_all.ensures.left c.self.invariant.2,
       agree-ended u v (Of o) c.end_all.ensures.left c.self.invariant.3,
       subst (λ q. IsAwaited q a.pending.keys a.untold.keys) (sym queues) (awaited-emptied qs a.pending.keys a.untold.keys c.self.invariant.4 o held_there),
+      rising-swept c.self.inside.table c.end_all.new.table (listed c.self.inside.nodes.entries) (listed c.end_all.new.nodes.entries) c.end_all.ensures.fewer c.end_all.ensures.swept c.self.invariant.5,
     )
 
 pub returns-clause-ended : goal.returns-clause-ended

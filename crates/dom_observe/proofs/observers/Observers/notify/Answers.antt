@@ -24,6 +24,7 @@ use Rattle.dom_observe.proofs.Gathered.{waiting-told}
 use Rattle.dom_observe.proofs.Agreeing.{agree-ended}
 use Rattle.dom_observe.proofs.Sources.{sources-ended}
 use Rattle.dom_observe.proofs.Watching.{watches-notified}
+use Rattle.dom_observe.proofs.Turns.{rising-swept}
 use Rattle.dom_observe.proofs.observers.Observers.notify.Goals as goal
 
 pub gather-requires : goal.gather-requires
@@ -54,6 +55,7 @@ invariant_of-self-2 c =
       sources-ended u v Transient c.end_transients.ensures.left c.self.invariant.2,
       agree-ended u v Transient c.end_transients.ensures.left c.self.invariant.3,
       awaited-notified qs a.pending.keys a.untold.keys c.self.invariant.4 qs' c.clear.new.self.keys same (λ p. ap (λ q. records_at q p) c.end_transients.ensures.queues ∙ c.in_ok-told.ensures.emptied p),
+      rising-swept c.self.inside.table c.end_transients.new.table (listed c.self.inside.nodes.entries) (listed c.end_transients.new.nodes.entries) c.end_transients.ensures.fewer c.end_transients.ensures.swept c.self.invariant.5,
     )
 
 pub returns-clause-told : goal.returns-clause-told
@@ -144,6 +146,7 @@ invariant_of-self c =
       c.self.invariant.2,
       c.self.invariant.3,
       awaited-queues qs a.pending.keys a.untold.keys c.self.invariant.4 qs' (λ i there. has-same a.roster c.gather.new.roster c.gather.ensures.keys i ∙ there) c.gather.ensures.empty,
+      c.self.invariant.5,
     )
 
 pub returns-clause-own : goal.returns-clause-own

@@ -65,6 +65,7 @@ invariant_of-self-2 g c =
       c.self.invariant.2,
       c.self.invariant.3,
       awaited-queued qs a.pending.keys a.untold.keys c.self.invariant.4 (queues_by c.tell.new.roster) c.tell.new.pending.keys (has-same a.roster c.tell.new.roster c.tell.ensures.keys) c.tell.ensures.stay c.tell.ensures.others,
+      c.self.invariant.5,
     )
 
 pub returns-clause-queued : goal.returns-clause-queued

@@ -9,11 +9,11 @@ use Rattle.dom_model.specs.MutationObservers.Observing.{registered_on}
 use Rattle.dom_model.specs.MutationObservers.Records.{is_registered, is_transient_from, with_options, new_registration, observed}
 use Rattle.dom_observe.specs.Watchers.{Watchers, Watches, on}
 use Rattle.dom_observe.specs.Once.{once}
-use Rattle.dom_observe.specs.Registrations.{plain, at, listed, is_live, left_by, own_at, AllStand, HaveSources, Agree}
+use Rattle.dom_observe.specs.Registrations.{plain, at, listed, is_live, left_by, own_at, AllStand, HaveSources, Agree, ByOrigin}
 use Rattle.dom_observe.specs.Kept.{registered_nodes, has_queue, IsKept, IsIndexed, IsAwaited}
 use Rattle.dom_observe.specs.Roster.{lasting_by, passing_by, queues_by}
 use Rattle.dom_observe.proofs.Indexing.{from-left, indexed-changed, indexed-passing_ended, indexed-lasting}
-use Rattle.dom_observe.proofs.Agreeing.{agree-again, agree-lasting, nothing-comes}
+use Rattle.dom_observe.proofs.Agreeing.{agree-own, agree-again, agree-lasting, nothing-comes}
 use Rattle.dom_observe.proofs.Once.{count-once}
 use Rattle.dom_observe.proofs.OwnKeys.{on-lasts}
 use Rattle.dom_observe.proofs.Outcomes.{on_ok, by_one, by_errors, by_outcome, by_two}
@@ -29,6 +29,7 @@ use Rattle.dom_observe.specs.declared.registration.Ended.TheVariants.{From}
 use Rattle.dom_observe.proofs.Holding.{names-only, none-ended, none-changed, none-added, same-queues}
 use Rattle.dom_observe.proofs.Again.{any_own, stand-again, found-again}
 use Rattle.dom_observe.proofs.Watching.{watches-observed, watches-observed_again}
+use Rattle.dom_observe.proofs.Turns.{rising-swept, rising-same}
 use Rattle.dom_observe.proofs.observers.Observers.register.Goals as goal
 
 pub get-requires : goal.get-requires
@@ -42,7 +43,7 @@ own_key-own-requires-clause-either c = λ key own.
     ap (among key) c.keys_on.ensures ∙ c.self.invariant.1.placed c.args.node key ∙ on-lasts o c.args.node (at a.table key) own ∙ sym (c.self.invariant.1.lasting o key) ∙ ap (among key) (sym had)
 
 pub own_key-own-requires-clause-one : goal.own_key-own-requires-clause-one
-own_key-own-requires-clause-one c = c.self.invariant.3.one c.args.observer c.args.node
+own_key-own-requires-clause-one c = agree-own (at c.self.inside.table) c.self.invariant.3 c.args.observer c.args.node
 
 pub get_mut-kept-requires : goal.get_mut-kept-requires
 get_mut-kept-requires c = sym (has-kept c.self.inside.roster c.args.observer) ∙ subst (λ (o : Watchers). has_queue o.queues c.args.observer ≡ true) (sym c.self.view_is) c.requires.held
@@ -50,52 +51,58 @@ get_mut-kept-requires c = sym (has-kept c.self.inside.roster c.args.observer) �
 pub get_mut-kept-requires-in-None : goal.get_mut-kept-requires-in-None
 get_mut-kept-requires-in-None c = sym (has-kept c.self.inside.roster c.args.observer) ∙ subst (λ (o : Watchers). has_queue o.queues c.args.observer ≡ true) (sym c.self.view_is) c.requires.held
 
-pub end_own-requires-clause-owned : goal.end_own-requires-clause-owned
-end_own-requires-clause-owned c = λ k.
+pub end_from-requires-clause-owned : goal.end_from-requires-clause-owned
+end_from-requires-clause-owned c = λ k.
     ap (among k) (sym (passing-there c.self.inside.roster c.args.observer c.get_mut-kept.result.now c.get_mut-kept.ensures.value)) ∙ c.self.invariant.1.passing c.args.observer k
+
+pub end_from-requires-clause-ordered : goal.end_from-requires-clause-ordered
+end_from-requires-clause-ordered c =
+    subst (ByOrigin (at c.self.inside.table)) (passing-there c.self.inside.roster c.args.observer c.get_mut-kept.result.now c.get_mut-kept.ensures.value) (c.self.invariant.1.passing_ordered c.args.observer)
 
 pub invariant_of-self : goal.invariant_of-self
 invariant_of-self c =
     let a = c.self.inside in
     let had = passing-there a.roster c.args.observer c.get_mut-kept.result.now c.get_mut-kept.ensures.value in
-    let ended : (k : ℕ) → at c.end_own.new.table k ≡ (if among k (slice_index_or (passing_by a.roster) c.args.observer []) then left_by (From c.args.observer c.args.node) (at a.table k) else at a.table k) = λ k.
-    c.end_own.ensures.left k ∙ ap (λ ks. if among k ks then left_by (From c.args.observer c.args.node) (at a.table k) else at a.table k) (sym had) in
-    let roster' = slice_set a.roster c.args.observer (Some (record c.get_mut-kept.result.now { passing = c.end_own.new.keys })) in
-    let same : queues_by roster' ≡ queues_by a.roster = queues-same a.roster c.args.observer c.get_mut-kept.result.now c.get_mut-kept.ensures.value (record c.get_mut-kept.result.now { passing = c.end_own.new.keys }) refl in
+    let ended : (k : ℕ) → at c.end_from.new.table k ≡ (if among k (slice_index_or (passing_by a.roster) c.args.observer []) then left_by (From c.args.observer c.args.node) (at a.table k) else at a.table k) = λ k.
+    c.end_from.ensures.left k ∙ ap (λ ks. if among k ks then left_by (From c.args.observer c.args.node) (at a.table k) else at a.table k) (sym had) in
+    let roster' = slice_set a.roster c.args.observer (Some (record c.get_mut-kept.result.now { passing = c.end_from.new.keys })) in
+    let same : queues_by roster' ≡ queues_by a.roster = queues-same a.roster c.args.observer c.get_mut-kept.result.now c.get_mut-kept.ensures.value (record c.get_mut-kept.result.now { passing = c.end_from.new.keys }) refl in
     let u = at a.table in
-    let v = at c.end_own.new.table in
+    let v = at c.end_from.new.table in
     let w = at c.set_options.new.table in
     let lists = listed a.nodes.entries in
-    let lists' = listed c.end_own.new.nodes.entries in
+    let lists' = listed c.end_from.new.nodes.entries in
     let o = c.args.observer in
     let there = has_queue (queues_by a.roster) in
     let held_there = subst (λ (o : Watchers). has_queue o.queues c.args.observer ≡ true) (sym c.self.view_is) c.requires.held in
     let found_key : find (own_at u o c.args.node) (on c.args.node lists) ≡ Some c.in-Some.key =
     ap (find (own_at u o c.args.node)) (sym c.keys_on.ensures) ∙ sym c.own_key-own.ensures ∙ c.in-Some.is in
     let left = from-left u v lists (lasting_by a.roster) (passing_by a.roster) a.fleeting.keys there o c.args.node c.self.invariant.1 ended in
-    let stand = stand-again u v w lists lists' o c.args.node c.in-Some.key c.args.options.value left c.end_own.ensures.swept found_key c.set_options.ensures.changed c.set_options.ensures.others there c.self.invariant.0.stand in
+    let stand = stand-again u v w lists lists' o c.args.node c.in-Some.key c.args.options.value left c.end_from.ensures.swept found_key c.set_options.ensures.changed c.set_options.ensures.others there c.self.invariant.0.stand in
     let passing : passing_by roster' ≡ slice_set (passing_by a.roster) o (filter (is_live v) (slice_index_or (passing_by a.roster) o [])) =
-    passing-set a.roster o (record c.get_mut-kept.result.now { passing = c.end_own.new.keys }) ∙ ap (slice_set (passing_by a.roster) o) (c.end_own.ensures.keys ∙ ap (filter (is_live v)) (sym had)) in
-    let lasting = lasting-same a.roster o c.get_mut-kept.result.now c.get_mut-kept.ensures.value (record c.get_mut-kept.result.now { passing = c.end_own.new.keys }) refl in (
-      subst (λ qs. IsKept c.set_options.new.table c.end_own.new.nodes.entries qs a.pending.keys) (sym same)
-          (kept_table a.table a.nodes.entries (queues_by a.roster) a.pending.keys c.self.invariant.0 c.set_options.new.table c.end_own.new.nodes.entries c.end_own.ensures.unique stand (c.end_own.ensures.full c.self.invariant.0.full)),
+    passing-set a.roster o (record c.get_mut-kept.result.now { passing = c.end_from.new.keys }) ∙ ap (slice_set (passing_by a.roster) o) (c.end_from.ensures.keys ∙ ap (filter (is_live v)) (sym had)) in
+    let lasting = lasting-same a.roster o c.get_mut-kept.result.now c.get_mut-kept.ensures.value (record c.get_mut-kept.result.now { passing = c.end_from.new.keys }) refl in (
+      subst (λ qs. IsKept c.set_options.new.table c.end_from.new.nodes.entries qs a.pending.keys) (sym same)
+          (kept_table a.table a.nodes.entries (queues_by a.roster) a.pending.keys c.self.invariant.0 c.set_options.new.table c.end_from.new.nodes.entries c.end_from.ensures.unique stand (c.end_from.ensures.full c.self.invariant.0.full)),
       indexed-by w lists' a.fleeting.keys roster' (lasting_by a.roster) (slice_set (passing_by a.roster) o (filter (is_live v) (slice_index_or (passing_by a.roster) o []))) there lasting passing (λ i yet. ap (λ qs. has_queue qs i) same ∙ yet)
           (indexed-changed v w lists' (lasting_by a.roster) (slice_set (passing_by a.roster) o (filter (is_live v) (slice_index_or (passing_by a.roster) o []))) a.fleeting.keys there c.in-Some.key c.args.options.value c.set_options.ensures.changed c.set_options.ensures.others
-          (indexed-passing_ended u v lists lists' (lasting_by a.roster) (passing_by a.roster) a.fleeting.keys there o (From o c.args.node) c.self.invariant.1 c.end_own.ensures.placed
-          (placed_once-swept lists lists' (is_live v) c.end_own.ensures.swept c.self.invariant.1.placed_once) _ (within-passing a.roster o held_there) ended refl)),
+          (indexed-passing_ended u v lists lists' (lasting_by a.roster) (passing_by a.roster) a.fleeting.keys there o (From o c.args.node) c.self.invariant.1 c.end_from.ensures.placed
+          (placed_once-swept lists lists' (is_live v) c.end_from.ensures.swept c.self.invariant.1.placed_once) _ (within-passing a.roster o held_there) ended refl)),
       sources-changed v w c.in-Some.key c.args.options.value c.set_options.ensures.changed c.set_options.ensures.others (sources-ended u v (From o c.args.node) left c.self.invariant.2),
       agree-again u v w lists o c.args.node c.in-Some.key c.args.options.value left found_key c.set_options.ensures.changed c.set_options.ensures.others c.self.invariant.3,
       subst (λ qs. IsAwaited qs a.pending.keys a.untold.keys) (sym same) c.self.invariant.4,
+      rising-same c.end_from.new.table c.set_options.new.table lists' lists' c.set_options.ensures.turns (λ n. refl)
+          (rising-swept a.table c.end_from.new.table lists lists' c.end_from.ensures.fewer c.end_from.ensures.swept c.self.invariant.5),
     )
 
 pub returns-in-Some-clause-ok : goal.returns-in-Some-clause-ok
 returns-in-Some-clause-ok c = λ x w.
     let a = c.self.inside in
     let had = passing-there a.roster c.args.observer c.get_mut-kept.result.now c.get_mut-kept.ensures.value in
-    let ended : (k : ℕ) → at c.end_own.new.table k ≡ (if among k (slice_index_or (passing_by a.roster) c.args.observer []) then left_by (From c.args.observer c.args.node) (at a.table k) else at a.table k) = λ k.
-    c.end_own.ensures.left k ∙ ap (λ ks. if among k ks then left_by (From c.args.observer c.args.node) (at a.table k) else at a.table k) (sym had) in
-    let roster' = slice_set a.roster c.args.observer (Some (record c.get_mut-kept.result.now { passing = c.end_own.new.keys })) in
-    let same : queues_by roster' ≡ queues_by a.roster = queues-same a.roster c.args.observer c.get_mut-kept.result.now c.get_mut-kept.ensures.value (record c.get_mut-kept.result.now { passing = c.end_own.new.keys }) refl in
+    let ended : (k : ℕ) → at c.end_from.new.table k ≡ (if among k (slice_index_or (passing_by a.roster) c.args.observer []) then left_by (From c.args.observer c.args.node) (at a.table k) else at a.table k) = λ k.
+    c.end_from.ensures.left k ∙ ap (λ ks. if among k ks then left_by (From c.args.observer c.args.node) (at a.table k) else at a.table k) (sym had) in
+    let roster' = slice_set a.roster c.args.observer (Some (record c.get_mut-kept.result.now { passing = c.end_from.new.keys })) in
+    let same : queues_by roster' ≡ queues_by a.roster = queues-same a.roster c.args.observer c.get_mut-kept.result.now c.get_mut-kept.ensures.value (record c.get_mut-kept.result.now { passing = c.end_from.new.keys }) refl in
     let i = c.args.observer in
     let n = c.args.node in
     let u = at a.table in
@@ -109,12 +116,12 @@ returns-in-Some-clause-ok c = λ x w.
     let less = count-once (is_registered i n) (registered_on n x.registrations) in
     let few : tally (is_registered i n) (once (registered_on n x.registrations)) ≤ 1 = omega arith in
     let once = subst (λ (rs : List Registration). tally (is_registered i n) rs ≤ 1) (sym here) few in
-    let again = found-again u (at c.end_own.new.table) (at c.set_options.new.table) lists (listed c.end_own.new.nodes.entries) i n c.in-Some.key c.args.options.value
-    (from-left (at a.table) (at c.end_own.new.table) (listed a.nodes.entries) (lasting_by a.roster) (passing_by a.roster) a.fleeting.keys (has_queue (queues_by a.roster)) c.args.observer c.args.node c.self.invariant.1 ended) c.end_own.ensures.swept found_key c.set_options.ensures.changed c.set_options.ensures.others (has_queue (queues_by a.roster)) c.self.invariant.0.stand once in
-    subst (λ qs. Watches (record { nodes = registered_nodes c.set_options.new.table c.end_own.new.nodes.entries; queues = qs; pending = a.pending.keys }) (observed i n c.args.options.value x)) (sym same)
-    (watches-observed_again o x shown i n c.args.options.value (registered_nodes c.set_options.new.table c.end_own.new.nodes.entries)
+    let again = found-again u (at c.end_from.new.table) (at c.set_options.new.table) lists (listed c.end_from.new.nodes.entries) i n c.in-Some.key c.args.options.value
+    (from-left (at a.table) (at c.end_from.new.table) (listed a.nodes.entries) (lasting_by a.roster) (passing_by a.roster) a.fleeting.keys (has_queue (queues_by a.roster)) c.args.observer c.args.node c.self.invariant.1 ended) c.end_from.ensures.swept found_key c.set_options.ensures.changed c.set_options.ensures.others (has_queue (queues_by a.roster)) c.self.invariant.0.stand once in
+    subst (λ qs. Watches (record { nodes = registered_nodes c.set_options.new.table c.end_from.new.nodes.entries; queues = qs; pending = a.pending.keys }) (observed i n c.args.options.value x)) (sym same)
+    (watches-observed_again o x shown i n c.args.options.value (registered_nodes c.set_options.new.table c.end_from.new.nodes.entries)
     (ap (list_any (is_registered i n)) (on-registered_nodes a.table n a.nodes.entries) ∙ any_own u i n (on n lists) (Some c.in-Some.key) found_key)
-    (λ m. on-registered_nodes c.set_options.new.table m c.end_own.new.nodes.entries ∙ again m
+    (λ m. on-registered_nodes c.set_options.new.table m c.end_from.new.nodes.entries ∙ again m
     ∙ ap (λ rs. map (with_options i n c.args.options.value) (filter (λ (r : Registration). not (is_transient_from i n r)) rs)) (sym (on-registered_nodes a.table m a.nodes.entries))))
 
 pub invariant_of-self-in-None : goal.invariant_of-self-in-None
@@ -140,7 +147,7 @@ invariant_of-self-in-None c =
     let passing = passing-same a.roster o kept c.get_mut-kept-in-None.ensures.value kept' refl in
     let indexed : IsIndexed (at c.add.new.table) lists' (lasting_by roster') (passing_by a.roster) a.fleeting.keys there =
     by_two c.add.result c.add.ensures.ok c.add.ensures.own c.add.ensures.err_table c.add.ensures.err_nodes c.add.ensures.err_own
-    (λ added key. indexed-lasting u lists _ (at c.add.new.table) lists' added kept.lasting.items c.add.new.keys.items key (lasting_by a.roster) (passing_by a.roster) a.fleeting.keys there c.self.invariant.1 refl (lasting_by roster')
+    (λ added key. indexed-lasting u lists _ (at c.add.new.table) lists' added _ kept.lasting.items c.add.new.keys.items key (lasting_by a.roster) (passing_by a.roster) a.fleeting.keys there c.self.invariant.1 refl (lasting_by roster')
     (within-lasting a.roster o held_there) (sym (lasting-there a.roster o kept c.get_mut-kept-in-None.ensures.value)) (lasting-set a.roster o kept'))
     (λ slots keys own.
     subst (λ ss. IsIndexed (λ k. option_map plain (slice_index_or ss k None)) lists' (lasting_by roster') (passing_by a.roster) a.fleeting.keys there) (sym slots)
@@ -157,6 +164,7 @@ invariant_of-self-in-None c =
           (nothing-comes u o c.args.node lists c.self.invariant.1.placed c.self.invariant.2 no_key))
           (λ slots. subst (λ ss. Agree (λ k. option_map plain (slice_index_or ss k None))) (sym slots) c.self.invariant.3),
       subst (λ qs. IsAwaited qs a.pending.keys a.untold.keys) (sym same) c.self.invariant.4,
+      c.add.ensures.rising c.self.invariant.1.placed c.self.invariant.5,
     )
 
 pub returns-in-None-clause-ok : goal.returns-in-None-clause-ok
@@ -186,23 +194,23 @@ returns-in-Some-clause-names c =
     let a = c.self.inside in
     let qs = queues_by a.roster in
     let had = passing-there a.roster c.args.observer c.get_mut-kept.result.now c.get_mut-kept.ensures.value in
-    let ended : (k : ℕ) → at c.end_own.new.table k ≡ (if among k (slice_index_or (passing_by a.roster) c.args.observer []) then left_by (From c.args.observer c.args.node) (at a.table k) else at a.table k) = λ k.
-    c.end_own.ensures.left k ∙ ap (λ ks. if among k ks then left_by (From c.args.observer c.args.node) (at a.table k) else at a.table k) (sym had) in
-    let roster' = slice_set a.roster c.args.observer (Some (record c.get_mut-kept.result.now { passing = c.end_own.new.keys })) in
-    let same : queues_by roster' ≡ queues_by a.roster = queues-same a.roster c.args.observer c.get_mut-kept.result.now c.get_mut-kept.ensures.value (record c.get_mut-kept.result.now { passing = c.end_own.new.keys }) refl in
+    let ended : (k : ℕ) → at c.end_from.new.table k ≡ (if among k (slice_index_or (passing_by a.roster) c.args.observer []) then left_by (From c.args.observer c.args.node) (at a.table k) else at a.table k) = λ k.
+    c.end_from.ensures.left k ∙ ap (λ ks. if among k ks then left_by (From c.args.observer c.args.node) (at a.table k) else at a.table k) (sym had) in
+    let roster' = slice_set a.roster c.args.observer (Some (record c.get_mut-kept.result.now { passing = c.end_from.new.keys })) in
+    let same : queues_by roster' ≡ queues_by a.roster = queues-same a.roster c.args.observer c.get_mut-kept.result.now c.get_mut-kept.ensures.value (record c.get_mut-kept.result.now { passing = c.end_from.new.keys }) refl in
     let lists = listed a.nodes.entries in
-    let lists' = listed c.end_own.new.nodes.entries in
+    let lists' = listed c.end_from.new.nodes.entries in
     let found_key : find (own_at (at a.table) c.args.observer c.args.node) (on c.args.node lists) ≡ Some c.in-Some.key =
     ap (find (own_at (at a.table) c.args.observer c.args.node)) (sym c.keys_on.ensures) ∙ sym c.own_key-own.ensures ∙ c.in-Some.is in
-    let stand = stand-again (at a.table) (at c.end_own.new.table) (at c.set_options.new.table) lists lists' c.args.observer c.args.node c.in-Some.key c.args.options.value
-    (from-left (at a.table) (at c.end_own.new.table) (listed a.nodes.entries) (lasting_by a.roster) (passing_by a.roster) a.fleeting.keys (has_queue (queues_by a.roster)) c.args.observer c.args.node c.self.invariant.1 ended) c.end_own.ensures.swept found_key c.set_options.ensures.changed c.set_options.ensures.others (has_queue qs) c.self.invariant.0.stand in
+    let stand = stand-again (at a.table) (at c.end_from.new.table) (at c.set_options.new.table) lists lists' c.args.observer c.args.node c.in-Some.key c.args.options.value
+    (from-left (at a.table) (at c.end_from.new.table) (listed a.nodes.entries) (lasting_by a.roster) (passing_by a.roster) a.fleeting.keys (has_queue (queues_by a.roster)) c.args.observer c.args.node c.self.invariant.1 ended) c.end_from.ensures.swept found_key c.set_options.ensures.changed c.set_options.ensures.others (has_queue qs) c.self.invariant.0.stand in
     let kept =
-    subst (λ q. IsKept c.set_options.new.table c.end_own.new.nodes.entries q a.pending.keys) (sym same)
-    (kept_table a.table a.nodes.entries qs a.pending.keys c.self.invariant.0 c.set_options.new.table c.end_own.new.nodes.entries c.end_own.ensures.unique stand (c.end_own.ensures.full c.self.invariant.0.full)) in
-    names-only a.table a.nodes.entries qs a.pending.keys c.args.self.now c.self.view_is c.set_options.new.table c.end_own.new.nodes.entries (queues_by roster') a.pending.keys kept (c.args.node ∷ [])
+    subst (λ q. IsKept c.set_options.new.table c.end_from.new.nodes.entries q a.pending.keys) (sym same)
+    (kept_table a.table a.nodes.entries qs a.pending.keys c.self.invariant.0 c.set_options.new.table c.end_from.new.nodes.entries c.end_from.ensures.unique stand (c.end_from.ensures.full c.self.invariant.0.full)) in
+    names-only a.table a.nodes.entries qs a.pending.keys c.args.self.now c.self.view_is c.set_options.new.table c.end_from.new.nodes.entries (queues_by roster') a.pending.keys kept (c.args.node ∷ [])
     (λ p _ names tells. (
-      none-changed p (at c.end_own.new.table) (at c.set_options.new.table) c.in-Some.key c.args.options.value lists' c.set_options.ensures.changed c.set_options.ensures.others
-          (none-ended p (at a.table) (at c.end_own.new.table) (From c.args.observer c.args.node) lists lists' (from-left (at a.table) (at c.end_own.new.table) (listed a.nodes.entries) (lasting_by a.roster) (passing_by a.roster) a.fleeting.keys (has_queue (queues_by a.roster)) c.args.observer c.args.node c.self.invariant.1 ended) c.end_own.ensures.swept names),
+      none-changed p (at c.end_from.new.table) (at c.set_options.new.table) c.in-Some.key c.args.options.value lists' c.set_options.ensures.changed c.set_options.ensures.others
+          (none-ended p (at a.table) (at c.end_from.new.table) (From c.args.observer c.args.node) lists lists' (from-left (at a.table) (at c.end_from.new.table) (listed a.nodes.entries) (lasting_by a.roster) (passing_by a.roster) a.fleeting.keys (has_queue (queues_by a.roster)) c.args.observer c.args.node c.self.invariant.1 ended) c.end_from.ensures.swept names),
       subst (TellsNone p) (sym same) tells,
     ))
 
@@ -242,8 +250,8 @@ returns-in-None-clause-names c =
 pub returns-in-Some-clause-made : goal.returns-in-Some-clause-made
 returns-in-Some-clause-made c =
     let a = c.self.inside in
-    let kept' = record c.get_mut-kept.result.now { passing = c.end_own.new.keys } in
-    let new : Watchers = record { nodes = registered_nodes c.set_options.new.table c.end_own.new.nodes.entries; queues = queues_by (slice_set a.roster c.args.observer (Some kept')); pending = a.pending.keys } in
+    let kept' = record c.get_mut-kept.result.now { passing = c.end_from.new.keys } in
+    let new : Watchers = record { nodes = registered_nodes c.set_options.new.table c.end_from.new.nodes.entries; queues = queues_by (slice_set a.roster c.args.observer (Some kept')); pending = a.pending.keys } in
     same-queues c.args.self.now new (queues-same a.roster c.args.observer c.get_mut-kept.result.now c.get_mut-kept.ensures.value kept' refl ∙ ap (λ (o : Watchers). o.queues) c.self.view_is)
 
 pub returns-in-None-clause-made : goal.returns-in-None-clause-made

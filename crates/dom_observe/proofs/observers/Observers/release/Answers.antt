@@ -23,6 +23,7 @@ use Rattle.dom_observe.proofs.Sources.{sources-ended}
 use Rattle.dom_observe.proofs.Watching.{watches-filtered, watches-released}
 use Rattle.std.specs.List.{list_any}
 use Rattle.std.proofs.lemmas.List.{get_or-set_same, set-set}
+use Rattle.dom_observe.proofs.Turns.{rising-swept}
 use Rattle.dom_observe.proofs.observers.Observers.release.Goals as goal
 
 pub get_mut-kept-requires : goal.get_mut-kept-requires
@@ -74,6 +75,7 @@ invariant_of-self c =
       subst (λ ps. IsAwaited (queues_by new) ps c.swap_remove-2.new.self.keys) (sym pending)
           (subst (λ q. IsAwaited q (left_out o a.pending.keys) c.swap_remove-2.new.self.keys) (sym queues)
           (awaited-released qs a.pending.keys a.untold.keys c.self.invariant.4 o c.swap_remove-2.new.self.keys c.swap_remove-2.ensures.updates.0)),
+      rising-swept c.self.inside.table c.end_all.new.table (listed c.self.inside.nodes.entries) (listed c.end_all.new.nodes.entries) c.end_all.ensures.fewer c.end_all.ensures.swept c.self.invariant.5,
     )
 
 pub returns-clause-released : goal.returns-clause-released

@@ -118,8 +118,9 @@ invariant_of-self-in_err-add_transients g c =
       indexed-by (at b.table) (listed b.nodes.entries) b.fleeting.keys b.roster (lasting_by a.roster) (passing_by b.roster) there s.lasting refl
           (λ i held_there. ap (λ q. has_queue q i) s.queues ∙ held_there) (s.indexed (lasting_by a.roster) there bounded c.self.invariant.1),
       s.sources c.self.invariant.2,
-      s.agree c.self.invariant.3,
+      s.agree c.self.invariant.1.placed c.self.invariant.3,
       subst (λ q. IsAwaited q a.pending.keys a.untold.keys) (sym s.queues) c.self.invariant.4,
+      s.rising c.self.invariant.1.placed c.self.invariant.5,
     )
 
 pub returns-in_err-add_transients-clause-names : goal.returns-in_err-add_transients-clause-names
@@ -183,8 +184,9 @@ invariant_of-self-2 g c =
           (c.tell.ensures.there (has_queue qs') bounded' kept.there),
       indexed-same (at b.table) (listed b.nodes.entries) b.fleeting.keys b.roster d.roster indexed c.tell.ensures.keys,
       s.sources c.self.invariant.2,
-      s.agree c.self.invariant.3,
+      s.agree c.self.invariant.1.placed c.self.invariant.3,
       awaited-queued qs' a.pending.keys a.untold.keys (subst (λ q. IsAwaited q a.pending.keys a.untold.keys) (sym s.queues) c.self.invariant.4) (queues_by d.roster) d.pending.keys (has-same b.roster d.roster c.tell.ensures.keys) c.tell.ensures.stay c.tell.ensures.others,
+      s.rising c.self.invariant.1.placed c.self.invariant.5,
     )
 
 pub returns-clause-removed : goal.returns-clause-removed

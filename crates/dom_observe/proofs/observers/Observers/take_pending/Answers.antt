@@ -22,6 +22,7 @@ invariant_of-self-2 c =
       c.self.invariant.2,
       c.self.invariant.3,
       awaited-taken qs a.pending.keys a.untold.keys c.self.invariant.4 c.append.new.other.keys c.append.new.self.keys kept.there (c.in_ok-append.ensures.keys ∙ insert_all-last a.untold.keys a.pending.keys),
+      c.self.invariant.5,
     )
 
 pub returns-clause-names : goal.returns-clause-names

@@ -23,6 +23,7 @@ use Rattle.dom_observe.proofs.Rosters.{has-kept, within-passing, passing-there, 
 use Rattle.dom_observe.proofs.Sources.{sources-ended}
 use Rattle.dom_observe.proofs.Watching.{watches-filtered, watches-taken}
 use Rattle.std.proofs.lemmas.List.{length-set}
+use Rattle.dom_observe.proofs.Turns.{rising-swept}
 use Rattle.dom_observe.proofs.observers.Observers.tell.Goals as goal
 
 pub get_mut-kept-requires : goal.get_mut-kept-requires
@@ -65,6 +66,7 @@ invariant_of-self c =
       agree-ended u v (TransientOf o) left c.self.invariant.3,
       subst (λ q. IsAwaited q a.pending.keys c.swap_remove.new.self.keys) (sym queues)
           (awaited-told qs a.pending.keys a.untold.keys c.self.invariant.4 o held_there c.swap_remove.new.self.keys c.swap_remove.ensures.updates.0),
+      rising-swept c.self.inside.table c.end_own.new.table (listed c.self.inside.nodes.entries) (listed c.end_own.new.nodes.entries) c.end_own.ensures.fewer c.end_own.ensures.swept c.self.invariant.5,
     )
 
 pub returns-clause-told : goal.returns-clause-told

@@ -71,8 +71,9 @@ invariant_of-self-2 g c =
       indexed-by (at c.add_transients.new.table) (listed c.add_transients.new.nodes.entries) c.add_transients.new.fleeting.keys roster' (lasting_by a.roster) (passing_by roster') there c.add_transients.ensures.lasting refl
           (λ i held_there. ap (λ q. has_queue q i) queues ∙ held_there) (c.add_transients.ensures.indexed (lasting_by a.roster) there bounded c.self.invariant.1),
       c.add_transients.ensures.sources c.self.invariant.2,
-      c.add_transients.ensures.agree c.self.invariant.3,
+      c.add_transients.ensures.agree c.self.invariant.1.placed c.self.invariant.3,
       subst (λ q. IsAwaited q a.pending.keys a.untold.keys) (sym queues) c.self.invariant.4,
+      c.add_transients.ensures.rising c.self.invariant.1.placed c.self.invariant.5,
     )
 
 pub returns-clause-left : goal.returns-clause-left

@@ -5,11 +5,14 @@ use Rattle.dom_model.specs.PlainLists.Lists.{among}
 use Rattle.dom_model.specs.Forests.Forest.{inclusive_descendants}
 use Rattle.dom_model.specs.Worlds.World.{Range}
 use Rattle.dom_model.specs.MutationAlgorithms.Discarding.{nodes_of_range, nodes_unless_released}
+use Rattle.dom_tree.proofs.Asking.{asked-found}
 use Rattle.dom_ranges.proofs.EndsCounted.{any-by_slot}
 use Rattle.dom_ranges.proofs.statics.Statics.refers.Goals as goal
 
 pub returns-in-Some : goal.returns-in-Some
-returns-in-Some g c = c.in-Some.ensures.found (flat_map (nodes_unless_released nodes_of_range) c.args.self.now) (λ n passes called. search (rules, of_calls))
+returns-in-Some g c =
+    let names = flat_map (nodes_unless_released nodes_of_range) c.args.self.now in
+    asked-found _ _ names (c.in-Some.ensures.asked (λ m. among m names) (λ n passes called. search (rules, of_calls)))
 
 pub returns-in-None : goal.returns-in-None
 returns-in-None g c =

@@ -2,16 +2,16 @@ use Rattle.std.proofs.Common.{◌∷◌, [], ◌++◌, false, arith, length-appe
 use Rattle.std.proofs.lemmas.Result.{err_from_is_err_and}
 use Rattle.dom_serve.specs.ByLine.{PassesLine, CutsLine}
 use Rattle.dom_serve.specs.Tells.{is_write, is_write_fault}
-use Rattle.dom_serve.proofs.Calls.{IsWritten-more, HasAnswered-more}
+use Rattle.dom_serve.proofs.Calls.{IsCalled-more, HasAnswered-more}
 use Rattle.dom_serve.proofs.Fed.{line_ahead, Fed-line, Breaks-line, Fed-rest}
 use Rattle.dom_serve.proofs.server.Server.feed_all.Goals as goal
 
 pub loop-line-preserved : goal.loop-line-preserved
 loop-line-preserved g c = record {
-  passed = HasAnswered-more g.W.Sink.is_passed_on c.args.writer.now c.loop-line.writer c.feed_line.new.writer c.args.self.now.lines c.loop-line.self.lines c.feed_line.new.self.lines
+  passed = HasAnswered-more g.W.Sink.writing c.args.writer.now c.loop-line.writer c.feed_line.new.writer c.args.self.now.lines c.loop-line.self.lines c.feed_line.new.self.lines
       c.loop-line.invariant.passed (c.in_ok-feed_line.ensures.passed refl);
-  by_line = IsWritten-more (PassesLine g.W.Sink.taken g.W.Sink.is_passed_on) (CutsLine g.W.Sink.taken) false c.args.writer.now c.loop-line.writer c.feed_line.new.writer c.loop-line.invariant.by_line c.in_ok-feed_line.ensures.by_line;
-  writer = IsWritten-more g.W.Sink.works g.W.Sink.fails false c.args.writer.now c.loop-line.writer c.feed_line.new.writer c.loop-line.invariant.writer c.in_ok-feed_line.ensures.writer;
+  by_line = IsCalled-more (PassesLine g.W.Sink.writing) (CutsLine g.W.Sink.writing) false c.args.writer.now c.loop-line.writer c.feed_line.new.writer c.loop-line.invariant.by_line c.in_ok-feed_line.ensures.by_line;
+  writer = IsCalled-more g.W.Sink.writing.works g.W.Sink.writing.fails false c.args.writer.now c.loop-line.writer c.feed_line.new.writer c.loop-line.invariant.writer c.in_ok-feed_line.ensures.writer;
   front = c.loop-line.invariant.front ++ c.in-Some.line.now ++ 10 ∷ [];
   whole = line_ahead _ _ _ _ _ c.loop-line.invariant.whole c.in-Some.ensures.1;
   lines = simp length-append (omega (arith, c.in_ok-feed_line.ensures.lines));
@@ -30,12 +30,12 @@ returns-in_err-feed_line-clause-fed g c = λ b bytes h.
 pub returns-in_err-feed_line-clause-writer : goal.returns-in_err-feed_line-clause-writer
 returns-in_err-feed_line-clause-writer g c =
     let p = err_from_is_err_and c.from_residual.result c.from_residual.ensures.1 in
-    rw (p.1, p.2) (IsWritten-more g.W.Sink.works g.W.Sink.fails (is_write c.in_err-feed_line.field-0.0) c.args.writer.now c.loop-line.writer c.feed_line.new.writer c.loop-line.invariant.writer c.in_err-feed_line.ensures.writer)
+    rw (p.1, p.2) (IsCalled-more g.W.Sink.writing.works g.W.Sink.writing.fails (is_write c.in_err-feed_line.field-0.0) c.args.writer.now c.loop-line.writer c.feed_line.new.writer c.loop-line.invariant.writer c.in_err-feed_line.ensures.writer)
 
 pub returns-in_err-feed_line-clause-by_line : goal.returns-in_err-feed_line-clause-by_line
 returns-in_err-feed_line-clause-by_line g c =
     let p = err_from_is_err_and c.from_residual.result c.from_residual.ensures.1 in
-    rw (p.1, p.2) (IsWritten-more (PassesLine g.W.Sink.taken g.W.Sink.is_passed_on) (CutsLine g.W.Sink.taken) (is_write c.in_err-feed_line.field-0.0) c.args.writer.now c.loop-line.writer c.feed_line.new.writer c.loop-line.invariant.by_line c.in_err-feed_line.ensures.by_line)
+    rw (p.1, p.2) (IsCalled-more (PassesLine g.W.Sink.writing) (CutsLine g.W.Sink.writing) (is_write c.in_err-feed_line.field-0.0) c.args.writer.now c.loop-line.writer c.feed_line.new.writer c.loop-line.invariant.by_line c.in_err-feed_line.ensures.by_line)
 
 pub returns-clause-fed : goal.returns-clause-fed
 returns-clause-fed g c = λ b bytes h.
@@ -44,8 +44,8 @@ returns-clause-fed g c = λ b bytes h.
 
 pub returns-clause-writer : goal.returns-clause-writer
 returns-clause-writer g c =
-    IsWritten-more g.W.Sink.works g.W.Sink.fails (is_write_fault c.keep.result) c.args.writer.now c.loop-line.writer c.keep.new.writer c.loop-line.invariant.writer c.keep.ensures.writer
+    IsCalled-more g.W.Sink.writing.works g.W.Sink.writing.fails (is_write_fault c.keep.result) c.args.writer.now c.loop-line.writer c.keep.new.writer c.loop-line.invariant.writer c.keep.ensures.writer
 
 pub returns-clause-by_line : goal.returns-clause-by_line
 returns-clause-by_line g c =
-    IsWritten-more (PassesLine g.W.Sink.taken g.W.Sink.is_passed_on) (CutsLine g.W.Sink.taken) (is_write_fault c.keep.result) c.args.writer.now c.loop-line.writer c.keep.new.writer c.loop-line.invariant.by_line c.keep.ensures.by_line
+    IsCalled-more (PassesLine g.W.Sink.writing) (CutsLine g.W.Sink.writing) (is_write_fault c.keep.result) c.args.writer.now c.loop-line.writer c.keep.new.writer c.loop-line.invariant.by_line c.keep.ensures.by_line

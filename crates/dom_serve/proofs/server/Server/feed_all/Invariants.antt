@@ -9,14 +9,14 @@ use Rattle.dom_serve.proofs.server.Server.feed_all.Given as goal
 
 abbrev pub invariant-loop-line : goal.invariant-loop-line
 invariant-loop-line g l = record {
-  passed : HasAnswered g.W.Sink.is_passed_on l.fn.writer l.fn.self.lines l.writer l.self.lines;
-  by_line : IsWrittenByLine g.W.Sink.taken g.W.Sink.is_passed_on false l.fn.writer l.writer;
-  writer : IsWritten g.W.Sink.works g.W.Sink.fails false l.fn.writer l.writer;
+  passed : HasAnswered g.W.Sink.writing l.fn.writer l.fn.self.lines l.writer l.self.lines;
+  by_line : IsWrittenByLine g.W.Sink.writing false l.fn.writer l.writer;
+  writer : IsWritten g.W.Sink.writing false l.fn.writer l.writer;
   front : List ℕ;
   whole : l.piece ≡ front ++ l.rest;
   lines : l.self.lines ≤ l.fn.self.lines + length front;
   so_far : (b : Bounds) (bytes : List ℕ) → Stands b bytes l.fn.self → Stands b (bytes ++ front) l.self
-      × Grows (due whole_table b bytes false) (due whole_table b (bytes ++ front) false) (g.W.Sink.taken l.fn.writer) (g.W.Sink.taken l.writer);
+      × Grows (due whole_table b bytes false) (due whole_table b (bytes ++ front) false) (g.W.Sink.writing.taken l.fn.writer) (g.W.Sink.writing.taken l.writer);
 }
 
 abbrev pub decreases-loop-line : goal.decreases-loop-line

@@ -2,7 +2,7 @@ use Rattle.std.proofs.Common.{◌++◌}
 use Rattle.std.proofs.lemmas.Result.{err_from_is_err_and}
 use Rattle.dom_serve.specs.ByLine.{PassesLine, CutsLine}
 use Rattle.dom_serve.specs.Tells.{is_write_fault}
-use Rattle.dom_serve.proofs.Calls.{IsWritten-more}
+use Rattle.dom_serve.proofs.Calls.{IsCalled-more}
 use Rattle.dom_serve.proofs.Fed.{Breaks-early, Fed-more}
 use Rattle.dom_serve.proofs.server.Server.feed_line.Goals as goal
 
@@ -18,8 +18,8 @@ returns-clause-fed g c = λ b bytes h.
 
 pub returns-clause-writer : goal.returns-clause-writer
 returns-clause-writer g c =
-    IsWritten-more g.W.Sink.works g.W.Sink.fails (is_write_fault c.end_line.result) c.args.writer.now c.keep.new.writer c.end_line.new.writer c.in_ok-keep.ensures.writer c.end_line.ensures.writer
+    IsCalled-more g.W.Sink.writing.works g.W.Sink.writing.fails (is_write_fault c.end_line.result) c.args.writer.now c.keep.new.writer c.end_line.new.writer c.in_ok-keep.ensures.writer c.end_line.ensures.writer
 
 pub returns-clause-by_line : goal.returns-clause-by_line
 returns-clause-by_line g c =
-    IsWritten-more (PassesLine g.W.Sink.taken g.W.Sink.is_passed_on) (CutsLine g.W.Sink.taken) (is_write_fault c.end_line.result) c.args.writer.now c.keep.new.writer c.end_line.new.writer c.in_ok-keep.ensures.by_line c.end_line.ensures.by_line
+    IsCalled-more (PassesLine g.W.Sink.writing) (CutsLine g.W.Sink.writing) (is_write_fault c.end_line.result) c.args.writer.now c.keep.new.writer c.end_line.new.writer c.in_ok-keep.ensures.by_line c.end_line.ensures.by_line

@@ -1,7 +1,7 @@
 -- The first child, or else the next sibling of the nearest ancestor below the top that has one.
-use Rattle.std.proofs.Common.{◌≡◌, ◌==◌, ◌<◌, true, false, None, refl, ap, sym, ◌∙◌, subst}
+use Rattle.std.proofs.Common.{◌≡◌, ◌==◌, ◌<◌, true, false, None, ap, sym, ◌∙◌, subst}
 use Rattle.std.proofs.lemmas.Bool.{not-true, not-false, eqb-true, eqb-false}
-use Rattle.dom_model.specs.Forests.Forest.{children_of, occurs, tree_at}
+use Rattle.dom_model.specs.Forests.Forest.{occurs, tree_at}
 use Rattle.dom_model.proofs.Forests.Above.{above}
 use Rattle.dom_model.proofs.Forests.ToTheRoot.{shorter, inside}
 use Rattle.dom_model.proofs.Forests.TreeOrder.Ordering.{past}

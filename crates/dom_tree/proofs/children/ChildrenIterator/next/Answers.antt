@@ -1,5 +1,5 @@
 -- What is left begins with the number of the node at the place, and goes on from the sibling after it.
-use Rattle.std.proofs.Common.{length, refl, sym, ap, ◌∙◌, rules}
+use Rattle.std.proofs.Common.{length, sym, ap, ◌∙◌, rules}
 use Rattle.dom_links.specs.Placed.{slot_of, slots_of}
 use Rattle.dom_tree.specs.Following.{numbers_from}
 use Rattle.dom_tree.proofs.Following.{next-placed, numbers-next}

@@ -3,6 +3,8 @@ use Rattle.std.proofs.Common.{refl}
 use Rattle.dom_model.specs.Forests.Forest.{Node, with_node}
 use Rattle.dom_links.specs.Placed.{slot_of}
 use Rattle.dom_tree.specs.Bodies.{with_body, bodied_at}
+use Rattle.dom_tree.proofs.BlocksKept.{blocked-altered}
+use Rattle.dom_tree.proofs.TalliesKept.{tallied-kept}
 use Rattle.dom_tree.proofs.Trees.{alter-done, keeps-shown, part-read}
 use Rattle.dom_tree.proofs.OwnedTrees.{alter-tree}
 use Rattle.dom_tree.proofs.Places.{place-held, slot-led, seated}
@@ -18,6 +20,8 @@ pub invariant_of-self-lent : goal.invariant_of-self-lent
 invariant_of-self-lent g c = λ w.
     seated c.self.invariant (bodied_at c.self.inside.links c.place_of-place.result w) refl
     (alter-tree c.self.invariant.tree c.args.id (slot_of c.self.inside.links c.place_of-place.result) (slot-led c.place_of-place.ensures) (with_body w) (λ q. refl) (λ q. refl) (λ q. refl))
+    (blocked-altered (λ q. record q { node = with_body w q.node }) (λ q. refl) (λ q. refl) c.self.inside.links.arena (slot_of c.self.inside.links c.place_of-place.result) c.self.inside.blocks c.self.invariant.blocked)
+    (tallied-kept (λ q. record q { node = with_body w q.node }) (with_body w) (λ q. refl) (λ q. refl) c.self.inside.links.arena (slot_of c.self.inside.links c.place_of-place.result) c.self.inside.tallies c.self.invariant.tallied)
 
 pub returns : goal.returns
 returns g c = (

@@ -1,16 +1,37 @@
 -- A child cut by place is cut by number.
 use Rattle.std.proofs.Common.{IsSome, refl, sym, ap, ◌∙◌, subst}
-use Rattle.dom_model.specs.Forests.Arena.{entry_at, parent_in}
+use Rattle.dom_model.specs.Forests.Arena.{Arena, entry_at, parent_in, unlinked}
 use Rattle.dom_model.specs.Forests.Forest.{cut}
 use Rattle.dom_links.specs.Placed.{Placed, index_of, slot_of}
 use Rattle.dom_tree.specs.Slots.{Kept}
 use Rattle.dom_tree.proofs.Trees.{parent-there, parent-still, cut-done, changed-shown}
+use Rattle.dom_tree.specs.Blocks.{AreBlocked}
 use Rattle.dom_tree.proofs.OwnedTrees.{cut-tree}
+use Rattle.dom_tree.proofs.Putting.{cut-blocked}
+use Rattle.dom_tree.proofs.TalliesKept.{tallied-cut}
 use Rattle.dom_tree.proofs.Places.{place-of_child, slot-led, placed-still, parent-held, unlinked-from, seated, same-places}
 use Rattle.dom_tree.proofs.tree.Tree.cut.Goals as goal
 
 pub place_of-place-requires : goal.place_of-place-requires
 place_of-place-requires g c = place-of_child c.self.invariant c.self.view_is c.args.child c.requires
+
+pub blocked_cut-requires-clause-placed : goal.blocked_cut-requires-clause-placed
+blocked_cut-requires-clause-placed g c = c.place_of-place.ensures.placed c.place_of-place.result refl
+
+pub blocked_cut-requires-clause-has_parent : goal.blocked_cut-requires-clause-has_parent
+blocked_cut-requires-clause-has_parent g c = parent-there c.self.invariant.tree c.self.view_is c.args.child (slot_of c.self.inside.links c.place_of-place.result) (slot-led c.place_of-place.ensures) c.requires
+
+pub blocked_cut-requires-clause-blocked : goal.blocked_cut-requires-clause-blocked
+blocked_cut-requires-clause-blocked g c = c.self.invariant.blocked
+
+pub tallied_cut-requires-clause-placed : goal.tallied_cut-requires-clause-placed
+tallied_cut-requires-clause-placed g c = c.place_of-place.ensures.placed c.place_of-place.result refl
+
+pub tallied_cut-requires-clause-has_parent : goal.tallied_cut-requires-clause-has_parent
+tallied_cut-requires-clause-has_parent g c = parent-there c.self.invariant.tree c.self.view_is c.args.child (slot_of c.self.inside.links c.place_of-place.result) (slot-led c.place_of-place.ensures) c.requires
+
+pub tallied_cut-requires-clause-tallied : goal.tallied_cut-requires-clause-tallied
+tallied_cut-requires-clause-tallied g c = c.self.invariant.tallied
 
 pub number_cut-requires-clause-placed : goal.number_cut-requires-clause-placed
 number_cut-requires-clause-placed g c = c.place_of-place.ensures.placed c.place_of-place.result refl
@@ -39,6 +60,13 @@ invariant_of-self g c =
     seated c.self.invariant c.unlink.new.self (c.unlink.ensures.places ∙ places)
     (cut-tree c.self.invariant.tree c.args.child (slot_of c.self.inside.links c.place_of-place.result) c.number_cut.new.links.arena c.unlink.new.self.arena first (unlinked-from c.self.inside.links c.number_cut.new.links places c.unlink.new.self c.place_of-place.result c.unlink.ensures.unlinked)
     (cut-done c.self.invariant.tree c.self.view_is c.sound.ensures c.args.child (slot_of c.self.inside.links c.place_of-place.result) (slot-led c.place_of-place.ensures) c.requires c.number_cut.new.links.arena c.unlink.new.self.arena first (unlinked-from c.self.inside.links c.number_cut.new.links places c.unlink.new.self c.place_of-place.result c.unlink.ensures.unlinked)))
+    (subst (λ (a : Arena (Kept g.row.X.Denot)). AreBlocked (entry_at a) c.blocked_cut.new.blocks)
+    (sym (unlinked-from c.self.inside.links c.number_cut.new.links places c.unlink.new.self c.place_of-place.result c.unlink.ensures.unlinked ∙ ap (λ (a : Arena (Kept g.row.X.Denot)). unlinked a (slot_of c.self.inside.links c.place_of-place.result)) first))
+    (cut-blocked c.self.invariant c.self.view_is c.sound.ensures (slot_of c.self.inside.links c.place_of-place.result)
+    (parent-there c.self.invariant.tree c.self.view_is c.args.child (slot_of c.self.inside.links c.place_of-place.result) (slot-led c.place_of-place.ensures) c.requires) c.blocked_cut.new.blocks c.blocked_cut.ensures))
+    (tallied-cut c.self.inside.links.arena c.self.inside.tallies c.self.invariant.tallied c.sound.ensures (slot_of c.self.inside.links c.place_of-place.result)
+    (parent-there c.self.invariant.tree c.self.view_is c.args.child (slot_of c.self.inside.links c.place_of-place.result) (slot-led c.place_of-place.ensures) c.requires) c.tallied_cut.new.tallies c.tallied_cut.ensures c.unlink.new.self.arena
+    (unlinked-from c.self.inside.links c.number_cut.new.links places c.unlink.new.self c.place_of-place.result c.unlink.ensures.unlinked ∙ ap (λ (a : Arena (Kept g.row.X.Denot)). unlinked a (slot_of c.self.inside.links c.place_of-place.result)) first))
 
 pub returns : goal.returns
 returns g c =

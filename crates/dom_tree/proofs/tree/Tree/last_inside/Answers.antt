@@ -1,5 +1,5 @@
 -- Each step goes to the last child.
-use Rattle.std.proofs.Common.{ap, sym, ◌∙◌}
+use Rattle.std.proofs.Common.{ap, ◌∙◌}
 use Rattle.dom_model.specs.PlainLists.Lists.{last_of}
 use Rattle.dom_model.specs.Forests.Forest.{inclusive_descendants}
 use Rattle.dom_model.proofs.Forests.TreeOrder.Ending.{last-leaf, last-down}

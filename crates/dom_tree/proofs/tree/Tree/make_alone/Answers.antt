@@ -1,11 +1,17 @@
 -- A node stored and named in the table is one more root.
-use Rattle.std.proofs.Common.{◌≡◌, List, [], ◌∷◌, ◌++◌, length, Option, Some, None, ap, sym, ◌∙◌, refl, tests, rules, arith}
+use Rattle.std.proofs.Common.{◌≡◌, ℕ, List, [], ◌∷◌, ◌++◌, length, Option, Some, None, ap, sym, ◌∙◌, refl, subst, tests, rules, arith}
 use Rattle.std.proofs.lemmas.List.{length-map}
 use denote.RawPtr.{Ptr}
 use Rattle.dom_model.specs.Forests.Arena.{Arena, added, next_slot, entry_at}
+use Rattle.dom_model.specs.Forests.Kinds.{Label as PlainLabel}
 use Rattle.dom_links.specs.Placed.{slots_of}
 use Rattle.dom_tree.specs.Places.{slots_in}
+use Rattle.dom_tree.specs.Blocks.{AreBlocked}
 use Rattle.dom_tree.specs.Slots.{Kept}
+use Rattle.dom_tree.specs.declared.tallies.Tally.{Tally}
+use Rattle.dom_tree.specs.Tallies.{AreStarted}
+use Rattle.dom_tree.proofs.BlocksKept.{blocked-added}
+use Rattle.dom_tree.proofs.TalliesKept.{tallied-make}
 use Rattle.dom_tree.proofs.Stores.{added-new}
 use Rattle.dom_tree.proofs.Places.{made-read, slots-made, placed-made}
 use Rattle.dom_tree.proofs.Trees.{made-is, made-keeps, made-shown}
@@ -23,7 +29,14 @@ invariant_of-self-2 g c =
     let number_is : c.new-id.result ≡ length (slots_in c.self.inside.links c.self.inside.table.items) = c.new-id.ensures ∙ c.len.ensures ∙ ap length c.reserve.ensures.items ∙ sym (length-map c.self.inside.table.items (slots_of c.self.inside.links)) in
     let done = made-keeps c.self.invariant.tree c.self.view_is c.sound.ensures x c.add.new.self.arena (slots_in c.add.new.self c.push_reserved.new.self.items) c.in-Ok.slot number_is fresh c.requires.room added_is slot_is table_is in
     let tree = made-tree c.self.invariant.tree c.sound.ensures x c.add.new.self.arena (slots_in c.add.new.self c.push_reserved.new.self.items) c.in-Ok.slot number_is number_is refl fresh added_is slot_is table_is done in
-    record { tree = tree; placed = placed-made c.self.invariant c.add.new.self c.in-Ok.ensures.kept c.place-place.result c.push_reserved.new.self.items pushed c.place-place.ensures.placed }
+    let began : AreStarted c.in-Ok.slot c.label.inside.kind c.self.inside.tallies c.start.new.self = subst (λ (t : List (ℕ × Tally)). AreStarted c.in-Ok.slot c.label.inside.kind t c.start.new.self) c.reserve-2.ensures c.start.ensures in
+    let started : AreStarted c.in-Ok.slot c.args.label.kind c.self.inside.tallies c.start.new.self = subst (λ k. AreStarted c.in-Ok.slot k c.self.inside.tallies c.start.new.self) (ap (λ (l : PlainLabel). l.kind) c.label.view_is) began in
+    record {
+      tree = tree;
+      placed = placed-made c.self.invariant c.add.new.self c.in-Ok.ensures.kept c.place-place.result c.push_reserved.new.self.items pushed c.place-place.ensures.placed;
+      blocked = subst (λ (a : Arena (Kept g.row.X.Denot)). AreBlocked (entry_at a) c.self.inside.blocks) (sym added_is) (blocked-added c.sound.ensures c.self.inside.blocks c.self.invariant.blocked x (ap (entry_at c.self.inside.links.arena) (sym slot_is) ∙ fresh));
+      tallied = tallied-make c.self.inside.links.arena c.self.inside.tallies c.self.invariant.tallied c.sound.ensures x c.in-Ok.slot fresh slot_is c.start.new.self started c.add.new.self.arena added_is;
+    }
 
 pub returns-clause-made : goal.returns-clause-made
 returns-clause-made g c =

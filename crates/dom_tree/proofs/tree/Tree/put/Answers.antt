@@ -1,11 +1,10 @@
 -- A root put by place is put by number.
-use Rattle.std.proofs.Common.{◌<◌, length, refl, sym, ap, subst}
+use Rattle.std.proofs.Common.{◌<◌, length, refl, sym, ap, ◌∙◌, subst}
 use Rattle.dom_model.specs.Forests.Arena.{entry_at, children_in}
-use Rattle.dom_model.specs.Forests.Forest.{put}
 use Rattle.dom_links.specs.Placed.{slot_of, slots_of}
-use Rattle.dom_tree.proofs.Trees.{parent-none, parent-same, no_cycle-slots, put-child, put-done, changed-shown}
-use Rattle.dom_tree.proofs.OwnedTrees.{put-tree}
-use Rattle.dom_tree.proofs.Places.{place-held, places-held, slot-led, put-at, seated, same-places}
+use Rattle.dom_tree.proofs.Trees.{parent-none, parent-same, no_cycle-slots, put-child}
+use Rattle.dom_tree.proofs.Places.{place-held, places-held, slot-led}
+use Rattle.dom_tree.proofs.Putting.{put-seated, put-shown, put-seated_into, put-shown_into}
 use Rattle.dom_tree.proofs.tree.Tree.put.Goals as goal
 
 pub place_of-above-requires : goal.place_of-above-requires
@@ -17,6 +16,15 @@ place_of-below-requires g c = place-held c.self.invariant c.self.view_is c.args.
 pub link_to-next-requires : goal.link_to-next-requires
 link_to-next-requires g c =
     places-held c.self.invariant c.self.view_is c.args.before c.args.parent c.requires.before_under
+
+pub tallied_put-requires-clause-parent_placed : goal.tallied_put-requires-clause-parent_placed
+tallied_put-requires-clause-parent_placed g c = c.place_of-above.ensures.placed c.place_of-above.result refl
+
+pub tallied_put-requires-clause-child_placed : goal.tallied_put-requires-clause-child_placed
+tallied_put-requires-clause-child_placed g c = c.place_of-below.ensures.placed c.place_of-below.result refl
+
+pub tallied_put-requires-clause-tallied : goal.tallied_put-requires-clause-tallied
+tallied_put-requires-clause-tallied g c = c.self.invariant.tallied
 
 pub link-requires-clause-parent_placed : goal.link-requires-clause-parent_placed
 link-requires-clause-parent_placed g c = c.place_of-above.ensures.placed c.place_of-above.result refl
@@ -55,15 +63,13 @@ pub number_put-requires-clause-before_placed : goal.number_put-requires-clause-b
 number_put-requires-clause-before_placed g c = λ b e. (c.link.ensures.kept b (c.link_to-next.ensures.placed b e)).placed
 
 pub invariant_of-self : goal.invariant_of-self
-invariant_of-self g c =
-    let at = put-at c.self.inside.links c.link.new.self c.link.ensures.places c.number_put.new.links c.place_of-above.result c.place_of-below.result c.link_to-next.result c.number_put.ensures in
-    seated c.self.invariant c.number_put.new.links at.1
-    (put-tree c.self.invariant.tree c.self.view_is c.args.parent (slot_of c.self.inside.links c.place_of-above.result) c.args.child (slot_of c.self.inside.links c.place_of-below.result) c.args.before (slots_of c.self.inside.links c.link_to-next.result) c.requires.parent_held c.requires.child_held c.requires.no_parent c.requires.no_cycle c.link.new.self.arena c.number_put.new.links.arena c.link.ensures.linked at.0
-    (put-done c.self.invariant.tree c.self.view_is c.sound.ensures c.args.parent (slot_of c.self.inside.links c.place_of-above.result) c.args.child (slot_of c.self.inside.links c.place_of-below.result) c.args.before (slots_of c.self.inside.links c.link_to-next.result) (slot-led c.place_of-above.ensures) (slot-led c.place_of-below.ensures) (sym c.link_to-next.ensures.slot) c.requires.no_parent c.requires.no_cycle c.requires.before_under c.requires.kinds c.link.new.self.arena c.number_put.new.links.arena c.link.ensures.linked at.0))
+invariant_of-self g c = put-seated_into c.self.invariant c.self.view_is c.sound.ensures c.args.parent c.args.child c.args.before c.place_of-above.ensures c.place_of-below.ensures c.link_to-next.ensures c.requires.parent_held c.requires.child_held c.requires.no_parent c.requires.no_cycle c.requires.before_under c.requires.kinds c.link.new.self c.link.ensures.linked c.link.ensures.places c.number_put.new.links c.number_put.ensures.numbered c.in-Some.block (sym c.block_put-block.ensures ∙ c.in-Some.is) c.number_put.ensures.few c.blocked_put.new.links c.blocked_put.ensures.links c.tallied_put.new.tallies c.tallied_put.ensures c.blocked_put.new.blocks c.blocked_put.ensures.blocks
 
-pub returns : goal.returns
-returns g c =
-    let at = put-at c.self.inside.links c.link.new.self c.link.ensures.places c.number_put.new.links c.place_of-above.result c.place_of-below.result c.link_to-next.result c.number_put.ensures in
-    same-places c.self.inside.links c.number_put.new.links c.self.inside.table.items at.1
-    (changed-shown c.self.invariant.tree c.self.view_is c.number_put.new.links.arena (put c.args.parent c.args.child c.args.before)
-    (put-done c.self.invariant.tree c.self.view_is c.sound.ensures c.args.parent (slot_of c.self.inside.links c.place_of-above.result) c.args.child (slot_of c.self.inside.links c.place_of-below.result) c.args.before (slots_of c.self.inside.links c.link_to-next.result) (slot-led c.place_of-above.ensures) (slot-led c.place_of-below.ensures) (sym c.link_to-next.ensures.slot) c.requires.no_parent c.requires.no_cycle c.requires.before_under c.requires.kinds c.link.new.self.arena c.number_put.new.links.arena c.link.ensures.linked at.0).same)
+pub returns-in-Some : goal.returns-in-Some
+returns-in-Some g c = put-shown_into c.self.invariant c.self.view_is c.sound.ensures c.args.parent c.args.child c.args.before c.place_of-above.ensures c.place_of-below.ensures c.link_to-next.ensures c.requires.parent_held c.requires.child_held c.requires.no_parent c.requires.no_cycle c.requires.before_under c.requires.kinds c.link.new.self c.link.ensures.linked c.link.ensures.places c.number_put.new.links c.number_put.ensures.numbered c.in-Some.block (sym c.block_put-block.ensures ∙ c.in-Some.is) c.number_put.ensures.few c.blocked_put.new.links c.blocked_put.ensures.links c.tallied_put.new.tallies c.tallied_put.ensures c.blocked_put.new.blocks c.blocked_put.ensures.blocks
+
+pub invariant_of-self-in_default : goal.invariant_of-self-in_default
+invariant_of-self-in_default g c = put-seated c.self.invariant c.self.view_is c.sound.ensures c.args.parent c.args.child c.args.before c.place_of-above.ensures c.place_of-below.ensures c.link_to-next.ensures c.requires.parent_held c.requires.child_held c.requires.no_parent c.requires.no_cycle c.requires.before_under c.requires.kinds c.link.new.self c.link.ensures.linked c.link.ensures.places c.number_put.new.links c.number_put.ensures.numbered c.number_put.ensures.few c.tallied_put.new.tallies c.tallied_put.ensures (sym c.block_put-block.ensures ∙ c.in_default.is)
+
+pub returns-in_default : goal.returns-in_default
+returns-in_default g c = put-shown c.self.invariant c.self.view_is c.sound.ensures c.args.parent c.args.child c.args.before c.place_of-above.ensures c.place_of-below.ensures c.link_to-next.ensures c.requires.parent_held c.requires.child_held c.requires.no_parent c.requires.no_cycle c.requires.before_under c.requires.kinds c.link.new.self c.link.ensures.linked c.link.ensures.places c.number_put.new.links c.number_put.ensures.numbered

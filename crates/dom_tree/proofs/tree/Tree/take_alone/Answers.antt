@@ -1,8 +1,14 @@
 -- The root's slot is emptied, and its place in the table.
-use Rattle.std.proofs.Common.{Some, None, slice_set, refl, sym, ap, ◌∙◌, arith}
+use Rattle.std.proofs.Common.{Some, None, slice_set, refl, sym, ap, ◌∙◌, subst, arith}
+use Rattle.dom_model.specs.Forests.Arena.{Arena, entry_at}
 use Rattle.dom_model.specs.Forests.Forest.{Grove, parent_of, children_of}
+use Rattle.dom_tree.specs.Blocks.{AreBlocked}
+use Rattle.dom_tree.specs.Slots.{Kept}
 use Rattle.dom_tree.specs.Owned.{document_in}
 use Rattle.dom_tree.specs.Places.{slots_in}
+use Rattle.dom_tree.specs.Tallies.{tally_but}
+use Rattle.dom_tree.proofs.BlocksKept.{blocked-taken}
+use Rattle.dom_tree.proofs.TalliesKept.{tallied-take}
 use Rattle.dom_tree.proofs.Trees.{held-slot, parent-none, children-none, take-live, take-done, take-shown}
 use Rattle.dom_tree.proofs.DocumentsKept.{document-HasNode}
 use Rattle.dom_tree.proofs.OwnedSteps.{taken-known, taken-tree}
@@ -15,6 +21,12 @@ place_of-place-requires g c =
 
 pub slot-slot-requires : goal.slot-slot-requires
 slot-slot-requires g c = c.place_of-place.ensures.placed c.place_of-place.result refl
+
+pub tallied_take-requires-clause-placed : goal.tallied_take-requires-clause-placed
+tallied_take-requires-clause-placed g c = c.place_of-place.ensures.placed c.place_of-place.result refl
+
+pub tallied_take-requires-clause-tallied : goal.tallied_take-requires-clause-tallied
+tallied_take-requires-clause-tallied g c = c.self.invariant.tallied
 
 pub take-item-requires-clause-held : goal.take-item-requires-clause-held
 take-item-requires-clause-held g c = held-slot c.self.invariant.tree c.self.view_is c.args.id c.slot-slot.result (slot-led c.place_of-place.ensures ∙ ap Some (sym c.slot-slot.ensures))
@@ -44,6 +56,15 @@ invariant_of-self g c = record {
       (taken-known c.self.inside.strays _ (held-slot c.self.invariant.tree c.self.view_is c.args.id c.slot-slot.result (slot-led c.place_of-place.ensures ∙ ap Some (sym c.slot-slot.ensures))) c.take-item.result _ c.item.view_is c.take-item.ensures.value)
       (take-done c.self.invariant.tree c.self.view_is c.sound.ensures c.args.id c.slot-slot.result (slot-led c.place_of-place.ensures ∙ ap Some (sym c.slot-slot.ensures)) c.requires.no_parent c.requires.no_child c.take-item.new.self.arena c.take-item.ensures.taken c.sound-2.ensures c.number.result (slots_in c.take-item.new.self c.clear.new.self.items) c.number.ensures (slots-taken c.self.invariant c.take-item.new.self c.args.id c.slot-slot.result (slot-led c.place_of-place.ensures ∙ ap Some (sym c.slot-slot.ensures)) c.take-item.ensures.kept c.number.result c.number.ensures c.clear.new.self.items c.clear.ensures.items));
   placed = placed-taken c.self.invariant c.take-item.new.self c.args.id c.slot-slot.result (slot-led c.place_of-place.ensures ∙ ap Some (sym c.slot-slot.ensures)) c.take-item.ensures.kept c.number.result c.number.ensures c.clear.new.self.items c.clear.ensures.items;
+  blocked =
+      subst (λ (a : Arena (Kept g.row.X.Denot)). AreBlocked (entry_at a) c.remove.new.self) (sym c.take-item.ensures.taken)
+      (blocked-taken c.sound.ensures c.self.inside.blocks c.self.invariant.blocked c.slot-slot.result
+      (parent-none c.self.invariant.tree c.self.view_is c.args.id c.slot-slot.result (slot-led c.place_of-place.ensures ∙ ap Some (sym c.slot-slot.ensures)) c.requires.no_parent)
+      c.remove.new.self c.remove.ensures);
+  tallied =
+      tallied-take c.self.inside.links.arena c.self.inside.tallies c.self.invariant.tallied c.sound.ensures c.slot-slot.result
+      (parent-none c.self.invariant.tree c.self.view_is c.args.id c.slot-slot.result (slot-led c.place_of-place.ensures ∙ ap Some (sym c.slot-slot.ensures)) c.requires.no_parent)
+      c.tallied_take.new.tallies (λ q. c.tallied_take.ensures q ∙ ap (λ n. tally_but n None c.self.inside.tallies q) (sym c.slot-slot.ensures)) c.take-item.new.self.arena c.take-item.ensures.taken;
 }
 
 pub returns : goal.returns

@@ -1,0 +1,10 @@
+-- The run of a block follows it, where any block is left.
+use Rattle.std.proofs.Common.{◌/◌, ◌<◌, length, ap, sym, ◌∙◌, subst, arith}
+use Rattle.dom_tree.specs.Blocks.{raised, AreRuns}
+use Rattle.dom_tree.proofs.InBlocks.{some-left, runs-raised}
+use Rattle.dom_tree.proofs.block_counts.BlockCounts.raise.Goals as goal
+
+pub invariant_of-self-else-is_empty : goal.invariant_of-self-else-is_empty
+invariant_of-self-else-is_empty c =
+    let some : 0 < length (raised c.self.inside.each.items c.args.block) = omega (arith, some-left _ (sym c.is_empty.ensures ∙ c.if-is_empty.false), ap length c.raise.ensures) in
+    subst (λ ns. AreRuns ns c.raise.new.counts.items) (sym c.raise-2.ensures) (subst (AreRuns (raised c.self.inside.runs.items (c.args.block / 256))) (sym c.raise.ensures) (runs-raised c.self.inside.runs.items c.self.inside.each.items c.args.block c.self.invariant some))

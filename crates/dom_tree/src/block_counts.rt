@@ -1,0 +1,198 @@
+//! How many children stand in each block of one long list, and in each run of its blocks.
+
+ghost use Rattle.std.specs.Prelude.{◌≡◌, ℕ, ◌+◌, ◌^◌, ◌<◌, ◌≤◌, length, [], IsTrue, IfOk, false};
+ghost use Rattle.dom_tree.specs.Blocks.{ahead_of, raised, lowered, AreFilled, AreRunsOf};
+
+use std::alloc::{AllocError, Global};
+use std::marker::Model;
+
+/// How many children a block has that is made.
+pub(crate) const BLOCK: u32 = 16;
+
+// How many blocks a run has.
+const RUN: u32 = 256;
+
+// How many children stand in a run whose blocks are made.
+const RUN_MADE: u32 = 4096;
+
+/// How many children stand in each block of a list, in the order of the blocks.
+///
+/// `runs` has how many stand in each 256 blocks together; it may have none.
+#[derive(Drop)]
+pub(crate) struct BlockCounts {
+    each: Vec<u32>,
+    runs: Vec<u32>,
+}
+
+impl Model for BlockCounts {
+    ghost use Rattle.std.specs.Prelude.{ℕ, List};
+    ghost use Rattle.dom_tree.specs.Blocks.{AreRuns};
+
+    ghost Value = { List ℕ };
+
+    ghost view = { λ c. c.each.items };
+
+    ghost invariant = { λ c. AreRuns c.runs.items c.each.items };
+}
+
+// What stands in the counts from one on and ahead of another, over what stands ahead of the first.
+fn add_up(counts: &[u32], from: usize, until: usize, ahead: u32) -> u32
+    requires there { until ≤ length counts.now }
+    requires order { from ≤ until }
+    requires ahead { ahead ≡ ahead_of counts.now from }
+    requires few { ahead_of counts.now until < 2 ^ 32 }
+    ensures { result ≡ ahead_of counts.now until }
+{
+    let mut sum = ahead;
+    for passed in from..until {
+        sum += counts[passed];
+    }
+    sum
+}
+
+// One more in a block. It lets go of them where there is no such block, or its count is full.
+fn raise(counts: &mut Vec<u32>, block: u32)
+    ensures { counts.new.items ≡ raised counts.old.items block }
+{
+    match counts.get(block as usize) {
+        Some(&count) if count < u32::MAX => counts[block as usize] = count + 1,
+        _ => counts.clear(),
+    }
+}
+
+// One less in a block. It lets go of them where there is no such block, or nothing stands in it.
+fn lower(counts: &mut Vec<u32>, block: u32)
+    ensures { counts.new.items ≡ lowered counts.old.items block }
+{
+    match counts.get(block as usize) {
+        Some(&count) if 0 < count => counts[block as usize] = count - 1,
+        _ => counts.clear(),
+    }
+}
+
+// Makes blocks of so many children, where there is room for them; else there are none.
+fn fill(counts: &mut Vec<u32>, count: u32) -> bool
+    ensures filled { IsTrue result → AreFilled counts.new.items count }
+    ensures none { result ≡ false → counts.new.items ≡ [] }
+{
+    counts.clear();
+    let blocks = count.div_ceil(BLOCK);
+    if counts.capacity() < blocks as usize {
+        return false;
+    }
+    for block in 0..blocks {
+        counts.push_reserved((count - block * BLOCK).min(BLOCK));
+    }
+    true
+}
+
+// Makes runs of so many children in blocks just made, where there is room for them; else there are none.
+fn fill_runs(runs: &mut Vec<u32>, count: u32)
+    ensures { AreRunsOf runs.new.items count }
+{
+    runs.clear();
+    let wanted = count.div_ceil(RUN_MADE);
+    if runs.capacity() < wanted as usize {
+        return;
+    }
+    for run in 0..wanted {
+        runs.push_reserved((count - run * RUN_MADE).min(RUN_MADE));
+    }
+}
+
+// The first of the counts from one on that reaches past an index, and how far into it that is.
+fn pass(counts: &[u32], from: usize, index: usize) -> (usize, usize) {
+    let mut behind = index;
+    for passed in from..counts.len() {
+        let count = counts[passed] as usize;
+        if behind < count {
+            return (passed, behind);
+        }
+        behind -= count;
+    }
+    (counts.len(), behind)
+}
+
+impl BlockCounts {
+    /// No blocks, and room for so many.
+    pub(crate) fn with_capacity(alloc: Global, blocks: usize) -> Result<BlockCounts, AllocError>
+        ensures { IfOk result (λ counts. counts ≡ []) }
+    {
+        let each = Vec::with_capacity(alloc, blocks)?;
+        let runs = Vec::with_capacity(alloc, blocks / RUN as usize + 1)?;
+        Ok(BlockCounts { each, runs })
+    }
+
+    /// Makes room for so many blocks more.
+    pub(crate) fn reserve(&mut self, blocks: usize) -> Result<(), AllocError>
+        ensures { self.new ≡ self.old }
+    {
+        self.each.reserve(blocks)?;
+        self.runs.reserve(blocks / RUN as usize + 1)?;
+        Ok(())
+    }
+
+    /// How many blocks there are.
+    pub(crate) fn len(&self) -> usize
+        ensures { result ≡ length self.now }
+    {
+        self.each.len()
+    }
+
+    /// How many children stand in the blocks ahead of one.
+    pub(crate) fn ahead_of(&self, block: usize) -> u32
+        requires there { block ≤ length self.now }
+        requires few { ahead_of self.now block < 2 ^ 32 }
+        ensures { result ≡ ahead_of self.now block }
+    {
+        let runs = (block / RUN as usize).min(self.runs.len());
+        let ahead = add_up(&self.runs, 0, runs, 0);
+        add_up(&self.each, runs * RUN as usize, block, ahead)
+    }
+
+    /// The block in which the child at an index stands.
+    pub(crate) fn block_of(&self, index: usize) -> Option<usize> {
+        let (runs, behind) = pass(&self.runs, 0, index);
+        let (block, _) = pass(&self.each, runs.checked_mul(RUN as usize)?, behind);
+        if block < self.each.len() {
+            Some(block)
+        } else {
+            None
+        }
+    }
+
+    /// Counts one child more in a block.
+    pub(crate) fn raise(&mut self, block: u32)
+        ensures { self.new ≡ raised self.old block }
+    {
+        raise(&mut self.each, block);
+        raise(&mut self.runs, block / RUN);
+        if self.each.is_empty() {
+            self.runs.clear();
+        }
+    }
+
+    /// Counts one child less in a block.
+    pub(crate) fn lower(&mut self, block: u32)
+        ensures { self.new ≡ lowered self.old block }
+    {
+        lower(&mut self.each, block);
+        lower(&mut self.runs, block / RUN);
+        if self.each.is_empty() {
+            self.runs.clear();
+        }
+    }
+
+    /// Makes blocks of so many children, where there is room for them; else there are none.
+    pub(crate) fn fill(&mut self, count: u32) -> bool
+        ensures filled { IsTrue result → AreFilled self.new count }
+        ensures none { result ≡ false → self.new ≡ [] }
+    {
+        self.runs.clear();
+        if !fill(&mut self.each, count) {
+            return false;
+        }
+        fill_runs(&mut self.runs, count);
+        true
+    }
+}

@@ -1,0 +1,223 @@
+//! How the children of a long list come into blocks, and stay right in them, in the same time at any number of siblings.
+
+ghost use Rattle.std.specs.Prelude.{◌≡◌, ℕ, ◌+◌, ◌<◌, ◌≤◌, nat_eq, min, length, Some, IfSome, slice_get};
+ghost use Rattle.std.specs.Option.{ForSome};
+ghost use Rattle.dom_model.specs.PlainLists.Lists.{place_in};
+ghost use Rattle.dom_model.specs.Forests.Arena.{IsSound, entry_at};
+ghost use Rattle.dom_links.specs.Placed.{slot_of, slots_of, entry_behind, children_at, parent_at, HasParent, IsChildOf, IsPlaced};
+ghost use Rattle.dom_tree.specs.Places.{with_arena, Leads, AreWritten, AreInBlocks, AreRenumbered};
+ghost use Rattle.dom_tree.specs.Slots.{unknown, reach_in, IsCounted};
+ghost use Rattle.dom_tree.specs.Blocks.{raised, counts_in, counts_but, block_beside, block_put, blocked_put, block_at, previous_in_block, lowered_at, AreBlocked};
+
+use crate::block_counts::BLOCK;
+use crate::blocks::Blocks;
+use crate::item::{Item, UNKNOWN};
+use crate::nearby::{self, named, number_of};
+use crate::upkeep::{index_of, number_up_to, reach_of, set_index, set_sure};
+use dom_links::{Link, Place, Store};
+
+// How far the start of a block is looked for.
+const WIDE: u32 = 512;
+
+/// Whether a parent's children may stand in blocks. It takes no look-up.
+pub(crate) fn may_be_blocked<X>(links: &Store<Item<X>>, parent: Place) -> bool
+    requires { IsPlaced links.now parent }
+    ensures { result ≡ nat_eq (reach_in (entry_behind links.now parent)) unknown }
+{
+    reach_of(links, parent) == UNKNOWN
+}
+
+// The block of the child that will stand behind a new one, or of the last.
+fn block_beside<X>(links: &Store<Item<X>>, parent: Place, before: Link) -> u32
+    requires parent_placed { IsPlaced links.now parent }
+    requires before_placed { ForSome before (λ b. IsPlaced links.now b) }
+    ensures { result ≡ block_beside (entry_at links.now.arena) (slot_of links.now parent) (slots_of links.now before) }
+{
+    if let Some(before) = before.get() {
+        return links.value(before).index;
+    }
+    match nearby::last(links, parent) {
+        Some(last) => links.value(last).index,
+        None => 0,
+    }
+}
+
+/// The block that a new child is to come into, where the children of its parent may stand in blocks.
+pub(crate) fn block_put<X>(links: &Store<Item<X>>, parent: Place, before: Link) -> Option<u32>
+    requires parent_placed { IsPlaced links.now parent }
+    requires before_placed { ForSome before (λ b. IsPlaced links.now b) }
+    ensures { result ≡ block_put (entry_at links.now.arena) (slot_of links.now parent) (slots_of links.now before) }
+{
+    if may_be_blocked(links, parent) {
+        return Some(block_beside(links, parent, before));
+    }
+    None
+}
+
+/// Puts a child that has just come into a parent's list into a block.
+pub(crate) fn blocked_put<X>(
+    links: &mut Store<Item<X>>,
+    blocks: &mut Blocks,
+    parent: Place,
+    child: Place,
+    block: u32,
+)
+    requires parent_placed { IsPlaced links.old parent }
+    requires child_placed { IsPlaced links.old child }
+    ensures links { links.new ≡ with_arena (blocked_put links.old.arena (slot_of links.old parent) (slot_of links.old child) block) links.old }
+    ensures blocks { (p : ℕ) → counts_in blocks.new p ≡ counts_but (slot_of links.old parent)
+        (raised (counts_in blocks.old (slot_of links.old parent)) block) blocks.old p }
+{
+    blocks.raise(links.slot(parent), block);
+    set_index(links, child, block);
+    set_sure(links, parent, 0, UNKNOWN);
+}
+
+/// Counts a child that is about to be cut out of its block.
+pub(crate) fn blocked_cut<X>(links: &Store<Item<X>>, blocks: &mut Blocks, child: Place)
+    requires placed { IsPlaced links.now child }
+    requires has_parent { HasParent links.now child }
+    requires blocked { AreBlocked (entry_at links.now.arena) blocks.old }
+    ensures { (p : ℕ) → counts_in blocks.new p ≡
+        lowered_at (entry_at links.now.arena) blocks.old (slot_of links.now child) (parent_at links.now child) p }
+{
+    let parent = nearby::parent(links, child).unwrap();
+    if may_be_blocked(links, parent) {
+        let slot = links.slot(parent);
+        let block = links.value(child).index;
+        blocks.lower(slot, block);
+        blocks.pass_on(
+            slot,
+            block,
+            number_of(links, child),
+            named(links, links.next(child)),
+        );
+    }
+}
+
+// The previous sibling, where it stands in this block.
+fn prev_in_block<X>(links: &Store<Item<X>>, child: Place, block: u32) -> Option<Place>
+    requires { IsPlaced links.now child }
+    ensures { Leads links.now result (previous_in_block (entry_at links.now.arena) (slot_of links.now child) block) }
+{
+    let prev = nearby::prev(links, child)?;
+    if links.value(prev).index == block {
+        return Some(prev);
+    }
+    None
+}
+
+/// The index of a child that stands in a block, where the block starts near it. It goes from the child to the start of its block, and over the counts of the blocks ahead.
+pub(crate) fn index_in_block<X>(
+    links: &Store<Item<X>>,
+    blocks: &Blocks,
+    parent: Place,
+    child: Place,
+) -> Option<usize>
+    requires parent_placed { IsPlaced links.now parent }
+    requires placed { IsPlaced links.now child }
+    requires sound { IsSound links.now.arena }
+    requires child { IsChildOf links.now parent child }
+    requires blocked { AreBlocked (entry_at links.now.arena) blocks.now }
+    ensures { IfSome result (λ i. i ≡ place_in (slot_of links.now child) (children_at links.now parent)) }
+{
+    if !may_be_blocked(links, parent) {
+        return None;
+    }
+    let counts = blocks.counts(links.slot(parent))?;
+    let block = index_of(links, child);
+    let few = links.count(parent) as usize / 4 + 64;
+    if counts.len() <= block as usize || few < counts.len() {
+        return None;
+    }
+    let ahead = counts.ahead_of(block as usize);
+    let mut here = child;
+    for passed in 0..WIDE {
+        match prev_in_block(links, here, block) {
+            Some(prev) => here = prev,
+            None => return Some((ahead + passed) as usize),
+        }
+    }
+    None
+}
+
+// Notes the child at a place where a block begins.
+fn note_first<X>(
+    links: &Store<Item<X>>,
+    blocks: &mut Blocks,
+    parent: Place,
+    child: Place,
+    place: u32,
+)
+    requires parent_placed { IsPlaced links.now parent }
+    requires child_placed { IsPlaced links.now child }
+    ensures { blocks.new ≡ blocks.old }
+{
+    if place % BLOCK == 0 {
+        blocks.note(links.slot(parent), number_of(links, child));
+    }
+}
+
+// Writes for each of a parent's children in which block it stands.
+fn write_blocks<X>(
+    links: &mut Store<Item<X>>,
+    blocks: &mut Blocks,
+    parent: Place,
+    first: Link,
+    count: u32,
+)
+    requires placed { IsPlaced links.old parent }
+    requires sound { IsSound links.old.arena }
+    requires first { Leads links.old first (slice_get (children_at links.old parent) 0) }
+    requires all { count ≡ length (children_at links.old parent) }
+    ensures written { AreWritten links.old links.new parent 0 count block_at }
+    ensures blocks { blocks.new ≡ blocks.old }
+{
+    let mut next = first;
+    for place in 0..count {
+        let child = next.get().unwrap();
+        note_first(links, blocks, parent, child, place);
+        set_index(links, child, place / BLOCK);
+        next = links.next(child);
+    }
+}
+
+// Puts the children of a parent into blocks.
+fn number_blocks<X>(links: &mut Store<Item<X>>, blocks: &mut Blocks, parent: Place)
+    requires placed { IsPlaced links.old parent }
+    requires sound { IsSound links.old.arena }
+    ensures written { AreInBlocks links.old links.new parent }
+    ensures blocks { blocks.new ≡ blocks.old }
+{
+    let count = links.count(parent);
+    let first = links.first(parent);
+    write_blocks(links, blocks, parent, first, count);
+    set_sure(links, parent, 0, UNKNOWN);
+}
+
+/// Makes the index of a child known, which is given: in blocks, where there is room for these, or else with those of its siblings ahead of it.
+pub(crate) fn number_around<X>(
+    links: &mut Store<Item<X>>,
+    blocks: &mut Blocks,
+    parent: Place,
+    child: Place,
+    index: usize,
+)
+    requires parent_placed { IsPlaced links.old parent }
+    requires child_placed { IsPlaced links.old child }
+    requires sound { IsSound links.old.arena }
+    requires counted { IsCounted (entry_at links.old.arena) }
+    requires blocked { AreBlocked (entry_at links.old.arena) blocks.old }
+    requires child { IsChildOf links.old parent child }
+    requires index { index ≡ place_in (slot_of links.old child) (children_at links.old parent) }
+    ensures { AreRenumbered links.old links.new blocks.new }
+{
+    if index_in_block(links, blocks, parent, child).is_some() {
+        return;
+    }
+    if blocks.fill(links.slot(parent), links.count(parent)) {
+        number_blocks(links, blocks, parent);
+    } else {
+        number_up_to(links, parent, child, index);
+    }
+}

@@ -1,0 +1,66 @@
+//! How the counts of elements and doctypes among the children of a Document stay right, in the same time at any number of siblings.
+
+ghost use Rattle.std.specs.Prelude.{◌≡◌, ℕ, None};
+ghost use Rattle.dom_model.specs.declared.Kind.{Kind};
+ghost use Rattle.dom_model.specs.Forests.Kinds.{is_kind};
+ghost use Rattle.dom_model.specs.Forests.Arena.{entry_at};
+ghost use Rattle.dom_links.specs.Placed.{slot_of, parent_at, HasParent, IsPlaced};
+ghost use Rattle.dom_tree.specs.Slots.{nodes_alone};
+ghost use Rattle.dom_tree.specs.Tallies.{tally_in, tally_but, has_in, tally_put, tally_cut, AreTallied};
+
+use crate::item::Item;
+use crate::nearby;
+use crate::tallies::Tallies;
+use dom_kinds::Kind;
+use dom_links::{Place, Store};
+
+// The kind of the node at a place.
+fn kind_at<X>(links: &Store<Item<X>>, place: Place) -> Kind
+    requires { IsPlaced links.now place }
+    ensures { (kind : Kind) → has_in (entry_at (nodes_alone links.now.arena)) (slot_of links.now place) kind ≡ is_kind kind result }
+{
+    links.value(place).label.kind
+}
+
+/// Counts a child that is about to come in under a parent.
+pub(crate) fn tallied_put<X>(
+    links: &Store<Item<X>>,
+    tallies: &mut Tallies,
+    parent: Place,
+    child: Place,
+)
+    requires parent_placed { IsPlaced links.now parent }
+    requires child_placed { IsPlaced links.now child }
+    requires tallied { AreTallied (entry_at (nodes_alone links.now.arena)) tallies.old }
+    ensures { (p : ℕ) → tally_in tallies.new p ≡
+        tally_put (entry_at (nodes_alone links.now.arena)) tallies.old (slot_of links.now parent) (slot_of links.now child) p }
+{
+    if kind_at(links, parent) == Kind::Document {
+        tallies.raise(links.slot(parent), kind_at(links, child));
+    }
+}
+
+/// Counts a child that is about to be cut.
+pub(crate) fn tallied_cut<X>(links: &Store<Item<X>>, tallies: &mut Tallies, child: Place)
+    requires placed { IsPlaced links.now child }
+    requires has_parent { HasParent links.now child }
+    requires tallied { AreTallied (entry_at (nodes_alone links.now.arena)) tallies.old }
+    ensures { (p : ℕ) → tally_in tallies.new p ≡
+        tally_cut (entry_at (nodes_alone links.now.arena)) tallies.old (slot_of links.now child) (parent_at links.now child) p }
+{
+    let parent = nearby::parent(links, child).unwrap();
+    if kind_at(links, parent) == Kind::Document {
+        tallies.lower(links.slot(parent), kind_at(links, child));
+    }
+}
+
+/// Lets go of what is counted for a node that is about to be taken out.
+pub(crate) fn tallied_take<X>(links: &Store<Item<X>>, tallies: &mut Tallies, place: Place)
+    requires placed { IsPlaced links.now place }
+    requires tallied { AreTallied (entry_at (nodes_alone links.now.arena)) tallies.old }
+    ensures { (p : ℕ) → tally_in tallies.new p ≡ tally_but (slot_of links.now place) None tallies.old p }
+{
+    if kind_at(links, place) == Kind::Document {
+        tallies.remove(links.slot(place));
+    }
+}

@@ -1,0 +1,19 @@
+use Rattle.std.proofs.Common.{◌≡◌, true, arith, rules, ◌∙◌}
+use Rattle.std.proofs.lemmas.Grind.{common_steps}
+use Rattle.std.specs.Prelude.{is_some, is_ok}
+use Rattle.dom_model.specs.Forests.Forest.{entry_in, root_of}
+use Rattle.dom_model.specs.Worlds.Lengths.{unit_count}
+use Rattle.dom_model.specs.RangesAndContents.Ranges.{check_point}
+use Rattle.dom_ranges.specs.Tables.{refused}
+use Rattle.edit_cases.proofs.LiveRanges.{range-checked, range-in}
+use Rattle.edit_cases.proofs.contents.range_made.Goals as goal
+
+pub make-requires-clause-in_order : goal.make-requires-clause-in_order
+make-requires-clause-in_order g c =
+    let f = c.args.world.now.tree.forest in
+    let a_held : is_some (entry_in f c.args.start.node) ≡ true = search rules in
+    let b_held : is_some (entry_in f c.args.end.node) ≡ true = search rules in
+    let a_ok : is_ok (refused (check_point unit_count f c.args.start)) ≡ true = cc in
+    let b_ok : is_ok (refused (check_point unit_count f c.args.end)) ≡ true = cc in
+    let one_root : root_of f c.args.start.node ≡ root_of f c.args.end.node = grind (arith, common_steps) in
+    range-in f (record { start = c.args.start; end = c.args.end }) (range-checked f c.args.start c.args.end a_held b_held a_ok b_ok one_root (λ e. let k = rw (c.order.ensures ∙ e) at c.ne.ensures in absurd (cc k)))

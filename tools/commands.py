@@ -1,0 +1,185 @@
+#!/usr/bin/env python3
+"""Writes docs/commands.json, the table of the commands for programs that read it, from the definitions and docs/commands.md.
+
+The definitions have each command's name, the shapes of its arguments and what a line of it makes, and the names of moves, verdicts and options. The page has
+the words: its group, what its arguments are called and what it answers. Each has to agree with the other: names, number, shapes, and where null may stand.
+Where they do not, it says so and writes nothing. With --check nothing is written, and it fails where the file is not what both give.
+"""
+import argparse
+import json
+import os
+import re
+import sys
+
+ROOT = os.path.dirname(os.path.dirname(os.path.realpath(__file__)))
+DEFINITIONS = "crates/dom_model/specs/Commands"
+TABLE, LINE, COMMAND = (f"{DEFINITIONS}/{it}.antt" for it in ("Table", "Line", "Command"))
+PAGE = "docs/commands.md"
+MADE = "docs/commands.json"
+# Other pages that say how many commands there are.
+COUNTING = ("README.md", PAGE, "docs/rust.md", "crates/dom_session/README.md")
+NUMBERS = "no one two three four five six seven eight nine ten".split()
+# What the page says of an argument of each shape; more may follow behind the text.
+SAID = {
+    "a_number": ("the number of such an object", "a whole number"),
+    "a_string": ("a string",),
+    "a_text": ("a string, or an array of UTF-16 units",),
+    "a_flag": ("`true` or `false`",),
+    "a_filter": ("an array of rules",),
+    "a_move": ("`parentNode`",),
+    "the_options": ("an object with any of",),
+}
+MAY_BE_NULL = "_or_null"
+
+
+def texts():
+    """What is read, by its path."""
+    found = {}
+    for path in (TABLE, LINE, COMMAND, *COUNTING):
+        with open(os.path.join(ROOT, path), encoding="utf-8") as file:
+            found[path] = file.read()
+    return found
+
+
+def rows(text):
+    """The rows of the definitions: of each name the shapes of its arguments, and what its line makes."""
+    found = re.findall(r'row \(codes "(\w+)"\) (\[\]|\(.*?\[\]\))\s+\(λ \(a : Arguments\)\.\s+(.*)\)$', text, re.M)
+    if len(found) != text.count("row (codes "):
+        sys.exit(f"{TABLE}: it has rows of a form that is not known here")
+    return {name: (re.findall(r"(?:a|the)_\w+", shapes), makes) for name, shapes, makes in found}
+
+
+def shown(text):
+    """The commands in the order of the page: group, name, arguments, answer."""
+    parts = re.split(r"^## (.*)$", text, flags=re.M)
+    for group, body in zip(parts[1::2], parts[2::2]):
+        if "| command | answer |" in body:
+            for name, words, answer in re.findall(r"^\| `(\w+)`([^|]*) \| ([^|]*) \|$", body, re.M):
+                yield group.lower(), name, words.split(), answer
+
+
+def grouped(text):
+    """The groups of the page's first table, each with its names."""
+    found = re.findall(r"^\| (\w+) \| ((?:`\w+`(?:, )?)+) \|$", text, re.M)
+    return [(group, name) for group, names in found for name in re.findall(r"\w+", names)]
+
+
+def meanings(text):
+    """What the page says of each argument."""
+    body = text.partition("| argument | what it is |")[2].partition("\n\n")[0]
+    found = re.findall(r"^\| (`\w+`(?:, `\w+`)*) \| (.*) \|$", body, re.M)
+    return {word: said for words, said in found for word in re.findall(r"\w+", words)}
+
+
+def shape_of(said):
+    """The shape of an argument of which the page says this."""
+    fitting = [(len(it), shape) for shape, its in SAID.items() for it in its if said.startswith(it)]
+    return max(fitting, default=(0, None))[1]
+
+
+def names_in(text):
+    """The names that stand in arguments, as the definitions read them: moves, verdicts, and options that are flags or lists."""
+    listed = {of: text.partition(f"\n{of}_names =")[2].partition("\n\n")[0] for of in ("move", "verdict")}
+    options = {"flags": r'flag_member \(codes "(\w+)"\) ms', "lists": r'\(list_in as_str\) \(get_member \(codes "(\w+)"\) ms'}
+    found = {f"{of}s": re.findall(r'codes "(\w+)"', it) for of, it in listed.items()}
+    # (a definition of the options has the last of them first)
+    return {**found, **{of: re.findall(it, text)[::-1] for of, it in options.items()}}
+
+
+def wrong_arguments(words, shapes, said):
+    """What is wrong with the arguments of a command on the page, if anything is."""
+    if len(words) != len(shapes):
+        return f"has {len(words)} arguments, and {len(shapes)} in the definitions"
+    for word, shape in zip(words, shapes):
+        due = shape.removesuffix(MAY_BE_NULL)
+        if word.endswith("?") != (shape != due):
+            return f"has {word}, which is {shape} in the definitions"
+        if shape_of(said.get(word.rstrip("?"), "")) != due:
+            return f"has {word}, of which the page does not say what {due} is"
+    return None
+
+
+def wrong_names(names, said):
+    """The arguments of which the page has other names within."""
+    due = {"move": names["moves"], "filter": ["name", *names["verdicts"]], "options": [*names["flags"], *names["lists"]]}
+    for word, its in due.items():
+        quoted = " ".join(re.findall(r"`([^`]*)`", said.get(word, "")))
+        if {*re.findall(r"[A-Za-z]+", quoted)} - {"true", "false"} != {*its}:
+            yield f"{PAGE}: {word} has other names than the definitions: {', '.join(its)}"
+
+
+def wrong_counts(given, served, known):
+    """Where a page says another number of commands."""
+    for path in COUNTING:
+        for number, of_definitions in re.findall(r"(\d+) commands( of the definitions)?", given[path]):
+            if int(number) != (known if of_definitions else served):
+                yield f"{path}: it says {number} commands{of_definitions}, where {served} have lines and the definitions have {known}"
+    more = f"{NUMBERS[known - served].capitalize()} more commands of the definitions have no line"
+    if more not in given[PAGE]:
+        yield f"{PAGE}: it does not say: {more}"
+
+
+def wrongs(given):
+    """Yields what the page and the definitions do not agree in."""
+    table, page, said = rows(given[TABLE]), [*shown(given[PAGE])], meanings(given[PAGE])
+    names = [it[1] for it in page]
+    yield from (f"{PAGE}: it has no row for {it}, which the definitions have" for it in table if it not in names)
+    yield from (f"{PAGE}: the definitions have no {it}" for it in names if it not in table)
+    yield from (f"{PAGE}: it has more than one row for {it}" for it in table if names.count(it) > 1)
+    if grouped(given[PAGE]) != [it[:2] for it in page]:
+        yield f"{PAGE}: the groups of its first table are not those of its parts, in their order"
+    for _, name, words, _ in page:
+        wrong = wrong_arguments(words, table[name][0], said) if name in table else None
+        if wrong:
+            yield f"{PAGE}: {name} {wrong}"
+    yield from wrong_names(names_in(given[LINE]), said)
+    known = re.findall(r"^  (\w+) : ", given[COMMAND], re.M)
+    yield from (f"{TABLE}: {name} makes {makes}, which is no command" for name, (_, makes) in table.items() if makes.split()[0] not in known)
+    yield from wrong_counts(given, len(table), len(known))
+
+
+def entry(table, group, name, words, answer):
+    """A command of the file."""
+    shapes, makes = table[name]
+    arguments = [{"name": word.rstrip("?"), "shape": shape, "nullable": shape.endswith(MAY_BE_NULL)} for word, shape in zip(words, shapes)]
+    return {"group": group, "name": name, "arguments": arguments, "answer": answer, "command": makes}
+
+
+def made(given):
+    """The text of the file: a line for each list of names, and one for each command."""
+    table, line = rows(given[TABLE]), lambda it: json.dumps(it, ensure_ascii=False)
+    head = {"written": f"by tools/commands.py from {DEFINITIONS} and {PAGE}; not to be edited", **names_in(given[LINE])}
+    lists = "".join(f"  {line(name)}: {line(it)},\n" for name, it in head.items())
+    commands = ",\n".join(f"    {line(entry(table, *it))}" for it in shown(given[PAGE]))
+    return f'{{\n{lists}  "commands": [\n{commands}\n  ]\n}}\n'
+
+
+def read_if_there(path):
+    """The text of a file; none where there is no such file."""
+    if not os.path.exists(path):
+        return None
+    with open(path, encoding="utf-8") as file:
+        return file.read()
+
+
+def main():
+    words = argparse.ArgumentParser(description=__doc__, formatter_class=argparse.RawDescriptionHelpFormatter)
+    words.add_argument("--check", action="store_true", help="write nothing, and fail where the file is not what the definitions and the page give")
+    is_check = words.parse_args().check
+    given, path = texts(), os.path.join(ROOT, MADE)
+    found = [*wrongs(given)]
+    if not found:
+        text = made(given)
+        if not is_check:
+            with open(path, "w", encoding="utf-8") as file:
+                file.write(text)
+        elif read_if_there(path) != text:
+            found.append(f"{MADE} is not what the definitions and {PAGE} give: python3 tools/commands.py writes it")
+    for it in found:
+        print(it)
+    print(f"the table of commands: {len(found)} wrong" if found else f"{MADE}: {len(rows(given[TABLE]))} commands, as the definitions and {PAGE} have them")
+    return 1 if found else 0
+
+
+if __name__ == "__main__":
+    sys.exit(main())
