@@ -38,7 +38,8 @@ WRONG = os.path.join(HERE, "tests/wrong.py")
 STUB = os.path.join(HERE, "tests/stub.js")
 GIVEN = argparse.Namespace(program=cli.PROGRAM, library=players.LIBRARY)
 FAILING = {"dies": "died", "hangs": "hung", "prints_rubbish": "rubbish"}
-LIBRARIES = ("c-lines", "c-calls", "python", "rust", "javascript")
+OF_C = ("c-lines", "c-calls")
+LIBRARIES = (*OF_C, "python", "rust", "javascript")
 OTHERS = ("minidom", "lxml", "libxml2", "domino", "xmldom", "chromium", "firefox")
 # A stream that was seen to show a wrong body, which saves the time of drawing those before it. Others show it too.
 FIRST = {"transient_counts": 237}
@@ -342,7 +343,7 @@ class Players(unittest.TestCase):
         libraries = LIBRARIES if os.path.exists(os.path.join(GIVEN.library, "libhuckleport.so")) else ()
         for name, (status, told, new) in side_by_side(self.short, [*OTHERS, *libraries]).items():
             with self.subTest(name):
-                if status == 3:
+                if status == 3 and name not in OF_C:
                     print(f"left out: {name}: {told.strip()}")
                 else:
                     self.assertEqual((status, new), (0, []), told)

@@ -19,15 +19,15 @@ class Unsaid:
 
 
 class World(Session):
-    made = None
+    opened = None
 
     def __init__(self):
         """The library is opened once; each world has a session of its own."""
-        if World.made is None:
-            World.made = Session(os.path.join(FOLDER, "libhuckleport.so"), os.path.join(FOLDER, "huckleport.h"))
+        if World.opened is None:
+            World.opened = Session(os.path.join(FOLDER, "libhuckleport.so"), os.path.join(FOLDER, "huckleport.h"))
         else:
-            World.made.must("hp_close")
-        self.__dict__ = World.made.__dict__
+            World.opened.must("hp_close")
+        self.__dict__ = World.opened.__dict__
         self.session, self.program = self.structs["hp_session"](), Unsaid()
         self.must("hp_open", 4294967295, 1048576)
 

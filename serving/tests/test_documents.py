@@ -84,7 +84,7 @@ class Replies(Served):
 
     def test_many_lines(self) -> None:
         given = lines("many", 12_000)
-        self.assertEqual(self.client.document("many").send(given), replies_of(given))
+        self.assertEqual(self.client.document("many").send(given, timeout=300), replies_of(given))
 
     def test_limits_are_the_documents(self) -> None:
         small = self.client.document("small", numbers=2, line=30)

@@ -47,10 +47,10 @@ class Scene:
         """How many lines were acknowledged."""
         return sum(len(replies) for client in range(self.clients) for replies in acknowledged(self.journal(client)).values())
 
-    def wait_for(self, share: float, seconds: float = 300) -> None:
-        """Waits until a share of all lines was acknowledged."""
+    def wait_for(self, lines: int, seconds: float = 300) -> None:
+        """Waits until so many lines were acknowledged."""
         until = time.monotonic() + seconds
-        while self.done() < share * self.total:
+        while self.done() < lines:
             if time.monotonic() > until:
                 raise AssertionError(f"{self.done()} of {self.total} lines were acknowledged")
             time.sleep(0.1)
@@ -72,7 +72,7 @@ class Losses(unittest.TestCase):
             self.kill_workers(place, scene, 0.7)
             self.lose_primary(place, scene)
             self.kill_workers(place, scene, 0.95)
-            scene.wait_for(1.0)
+            scene.wait_for(scene.total)
             self.assertEqual([it.wait(120) for it in scene.started.values()], [0] * self.clients)
             told(f"{scene.total:,} lines in {time.monotonic() - start:.0f} seconds, with {self.killed} workers killed, one stopped, a client killed, a primary lost")
             self.check(place, scene)
@@ -82,7 +82,10 @@ class Losses(unittest.TestCase):
         self.drawn = random.Random(7)
 
     def kill_workers(self, place: Place, scene: Scene, share: float) -> None:
-        """Kills a worker every two seconds, each time starting another, until a share of the lines was acknowledged; one at least."""
+        """Kills a worker every two seconds, each time starting another, until a share of the lines was acknowledged; one at least.
+
+        Some line is acknowledged between two of them, so that a slow machine comes to the end as well.
+        """
         while True:
             time.sleep(2)
             worker = place.workers.pop(self.drawn.randrange(len(place.workers)))
@@ -90,8 +93,10 @@ class Losses(unittest.TestCase):
             worker.wait()
             self.killed += 1
             place.work(1, "--lease", str(LEASE))
-            if scene.done() >= share * scene.total:
+            done = scene.done()
+            if done >= share * scene.total:
                 return
+            scene.wait_for(done + 1)
 
     def stop_one_past_its_lease(self, place: Place, scene: Scene) -> None:
         """One that has documents, stopped until others have taken them, and let go on."""
