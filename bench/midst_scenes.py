@@ -24,6 +24,19 @@ def ranged(number, start, end):
     return [["createRange", 0], ["setStart", number, 1, start], ["setEnd", number, 1, end]]
 
 
+def asked_in_the_midst(name):
+    """One range in the midst is asked as many times, with no edit between."""
+
+    def scene(count):
+        return listed(count) + ranged(0, count // 2, count // 2 + 2), [[name, 0]] * count
+
+    return scene
+
+
+def inserted_in_the_midst(count):
+    return listed(count) + ranged(0, count // 2, count // 2), [["insertNode", 0, it] for it in free(count)]
+
+
 def inserted_by_two_in_turn(count):
     making = listed(count) + ranged(0, count // 3, count // 3) + ranged(1, 2 * count // 3, 2 * count // 3)
     return making, [["insertNode", at % 2, it] for at, it in enumerate(free(count))]
@@ -33,6 +46,26 @@ def surrounded_in_the_midst(count):
     """One child after another, from the midst on, gets an element around it."""
     inside = range(2 + count // 2, 2 + count)
     return listed(count) + ranged(0, 0, 0), [line for child, around in zip(inside, free(count)) for line in (["selectNode", 0, child], ["surroundContents", 0, around])]
+
+
+def exchanged_in_the_midst(count):
+    """What stands at one place in the midst goes, and something comes in there."""
+    at = count // 2
+    lines = [line for it in free(count) for line in (["setStart", 0, 1, at], ["setEnd", 0, 1, at + 1], ["deleteContents", 0], ["insertNode", 0, it])]
+    return listed(count) + ranged(0, 0, 0), lines
+
+
+def gone_in_turn(count):
+    """Children go at the front and in the midst in turn, beside one end."""
+    half = count // 2
+    lines = [["remove", it] for pair in zip(range(2, 2 + half // 2), range(2 + half, 2 + half + half // 2)) for it in pair]
+    return listed(count) + ranged(0, half, half), lines
+
+
+def come_in_turn(count):
+    """Children come in at the front and in the midst in turn, beside one end."""
+    lines = [["insertBefore", 1, it, 2 if at % 2 else 2 + count // 2] for at, it in enumerate(free(count))]
+    return listed(count) + ranged(0, count // 2, count // 2), lines
 
 
 def index_behind_the_front(count):
@@ -94,8 +127,14 @@ def in_a_document(*first):
 
 
 MIDST_SCENES = (
+    ("rangeText of one range in the midst", asked_in_the_midst("rangeText"), 250),
+    ("cloneContents of one range in the midst", asked_in_the_midst("cloneContents"), 250),
+    ("insertNode at one place in the midst", inserted_in_the_midst, 250),
     ("insertNode at two places in turn", inserted_by_two_in_turn, 250),
     ("surroundContents of one child after another in the midst", surrounded_in_the_midst, 500),
+    ("deleteContents and insertNode at one place in the midst", exchanged_in_the_midst, 250),
+    ("removals at the front and in the midst in turn, beside an end", gone_in_turn, 500),
+    ("insertions at the front and in the midst in turn, beside an end", come_in_turn, 250),
     ("index in the midst, behind insertions at the front", index_behind_the_front, 250),
     ("index at random places, between moves", at_random(index), 250),
     ("ends set at random places, between moves", at_random(ends), 250),

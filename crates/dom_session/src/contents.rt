@@ -1,6 +1,6 @@
 //! The contents of live ranges (DOM Standard, "Interface Range").
 
-ghost use Rattle.std.specs.Prelude.{◌≤◌, IfOk, OnErr};
+ghost use Rattle.std.specs.Prelude.{◌≡◌, ◌≤◌, IfOk, OnErr};
 ghost use Rattle.dom_model.specs.Commands.Command.{RangeText, DeleteContents, ExtractContents, CloneContents, InsertNode, SurroundContents};
 ghost use Rattle.dom_model.specs.Commands.Guards.{Bounds};
 ghost use Rattle.dom_edit.specs.Whole.{IsShown};
@@ -14,6 +14,7 @@ use crate::copies::lacks_numbers;
 use crate::reply::{Answer, Reply, reply_to};
 use dom_edit::World;
 use dom_model::OwnError;
+use dom_point::Point;
 use dom_ranges::RangeId;
 use dom_tree::NodeId;
 use std::alloc::{AllocError, Global};
@@ -145,7 +146,39 @@ pub(crate) fn surround_contents(
     }
 }
 
-/// Answers the commands on the contents of ranges.
+// The live range whose contents a command is about.
+fn range_of(command: &Contents) -> RangeId {
+    match *command {
+        Contents::RangeText(range)
+        | Contents::DeleteContents(range)
+        | Contents::ExtractContents(range)
+        | Contents::CloneContents(range)
+        | Contents::InsertNode(range, _)
+        | Contents::SurroundContents(range, _) => range,
+    }
+}
+
+// Finds the child at a point, so that what asks for it next has it at once.
+fn find_child(world: &mut World, point: Point)
+    ensures { world.new ≡ world.old }
+{
+    if world.tree.holds(point.node) {
+        let _ = world.tree.found_child(point.node, point.offset);
+    }
+}
+
+// Finds the children at the ends of a live range.
+fn find_ends(world: &mut World, range: RangeId)
+    ensures { world.new ≡ world.old }
+{
+    if world.ranges.holds(range) {
+        let (start, end) = world.ranges.ends(range);
+        find_child(world, start);
+        find_child(world, end);
+    }
+}
+
+/// Answers the commands on the contents of ranges. Where an end lies far from both ends of its node's children it is found once, and has no walk from then on.
 pub(crate) fn change_contents(
     world: &mut World,
     numbers: u64,
@@ -157,6 +190,7 @@ pub(crate) fn change_contents(
     ensures step { IfOk result (IsStep world.old world.new (numbered numbers) (contents_view command)) }
     ensures left { OnErr result (IsKept world.old world.new) }
 {
+    find_ends(world, range_of(&command));
     match command {
         Contents::RangeText(range) => range_text(world, alloc, range),
         Contents::DeleteContents(range) => delete_contents(world, alloc, range),

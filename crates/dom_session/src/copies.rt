@@ -2,7 +2,7 @@
 
 ghost use Rattle.std.specs.Prelude.{◌≡◌, ◌≤◌, ◌+◌, ◌*◌, nat_lt, IfOk, OnErr};
 ghost use Rattle.dom_model.specs.declared.Kind.TheVariants.{Document};
-ghost use Rattle.dom_model.specs.Forests.Forest.{size};
+ghost use Rattle.dom_model.specs.Forests.Forest.{HasNode, size};
 ghost use Rattle.dom_model.specs.Commands.Command.{ImportNode, CloneNode, IsEqual, IsContaining, ComparePosition};
 ghost use Rattle.dom_model.specs.Commands.Guards.{Bounds};
 ghost use Rattle.dom_edit.specs.Whole.{IsShown};
@@ -16,6 +16,7 @@ use crate::reply::{Answer, Reply, reply_to};
 use dom_edit::World;
 use dom_kinds::{DomError, Kind};
 use dom_model::OwnError;
+use dom_point::{Point, found_order, same_root};
 use dom_tree::NodeId;
 use std::alloc::{AllocError, Global};
 
@@ -115,14 +116,31 @@ pub(crate) fn contains(world: &World, node: NodeId, other: Option<NodeId>) -> Re
     Reply::Done(Answer::Flag(dom_clone::contains(&world.tree, node, other)))
 }
 
+// Finds which of two nodes comes first, so that what asks for it next has it at once.
+fn find_order(world: &mut World, node: NodeId, other: NodeId)
+    requires held { HasNode world.old.tree.forest node }
+    requires other_held { HasNode world.old.tree.forest other }
+    ensures { world.new ≡ world.old }
+{
+    if same_root(&world.tree, node, other) {
+        let at_other = Point {
+            node: other,
+            offset: 0,
+        };
+        let _ = found_order(&mut world.tree, Point { node, offset: 0 }, at_other);
+    }
+}
+
 /// Where the second stands, seen from the first.
-pub(crate) fn compare_position(world: &World, node: NodeId, other: NodeId) -> Reply
-    requires shown { IsShown world.now }
-    ensures { (b : Bounds) → IsStep world.now world.now b (ComparePosition node other) result }
+pub(crate) fn compare_position(world: &mut World, node: NodeId, other: NodeId) -> Reply
+    requires shown { IsShown world.old }
+    ensures step { (b : Bounds) → IsStep world.old world.new b (ComparePosition node other) result }
+    ensures unchanged { world.new ≡ world.old }
 {
     if !world.tree.holds(node) || !world.tree.holds(other) {
         return Reply::Own(OwnError::NoSuchObject);
     }
+    find_order(world, node, other);
     let position = dom_clone::position(&world.tree, node, other);
     Reply::Done(Answer::Number(u32::from(position)))
 }

@@ -14,7 +14,7 @@ use Rattle.dom_model.proofs.Forests.Entries.{occurs-HasNode, HasNode-occurs}
 use Rattle.dom_model.proofs.Forests.Indices.{child-parent, child-there, child-listed, child-once, index-child, parent-there}
 use Rattle.dom_model.proofs.Forests.TreeOrder.Preceding.{place-after, place-last, lt-step}
 use Rattle.dom_model.proofs.Forests.Siblings.{hits-get, index-step, index-first}
-use Rattle.dom_tree.proofs.PlacesAt.{place-get}
+use Rattle.dom_tree.proofs.PlacesAt.{get-place, place-get}
 
 -- the last of a list, by its index
 pub get-last : (l : List ℕ) → last_of l ≡ slice_get l (length l - 1)
@@ -70,6 +70,12 @@ module _ {X : Type 0} {g : Grove X} (s : IsForest g) where
   pub child-indexed : (p c i : ℕ) → parent_of g.forest c ≡ Some p → i ≡ index_of g.forest c → slice_get (children_of g.forest p) i ≡ Some c
   child-indexed p c i e ei =
       ap (slice_get (children_of g.forest p)) (ei ∙ index-child g.forest c p e) ∙ place-get (children_of g.forest p) c (child-listed g.forest s.once c p (parent-there g.forest c p e) e)
+
+  -- and the other way round
+  pub indexed-child : (p c i : ℕ) → slice_get (children_of g.forest p) i ≡ Some c → i ≡ index_of g.forest c
+  indexed-child p c i e =
+      let pc = child-parent g.forest s.once c p (hits-get (children_of g.forest p) i c e) in
+      sym (index-child g.forest c p pc ∙ get-place (children_of g.forest p) i c (λ k. child-once g.forest s.once k p) e)
 
   -- a step on
   pub forward-step : (n m : ℕ) → HasNode g.forest n → next_of g.forest n ≡ Some m → (index_of g.forest m ≡ 1 + index_of g.forest n) × ((parent_of g.forest m ≡ parent_of g.forest n) × HasNode g.forest m)

@@ -162,18 +162,21 @@ impl Blocks {
         }
     }
 
-    /// Makes room for blocks of so many children, where it was wanted for this parent.
+    /// Makes room for blocks of a parent's children, where it was wanted, or where they have become twice as many: so a question finds it.
     pub(crate) fn make_room(&mut self, parent: Slot, count: u32) -> Result<(), AllocError>
         ensures { (p : ℕ) → counts_in self.new p ≡ counts_in self.old p }
     {
-        if self.wanted != Some(parent.number()) {
+        let has_doubled = LONG <= count && count & (count - 1) == 0;
+        if self.wanted != Some(parent.number()) && !has_doubled {
             return Ok(());
         }
         let blocks = (count / BLOCK) as usize + 2;
         let alloc = *self.by_slot.allocator();
         reserve(&mut self.by_slot, parent.number(), blocks * 2, alloc)?;
         reserve_near(&mut self.near, parent.number(), blocks * 2, alloc)?;
-        self.wanted = None;
+        if self.wanted == Some(parent.number()) {
+            self.wanted = None;
+        }
         Ok(())
     }
 

@@ -1,16 +1,13 @@
 //! Indices that are kept beside the nodes.
 
-ghost use Rattle.std.specs.Prelude.{◌≡◌, nat_lt, IsSome, IfSome};
-ghost use Rattle.dom_model.specs.Forests.Forest.{HasNode, parent_of, index_of};
+ghost use Rattle.std.specs.Prelude.{◌≡◌, nat_lt, slice_get, IsSome, IfSome};
+ghost use Rattle.dom_model.specs.Forests.Forest.{HasNode, parent_of, children_of, index_of};
 
 use crate::blocking::number_around;
-use crate::nearby::{self, place_of};
+use crate::nearby::{self, NEAR, place_of};
 use crate::node_id::NodeId;
 use crate::tree::Tree;
 use std::alloc::AllocError;
-
-// How far an index is looked for before it is made known.
-const NEAR: usize = 64;
 
 impl<X> Tree<X> {
     /// The number of preceding siblings, where it is known without counting.
@@ -77,6 +74,20 @@ impl<X> Tree<X> {
         let index = self.index(id);
         self.make_known(id, index);
         index
+    }
+
+    /// The child at an index. Where it stands far from both ends its index is made known, and in blocks it is found again with no walk. It takes no memory.
+    pub fn found_child(&mut self, id: NodeId, index: usize) -> Option<NodeId>
+        requires { HasNode self.old.forest id }
+        ensures child { result ≡ slice_get (children_of self.old.forest id) index }
+        ensures unchanged { self.new ≡ self.old }
+    {
+        self.sound();
+        let child = self.child_at(id, index)?;
+        if NEAR < index && NEAR < self.count(id) - index {
+            self.make_known(child, index);
+        }
+        Some(child)
     }
 
     /// Whether `a` comes before `b` among the children of their parent. Where that is not found 64 steps to both sides of `a`, the indices of both are made known, so that it is known when it is asked for again. It takes no memory.

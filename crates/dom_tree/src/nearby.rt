@@ -12,6 +12,9 @@ use crate::node_id::NodeId;
 use crate::table::Table;
 use dom_links::{Link, Place, Store};
 
+/// How many siblings are walked over before blocks are asked, or made.
+pub(crate) const NEAR: usize = 64;
+
 /// The place of a number, where the table has one.
 pub(crate) fn place_at<X>(links: &Store<Item<X>>, table: &Table, id: NodeId) -> Option<Place>
     requires { ArePlaced links.now table.now.items }

@@ -4,12 +4,9 @@ ghost use Rattle.std.specs.Prelude.{◌≡◌, ◌+◌, ◌-◌, ◌<◌, ◌≤
 ghost use Rattle.dom_model.specs.Forests.Forest.{HasNode, parent_of, children_of};
 
 use crate::blocking::may_be_blocked;
-use crate::nearby::{self, number_of, place_of};
+use crate::nearby::{self, NEAR, number_of, place_of};
 use crate::node_id::NodeId;
 use crate::tree::Tree;
-
-// How far from either end a child is walked to where its siblings stand in blocks.
-const NEAR: usize = 64;
 
 impl<X> Tree<X> {
     /// The child at an index. It walks from the nearer end, or from a child of the block in which it stands.

@@ -8,7 +8,7 @@ ghost use Rattle.dom_model.specs.Worlds.Lengths.{length_of};
 
 use crate::blocking::index_in_block;
 use crate::body::Body;
-use crate::nearby::{self, number_of, place_at, place_of};
+use crate::nearby::{self, NEAR, number_of, place_at, place_of};
 use crate::node_id::NodeId;
 use crate::tree::Tree;
 use dom_kinds::Kind;
@@ -87,7 +87,7 @@ impl<X> Tree<X> {
         }
     }
 
-    /// Whether `a` comes before `b` among the children of their parent. It looks no further than from one to the other.
+    /// Whether `a` comes before `b` among the children of their parent. Where these stand in blocks it asks both indices; else it looks no further than from one to the other.
     pub fn comes_before(&self, a: NodeId, b: NodeId) -> bool
         requires a_held { HasNode self.now.forest a }
         requires b_held { HasNode self.now.forest b }
@@ -101,8 +101,25 @@ impl<X> Tree<X> {
         if let Some(before) = self.known_before(a, b) {
             return before;
         }
+        if let Some(before) = self.is_ahead_within(a, b, NEAR) {
+            return before;
+        }
+        if let Some(before) = self.before_in_blocks(a, b) {
+            return before;
+        }
         let count = self.siblings(a);
         self.is_ahead_within(a, b, count).unwrap()
+    }
+
+    // Whether one child comes before another, where both stand in blocks.
+    fn before_in_blocks(&self, a: NodeId, b: NodeId) -> Option<bool>
+        requires a_held { HasNode self.now.forest a }
+        requires b_held { HasNode self.now.forest b }
+        ensures { IfSome result (λ before. before ≡ nat_lt (index_of self.now.forest a) (index_of self.now.forest b)) }
+    {
+        let a_index = self.index_in_block(a)?;
+        let b_index = self.index_in_block(b)?;
+        Some(a_index < b_index)
     }
 
     // Whether one child comes before another, where the indices of both are known.
