@@ -156,6 +156,22 @@ def texts_cut_to_a_unit(count):
     return [["createText", 0, "a" * 1000]] * count, [["deleteData", it, 1, 999] for it in range(1, count + 1)]
 
 
+def split_into_lines(count):
+    """A Text of lines of 80 units is cut into these, front to back."""
+    making = [["createElement", 0, "e"], ["createText", 0, "a" * 80 * count], ["appendChild", 1, 2]]
+    return making, [["splitText", it, 80] for it in range(2, count + 1)]
+
+
+def split_at_both_ends(count):
+    """The same, a line from the front and one from the back in turn."""
+    making = [["createElement", 0, "e"], ["createText", 0, "a" * 80 * count], ["appendChild", 1, 2]]
+    lines, rest = [], 2
+    for at in range(0, count - 2, 2):
+        lines += [["splitText", rest, 80], ["splitText", at + 3, 80 * (count - 2 - at)]]
+        rest = at + 3
+    return making, lines
+
+
 def last_unit_goes(count):
     """The last unit of a Text goes, until one is left, and as many come again."""
     goes = [["deleteData", 1, it, 1] for it in range(count - 1, 0, -1)]
@@ -200,6 +216,8 @@ SCENES = (
     ("steps of as many walkers, and as many discards", discards_behind_steps(["createWalker", 1, 1, []], ["walk", "nextNode"]), 300),
     ("discards while as many records wait", discards_beside_records, 500),
     ("deleteData of all but one unit of each of some Texts", texts_cut_to_a_unit, 250),
+    ("splitText of one Text into lines, front to back", split_into_lines, 250),
+    ("splitText of one Text into lines, from both ends in turn", split_at_both_ends, 250),
     ("deleteData of the last unit of a Text, and appendData", last_unit_goes, 1000),
     ("removeAttribute of the last attribute, and setAttribute", last_attribute_goes, 500),
     *MIDST_SCENES,
