@@ -24,3 +24,4 @@ pub mod Marking
 pub mod Unrefused
 pub mod CallerLemmas
 pub mod Releasing
+pub mod TailUnits

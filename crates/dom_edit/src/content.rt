@@ -1,6 +1,6 @@
 //! What a node holds besides its label and its place.
 
-ghost use Rattle.std.specs.Prelude.{◌≡◌, ◌-◌, ◌≤◌, [], length, slice_get, option_map, option_copied, unwrap_or, string_bytes, bytes_eq, IfOk, OnOk, OnErr};
+ghost use Rattle.std.specs.Prelude.{◌≡◌, ◌-◌, ◌≤◌, [], take, drop, length, slice_get, option_map, option_copied, unwrap_or, string_bytes, bytes_eq, IfOk, OnOk, OnErr};
 ghost use Rattle.std.specs.List.{IsDistinct};
 ghost use Rattle.dom_model.specs.Forests.Attributes.{attribute_value, attribute_names, with_attribute, without_attribute, same_attributes};
 ghost use Rattle.dom_model.specs.Forests.Texts.{spliced};
@@ -8,9 +8,10 @@ ghost use Rattle.dom_model.specs.Commands.Answer.{with_text};
 ghost use Rattle.dom_attrs.specs.Entries.{attribute_at};
 ghost use Rattle.dom_edit.specs.Contents.{text_in, attributes_in};
 
+use crate::tail::Tail;
 use dom_attrs::Attrs;
 use dom_tree::Body;
-use dom_units::Units;
+use dom_units::{Units, units_within};
 use std::alloc::{AllocError, Global};
 use std::marker::Model;
 use std::mem;
@@ -27,6 +28,7 @@ struct Parts {
 enum Held {
     Nothing,
     Data(Units),
+    Tail(Box<Tail>),
     Attributes(Attrs),
     Both(Box<Parts>),
 }
@@ -41,6 +43,17 @@ impl Held {
             return Held::Nothing;
         }
         Held::Data(text)
+    }
+
+    // What was split off, where any of it is left.
+    fn tail(tail: Box<Tail>) -> Held
+        ensures text { text_in result ≡ tail.value }
+        ensures attributes { attributes_in result ≡ [] }
+    {
+        if tail.is_empty() {
+            return Held::Nothing;
+        }
+        Held::Tail(tail)
     }
 
     // Attributes alone, where there are any.
@@ -134,6 +147,12 @@ impl Content {
                     held: Held::Data(text),
                 })
             }
+            Held::Tail(tail) => {
+                let text = Units::from_units(alloc, tail.units())?;
+                Ok(Content {
+                    held: Held::data(text),
+                })
+            }
             Held::Attributes(attrs) => {
                 let attrs = attrs.try_clone(alloc)?;
                 Ok(Content {
@@ -163,7 +182,7 @@ impl Content {
         ensures { unwrap_or (option_copied result) [] ≡ self.now.attributes }
     {
         match &self.held {
-            Held::Nothing | Held::Data(_) => None,
+            Held::Nothing | Held::Data(_) | Held::Tail(_) => None,
             Held::Attributes(attrs) => Some(attrs),
             Held::Both(parts) => Some(&parts.attrs),
         }
@@ -176,6 +195,7 @@ impl Content {
         match &self.held {
             Held::Nothing | Held::Attributes(_) => &[],
             Held::Data(text) => text.units(),
+            Held::Tail(tail) => tail.units(),
             Held::Both(parts) => parts.text.units(),
         }
     }
@@ -244,6 +264,11 @@ impl Content {
         let mut text = match mem::replace(&mut self.held, Held::Nothing) {
             Held::Nothing => Units::new(alloc),
             Held::Data(text) => text,
+            Held::Tail(mut tail) => {
+                let outcome = tail.splice(at, count, added);
+                self.held = Held::tail(tail);
+                return outcome;
+            }
             held => {
                 self.held = held;
                 return self.splice_copy(alloc, at, count, added);
@@ -272,6 +297,66 @@ impl Content {
         text.splice(at, count, added)?;
         *self = Content::new(alloc, text, attrs)?;
         Ok(())
+    }
+
+    /// Takes the units of the data from `at` on out, as the data of another node ("split").
+    ///
+    /// It copies the shorter part: the front, or what is beyond, which else stays where it lies.
+    pub fn split_off(&mut self, alloc: Global, at: usize) -> Result<Content, AllocError>
+        requires { at ≤ length self.old.text }
+        ensures tail { IfOk result (λ tail. tail ≡ with_text (drop at self.old.text)) }
+        ensures head { OnOk result (self.new ≡ record self.old { text = take at self.old.text }) }
+        ensures err { OnErr result (self.new ≡ self.old) }
+    {
+        let count = self.text().len() - at;
+        if at < count && self.attrs().is_none() {
+            return self.split_in_place(alloc, at);
+        }
+        let tail = Units::from_units(alloc, units_within(self.text(), at, count))?;
+        let tail = Content::of_text(alloc, tail)?;
+        self.splice(alloc, at, count, &[])?;
+        Ok(tail)
+    }
+
+    // The same of data alone: the front is copied, and what is beyond stays where it lies.
+    fn split_in_place(&mut self, alloc: Global, at: usize) -> Result<Content, AllocError>
+        requires within { at ≤ length self.old.text }
+        requires alone { self.old.attributes ≡ [] }
+        ensures tail { IfOk result (λ tail. tail ≡ with_text (drop at self.old.text)) }
+        ensures head { OnOk result (self.new ≡ record self.old { text = take at self.old.text }) }
+        ensures err { OnErr result (self.new ≡ self.old) }
+    {
+        let head = Units::from_units(alloc, units_within(self.text(), 0, at))?;
+        let mut tail = self.take_data(alloc)?;
+        self.held = Held::data(head);
+        tail.pass(at);
+        Ok(Content {
+            held: Held::tail(tail),
+        })
+    }
+
+    // The data, where it lies.
+    fn take_data(&mut self, alloc: Global) -> Result<Box<Tail>, AllocError>
+        ensures taken { IfOk result (λ tail. tail.value ≡ self.old.text) }
+        ensures err { OnErr result (self.new ≡ self.old) }
+    {
+        match mem::replace(&mut self.held, Held::Nothing) {
+            Held::Tail(tail) => Ok(tail),
+            Held::Data(text) => {
+                let Ok(mut tail) = Box::new(alloc, Tail::new(alloc)) else {
+                    self.held = Held::Data(text);
+                    return Err(AllocError);
+                };
+                *tail = Tail::of(text);
+                Ok(tail)
+            }
+            held => {
+                self.held = held;
+                let text = Units::from_units(alloc, self.text())?;
+                let tail = Box::new(alloc, Tail::of(text))?;
+                Ok(tail)
+            }
+        }
     }
 
     /// Sets the value of an attribute: in place, or last where the name is new. It answers the old value.

@@ -13,6 +13,7 @@ mod refusal;
 mod removing;
 mod replacing;
 mod surroundings;
+mod tail;
 mod world;
 
 pub use checks::{check_insert, check_replace};

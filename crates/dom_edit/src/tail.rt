@@ -1,0 +1,96 @@
+//! Units that were split off a text, and stay where they lie.
+
+ghost use Rattle.std.specs.Prelude.{◌≡◌, ◌-◌, ◌≤◌, [], drop, length, IsTrue, ◌↔◌, OnOk, OnErr};
+ghost use Rattle.dom_model.specs.Forests.Texts.{spliced};
+
+use dom_units::{Units, units_within};
+use std::alloc::{AllocError, Global};
+use std::marker::Model;
+
+/// The units of a text behind its first ones, which are passed over. Where more are passed over than are left they are taken out.
+#[derive(Drop)]
+pub(crate) struct Tail {
+    text: Units,
+    passed: usize,
+}
+
+impl Model for Tail {
+    ghost use Rattle.std.specs.Prelude.{ℕ, ◌≤◌, List, drop, length};
+
+    ghost Value = { List ℕ };
+
+    ghost view = { λ t. drop t.passed t.text };
+
+    ghost invariant = { λ t. t.passed ≤ length t.text };
+}
+
+impl Tail {
+    /// No unit.
+    pub(crate) fn new(alloc: Global) -> Tail
+        ensures { result ≡ [] }
+    {
+        Tail::of(Units::new(alloc))
+    }
+
+    /// A whole text.
+    pub(crate) fn of(text: Units) -> Tail
+        ensures { result ≡ text }
+    {
+        Tail { text, passed: 0 }
+    }
+
+    /// The units.
+    pub(crate) fn units(&self) -> &[u16]
+        ensures { result.now ≡ self.now }
+    {
+        let count = self.text.len() - self.passed;
+        units_within(self.text.units(), self.passed, count)
+    }
+
+    /// Whether no unit is left.
+    pub(crate) fn is_empty(&self) -> bool
+        ensures { IsTrue result ↔ (self.now ≡ []) }
+    {
+        self.units().is_empty()
+    }
+
+    /// Puts `added` in place of the `count` units from `at` on ("replace data").
+    pub(crate) fn splice(
+        &mut self,
+        at: usize,
+        count: usize,
+        added: &[u16],
+    ) -> Result<(), AllocError>
+        requires within { at ≤ length self.old }
+        requires enough { count ≤ length self.old - at }
+        ensures ok { OnOk result (self.new ≡ spliced at count added.now self.old) }
+        ensures err { OnErr result (self.new ≡ self.old) }
+    {
+        // a law: so many units fit the memory
+        let _ = self.text.len();
+        let outcome = self.text.splice(self.passed + at, count, added);
+        self.close_up();
+        outcome
+    }
+
+    /// Passes over so many more units.
+    pub(crate) fn pass(&mut self, count: usize)
+        requires { count ≤ length self.old }
+        ensures { self.new ≡ drop count self.old }
+    {
+        // a law: so many units fit the memory
+        let _ = self.text.len();
+        self.passed += count;
+        self.close_up();
+    }
+
+    // Takes out what is passed over, where that is more than what is left.
+    fn close_up(&mut self)
+        ensures { self.new ≡ self.old }
+    {
+        let left = self.text.len() - self.passed;
+        if left < self.passed && self.text.splice(0, self.passed, &[]).is_ok() {
+            self.passed = 0;
+        }
+    }
+}
