@@ -108,56 +108,14 @@ module _ (n parent offset : ℕ) (w : World) (s : IsSound w) (hn : 0 < occurs n 
 
   -- The worlds of the code: one that keeps the new Text, and one that has it behind the old one.
   module _ (v mid : code.World) (k : Keeps v made) (inserted : Follows v mid (insert false w.made parent (next_of made.forest n))) where
-    abbrev pub moved_ends : World → World
-    moved_ends u = record u { ranges = map_ranges (after_split n offset w.made parent (index_of u.forest n)) u.ranges }
-
-    abbrev pub behind : code.World
-    behind = record mid { ranges = record mid.ranges { ranges = map_ranges (after_split n offset w.made parent (index_of mid.tree.forest n)) mid.ranges.ranges } }
-
     pub mid_is : mid.tree.forest ≡ parted
     mid_is =
         sym (inserted.keeps made k).forest
         ∙ ap (λ (u : World). u.forest) placed_is
         ∙ forest_is
 
-    follows-moved : Follows mid behind moved_ends
-    follows-moved = record {
-      keeps = λ u q. record {
-        forest = q.forest;
-        made = q.made;
-        ranges = (λ i. map_ranges (after_split n offset w.made parent (index_of (q.forest i) n)) (q.ranges i));
-        static_ranges = q.static_ranges;
-        iterators = q.iterators;
-        walkers = q.walkers;
-      };
-      watches = λ u q o. o;
-    }
-
-    pub follows-behind : Follows v behind (λ u. split_off n offset w.made (parent_of u.forest n) u)
-    follows-behind =
-        follows-alike v behind (λ u. moved_ends (insert false w.made parent (next_of made.forest n) u)) (λ u. split_off n offset w.made (parent_of u.forest n) u)
-        (λ u q.
-        let same_forest : u.forest ≡ made.forest = q.forest ∙ sym k.forest in
-        ap (λ f. moved_ends (insert false w.made parent (next_of f n) u)) (sym same_forest)
-        ∙ ap (λ p. split_off n offset w.made p u) (sym (ap (λ f. parent_of f n) same_forest ∙ par-made)))
-        (follows-then v mid behind (insert false w.made parent (next_of made.forest n)) moved_ends inserted follows-moved)
-
-    keeps-behind : Keeps behind after_parting
-    keeps-behind = subst (Keeps behind) (ap (λ p. split_off n offset w.made p made) par-made ∙ split.split_off_is n parent offset w s hn text par within) (follows-behind.keeps made k)
-
-    pub whole-behind : IsWhole mid → IsWhole behind
-    whole-behind h = whole-sound behind after_parting keeps-behind (split.sound-after_parting n parent offset w s hn text par within) h.documents h.owners h.covered h.statics h.observers
-
-    pub text-behind : is_of_kind Text mid.tree.forest n ≡ true
-    text-behind = ap (λ f. is_of_kind Text f n) mid_is ∙ text-parted
-
-    pub length-behind : length (content_in (entry_in mid.tree.forest n)).text ≡ length (data_of w n)
-    length-behind =
-        ap (λ (g : Forest Content). length (content_in (entry_in g n)).text) mid_is
-        ∙ sym (length-data parted n (kind-parted is_character_data n ∙ text-made is_character_data ∙ split.has_data n parent offset w s hn text par within)) ∙ split.length-text n parent offset w s hn text par within
+    pub parent-behind : parent_of mid.tree.forest n ≡ Some parent
+    parent-behind = ap (λ (g : Forest Content). parent_of g n) mid_is ∙ split.par-parted n parent offset w s hn text par within
 
     pub room-behind : index_of mid.tree.forest n + 2 ≤ length (children_of mid.tree.forest parent)
     room-behind = subst (λ (g : Forest Content). index_of g n + 2 ≤ length (children_of g parent)) (sym mid_is) room-parted
-
-    pub there-behind : (m : ℕ) → 0 < occurs m made.forest → 0 < occurs m mid.tree.forest
-    there-behind m h = subst (λ (g : Forest Content). 0 < occurs m g) (sym mid_is) (there-parted m h)
