@@ -1,11 +1,10 @@
 -- A new Text behind the one that is split: what it is asked, and where it comes to stand.
-use Rattle.std.proofs.Common.{◌≡◌, ℕ, ◌+◌, ◌-◌, ◌^◌, ◌<◌, ◌≤◌, ◌==◌, nat_lt, ◌&&◌, Bool, true, false, if◌then◌else◌, List, [], drop, length, Option, Some, All, refl, ap, sym, ◌∙◌, subst, arith}
+use Rattle.std.proofs.Common.{◌≡◌, ℕ, ◌+◌, ◌-◌, ◌<◌, ◌≤◌, true, false, List, [], length, Some, ap, sym, ◌∙◌, subst, arith}
 use Rattle.std.specs.Prelude.{IfSome}
 use Rattle.dom_model.specs.declared.Kind.TheVariants.{Text}
 use Rattle.dom_model.specs.Forests.Forest.{Forest, empty, node, HasNode, occurs, entry_in, parent_of, children_of, next_of, index_of}
 use Rattle.dom_model.specs.Worlds.World as model
-use Rattle.dom_model.specs.Worlds.World.{Content, Point, Range}
-use Rattle.dom_model.specs.BoundaryPoints.Points.{after_splice, after_split}
+use Rattle.dom_model.specs.Worlds.World.{Content}
 use Rattle.dom_model.specs.Forests.Nodes.{is_of_kind}
 use Rattle.dom_model.specs.MutationAlgorithms.Editing.{document_in, insert, node_document}
 use Rattle.dom_model.specs.Worlds.Making.{made_node, named, with_text}
@@ -13,12 +12,11 @@ use Rattle.dom_model.specs.DataAndCopies.Data.{data_of}
 use Rattle.dom_model.proofs.Forests.Entries.{occurs-HasNode, HasNode-occurs}
 use Rattle.dom_model.specs.MutationAlgorithms.Insertable.{IsInsertable}
 use Rattle.dom_model.proofs.Worlds.Measured.{entry-beside, parent-beside}
-use Rattle.dom_ranges.specs.Tables.{IsCovered, FitsMoved, OffsetsFit}
+use Rattle.dom_ranges.specs.Tables.{IsCovered}
 use Rattle.dom_edit.specs.declared.world.World.{World}
 use Rattle.dom_edit.specs.Whole.{IsWhole, Keeps, Follows, unwatched}
 use Rattle.dom_edit.proofs.Following.{keeps-unwatched}
 use Rattle.dom_data.specs.Tails.{IsTail, HasRoom}
-use Rattle.dom_data.specs.Turns.{put_behind}
 use Rattle.dom_data.proofs.StaysWhole.{sound-unwatched}
 use Rattle.dom_data.proofs.Parting.{text-held}
 use Rattle.dom_data.proofs.MovedTail.{drop-all}

@@ -4,10 +4,10 @@ use Rattle.std.specs.Prelude.{IfSome}
 use Rattle.dom_model.specs.declared.Kind.TheVariants.{Text}
 use Rattle.dom_model.specs.Forests.Arena.{parent_in}
 use Rattle.dom_model.specs.Forests.Documents.{HasOneDocument}
-use Rattle.dom_model.specs.Forests.Forest.{Node, Forest, Grove, empty, node, HasNode, IsForest, occurs, entry_in, parent_of, children_of, index_of, with_node}
+use Rattle.dom_model.specs.Forests.Forest.{Forest, Grove, empty, node, HasNode, IsForest, entry_in, parent_of, children_of, index_of, with_node}
 use Rattle.dom_model.specs.Forests.Texts.{spliced}
 use Rattle.dom_model.specs.Worlds.World as model
-use Rattle.dom_model.specs.Worlds.World.{Content, Point, Range}
+use Rattle.dom_model.specs.Worlds.World.{Content, Point}
 use Rattle.dom_model.specs.BoundaryPoints.Points.{map_ranges, after_splice, after_split}
 use Rattle.dom_model.specs.Soundness.Owners.{HasOwners}
 use Rattle.dom_model.specs.Forests.Nodes.{is_of_kind}
@@ -28,8 +28,7 @@ use Rattle.dom_edit.specs.Keeping.{present, KeepsLabels, KeepsNodes, attributes_
 use Rattle.dom_edit.specs.Whole.{AreCovered, IsWhole, Keeps, Follows, unwatched}
 use Rattle.dom_edit.proofs.Covering.{covered-kept}
 use Rattle.dom_edit.proofs.Following.{follows-then, keeps-unwatched, whole-sound}
-use Rattle.dom_edit.proofs.NodesKept.{labels-then}
-use Rattle.dom_edit.proofs.WatchersKept.{present-moved, watchers-none, watchers-ranged}
+use Rattle.dom_edit.proofs.WatchersKept.{present-moved, watchers-ranged}
 use Rattle.dom_data.specs.Tails.{HasRoom}
 use Rattle.dom_data.specs.Turns.{put_behind, ends_behind, tail_in, tail_moved, split_in_turn}
 use Rattle.dom_data.proofs.LabelsKept.{numbers-replaced, numbers-then}

@@ -1,7 +1,6 @@
 -- The new Text comes in behind the old one.
-use Rattle.std.proofs.Common.{◌≡◌, false, Some, sym, ◌∙◌, subst, tests, rules}
+use Rattle.std.proofs.Common.{false, sym, subst}
 use Rattle.std.proofs.lemmas.Result.{on_ok_weaker}
-use Rattle.dom_model.specs.Forests.Forest.{parent_of}
 use Rattle.dom_model.specs.MutationAlgorithms.Editing.{insert}
 use Rattle.dom_model.specs.MutationAlgorithms.Insertable.{IsInsertable}
 use Rattle.dom_edit.specs.Whole.{Follows}

@@ -1,5 +1,5 @@
 -- An empty Text, its place behind the old one, and what is beyond the offset in it.
-use Rattle.std.proofs.Common.{ℕ, ◌-◌, List, length, ap, refl, sym, ◌∙◌, subst, tests, rules}
+use Rattle.std.proofs.Common.{ℕ, ◌-◌, List, length, ap, sym, ◌∙◌, subst}
 use Rattle.dom_model.specs.DataAndCopies.Data.{split}
 use Rattle.dom_model.specs.Worlds.World.{Content}
 use Rattle.dom_edit.specs.declared.world.World.{World}

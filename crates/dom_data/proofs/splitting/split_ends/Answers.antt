@@ -1,9 +1,8 @@
 -- Ends move by an index that matters where an end asks for it.
-use Rattle.std.proofs.Common.{ℕ, Option, ap, sym, ◌∙◌}
+use Rattle.std.proofs.Common.{ap, ◌∙◌}
 use Rattle.dom_model.specs.Forests.Forest.{index_of}
 use Rattle.dom_model.specs.BoundaryPoints.Points.{after_split}
 use Rattle.dom_ranges.specs.Tables.{RangeTable}
-use Rattle.dom_edit.specs.declared.world.World.{World}
 use Rattle.dom_edit.specs.Whole.{unwatched}
 use Rattle.dom_data.specs.Turns.{ends_behind}
 use Rattle.dom_data.proofs.UnfeltIndex.{unfelt}
