@@ -10,7 +10,7 @@ use Rattle.dom_model.specs.Worlds.Making.{with_text}
 use Rattle.dom_model.specs.DataAndCopies.Data.{content_in, with_data}
 use Rattle.dom_model.proofs.Forests.Totals.{IsOnce}
 use Rattle.dom_model.proofs.Worlds.SameShape.{with_node-alike, occurs-alike}
-use Rattle.dom_data.specs.Turns.{tail_in}
+use Rattle.dom_data.specs.Tails.{tail_in}
 use Rattle.dom_data.proofs.ChangedBodies.{with_node-agree, data-written, content-read}
 use Rattle.dom_data.proofs.LabelsKept.{tag-with_data}
 

@@ -29,8 +29,8 @@ use Rattle.dom_edit.specs.Whole.{AreCovered, IsWhole, Keeps, Follows, unwatched}
 use Rattle.dom_edit.proofs.Covering.{covered-kept}
 use Rattle.dom_edit.proofs.Following.{follows-then, keeps-unwatched, whole-sound}
 use Rattle.dom_edit.proofs.WatchersKept.{present-moved, watchers-ranged}
-use Rattle.dom_data.specs.Tails.{HasRoom}
-use Rattle.dom_data.specs.Turns.{put_behind, ends_behind, tail_in, tail_moved, split_in_turn}
+use Rattle.dom_data.specs.Tails.{HasRoom, tail_in}
+use Rattle.dom_data.specs.Turns.{put_behind, ends_behind, tail_moved, split_in_turn}
 use Rattle.dom_data.proofs.LabelsKept.{numbers-replaced, numbers-then}
 use Rattle.dom_data.proofs.NewTexts.{made_is, new-there, old-there}
 use Rattle.dom_data.proofs.Parting.{text-held}

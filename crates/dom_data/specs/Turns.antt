@@ -1,13 +1,13 @@
 -- A split in the order of the code: an empty Text comes in, the change is noted, then what is beyond the offset goes over, and ends move. Ours.
-use Rattle.std.specs.Prelude.{ℕ, ◌-◌, false, List, [], drop, length, Option, None, Some}
+use Rattle.std.specs.Prelude.{ℕ, false, List, [], length, Option, None, Some}
 use Rattle.dom_model.specs.declared.Kind.TheVariants.{Text}
-use Rattle.dom_model.specs.Forests.Forest.{Forest, entry_in, parent_of, next_of, index_of, with_node}
+use Rattle.dom_model.specs.Forests.Forest.{parent_of, next_of, index_of, with_node}
 use Rattle.dom_model.specs.Forests.Texts.{spliced}
-use Rattle.dom_model.specs.Worlds.World.{Content, Range, World}
+use Rattle.dom_model.specs.Worlds.World.{Range, World}
 use Rattle.dom_model.specs.BoundaryPoints.Points.{map_ranges, after_splice, after_split}
 use Rattle.dom_model.specs.MutationAlgorithms.Editing.{insert, node_document}
 use Rattle.dom_model.specs.Worlds.Making.{made_node, named, with_text}
-use Rattle.dom_model.specs.DataAndCopies.Data.{content_in, data_of, data_record, tail_of, with_data}
+use Rattle.dom_model.specs.DataAndCopies.Data.{data_of, data_record, tail_of, with_data}
 
 abbrev pub put_behind : ℕ → ℕ → Option ℕ → World → World
 put_behind n new None w = w
@@ -27,9 +27,3 @@ abbrev pub split_in_turn : ℕ → ℕ → World → World
 split_in_turn n offset w =
     let made = made_node (node_document w n) (named Text []) (with_text []) w in
     tail_moved n offset w.made (parent_of w.forest n) (tail_of w n offset) (data_record n (put_behind n w.made (parent_of w.forest n) made))
-
--- what is beyond an offset goes from a node's data into another's
-abbrev pub tail_in : ℕ → ℕ → ℕ → Forest Content → Forest Content
-tail_in n offset new f =
-    let units = (content_in (entry_in f n)).text in
-    with_node new (with_data (drop offset units)) (with_node n (with_data (spliced offset (length units - offset) [] units)) f)

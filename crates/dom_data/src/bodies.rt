@@ -6,7 +6,7 @@ ghost use Rattle.dom_model.specs.Forests.Forest.{HasNode, entry_in, with_node};
 ghost use Rattle.dom_model.specs.Forests.Texts.{spliced};
 ghost use Rattle.dom_model.specs.Worlds.Making.{with_text};
 ghost use Rattle.dom_model.specs.DataAndCopies.Data.{content_in, with_data, with_attributes};
-ghost use Rattle.dom_data.specs.Turns.{tail_in};
+ghost use Rattle.dom_data.specs.Tails.{tail_in};
 
 use dom_edit::Content;
 use dom_kinds::Kind;

@@ -34,12 +34,7 @@ fn counted(tree: &Tree<Content>, parent: NodeId)
 }
 
 // Puts the new Text behind the one that is split, where that has a parent.
-fn put_behind(
-    world: &mut World,
-    alloc: Global,
-    node: NodeId,
-    new: NodeId,
-) -> Result<(), AllocError>
+fn put_behind(world: &mut World, alloc: Global, node: NodeId, new: NodeId) -> Result<(), AllocError>
     requires whole { IsWhole world.old }
     requires tail { IsTail world.old node new }
     ensures behind { OnOk result (Follows world.old world.new (put_behind node new (parent_of world.old.tree.forest node))) }
