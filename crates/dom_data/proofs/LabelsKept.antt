@@ -36,7 +36,7 @@ numbers-merged a table c move e k =
     numbers-kept a c (nodes-then a (record a { ranges = table }) c (nodes-ranged a table moved) k)
 
 -- other data: each node has its label and its attributes
-tag-with_data : (f : Forest Content) (n : ℕ) (text : List ℕ) (m : ℕ) → tag_at (with_node n (with_data text) f) m ≡ tag_at f m
+pub tag-with_data : (f : Forest Content) (n : ℕ) (text : List ℕ) (m : ℕ) → tag_at (with_node n (with_data text) f) m ≡ tag_at f m
 tag-with_data f n text m = ap tag_in (entry-with_node (with_data text) (λ x. refl) n m None f) ∙ go (entry_in f m)
   where
     either : (v : Bool) (e : Entry (Node Content)) → tag_in (Some (record e { value = if v then with_data text e.value else e.value })) ≡ tag_in (Some e)

@@ -6,10 +6,13 @@ pub mod Outcomes
 pub mod MovedOffsets
 pub mod UnfeltIndex
 pub mod ChangedBodies
+pub mod MovedTail
 pub mod Told
 pub mod StaysWhole
 pub mod SoundParting
+pub mod SplitInTurn
 pub mod Behind
+pub mod SplitSteps
 pub mod TextsBelow
 pub mod StillBelow
 pub mod TextsInTurn

@@ -1,27 +1,22 @@
--- The world is sound once a new Text stands behind the one that is split, before that loses what is beyond.
-use Rattle.std.proofs.Common.{◌≡◌, ℕ, ◌+◌, ◌<◌, ◌≤◌, Bool, true, false, not, ◌&&◌, [], ◌∷◌, length, Option, Some, None, IfSome, is_some, ap, sym, ◌∙◌, subst, arith}
+-- A new Text may come in behind the one that is split, and both then stand under the parent.
+use Rattle.std.proofs.Common.{◌≡◌, ℕ, ◌+◌, ◌<◌, ◌≤◌, true, false, not, ◌&&◌, [], ◌∷◌, length, Option, Some, None, IfSome, is_some, ap, sym, ◌∙◌, subst, arith}
 use Rattle.std.proofs.lemmas.Bool.{false≢true}
-use Rattle.dom_model.specs.declared.Kind.{Kind}
 use Rattle.dom_model.specs.declared.Kind.TheVariants.{Text, Document, DocumentType, DocumentFragment}
-use Rattle.dom_model.specs.Forests.Kinds.{is_kind, is_character_data}
+use Rattle.dom_model.specs.Forests.Kinds.{is_kind}
 use Rattle.dom_model.specs.Forests.Forest.{Forest, occurs, entry_in, parent_of, children_of, next_of, index_of}
 use Rattle.dom_model.specs.Worlds.World.{Content, World}
-use Rattle.dom_model.specs.BoundaryPoints.Points.{after_split, map_ranges}
-use Rattle.dom_model.specs.Forests.Nodes.{entry_has, kind_passes, is_of_kind}
+use Rattle.dom_model.specs.Forests.Nodes.{entry_has, is_of_kind}
 use Rattle.dom_model.specs.MutationAlgorithms.Editing.{tree_record, previous_to, insert}
-use Rattle.dom_model.specs.DataAndCopies.Data.{content_in, data_of, split_off}
+use Rattle.dom_model.specs.DataAndCopies.Data.{data_of}
 use Rattle.dom_model.specs.Soundness.Sound.{IsSound}
 use Rattle.dom_model.proofs.PlainLists.Places.{place-there}
 use Rattle.dom_model.proofs.Forests.Indices.{child-listed, index-child}
 use Rattle.dom_model.proofs.Soundness.SoundForests.{parent-passes}
 use Rattle.dom_model.specs.MutationAlgorithms.Insertable.{IsChildOf, IsInsertable}
-use Rattle.dom_model.proofs.Soundness.SoundData.{length-data}
 use Rattle.dom_model.proofs.Soundness.SoundSplitting.{insert-root, new_text}
 use Rattle.dom_model.proofs.Soundness.SoundSplitting as split
 use Rattle.dom_edit.specs.declared.world.World as code
-use Rattle.dom_edit.specs.Whole.{IsWhole, Keeps, Follows}
-use Rattle.dom_edit.proofs.Following.{follows-then, whole-sound}
-use Rattle.dom_data.proofs.StaysWhole.{follows-alike}
+use Rattle.dom_edit.specs.Whole.{Keeps, Follows}
 
 -- A Text with a parent is split.
 module _ (n parent offset : ℕ) (w : World) (s : IsSound w) (hn : 0 < occurs n w.forest) (text : is_of_kind Text w.forest n ≡ true) (par : parent_of w.forest n ≡ Some parent) (within : offset ≤ length (data_of w n)) where
@@ -34,19 +29,16 @@ module _ (n parent offset : ℕ) (w : World) (s : IsSound w) (hn : 0 < occurs n 
   abbrev parted : Forest Content
   parted = split.parted n parent offset w s hn text par within
 
-  abbrev after_parting : World
-  after_parting = split.after_parting n parent offset w s hn text par within
-
-  pub sm : IsSound made
+  sm : IsSound made
   sm = split.sm n parent offset w s hn text par within
 
-  pub there-new : 0 < occurs w.made made.forest
+  there-new : 0 < occurs w.made made.forest
   there-new = split.there-new n parent offset w s hn text par within
 
-  pub there-old : (m : ℕ) → 0 < occurs m w.forest → 0 < occurs m made.forest
+  there-old : (m : ℕ) → 0 < occurs m w.forest → 0 < occurs m made.forest
   there-old m h = split.there-old n parent offset w s hn text par within m h
 
-  pub hp : 0 < occurs parent w.forest
+  hp : 0 < occurs parent w.forest
   hp = split.hp n parent offset w s hn text par within
 
   entry-new : entry_in made.forest w.made ≡ Some (record { value = new_text n offset w; parent = None; children = [] })
@@ -58,9 +50,6 @@ module _ (n parent offset : ℕ) (w : World) (s : IsSound w) (hn : 0 < occurs n 
   par-made : parent_of made.forest n ≡ Some parent
   par-made = split.par-made n parent offset w s hn text par within
 
-  text-made : (test : Kind → Bool) → kind_passes test made.forest n ≡ kind_passes test w.forest n
-  text-made test = split.text-made n parent offset w s hn text par within test
-
   before_child : IsChildOf made.forest parent (next_of made.forest n)
   before_child = split.before_child n parent offset w s hn text par within
 
@@ -69,12 +58,6 @@ module _ (n parent offset : ℕ) (w : World) (s : IsSound w) (hn : 0 < occurs n 
 
   forest_is : placed.forest ≡ parted
   forest_is = split.forest_is n parent offset w s hn text par within
-
-  kind-parted : (test : Kind → Bool) (m : ℕ) → kind_passes test parted m ≡ kind_passes test made.forest m
-  kind-parted test m = split.kind-parted n parent offset w s hn text par within test m
-
-  text-parted : is_of_kind Text parted n ≡ true
-  text-parted = kind-parted (is_kind Text) n ∙ text-made (is_kind Text) ∙ text
 
   -- both Texts are counted among the children
   room-parted : index_of parted n + 2 ≤ length (children_of parted parent)
@@ -108,56 +91,14 @@ module _ (n parent offset : ℕ) (w : World) (s : IsSound w) (hn : 0 < occurs n 
 
   -- The worlds of the code: one that keeps the new Text, and one that has it behind the old one.
   module _ (v mid : code.World) (k : Keeps v made) (inserted : Follows v mid (insert false w.made parent (next_of made.forest n))) where
-    abbrev pub moved_ends : World → World
-    moved_ends u = record u { ranges = map_ranges (after_split n offset w.made parent (index_of u.forest n)) u.ranges }
-
-    abbrev pub behind : code.World
-    behind = record mid { ranges = record mid.ranges { ranges = map_ranges (after_split n offset w.made parent (index_of mid.tree.forest n)) mid.ranges.ranges } }
-
-    pub mid_is : mid.tree.forest ≡ parted
+    mid_is : mid.tree.forest ≡ parted
     mid_is =
         sym (inserted.keeps made k).forest
         ∙ ap (λ (u : World). u.forest) placed_is
         ∙ forest_is
 
-    follows-moved : Follows mid behind moved_ends
-    follows-moved = record {
-      keeps = λ u q. record {
-        forest = q.forest;
-        made = q.made;
-        ranges = (λ i. map_ranges (after_split n offset w.made parent (index_of (q.forest i) n)) (q.ranges i));
-        static_ranges = q.static_ranges;
-        iterators = q.iterators;
-        walkers = q.walkers;
-      };
-      watches = λ u q o. o;
-    }
-
-    pub follows-behind : Follows v behind (λ u. split_off n offset w.made (parent_of u.forest n) u)
-    follows-behind =
-        follows-alike v behind (λ u. moved_ends (insert false w.made parent (next_of made.forest n) u)) (λ u. split_off n offset w.made (parent_of u.forest n) u)
-        (λ u q.
-        let same_forest : u.forest ≡ made.forest = q.forest ∙ sym k.forest in
-        ap (λ f. moved_ends (insert false w.made parent (next_of f n) u)) (sym same_forest)
-        ∙ ap (λ p. split_off n offset w.made p u) (sym (ap (λ f. parent_of f n) same_forest ∙ par-made)))
-        (follows-then v mid behind (insert false w.made parent (next_of made.forest n)) moved_ends inserted follows-moved)
-
-    keeps-behind : Keeps behind after_parting
-    keeps-behind = subst (Keeps behind) (ap (λ p. split_off n offset w.made p made) par-made ∙ split.split_off_is n parent offset w s hn text par within) (follows-behind.keeps made k)
-
-    pub whole-behind : IsWhole mid → IsWhole behind
-    whole-behind h = whole-sound behind after_parting keeps-behind (split.sound-after_parting n parent offset w s hn text par within) h.documents h.owners h.covered h.statics h.observers
-
-    pub text-behind : is_of_kind Text mid.tree.forest n ≡ true
-    text-behind = ap (λ f. is_of_kind Text f n) mid_is ∙ text-parted
-
-    pub length-behind : length (content_in (entry_in mid.tree.forest n)).text ≡ length (data_of w n)
-    length-behind =
-        ap (λ (g : Forest Content). length (content_in (entry_in g n)).text) mid_is
-        ∙ sym (length-data parted n (kind-parted is_character_data n ∙ text-made is_character_data ∙ split.has_data n parent offset w s hn text par within)) ∙ split.length-text n parent offset w s hn text par within
+    pub parent-behind : parent_of mid.tree.forest n ≡ Some parent
+    parent-behind = ap (λ (g : Forest Content). parent_of g n) mid_is ∙ split.par-parted n parent offset w s hn text par within
 
     pub room-behind : index_of mid.tree.forest n + 2 ≤ length (children_of mid.tree.forest parent)
     room-behind = subst (λ (g : Forest Content). index_of g n + 2 ≤ length (children_of g parent)) (sym mid_is) room-parted
-
-    pub there-behind : (m : ℕ) → 0 < occurs m made.forest → 0 < occurs m mid.tree.forest
-    there-behind m h = subst (λ (g : Forest Content). 0 < occurs m g) (sym mid_is) (there-parted m h)

@@ -4,5 +4,6 @@ pub mod Changes
 pub mod Gathering
 pub mod TextContent
 pub mod Tails
+pub mod Turns
 pub mod TextsAlone
 pub mod Joining

@@ -1,15 +1,17 @@
 //! Data and attributes changed where a node keeps them.
 
-ghost use Rattle.std.specs.Prelude.{◌≡◌, ◌+◌, ◌^◌, ◌<◌, ◌≤◌, length, IfSome, is_some, option_copied, string_bytes, OnOk, OnErr};
+ghost use Rattle.std.specs.Prelude.{◌≡◌, ◌+◌, ◌^◌, ◌<◌, ◌≤◌, [], take, drop, length, IfSome, is_some, option_copied, string_bytes, IfOk, OnOk, OnErr};
 ghost use Rattle.dom_model.specs.Forests.Attributes.{attribute_value, with_attribute, without_attribute};
 ghost use Rattle.dom_model.specs.Forests.Forest.{HasNode, entry_in, with_node};
 ghost use Rattle.dom_model.specs.Forests.Texts.{spliced};
+ghost use Rattle.dom_model.specs.Worlds.Making.{with_text};
 ghost use Rattle.dom_model.specs.DataAndCopies.Data.{content_in, with_data, with_attributes};
+ghost use Rattle.dom_data.specs.Tails.{tail_in};
 
 use dom_edit::Content;
 use dom_kinds::Kind;
 use dom_tree::{NodeId, Tree};
-use dom_units::Units;
+use dom_units::{Units, units_within};
 use std::alloc::{AllocError, Global};
 
 // The kind of a node.
@@ -55,6 +57,44 @@ pub(crate) fn splice_data(
     // a law: so many units fit the memory
     let _ = content.text().len();
     outcome
+}
+
+// What is beyond an offset of the data, which keeps what is before it.
+fn split_off(content: &mut Content, alloc: Global, at: usize) -> Result<Content, AllocError>
+    requires { at ≤ length content.old.text }
+    ensures tail { IfOk result (λ tail. tail ≡ with_text (drop at content.old.text)) }
+    ensures head { OnOk result (content.new ≡ record content.old { text = take at content.old.text }) }
+    ensures err { OnErr result (content.new ≡ content.old) }
+{
+    let data = content.text();
+    let count = data.len() - at;
+    let units = Units::from_units(alloc, units_within(data, at, count))?;
+    let tail = Content::of_text(alloc, units)?;
+    content.splice(alloc, at, count, &[])?;
+    Ok(tail)
+}
+
+// Moves what is beyond an offset of a node's data into another node, which has no attributes.
+pub(crate) fn move_tail(
+    tree: &mut Tree<Content>,
+    alloc: Global,
+    node: NodeId,
+    offset: usize,
+    new: NodeId,
+) -> Result<(), AllocError>
+    requires held { HasNode tree.old.forest node }
+    requires new_held { HasNode tree.old.forest new }
+    requires within { offset ≤ length (content_in (entry_in tree.old.forest node)).text }
+    requires bare { (content_in (entry_in tree.old.forest new)).attributes ≡ [] }
+    ensures ok { OnOk result (tree.new ≡ record tree.old { forest = tail_in node offset new tree.old.forest }) }
+    ensures err { OnErr result (tree.new ≡ tree.old) }
+{
+    tree.sound();
+    let content = tree.body_mut(node);
+    let tail = split_off(content, alloc, offset)?;
+    let place = tree.body_mut(new);
+    *place = tail;
+    Ok(())
 }
 
 // Whether a node has an attribute of that name.

@@ -5,21 +5,23 @@ ghost use Rattle.std.specs.Result.{IfErr};
 ghost use Rattle.dom_model.specs.declared.Kind.TheVariants.{Text};
 ghost use Rattle.dom_model.specs.Forests.Forest.{HasNode, parent_of, children_of};
 ghost use Rattle.dom_model.specs.Forests.Nodes.{is_of_kind};
-ghost use Rattle.dom_model.specs.DataAndCopies.Data.{data_of, check_offset, split, split_off};
+ghost use Rattle.dom_model.specs.DataAndCopies.Data.{data_of, check_offset, split};
 ghost use Rattle.dom_model.specs.TokenText.Edits.{split_edits};
-ghost use Rattle.dom_edit.specs.Whole.{IsWhole, Follows, unwatched};
-ghost use Rattle.dom_edit.specs.Keeping.{KeepsLabels};
+ghost use Rattle.dom_edit.specs.Whole.{AreCovered, IsWhole, Follows, unwatched};
+ghost use Rattle.dom_edit.specs.Keeping.{KeepsLabels, KeepsNodes};
 ghost use Rattle.dom_edit.specs.Markers.{StandByEdits};
 ghost use Rattle.dom_edit.specs.Refusals.{IsRefused};
-ghost use Rattle.dom_data.specs.Tails.{IsTail};
+ghost use Rattle.dom_data.specs.Tails.{IsTail, HasRoom};
+ghost use Rattle.dom_data.specs.Turns.{put_behind, ends_behind};
 
+use crate::bodies::move_tail;
 use crate::making::make_text;
 use crate::normalizing::index_if_asked;
-use crate::replacing::replace_data_checked;
+use crate::records::tell_data;
 use dom_edit::{Content, Refusal, World, data_in, document_in};
 use dom_kinds::DomError;
 use dom_tree::{NodeId, Tree};
-use dom_units::{Units, units_within};
+use dom_units::Units;
 use std::alloc::{AllocError, Global};
 
 // A law: the count of the children fits a number of the machine.
@@ -31,52 +33,43 @@ fn counted(tree: &Tree<Content>, parent: NodeId)
     let _ = count;
 }
 
-// Puts the new Text behind the one that is split, and the ends beyond the offset into it.
-fn put_behind(
-    world: &mut World,
-    alloc: Global,
-    node: NodeId,
-    offset: usize,
-    new: NodeId,
-    parent: NodeId,
-) -> Result<(), AllocError>
+// Puts the new Text behind the one that is split, where that has a parent.
+fn put_behind(world: &mut World, alloc: Global, node: NodeId, new: NodeId) -> Result<(), AllocError>
     requires whole { IsWhole world.old }
-    requires tail { IsTail world.old node offset new }
-    requires parent { parent_of world.old.tree.forest node ≡ Some parent }
-    ensures parted { OnOk result (Follows world.old world.new (λ w. split_off node offset new (parent_of w.forest node) w)) }
-    ensures kind { OnOk result (is_of_kind Text world.new.tree.forest node ≡ true) }
-    ensures within { OnOk result (offset ≤ length (data_of (unwatched world.new) node)) }
-    ensures kept { KeepsLabels world.old world.new }
-    ensures whole { IsWhole world.new }
-{
-    let next = world.tree.next(node);
-    world.insert(alloc, parent, new, next)?;
-    counted(&world.tree, parent);
-    let index = index_if_asked(world, parent, node);
-    world.ranges.was_split(node, offset, new, parent, index);
-    Ok(())
-}
-
-// The same where the Text that is split has a parent; nothing where it has none.
-fn part(
-    world: &mut World,
-    alloc: Global,
-    node: NodeId,
-    offset: usize,
-    new: NodeId,
-) -> Result<(), AllocError>
-    requires whole { IsWhole world.old }
-    requires kind { is_of_kind Text world.old.tree.forest node ≡ true }
-    requires tail { IsTail world.old node offset new }
-    ensures parted { OnOk result (Follows world.old world.new (λ w. split_off node offset new (parent_of w.forest node) w)) }
-    ensures kind { OnOk result (is_of_kind Text world.new.tree.forest node ≡ true) }
-    ensures within { OnOk result (offset ≤ length (data_of (unwatched world.new) node)) }
-    ensures kept { KeepsLabels world.old world.new }
+    requires tail { IsTail world.old node new }
+    ensures behind { OnOk result (Follows world.old world.new (put_behind node new (parent_of world.old.tree.forest node))) }
+    ensures parent { OnOk result (parent_of world.new.tree.forest node ≡ parent_of world.old.tree.forest node) }
+    ensures room { OnOk result (HasRoom world.new.tree.forest node) }
+    ensures kept { KeepsNodes world.old world.new }
     ensures whole { IsWhole world.new }
 {
     match world.tree.parent(node) {
-        Some(parent) => put_behind(world, alloc, node, offset, new, parent),
+        Some(parent) => {
+            let next = world.tree.next(node);
+            world.insert(alloc, parent, new, next)
+        }
         None => Ok(()),
+    }
+}
+
+// Moves the ends beyond the offset into the new Text, and one behind the old Text in the parent behind the new one.
+fn split_ends(world: &mut World, node: NodeId, offset: usize, new: NodeId)
+    requires held { HasNode world.old.tree.forest node }
+    requires new_held { HasNode world.old.tree.forest new }
+    requires room { HasRoom world.old.tree.forest node }
+    requires covered { AreCovered world.old.tree world.old.ranges.covered }
+    ensures { world.new ≡ record world.old {
+      ranges = record world.old.ranges { ranges = ends_behind node offset new (parent_of world.old.tree.forest node) (unwatched world.old) };
+    } }
+{
+    world.tree.sound();
+    match world.tree.parent(node) {
+        Some(parent) => {
+            counted(&world.tree, parent);
+            let index = index_if_asked(world, parent, node);
+            world.ranges.was_split(node, offset, new, parent, index);
+        }
+        None => {}
     }
 }
 
@@ -124,12 +117,13 @@ pub fn split_checked(
     ensures kept { KeepsLabels world.old world.new }
     ensures whole { IsWhole world.new }
 {
-    let data = data_in(&world.tree, node);
-    let count = data.len() - offset;
-    let tail = Units::from_units(alloc, units_within(data, offset, count))?;
+    let count = data_in(&world.tree, node).len() - offset;
     let document = document_in(&world.tree, node);
-    let new = make_text(world, alloc, document, tail)?;
-    part(world, alloc, node, offset, new)?;
-    replace_data_checked(world, alloc, node, offset, count, &[])?;
+    let new = make_text(world, alloc, document, Units::new(alloc))?;
+    put_behind(world, alloc, node, new)?;
+    tell_data(world, alloc, node)?;
+    move_tail(&mut world.tree, alloc, node, offset, new)?;
+    split_ends(world, node, offset, new);
+    world.ranges.spliced(node, offset, count, 0);
     Ok(new)
 }

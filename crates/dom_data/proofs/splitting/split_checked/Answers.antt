@@ -1,45 +1,99 @@
--- A new Text, its place behind the old one, and the old one without what is beyond.
-use Rattle.std.proofs.Common.{ℕ, ◌-◌, ◌≤◌, List, drop, length, ap, refl, sym, ◌∙◌, subst, tests, rules}
-use Rattle.dom_model.specs.declared.Kind.TheVariants.{Text}
-use Rattle.dom_model.specs.Forests.Kinds.{is_kind}
-use Rattle.dom_data.proofs.NewTexts.{old-kind}
-use Rattle.dom_data.proofs.Parting.{text-held, tail-cut, follows-split, length-tail}
+-- An empty Text, its place behind the old one, and what is beyond the offset in it.
+use Rattle.std.proofs.Common.{ℕ, ◌-◌, List, length, ap, sym, ◌∙◌, subst}
+use Rattle.dom_model.specs.DataAndCopies.Data.{split}
+use Rattle.dom_model.specs.Worlds.World.{Content}
+use Rattle.dom_edit.specs.declared.world.World.{World}
+use Rattle.dom_edit.specs.Keeping.{KeepsLabels}
+use Rattle.dom_edit.specs.Whole.{IsWhole, Follows}
+use Rattle.dom_edit.proofs.NodesKept.{labels-then, nodes-observed}
+use Rattle.dom_data.specs.Tails.{HasRoom}
 use Rattle.dom_data.proofs.Behind.{is-tail}
 use Rattle.dom_data.proofs.Marking.{stand-by_split}
+use Rattle.dom_data.proofs.SplitSteps as steps
 use Rattle.dom_data.proofs.splitting.split_checked.Goals as goal
 
-pub part-requires-clause-kind : goal.part-requires-clause-kind
-part-requires-clause-kind c =
-    old-kind c.args.world.now c.make_text.new.world c.requires.whole c.document_in-document.result c.in_ok-tail.tail c.in_ok-new.ensures.made (is_kind Text) c.args.node (text-held c.args.world.now.tree.forest c.args.node c.requires.kind) ∙ c.requires.kind
+pub put_behind-requires-clause-tail : goal.put_behind-requires-clause-tail
+put_behind-requires-clause-tail c =
+    is-tail c.args.world.now c.make_text.new.world c.args.node c.document_in-document.result c.in_ok-new.new c.new.result c.requires.whole c.requires.kind
+    c.document_in-document.ensures.document c.in_ok-new.ensures.number c.new.ensures c.in_ok-new.ensures.made
 
-pub part-requires-clause-tail : goal.part-requires-clause-tail
-part-requires-clause-tail c =
-    let old = c.args.world.now in
-    let units = c.data_in-data.result.now in
-    let count = length units - c.args.offset in
-    let within : c.args.offset ≤ length units = subst (λ (xs : List ℕ). c.args.offset ≤ length xs) (sym c.data_in-data.ensures) c.requires.within in
-    let tail = c.in_ok-tail.ensures ∙ c.units_within.ensures ∙ tail-cut c.args.offset count units within refl in
-    is-tail old c.make_text.new.world c.args.node c.args.offset c.document_in-document.result c.in_ok-new.new c.in_ok-tail.tail c.requires.whole c.requires.kind
-    c.requires.within c.document_in-document.ensures.document c.in_ok-new.ensures.number (tail ∙ ap (drop c.args.offset) c.data_in-data.ensures) c.in_ok-new.ensures.made
+pub move_tail-requires-clause-new_held : goal.move_tail-requires-clause-new_held
+move_tail-requires-clause-new_held c =
+    steps.new-told c.args.world.now c.make_text.new.world c.put_behind.new.world c.tell_data.new.world c.args.node c.args.offset c.document_in-document.result c.in_ok-new.new c.new.result
+    c.requires.whole c.requires.kind c.requires.within c.document_in-document.ensures.document c.in_ok-new.ensures.number c.new.ensures c.in_ok-new.ensures.made c.put_behind.ensures.kept c.tell_data.ensures.kept
+
+pub move_tail-requires-clause-within : goal.move_tail-requires-clause-within
+move_tail-requires-clause-within c =
+    steps.within-told c.args.world.now c.make_text.new.world c.put_behind.new.world c.tell_data.new.world c.args.node c.args.offset c.document_in-document.result c.in_ok-new.new c.new.result
+    c.requires.whole c.requires.kind c.requires.within c.document_in-document.ensures.document c.in_ok-new.ensures.number c.new.ensures c.in_ok-new.ensures.made c.put_behind.ensures.kept c.tell_data.ensures.kept
+
+pub move_tail-requires-clause-bare : goal.move_tail-requires-clause-bare
+move_tail-requires-clause-bare c =
+    steps.bare-told c.args.world.now c.make_text.new.world c.put_behind.new.world c.tell_data.new.world c.args.node c.args.offset c.document_in-document.result c.in_ok-new.new c.new.result
+    c.requires.whole c.requires.kind c.requires.within c.document_in-document.ensures.document c.in_ok-new.ensures.number c.new.ensures c.in_ok-new.ensures.made c.put_behind.ensures.kept c.tell_data.ensures.kept
+
+pub split_ends-requires-clause-held : goal.split_ends-requires-clause-held
+split_ends-requires-clause-held c =
+    steps.held-moved c.tell_data.new.world c.args.node c.args.offset c.in_ok-new.new c.move_tail.new.tree c.in_ok-move_tail.ensures.ok c.args.node
+    (steps.held-told c.args.world.now c.make_text.new.world c.put_behind.new.world c.tell_data.new.world c.args.node c.args.offset c.document_in-document.result c.in_ok-new.new c.new.result
+    c.requires.whole c.requires.kind c.requires.within c.document_in-document.ensures.document c.in_ok-new.ensures.number c.new.ensures c.in_ok-new.ensures.made c.put_behind.ensures.kept c.tell_data.ensures.kept)
+
+pub split_ends-requires-clause-new_held : goal.split_ends-requires-clause-new_held
+split_ends-requires-clause-new_held c =
+    steps.held-moved c.tell_data.new.world c.args.node c.args.offset c.in_ok-new.new c.move_tail.new.tree c.in_ok-move_tail.ensures.ok c.in_ok-new.new
+    (steps.new-told c.args.world.now c.make_text.new.world c.put_behind.new.world c.tell_data.new.world c.args.node c.args.offset c.document_in-document.result c.in_ok-new.new c.new.result
+    c.requires.whole c.requires.kind c.requires.within c.document_in-document.ensures.document c.in_ok-new.ensures.number c.new.ensures c.in_ok-new.ensures.made c.put_behind.ensures.kept c.tell_data.ensures.kept)
+
+pub split_ends-requires-clause-room : goal.split_ends-requires-clause-room
+split_ends-requires-clause-room c =
+    steps.room-moved c.tell_data.new.world c.args.node c.args.offset c.in_ok-new.new c.move_tail.new.tree c.in_ok-move_tail.ensures.ok
+    (subst (λ (v : World). HasRoom v.tree.forest c.args.node) (sym c.tell_data.ensures.kept) c.in_ok-put_behind.ensures.room)
+
+pub split_ends-requires-clause-covered : goal.split_ends-requires-clause-covered
+split_ends-requires-clause-covered c =
+    steps.covered-moved c.tell_data.new.world c.args.node c.args.offset c.in_ok-new.new c.move_tail.new.tree c.in_ok-move_tail.ensures.ok c.tell_data.ensures.whole.covered
 
 pub returns-clause-split : goal.returns-clause-split
 returns-clause-split c =
-    let units = c.data_in-data.result.now in
-    let count = length units - c.args.offset in
-    let within : c.args.offset ≤ length units = subst (λ (xs : List ℕ). c.args.offset ≤ length xs) (sym c.data_in-data.ensures) c.requires.within in
-    let tail = c.in_ok-tail.ensures ∙ c.units_within.ensures ∙ tail-cut c.args.offset count units within refl in
-    follows-split c.args.world.now c.make_text.new.world c.part.new.world c.replace_data_checked.new.world c.args.node c.args.offset count c.document_in-document.result c.in_ok-new.new c.in_ok-tail.tail
-    (text-held c.args.world.now.tree.forest c.args.node c.requires.kind) c.document_in-document.ensures.document c.in_ok-new.ensures.number (tail ∙ ap (drop c.args.offset) c.data_in-data.ensures)
-    (length-tail c.args.offset count c.in_ok-tail.tail units refl tail)
-    c.in_ok-new.ensures.made c.in_ok-part.ensures.parted c.in_ok-replace_data_checked.ensures.replaced
+    let content = steps.content-told c.args.world.now c.make_text.new.world c.put_behind.new.world c.tell_data.new.world c.args.node c.args.offset c.document_in-document.result c.in_ok-new.new c.new.result
+    c.requires.whole c.requires.kind c.requires.within c.document_in-document.ensures.document c.in_ok-new.ensures.number c.new.ensures c.in_ok-new.ensures.made c.put_behind.ensures.kept c.tell_data.ensures.kept in
+    subst (λ (v : World). Follows c.args.world.now v (split c.args.node c.args.offset))
+    (steps.end-is c.tell_data.new.world c.args.node c.args.offset c.in_ok-new.new c.move_tail.new.tree c.in_ok-move_tail.ensures.ok c.split_ends.new.world c.split_ends.ensures
+    (length c.data_in.result.now - c.args.offset) (ap (λ (units : List ℕ). length units - c.args.offset) (c.data_in.ensures ∙ ap (λ (k : Content). k.text) (sym content)))
+    c.spliced.new.self c.spliced.ensures)
+    (steps.follows-split c.args.world.now c.make_text.new.world c.put_behind.new.world c.tell_data.new.world c.args.node c.args.offset c.document_in-document.result c.in_ok-new.new c.new.result
+    c.requires.whole c.requires.kind c.requires.within c.document_in-document.ensures.document c.in_ok-new.ensures.number c.new.ensures c.in_ok-new.ensures.made c.put_behind.ensures.kept c.tell_data.ensures.kept
+    c.in_ok-put_behind.ensures.behind c.in_ok-put_behind.ensures.parent c.in_ok-tell_data.ensures.told)
+
+pub returns-clause-whole : goal.returns-clause-whole
+returns-clause-whole c =
+    let content = steps.content-told c.args.world.now c.make_text.new.world c.put_behind.new.world c.tell_data.new.world c.args.node c.args.offset c.document_in-document.result c.in_ok-new.new c.new.result
+    c.requires.whole c.requires.kind c.requires.within c.document_in-document.ensures.document c.in_ok-new.ensures.number c.new.ensures c.in_ok-new.ensures.made c.put_behind.ensures.kept c.tell_data.ensures.kept in
+    subst IsWhole
+    (steps.end-is c.tell_data.new.world c.args.node c.args.offset c.in_ok-new.new c.move_tail.new.tree c.in_ok-move_tail.ensures.ok c.split_ends.new.world c.split_ends.ensures
+    (length c.data_in.result.now - c.args.offset) (ap (λ (units : List ℕ). length units - c.args.offset) (c.data_in.ensures ∙ ap (λ (k : Content). k.text) (sym content)))
+    c.spliced.new.self c.spliced.ensures)
+    (steps.whole-split c.args.world.now c.make_text.new.world c.put_behind.new.world c.tell_data.new.world c.args.node c.args.offset c.document_in-document.result c.in_ok-new.new c.new.result
+    c.requires.whole c.requires.kind c.requires.within c.document_in-document.ensures.document c.in_ok-new.ensures.number c.new.ensures c.in_ok-new.ensures.made c.put_behind.ensures.kept c.tell_data.ensures.kept
+    c.in_ok-put_behind.ensures.behind c.in_ok-put_behind.ensures.parent c.in_ok-tell_data.ensures.told c.tell_data.ensures.whole)
+
+pub returns-clause-kept : goal.returns-clause-kept
+returns-clause-kept c =
+    let old = c.args.world.now in
+    let mid = c.put_behind.new.world in
+    let told = c.tell_data.new.world in
+    let content = steps.content-told c.args.world.now c.make_text.new.world c.put_behind.new.world c.tell_data.new.world c.args.node c.args.offset c.document_in-document.result c.in_ok-new.new c.new.result
+    c.requires.whole c.requires.kind c.requires.within c.document_in-document.ensures.document c.in_ok-new.ensures.number c.new.ensures c.in_ok-new.ensures.made c.put_behind.ensures.kept c.tell_data.ensures.kept in
+    subst (KeepsLabels c.args.world.now)
+    (steps.end-is c.tell_data.new.world c.args.node c.args.offset c.in_ok-new.new c.move_tail.new.tree c.in_ok-move_tail.ensures.ok c.split_ends.new.world c.split_ends.ensures
+    (length c.data_in.result.now - c.args.offset) (ap (λ (units : List ℕ). length units - c.args.offset) (c.data_in.ensures ∙ ap (λ (k : Content). k.text) (sym content)))
+    c.spliced.new.self c.spliced.ensures)
+    (labels-then old told (steps.end_world told c.args.node c.args.offset c.in_ok-new.new)
+    (labels-then old mid told (labels-then old c.make_text.new.world mid c.make_text.ensures.kept c.put_behind.ensures.kept.labelled)
+    (nodes-observed mid told c.tell_data.ensures.kept c.tell_data.ensures.observers).labelled)
+    (steps.labels-end told c.args.node c.args.offset c.in_ok-new.new))
 
 pub returns-clause-markers : goal.returns-clause-markers
 returns-clause-markers c =
-    stand-by_split c.args.world.now c.replace_data_checked.new.world c.requires.whole c.replace_data_checked.ensures.whole c.args.node c.args.offset c.requires.kind
+    stand-by_split c.args.world.now (record c.split_ends.new.world { ranges = c.spliced.new.self }) c.requires.whole (returns-clause-whole c) c.args.node c.args.offset c.requires.kind
     c.requires.within (returns-clause-split c)
-
-pub returns-clause-number : goal.returns-clause-number
-returns-clause-number c = search (tests, rules)
-
-pub returns-clause-whole : goal.returns-clause-whole
-returns-clause-whole c = search (tests, rules)
