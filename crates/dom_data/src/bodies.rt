@@ -1,17 +1,16 @@
 //! Data and attributes changed where a node keeps them.
 
-ghost use Rattle.std.specs.Prelude.{◌≡◌, ◌+◌, ◌^◌, ◌<◌, ◌≤◌, [], take, drop, length, IfSome, is_some, option_copied, string_bytes, IfOk, OnOk, OnErr};
+ghost use Rattle.std.specs.Prelude.{◌≡◌, ◌+◌, ◌^◌, ◌<◌, ◌≤◌, [], length, IfSome, is_some, option_copied, string_bytes, OnOk, OnErr};
 ghost use Rattle.dom_model.specs.Forests.Attributes.{attribute_value, with_attribute, without_attribute};
 ghost use Rattle.dom_model.specs.Forests.Forest.{HasNode, entry_in, with_node};
 ghost use Rattle.dom_model.specs.Forests.Texts.{spliced};
-ghost use Rattle.dom_model.specs.Worlds.Making.{with_text};
 ghost use Rattle.dom_model.specs.DataAndCopies.Data.{content_in, with_data, with_attributes};
 ghost use Rattle.dom_data.specs.Tails.{tail_in};
 
 use dom_edit::Content;
 use dom_kinds::Kind;
 use dom_tree::{NodeId, Tree};
-use dom_units::{Units, units_within};
+use dom_units::Units;
 use std::alloc::{AllocError, Global};
 
 // The kind of a node.
@@ -59,21 +58,6 @@ pub(crate) fn splice_data(
     outcome
 }
 
-// What is beyond an offset of the data, which keeps what is before it.
-fn split_off(content: &mut Content, alloc: Global, at: usize) -> Result<Content, AllocError>
-    requires { at ≤ length content.old.text }
-    ensures tail { IfOk result (λ tail. tail ≡ with_text (drop at content.old.text)) }
-    ensures head { OnOk result (content.new ≡ record content.old { text = take at content.old.text }) }
-    ensures err { OnErr result (content.new ≡ content.old) }
-{
-    let data = content.text();
-    let count = data.len() - at;
-    let units = Units::from_units(alloc, units_within(data, at, count))?;
-    let tail = Content::of_text(alloc, units)?;
-    content.splice(alloc, at, count, &[])?;
-    Ok(tail)
-}
-
 // Moves what is beyond an offset of a node's data into another node, which has no attributes.
 pub(crate) fn move_tail(
     tree: &mut Tree<Content>,
@@ -91,7 +75,7 @@ pub(crate) fn move_tail(
 {
     tree.sound();
     let content = tree.body_mut(node);
-    let tail = split_off(content, alloc, offset)?;
+    let tail = content.split_off(alloc, offset)?;
     let place = tree.body_mut(new);
     *place = tail;
     Ok(())

@@ -21,10 +21,10 @@ returns-in_err-tail-clause-err c =
 
 pub body_mut-place-requires : goal.body_mut-place-requires
 body_mut-place-requires c =
-    there-alike (with_node-alike (λ x. record x { body = c.split_off.new.content }) (λ x. refl) c.args.node c.args.tree.now.forest) c.args.new c.requires.new_held
+    there-alike (with_node-alike (λ x. record x { body = c.split_off.new.self }) (λ x. refl) c.args.node c.args.tree.now.forest) c.args.new c.requires.new_held
 
 pub returns-clause-ok : goal.returns-clause-ok
 returns-clause-ok c =
     ap (λ g. record { forest = g; made = c.args.tree.now.made })
     (tail-moved c.args.tree.now.forest c.sound.ensures.once c.args.node c.args.offset c.args.new c.body_mut-content.result.now c.requires.held c.requires.within c.requires.bare c.body_mut-content.ensures.value
-    c.split_off.new.content c.in_ok-tail.tail c.in_ok-tail.ensures.head c.in_ok-tail.ensures.tail)
+    c.split_off.new.self c.in_ok-tail.tail c.in_ok-tail.ensures.head c.in_ok-tail.ensures.tail)
