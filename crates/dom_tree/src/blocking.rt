@@ -195,7 +195,7 @@ fn number_blocks<X>(links: &mut Store<Item<X>>, blocks: &mut Blocks, parent: Pla
     set_sure(links, parent, 0, UNKNOWN);
 }
 
-/// Makes the index of a child known, which is given: in blocks, where there is room for these, or else with those of its siblings ahead of it.
+/// Makes the index of a child known, which is given: in blocks, where there is room for these, or else with those of its siblings ahead of it. A child that is known in its block is then the one that is near it.
 pub(crate) fn number_around<X>(
     links: &mut Store<Item<X>>,
     blocks: &mut Blocks,
@@ -212,10 +212,12 @@ pub(crate) fn number_around<X>(
     requires index { index ≡ place_in (slot_of links.old child) (children_at links.old parent) }
     ensures { AreRenumbered links.old links.new blocks.new }
 {
+    let slot = links.slot(parent);
     if index_in_block(links, blocks, parent, child).is_some() {
+        blocks.come_near(slot, index_of(links, child), number_of(links, child));
         return;
     }
-    if blocks.fill(links.slot(parent), links.count(parent)) {
+    if blocks.fill(slot, links.count(parent)) {
         number_blocks(links, blocks, parent);
     } else {
         number_up_to(links, parent, child, index);

@@ -11,8 +11,8 @@ use indexmap::IndexMap;
 use std::alloc::{AllocError, Global};
 use std::marker::Model;
 
-// How many children a list has that is long.
-const LONG: u32 = 128;
+/// How many children a list has that is long. Fewer stand in no blocks.
+pub(crate) const LONG: u32 = 128;
 
 /// For each parent whose children stand in blocks how many stand in each, in their order.
 ///
@@ -92,6 +92,13 @@ fn push(nodes: &mut Vec<NodeId>, node: NodeId) {
 fn replace(nodes: &mut Vec<NodeId>, block: usize, gone: NodeId, next: NodeId) {
     if nodes.get(block).copied() == Some(gone) {
         nodes[block] = next;
+    }
+}
+
+// Puts a node near a block, where there is one for it.
+fn put_at(nodes: &mut Vec<NodeId>, block: usize, node: NodeId) {
+    if block < nodes.len() {
+        nodes[block] = node;
     }
 }
 
@@ -205,6 +212,15 @@ impl Blocks {
         };
         if let Some(nodes) = self.near.get_mut(&parent.number()) {
             replace(nodes, block as usize, gone, next);
+        }
+    }
+
+    /// A node is near a block from now on.
+    pub(crate) fn come_near(&mut self, parent: Slot, block: u32, node: NodeId)
+        ensures { self.new ≡ self.old }
+    {
+        if let Some(nodes) = self.near.get_mut(&parent.number()) {
+            put_at(nodes, block as usize, node);
         }
     }
 

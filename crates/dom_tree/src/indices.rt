@@ -4,6 +4,7 @@ ghost use Rattle.std.specs.Prelude.{◌≡◌, nat_lt, slice_get, IsSome, IfSome
 ghost use Rattle.dom_model.specs.Forests.Forest.{HasNode, parent_of, children_of, index_of};
 
 use crate::blocking::number_around;
+use crate::blocks::LONG;
 use crate::nearby::{self, NEAR, place_of};
 use crate::node_id::NodeId;
 use crate::tree::Tree;
@@ -45,6 +46,9 @@ impl<X> Tree<X> {
     {
         let place = place_of(&self.links, &self.table, parent);
         let count = self.links.count(place);
+        if count < LONG {
+            return Ok(());
+        }
         self.blocks.make_room(self.links.slot(place), count)
     }
 
