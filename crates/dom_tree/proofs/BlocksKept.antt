@@ -20,7 +20,7 @@ use Rattle.dom_tree.proofs.Nodes.{indexed-nodes, assured-nodes, room-altered}
 use Rattle.dom_tree.proofs.OwnedSlots.{indexed-owned, assured-owned}
 use Rattle.dom_tree.proofs.Written.{children-same, held-same, not_in}
 use Rattle.dom_tree.proofs.InBlocks.{ahead-first, fits-entered, fits-left_out, fits-filled}
-use Rattle.dom_tree.proofs.BlockTable.{but-here, but-other}
+use Rattle.dom_tree.proofs.MapTable.{blocks, but-here, but-other}
 
 raised-some : (cs : List ℕ) (r : ℕ) → 0 < length (raised cs r) → 0 < length cs
 raised-some [] r h = h
@@ -98,9 +98,9 @@ module _ {X : Type 0} {a : Arena (Kept X)} (l : IsSound a) (table : List (ℕ ×
   pub blocked-taken : (n : ℕ) → parent_in (entry_at a n) ≡ None → (table' : List (ℕ × List ℕ)) → ((p : ℕ) → counts_in table' p ≡ counts_but n [] table p) → AreBlocked (entry_at (taken a n)) table'
   blocked-taken n root table' ht p h =
       elim (same_or p n) [
-        | same e t ↦ absurd (let z = ap (λ m. length (counts_in table' m)) e ∙ ap length (but-here table' table n [] ht) in omega arith)
+        | same e t ↦ absurd (let z = ap (λ m. length (counts_in table' m)) e ∙ ap length (but-here blocks table' table n [] ht) in omega arith)
         | apart ne t ↦
-            let ec = but-other table' table n [] ht p ne in
+            let ec = but-other blocks table' table n [] ht p ne in
             let h2 : 0 < length (counts_in table p) = rw ec at h in
             subst (λ counts. StandsInBlocks (entry_at (taken a n)) counts p) (sym ec)
             (stands-same (entry_at a) (entry_at (taken a n)) p (counts_in table p) (ap children_in (taken-other a n p ne)) (ap reach_in (taken-other a n p ne))
@@ -249,7 +249,7 @@ module _ {X : Type 0} {a : Arena (Kept X)} (l : IsSound a) (table : List (ℕ ×
       blocked-put_into table' ht q h =
           elim (same_or q p) [
             | same d t ↦
-                let here = but-here table' table p (raised (counts_in table p) block) ht in
+                let here = but-here blocks table' table p (raised (counts_in table p) block) ht in
                 let h1 : 0 < length (raised (counts_in table p) block) = subst (λ cs. 0 < length cs) (ap (counts_in table') d ∙ here) h in
                 let ft = (k p (raised-some (counts_in table p) block h1)).fits in
                 let bs = beside b hb ft in
@@ -262,7 +262,7 @@ module _ {X : Type 0} {a : Arena (Kept X)} (l : IsSound a) (table : List (ℕ ×
                   reach = f-reach;
                 })
             | apart ne t ↦
-                let ec = but-other table' table p (raised (counts_in table p) block) ht q ne in
+                let ec = but-other blocks table' table p (raised (counts_in table p) block) ht q ne in
                 let h2 : 0 < length (counts_in table q) = rw ec at h in
                 subst (λ counts. StandsInBlocks (entry_at f) counts q) (sym ec)
                 (stands-same (entry_at a) (entry_at f) q (counts_in table q) (f-children q ∙ put-elsewhere q ne) (f-reaches q ne ∙ put-reaches q ne) (λ x hx. f-indices x (none-of q x hx) ∙ put-indices x (none-of q x hx)) (k q h2))
@@ -315,7 +315,7 @@ module _ {X : Type 0} {a : Arena (Kept X)} (l : IsSound a) (table : List (ℕ ×
       go d ed q h =
           elim (same_or q p) [
             | same w t ↦
-                let here = but-here table' table p (lowered (counts_in table p) (index_in (entry_at a c))) ht in
+                let here = but-here blocks table' table p (lowered (counts_in table p) (index_in (entry_at a c))) ht in
                 let h1 : 0 < length (lowered (counts_in table p) (index_in (entry_at a c))) = subst (λ cs. 0 < length cs) (ap (counts_in table') w ∙ here) h in
                 let st = k p (lowered-some (counts_in table p) (index_in (entry_at a c)) h1) in
                 subst (λ m. StandsInBlocks (entry_at (unlinked d c)) (counts_in table' m) m) (sym w)
@@ -330,7 +330,7 @@ module _ {X : Type 0} {a : Arena (Kept X)} (l : IsSound a) (table : List (ℕ ×
                   reach = reaches p ∙ st.reach;
                 }))
             | apart ne t ↦
-                let ec = but-other table' table p (lowered (counts_in table p) (index_in (entry_at a c))) ht q ne in
+                let ec = but-other blocks table' table p (lowered (counts_in table p) (index_in (entry_at a c))) ht q ne in
                 let h2 : 0 < length (counts_in table q) = rw ec at h in
                 let same_list : children_in (entry_at (unlinked d c) q) ≡ children_in (entry_at a q) = lists q ∙ left_out-absent c (children_in (entry_at a q)) (l.linked q c ∙ ap (λ o. names o q) e ∙ names-other p q (λ w. ne (sym w))) in
                 subst (λ counts. StandsInBlocks (entry_at (unlinked d c)) counts q) (sym ec)
@@ -379,7 +379,7 @@ module _ {X : Type 0} {a : Arena (Kept X)} (l : IsSound a) (table : List (ℕ ×
             elim (same_or q p) [
               | same d t ↦ absurd (let z = ap (λ m. length (counts_in table' m)) d ∙ ap length none in omega arith)
               | apart ne t ↦
-                  let ec = but-other table' table p (counts_in table' p) ht q ne in
+                  let ec = but-other blocks table' table p (counts_in table' p) ht q ne in
                   let h2 : 0 < length (counts_in table q) = rw ec at h in
                   subst (λ counts. StandsInBlocks (entry_at b) counts q) (sym ec)
                   (stands-same (entry_at a) (entry_at b) q (counts_in table q) (children-same b a n.nodes q) (n.far q ne) (λ x hx. n.elsewhere x (not_in l p q x ne hx)) (k q h2))
@@ -405,7 +405,7 @@ module _ {X : Type 0} {a : Arena (Kept X)} (l : IsSound a) (table : List (ℕ ×
                     reach = n.reach;
                   }
               | apart ne t ↦
-                  let ec = but-other table' table p (counts_in table' p) ht q ne in
+                  let ec = but-other blocks table' table p (counts_in table' p) ht q ne in
                   let h2 : 0 < length (counts_in table q) = rw ec at h in
                   subst (λ counts. StandsInBlocks (entry_at b) counts q) (sym ec)
                   (stands-same (entry_at a) (entry_at b) q (counts_in table q) (children-same b a n.nodes q) (n.reaches q ne) (λ x hx. n.untouched x (not_in l p q x ne hx)) (k q h2))

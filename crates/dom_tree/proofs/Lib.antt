@@ -1,7 +1,6 @@
 pub mod Adopting
 pub mod Asking
 pub mod Beside
-pub mod BlockTable
 pub mod BlockSteps
 pub mod BlocksKept
 pub mod Counting
@@ -12,6 +11,7 @@ pub mod Growing
 pub mod InBlocks
 pub mod Kept
 pub mod Making
+pub mod MapTable
 pub mod Moving
 pub mod Nodes
 pub mod Numbering
@@ -37,7 +37,6 @@ pub mod Sums
 pub mod Taking
 pub mod Tallied
 pub mod TalliesKept
-pub mod TallyTable
 pub mod TreeOrder
 pub mod Trees
 pub mod Ways

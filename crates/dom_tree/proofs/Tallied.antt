@@ -14,7 +14,7 @@ use Rattle.dom_tree.specs.declared.tallies.Tally.{Tally}
 use Rattle.dom_tree.specs.Tallies.{tally_in, tally_but, bare, one, raised, lowered, has_in, kind_tally, tally_put, tally_cut, IsTally, AreStarted, AreTallied}
 use Rattle.dom_tree.proofs.Counting.{names-itself, names-other}
 use Rattle.dom_tree.proofs.Stores.{altered-at, linked-at, unlinked-at, added-new, added-old, taken-other}
-use Rattle.dom_tree.proofs.TallyTable.{tally-here, tally-other}
+use Rattle.dom_tree.proofs.MapTable.{tallies, but-here, but-other}
 
 -- How many of a list pass a test.
 
@@ -174,10 +174,10 @@ module _ {X : Type 0} (a : Arena (Node X)) (table : List (ℕ × Tally)) (k : Ar
     pub tallied-linked : AreTallied (entry_at (linked a p c b)) table'
     tallied-linked q t e =
         elim (same_or q p) [
-          | same d v ↦ subst (λ n. IsTally (entry_at (linked a p c b)) n t) (sym d) (here (tally_in table p) refl (sym (tally-here table' table p _ ht) ∙ ap (tally_in table') (sym d) ∙ e))
+          | same d v ↦ subst (λ n. IsTally (entry_at (linked a p c b)) n t) (sym d) (here (tally_in table p) refl (sym (but-here tallies table' table p _ ht) ∙ ap (tally_in table') (sym d) ∙ e))
           | apart ne v ↦
               tallied-still (entry_at a) (entry_at (linked a p c b)) q (link-apart q ne) (λ n. link-kind n q) (λ n x _. link-kind n x) t
-              (k q t (sym (tally-other table' table p _ ht q ne) ∙ e))
+              (k q t (sym (but-other tallies table' table p _ ht q ne) ∙ e))
         ]
       where
         here : (o : Option Tally) → tally_in table p ≡ o → option_map (raised (has_in (entry_at a) c)) o ≡ Some t → IsTally (entry_at (linked a p c b)) p t
@@ -213,12 +213,12 @@ module _ {X : Type 0} (a : Arena (Node X)) (table : List (ℕ × Tally)) (k : Ar
     pub tallied-unlinked : AreTallied (entry_at (unlinked a c)) table'
     tallied-unlinked q t e =
         elim (same_or q p) [
-          | same d v ↦ subst (λ n. IsTally (entry_at (unlinked a c)) n t) (sym d) (here (tally_in table p) refl (sym (tally-here table' table p _ ht) ∙ ap (tally_in table') (sym d) ∙ e))
+          | same d v ↦ subst (λ n. IsTally (entry_at (unlinked a c)) n t) (sym d) (here (tally_in table p) refl (sym (but-here tallies table' table p _ ht) ∙ ap (tally_in table') (sym d) ∙ e))
           | apart ne v ↦
               tallied-still (entry_at a) (entry_at (unlinked a c)) q
               (cut-list q ∙ left_out-absent c (children_in (entry_at a q)) (l.linked q c ∙ ap (λ o. names o q) up ∙ names-other p q (λ w. ne (sym w))))
               (λ n. cut-kind n q) (λ n x _. cut-kind n x) t
-              (k q t (sym (tally-other table' table p _ ht q ne) ∙ e))
+              (k q t (sym (but-other tallies table' table p _ ht q ne) ∙ e))
         ]
       where
         here : (o : Option Tally) → tally_in table p ≡ o → option_map (lowered (has_in (entry_at a) c)) o ≡ Some t → IsTally (entry_at (unlinked a c)) p t
@@ -237,13 +237,13 @@ module _ {X : Type 0} (a : Arena (Node X)) (table : List (ℕ × Tally)) (k : Ar
   pub tallied-taken : IsSound a → (n : ℕ) → parent_in (entry_at a n) ≡ None → (table' : List (ℕ × Tally)) → ((q : ℕ) → tally_in table' q ≡ tally_but n None table q) → AreTallied (entry_at (taken a n)) table'
   tallied-taken l n root table' ht q t e =
       elim (same_or q n) [
-        | same d v ↦ absurd (let z : None ≡ Some t = sym (tally-here table' table n None ht) ∙ ap (tally_in table') (sym d) ∙ e in cc z)
+        | same d v ↦ absurd (let z : None ≡ Some t = sym (but-here tallies table' table n None ht) ∙ ap (tally_in table') (sym d) ∙ e in cc z)
         | apart ne v ↦
             tallied-still (entry_at a) (entry_at (taken a n)) q (ap children_in (taken-other a n q ne)) (λ m. ap (entry_has (is_kind m)) (taken-other a n q ne))
             (λ m c hc.
             let nc : c ≡ n → ⊥ = λ d. (let h3 : 0 < hits n (children_in (entry_at a q)) = subst (λ x. 0 < hits x (children_in (entry_at a q))) d hc in omega (arith, h3, l.linked q n, ap (λ o. names o q) root)) in
             ap (entry_has (is_kind m)) (taken-other a n c nc))
-            t (k q t (sym (tally-other table' table n None ht q ne) ∙ e))
+            t (k q t (sym (but-other tallies table' table n None ht q ne) ∙ e))
       ]
 
   -- a node in a fresh slot

@@ -1,8 +1,8 @@
 -- Where a parent is in the map, its counts are written.
 use Rattle.std.proofs.Common.{Some, None, option_map, is_some, ap, sym, ◌∙◌}
 use Rattle.dom_model.specs.Forests.Kinds.{is_kind}
-use Rattle.dom_tree.specs.Tallies.{tally_in, tally_but, raised}
-use Rattle.dom_tree.proofs.TallyTable.{tally-at, tally-changed, tally-same}
+use Rattle.dom_tree.specs.Tallies.{tally_in, raised}
+use Rattle.dom_tree.proofs.MapTable.{tallies, held-at, but-changed, but-none}
 use Rattle.dom_tree.proofs.tallies.Tallies.raise.Goals.{in-Some, in_default}
 use Rattle.dom_tree.proofs.tallies.Tallies.raise.Goals as goal
 
@@ -12,17 +12,15 @@ returns c =
     elim c.match-get_mut.branch [
       | in-Some w ↦
           let written = c.get_mut.follows.holds w.raise.new.tally in
-          let now = tally-at es c.self.view_is c.number.ensures (Some w.in-Some.tally.now) w.in-Some.ensures.value in
+          let now = held-at tallies es c.self.view_is c.number.ensures (Some w.in-Some.tally.now) w.in-Some.ensures.value in
           λ p.
           ap (λ b. tally_in b.by_slot.entries p) w.self-inside-is
-          ∙ tally-changed es c.self.view_is c.number.ensures _ (Some w.raise.new.tally) (written.3 (sym (ap is_some w.in-Some.ensures.value))).0 p
-          ∙ ap (λ o. tally_but c.args.parent o c.args.self.now p) (ap Some w.raise.ensures ∙ ap (option_map (raised (λ counted. is_kind counted c.args.kind))) (sym now))
+          ∙ but-changed tallies es c.self.view_is c.number.ensures _ (Some w.raise.new.tally) (written.3 (sym (ap is_some w.in-Some.ensures.value))).0 _
+          (ap Some w.raise.ensures ∙ ap (option_map (raised (λ counted. is_kind counted c.args.kind))) (sym now)) p
       | in_default w ↦
-          let now = tally-at es c.self.view_is c.number.ensures None w.in_default.ensures.value in
+          let now = held-at tallies es c.self.view_is c.number.ensures None w.in_default.ensures.value in
           λ p.
           ap (λ b. tally_in b.by_slot.entries p) w.self-inside-is
           ∙ ap (λ m. tally_in m.entries p) c.get_mut.follows.holds-at-none
-          ∙ ap (λ t. tally_in t p) c.self.view_is
-          ∙ tally-same c.args.self.now c.args.parent None (sym now) p
-          ∙ ap (λ o. tally_but c.args.parent (option_map (raised (λ counted. is_kind counted c.args.kind)) o) c.args.self.now p) (sym now)
+          ∙ but-none tallies es c.self.view_is c.number.ensures w.in_default.ensures.value _ (ap (option_map (raised (λ counted. is_kind counted c.args.kind))) (sym now)) p
     ]
