@@ -25,3 +25,4 @@ pub mod Unrefused
 pub mod CallerLemmas
 pub mod Releasing
 pub mod TailUnits
+pub mod Unheard

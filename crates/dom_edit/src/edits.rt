@@ -98,7 +98,10 @@ impl World {
         ensures kept { KeepsNodes self.old self.new }
         ensures whole { IsWhole self.new }
     {
-        let nodes = entering(&self.tree, alloc, node)?;
+        if !self.tree.is_of_kind(node, Kind::DocumentFragment) {
+            return self.enter(alloc, false, node, parent, child, &[node]);
+        }
+        let nodes = children(&self.tree, alloc, node)?;
         self.enter(alloc, false, node, parent, child, nodes.as_slice())
     }
 

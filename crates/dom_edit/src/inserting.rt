@@ -160,7 +160,7 @@ impl World {
         self.queue_tree_record(alloc, node, &[], nodes, None, None)
     }
 
-    // Roots come in, with a record or, where it is suppressed, without one.
+    // Roots come in, with a record or, where it is suppressed or nobody observes, without one.
     fn insert_all(
         &mut self,
         alloc: Global,
@@ -176,14 +176,15 @@ impl World {
         ensures kept { KeepsNodes self.old self.new }
         ensures whole { IsWhole self.new }
     {
+        if suppressed || self.observers.is_idle() {
+            self.place(parent, child, nodes);
+            return Ok(());
+        }
         // the checker covers no variable of this type that is passed by value twice
         let before = child;
         let after = child;
         let previous = previous_to(&self.tree, parent, before);
         self.place(parent, after, nodes);
-        if suppressed {
-            return Ok(());
-        }
         self.queue_tree_record(alloc, parent, nodes, &[], previous, child)
     }
 

@@ -4,8 +4,11 @@ use Rattle.dom_model.proofs.Forests.Entries.{HasNode-occurs}
 use Rattle.dom_edit.proofs.Marking.{stand-by_insert}
 use Rattle.dom_edit.proofs.world.World.insert.Goals as goal
 
-pub entering-requires : goal.entering-requires
-entering-requires c = HasNode-occurs c.args.self.now.tree.forest c.args.node c.requires.allowed.there
+pub is_of_kind-requires : goal.is_of_kind-requires
+is_of_kind-requires c = HasNode-occurs c.args.self.now.tree.forest c.args.node c.requires.allowed.there
+
+pub children-requires : goal.children-requires
+children-requires c = HasNode-occurs c.args.self.now.tree.forest c.args.node c.requires.allowed.there
 
 pub returns-clause-inserted : goal.returns-clause-inserted
 returns-clause-inserted c = search (tests, rules)
@@ -15,5 +18,10 @@ returns-clause-whole c = search (tests, rules)
 
 pub returns-clause-markers : goal.returns-clause-markers
 returns-clause-markers c =
+    on_ok_weaker c.enter-2.result
+    (stand-by_insert c.args.self.now c.enter-2.new.self c.requires.whole c.enter-2.ensures.whole c.args.node c.args.parent c.args.child c.requires.allowed) c.enter-2.ensures.inserted
+
+pub returns-then-not-is_of_kind-clause-markers : goal.returns-then-not-is_of_kind-clause-markers
+returns-then-not-is_of_kind-clause-markers c =
     on_ok_weaker c.enter.result
     (stand-by_insert c.args.self.now c.enter.new.self c.requires.whole c.enter.ensures.whole c.args.node c.args.parent c.args.child c.requires.allowed) c.enter.ensures.inserted
