@@ -1,5 +1,5 @@
 -- What comes in where nobody hears of it.
-use Rattle.std.proofs.Common.{◌≡◌, ℕ, Bool, true, false, List, [], ◌∷◌, filter, length, Option, None, Some, refl, ap, ◌∙◌, subst, sym}
+use Rattle.std.proofs.Common.{◌≡◌, ℕ, Bool, true, false, List, [], ◌∷◌, filter, length, Option, None, Some, refl, ap, ◌∙◌}
 use Rattle.dom_model.specs.Forests.Forest.{ancestors}
 use Rattle.dom_model.specs.Worlds.World as model
 use Rattle.dom_model.specs.Worlds.World.{Mutation, Observing, Registration}
@@ -34,7 +34,7 @@ follows-unheard old new false parent child nodes idle f = record {
       let after : model.World = put_all parent child nodes (gap_before parent child (length nodes) w) in
       let above = ancestors parent after.forest in
       let unobserved : after.observing.registrations ≡ [] =
-          ap (λ (x : Observing). x.registrations) (observing-put parent child nodes (gap_before parent child (length nodes) w) ∙ observing-gap parent child (length nodes) w) ∙ idle w.observing o in
+      ap (λ (x : Observing). x.registrations) (observing-put parent child nodes (gap_before parent child (length nodes) w) ∙ observing-gap parent child (length nodes) w) ∙ idle w.observing o in
       let m : Mutation = record {
         type = ChildList;
         target = parent;
