@@ -1,6 +1,6 @@
 -- What observers name, as their registrations and queues change.
 use Rattle.std.proofs.Common.{◌≡◌, ◌≢◌, ℕ, zero, suc, ◌<◌, ◌==◌, Bool, true, false, ◌||◌, if◌then◌else◌, List, [], ◌∷◌, ◌++◌, length, map, filter, Option, None, Some, option_map, refl, ap, sym, ◌∙◌, subst, nat_eq}
-use Rattle.std.specs.Prelude.{Vec, unwrap_or, slice_index_or, slice_set, flat_map}
+use Rattle.std.specs.Prelude.{unwrap_or, slice_index_or, slice_set, flat_map}
 use Rattle.std.specs.Map.{keys_of}
 use Rattle.std.specs.Option.{option_map_or}
 use Rattle.std.specs.List.{list_any, IsDistinct, AllByRecursion}
@@ -16,6 +16,7 @@ use Rattle.dom_model.proofs.PlainLists.Numbers.{Same, same_or, same, apart}
 use Rattle.dom_model.proofs.RangesAndContents.RangesElsewhere.{among-any}
 use Rattle.dom_observe.specs.declared.registration.Registration as held
 use Rattle.dom_observe.specs.declared.registration.Ended.{Ended}
+use Rattle.dom_observe.specs.Keys.{Keys}
 use Rattle.dom_observe.specs.Watchers.{Watchers, records_at, on}
 use Rattle.dom_observe.specs.Held.{named, watching, nodes_of_mutation, NamesOnly, SameObservers}
 use Rattle.dom_observe.specs.Registrations.{at, listed, spares, left_by, is_live, AllLive, StandsOn, Added, with_new_options, transient_under}
@@ -58,7 +59,7 @@ named-parts p o =
     ∙ (λ i. list_any (λ (e : ℕ × List Registration). any-flat p nodes_of_registration e.1 i) o.nodes || list_any (λ (q : Option (List Record)). any-flat p nodes_of_record (unwrap_or q []) i) o.queues)
 
 -- What is registered on nodes, and what is under the keys that they have.
-module _ {A : Type 0} (table : Slab held.Registration) (entries : List (ℕ × Vec ℕ A)) where
+module _ (table : Slab held.Registration) (entries : List (ℕ × Keys)) where
   -- no registration passes, and so none under a number does
   pub none_under_keys : (q : Registration → Bool) → list_any (λ (e : ℕ × List Registration). list_any q e.1) (registered_nodes table entries) ≡ false
       → (n : ℕ) → AllByRecursion (λ k. option_map_or q (at table k) false ≡ false) (on n (listed entries))
@@ -73,7 +74,7 @@ module _ {A : Type 0} (table : Slab held.Registration) (entries : List (ℕ × V
       none_under q (registered_nodes table entries) (subst (IsDistinct nat_eq) (sym (keys-registered_nodes table entries)) distinct)
       (λ n. ap (list_any q) (on-registered_nodes table n entries) ∙ sym (any-found q (at table) (on n (listed entries))) ∙ all_none (λ k. option_map_or q (at table k) false) (on n (listed entries)) (all n))
 
-module _ {A : Type 0} (table : Slab held.Registration) (entries : List (ℕ × Vec ℕ A)) (queues : List (Option (List Record))) (pending : List ℕ) where
+module _ (table : Slab held.Registration) (entries : List (ℕ × Keys)) (queues : List (Option (List Record))) (pending : List ℕ) where
   abbrev shown : Watchers
   shown = record { nodes = registered_nodes table entries; queues = queues; pending = pending }
 
@@ -130,8 +131,8 @@ module _ {A : Type 0} (table : Slab held.Registration) (entries : List (ℕ × V
           (among-any i pending ∙ ap (λ b. b || list_any (λ m. m == i) pending) (sym (unregistered off)) ∙ sym (list_any-append (λ m. m == i) seen pending) ∙ sym (among-any i (seen ++ pending)) ∙ there)
 
 -- A step that lets no name in but these.
-module _ {A B : Type 0} (table : Slab held.Registration) (entries : List (ℕ × Vec ℕ A)) (queues : List (Option (List Record))) (pending : List ℕ) (old : Watchers) (is : shown table entries queues pending ≡ old)
-    (table' : Slab held.Registration) (entries' : List (ℕ × Vec ℕ B)) (queues' : List (Option (List Record))) (pending' : List ℕ)
+module _ (table : Slab held.Registration) (entries : List (ℕ × Keys)) (queues : List (Option (List Record))) (pending : List ℕ) (old : Watchers) (is : shown table entries queues pending ≡ old)
+    (table' : Slab held.Registration) (entries' : List (ℕ × Keys)) (queues' : List (Option (List Record))) (pending' : List ℕ)
     (kept : IsKept table' entries' queues' pending') (these : List ℕ)
     (lets : (p : ℕ → Bool) → list_any p these ≡ false → NamesNone p (at table) (listed entries) → TellsNone p queues → NamesNone p (at table') (listed entries') × TellsNone p queues') where
   pub names-only : NamesOnly these old (record { nodes = registered_nodes table' entries'; queues = queues'; pending = pending' })
@@ -150,7 +151,7 @@ module _ {A B : Type 0} (table : Slab held.Registration) (entries : List (ℕ ×
               absurd (true≢false (sym there ∙ among-any n (named (shown table' entries' queues' pending')) ∙ named-none table' entries' queues' pending' (λ m. m == n) kept.unique after.0 after.1))
 
 -- nothing changes
-pub names-same : {A : Type 0} (table : Slab held.Registration) (entries : List (ℕ × Vec ℕ A)) (queues : List (Option (List Record))) (pending : List ℕ) → IsKept table entries queues pending
+pub names-same : (table : Slab held.Registration) (entries : List (ℕ × Keys)) (queues : List (Option (List Record))) (pending : List ℕ) → IsKept table entries queues pending
     → (old : Watchers) → record { nodes = registered_nodes table entries; queues = queues; pending = pending } ≡ old → (these : List ℕ) → NamesOnly these old old
 names-same table entries queues pending kept old is these =
     subst (NamesOnly these old) is (names-only table entries queues pending old is table entries queues pending kept these (λ p _ names tells. (names, tells)))

@@ -1,6 +1,6 @@
 -- What the code keeps goes with its steps.
 use Rattle.std.proofs.Common.{◌≡◌, ℕ, zero, suc, ◌==◌, Bool, true, false, if◌then◌else◌, List, [], ◌∷◌, ◌++◌, length, map, filter, Option, None, Some, refl, ap, sym, ◌∙◌, subst, cond, nat_eq}
-use Rattle.std.specs.Prelude.{slice_index_or, slice_set, Vec, filter_map, flat_map, is_some}
+use Rattle.std.specs.Prelude.{slice_index_or, slice_set, filter_map, flat_map, is_some}
 use Rattle.std.specs.Map.{keys_of, lookup}
 use Rattle.std.specs.List.{IsDistinct, AllByRecursion, cons_option}
 use Rattle.std.specs.Option.{option_map_or}
@@ -14,6 +14,7 @@ use Rattle.dom_model.proofs.PlainLists.Numbers.{same_or, same, apart}
 use Rattle.dom_observe.specs.declared.registration.Registration as held
 use Rattle.dom_observe.specs.declared.registration.Ended.{Ended}
 use Rattle.dom_observe.specs.Once.{once}
+use Rattle.dom_observe.specs.Keys.{Keys}
 use Rattle.dom_observe.specs.Watchers.{on}
 use Rattle.dom_observe.specs.Registrations.{at, found, listed, spares, left_by, is_live, Stands, StandsOn, AllStand, HaveKeys, deep_at}
 use Rattle.dom_observe.specs.Kept.{registered_nodes, has_queue, IsKept}
@@ -30,7 +31,7 @@ on-map f nothing n (e ∷ es) = go (n == e.0) (on-map f nothing n es)
     go true i = refl
     go false i = i
 
-pub on-registered_nodes : {A : Type 0} (table : Slab held.Registration) (n : ℕ) (es : List (ℕ × Vec ℕ A)) → on n (registered_nodes table es) ≡ found table (on n (listed es))
+pub on-registered_nodes : (table : Slab held.Registration) (n : ℕ) (es : List (ℕ × Keys)) → on n (registered_nodes table es) ≡ found table (on n (listed es))
 on-registered_nodes table n es = on-map (found table) refl n (listed es)
 
 -- as many observers at least are there
@@ -39,7 +40,7 @@ stand-alike u there there' lists more all n =
     all_imply (StandsOn u there n) (StandsOn u there' n)
     (λ k s. record { registration = s.registration; is = s.is; observer = more s.registration.observer s.observer; node = s.node }) (on n lists) (all n)
 
-module _ {A : Type 0} (table : Slab held.Registration) (entries : List (ℕ × Vec ℕ A)) (queues : List (Option (List Record))) (pending : List ℕ)
+module _ (table : Slab held.Registration) (entries : List (ℕ × Keys)) (queues : List (Option (List Record))) (pending : List ℕ)
     (kept : IsKept table entries queues pending) where
   -- other queues: of as many observers at least
   pub kept_queues : (queues' : List (Option (List Record))) → ((o : ℕ) → has_queue queues o ≡ true → has_queue queues' o ≡ true) → IsKept table entries queues' pending
@@ -57,7 +58,7 @@ module _ {A : Type 0} (table : Slab held.Registration) (entries : List (ℕ × V
   kept-emptied i there = kept_queues (slice_set queues i (Some [])) (λ o held_there. has-set queues i there [] o ∙ held_there)
 
   -- another table
-  pub kept_table : {B : Type 0} (table' : Slab held.Registration) (entries' : List (ℕ × Vec ℕ B)) → IsDistinct nat_eq (keys_of entries') → AllStand (at table') (has_queue queues) (listed entries') → HaveKeys (listed entries') → IsKept table' entries' queues pending
+  pub kept_table : (table' : Slab held.Registration) (entries' : List (ℕ × Keys)) → IsDistinct nat_eq (keys_of entries') → AllStand (at table') (has_queue queues) (listed entries') → HaveKeys (listed entries') → IsKept table' entries' queues pending
   kept_table table' entries' unique stand full = record { unique = unique; stand = stand; full = full; there = kept.there }
 
 -- a step ends registrations, and the keys under which nothing is left go
@@ -137,7 +138,7 @@ nobody rs h = go rs (λ n. once-none (registered_on n rs) (h n))
         ]
 
 -- where no node has a registration, none is listed
-pub none_listed : {A : Type 0} (table : Slab held.Registration) (entries : List (ℕ × Vec ℕ A)) (there : ℕ → Bool) → AllStand (at table) there (listed entries) → HaveKeys (listed entries)
+pub none_listed : (table : Slab held.Registration) (entries : List (ℕ × Keys)) (there : ℕ → Bool) → AllStand (at table) there (listed entries) → HaveKeys (listed entries)
     → ((n : ℕ) → on n (registered_nodes table entries) ≡ []) → length entries ≡ 0
 none_listed table [] there stand full none = refl
 none_listed table (e ∷ es) there stand full none = absurd (go e.1.items refl)

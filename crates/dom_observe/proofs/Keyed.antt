@@ -1,6 +1,5 @@
 -- The nodes that registrations name are those that have keys.
 use Rattle.std.proofs.Common.{◌≡◌, ℕ, Bool, true, false, List, [], ◌∷◌, Option, Some, None, refl, ap, sym, ◌∙◌, subst, nat_eq}
-use Rattle.std.specs.Prelude.{Vec}
 use Rattle.std.specs.Map.{lookup, keys_of}
 use Rattle.std.specs.List.{list_any, AllByRecursion}
 use Rattle.std.proofs.lemmas.Bool.{true≢false, or_parts, or_from}
@@ -12,6 +11,7 @@ use Rattle.dom_model.specs.MutationAlgorithms.Discarding.{if_any, nodes_of_regis
 use Rattle.dom_model.proofs.PlainLists.Numbers.{same_or, same, apart}
 use Rattle.dom_model.proofs.PlainLists.Searches.{alike, passes_not, none-each}
 use Rattle.dom_observe.specs.declared.registration.Registration as held
+use Rattle.dom_observe.specs.Keys.{Keys}
 use Rattle.dom_observe.specs.Watchers.{on}
 use Rattle.dom_observe.specs.Registrations.{at, listed, is_on, StandsOn, HaveKeys, HaveSources, Placed}
 use Rattle.dom_observe.specs.Kept.{registered_nodes, has_queue, IsKept}
@@ -21,42 +21,41 @@ use Rattle.dom_observe.proofs.Keys.{keys_in, on-looked}
 use Rattle.dom_observe.proofs.Sources.{own-shape}
 use Rattle.dom_observe.proofs.Tables.{all_imply}
 
-module _ {A : Type 0} where
-  -- a node with a key is listed
-  listed-there : (n k : ℕ) (es : List (ℕ × Vec ℕ A)) → among k (on n (listed es)) ≡ true → among n (keys_of es) ≡ true
-  listed-there n k [] h = absurd (true≢false (sym h))
-  listed-there n k (e ∷ es) h =
-      elim (same_or e.0 n) [
-        | same d t ↦ rw t refl
-        | apart ne t ↦ elim (same_or n e.0) [
-          | same d u ↦ absurd (ne (sym d))
-          | apart _ u ↦ let g = rw u at h in rw t (listed-there n k es g)
-        ]
+-- a node with a key is listed
+listed-there : (n k : ℕ) (es : List (ℕ × Keys)) → among k (on n (listed es)) ≡ true → among n (keys_of es) ≡ true
+listed-there n k [] h = absurd (true≢false (sym h))
+listed-there n k (e ∷ es) h =
+    elim (same_or e.0 n) [
+      | same d t ↦ rw t refl
+      | apart ne t ↦ elim (same_or n e.0) [
+        | same d u ↦ absurd (ne (sym d))
+        | apart _ u ↦ let g = rw u at h in rw t (listed-there n k es g)
       ]
+    ]
 
-  -- what a node that is listed has
-  listed-found : (n : ℕ) (es : List (ℕ × Vec ℕ A)) → among n (keys_of es) ≡ true → (keys : List ℕ) × (lookup (nat_eq n) (listed es) ≡ Some keys)
-  listed-found n [] h = absurd (true≢false (sym h))
-  listed-found n (e ∷ es) h =
-      elim (same_or n e.0) [
-        | same d t ↦ (e.1.items, rw t refl)
-        | apart ne t ↦ elim (same_or e.0 n) [
-          | same d u ↦ absurd (ne (sym d))
-          | apart _ u ↦ let g = rw u at h in let f = listed-found n es g in (f.0, rw t f.1)
-        ]
+-- what a node that is listed has
+listed-found : (n : ℕ) (es : List (ℕ × Keys)) → among n (keys_of es) ≡ true → (keys : List ℕ) × (lookup (nat_eq n) (listed es) ≡ Some keys)
+listed-found n [] h = absurd (true≢false (sym h))
+listed-found n (e ∷ es) h =
+    elim (same_or n e.0) [
+      | same d t ↦ (e.1.items, rw t refl)
+      | apart ne t ↦ elim (same_or e.0 n) [
+        | same d u ↦ absurd (ne (sym d))
+        | apart _ u ↦ let g = rw u at h in let f = listed-found n es g in (f.0, rw t f.1)
       ]
+    ]
 
-  first-key : (n : ℕ) (es : List (ℕ × Vec ℕ A)) → HaveKeys (listed es) → among n (keys_of es) ≡ true → (k : ℕ) × (keys : List ℕ) × (on n (listed es) ≡ k ∷ keys)
-  first-key n es full there = go f.0 refl
-    where
-      f : (keys : List ℕ) × (lookup (nat_eq n) (listed es) ≡ Some keys)
-      f = listed-found n es there
+first-key : (n : ℕ) (es : List (ℕ × Keys)) → HaveKeys (listed es) → among n (keys_of es) ≡ true → (k : ℕ) × (keys : List ℕ) × (on n (listed es) ≡ k ∷ keys)
+first-key n es full there = go f.0 refl
+  where
+    f : (keys : List ℕ) × (lookup (nat_eq n) (listed es) ≡ Some keys)
+    f = listed-found n es there
 
-      go : (keys : List ℕ) → f.0 ≡ keys → (k : ℕ) × (rest : List ℕ) × (on n (listed es) ≡ k ∷ rest)
-      go [] is = absurd (full n f.0 f.1 is)
-      go (k ∷ keys) is = (k, keys, on-looked n (listed es) ∙ ap keys_in f.1 ∙ is)
+    go : (keys : List ℕ) → f.0 ≡ keys → (k : ℕ) × (rest : List ℕ) × (on n (listed es) ≡ k ∷ rest)
+    go [] is = absurd (full n f.0 f.1 is)
+    go (k ∷ keys) is = (k, keys, on-looked n (listed es) ∙ ap keys_in f.1 ∙ is)
 
-module _ {A : Type 0} (table : Slab held.Registration) (entries : List (ℕ × Vec ℕ A)) (queues : List (Option (List Record))) (pending : List ℕ)
+module _ (table : Slab held.Registration) (entries : List (ℕ × Keys)) (queues : List (Option (List Record))) (pending : List ℕ)
     (kept : IsKept table entries queues pending) (placed : Placed (at table) (listed entries)) (have : HaveSources (at table)) (p : ℕ → Bool) where
   -- the node of a registration has its key
   has_key : (k : ℕ) (r : Registration) → at table k ≡ Some r → among r.node (keys_of entries) ≡ true

@@ -1,10 +1,11 @@
 -- The keys that each node has, as the map from nodes to keys changes.
 use Rattle.std.proofs.Common.{◌≡◌, ℕ, ◌==◌, Bool, true, false, cond, if◌then◌else◌, List, [], ◌∷◌, ◌++◌, length, filter, Option, option_map, Some, None, refl, ap, sym, ◌∙◌, subst, nat_eq, append-nil, arith}
-use Rattle.std.specs.Prelude.{Vec, is_some}
+use Rattle.std.specs.Prelude.{is_some}
 use Rattle.std.specs.Map.{lookup, set_value, keys_of}
 use Rattle.indexmap.specs.IndexMap.{insert_entry}
 use Rattle.dom_model.specs.PlainLists.Lists.{among}
 use Rattle.dom_model.proofs.PlainLists.Numbers.{Same, same_or, same, apart}
+use Rattle.dom_observe.specs.Keys.{Keys}
 use Rattle.dom_observe.specs.Watchers.{on}
 use Rattle.dom_observe.specs.Registrations.{listed, HaveKeys}
 
@@ -17,104 +18,102 @@ some-lookup n (e ∷ es) =
       | apart ne t ↦ elim (same_or e.0 n) [ same d u ↦ absurd (ne (sym d)) | apart _ u ↦ rw (t, u) (some-lookup n es) ]
     ]
 
-module _ {A : Type 0} where
-  -- the keys of a node, by what a look-up found
-  abbrev pub items_in : Option (Vec ℕ A) → List ℕ
-  items_in None = []
-  items_in (Some keys) = keys.items
+-- the keys of a node, by what a look-up found
+abbrev pub items_in : Option Keys → List ℕ
+items_in None = []
+items_in (Some keys) = keys.items
 
-  pub on-lookup : (n : ℕ) (es : List (ℕ × Vec ℕ A)) → on n (listed es) ≡ items_in (lookup (nat_eq n) es)
-  on-lookup n [] = refl
-  on-lookup n (e ∷ es) = go (n == e.0) (on-lookup n es)
-    where
-      go : (v : Bool) → on n (listed es) ≡ items_in (lookup (nat_eq n) es) → (if v then e.1.items else on n (listed es)) ≡ items_in (cond v (Some e.1) (lookup (nat_eq n) es))
-      go true i = refl
-      go false i = i
+pub on-lookup : (n : ℕ) (es : List (ℕ × Keys)) → on n (listed es) ≡ items_in (lookup (nat_eq n) es)
+on-lookup n [] = refl
+on-lookup n (e ∷ es) = go (n == e.0) (on-lookup n es)
+  where
+    go : (v : Bool) → on n (listed es) ≡ items_in (lookup (nat_eq n) es) → (if v then e.1.items else on n (listed es)) ≡ items_in (cond v (Some e.1) (lookup (nat_eq n) es))
+    go true i = refl
+    go false i = i
 
-  -- another vector for a key, with the same items
-  pub listed-set_value : (k : ℕ) (es : List (ℕ × Vec ℕ A)) (v w : Vec ℕ A) → lookup (nat_eq k) es ≡ Some v → w.items ≡ v.items → listed (set_value (nat_eq k) es w) ≡ listed es
-  listed-set_value k [] v w h i = refl
-  listed-set_value k (e ∷ es) v w h i = go (k == e.0) refl h (listed-set_value k es v w)
-    where
-      go : (b : Bool) → (k == e.0) ≡ b → cond b (Some e.1) (lookup (nat_eq k) es) ≡ Some v → (lookup (nat_eq k) es ≡ Some v → w.items ≡ v.items → listed (set_value (nat_eq k) es w) ≡ listed es)
-          → listed (cond b ((e.0, w) ∷ es) (e ∷ set_value (nat_eq k) es w)) ≡ (e.0, e.1.items) ∷ listed es
-      go true t g rest = let d : e.1 ≡ v = cc in ap (λ items. (e.0, items) ∷ listed es) (i ∙ ap (λ (u : Vec ℕ A). u.items) (sym d))
-      go false t g rest = ap (λ xs. (e.0, e.1.items) ∷ xs) (rest g i)
+-- other keys for a node, with the same items
+pub listed-set_value : (k : ℕ) (es : List (ℕ × Keys)) (v w : Keys) → lookup (nat_eq k) es ≡ Some v → w.items ≡ v.items → listed (set_value (nat_eq k) es w) ≡ listed es
+listed-set_value k [] v w h i = refl
+listed-set_value k (e ∷ es) v w h i = go (k == e.0) refl h (listed-set_value k es v w)
+  where
+    go : (b : Bool) → (k == e.0) ≡ b → cond b (Some e.1) (lookup (nat_eq k) es) ≡ Some v → (lookup (nat_eq k) es ≡ Some v → w.items ≡ v.items → listed (set_value (nat_eq k) es w) ≡ listed es)
+        → listed (cond b ((e.0, w) ∷ es) (e ∷ set_value (nat_eq k) es w)) ≡ (e.0, e.1.items) ∷ listed es
+    go true t g rest = let d : e.1 ≡ v = cc in ap (λ items. (e.0, items) ∷ listed es) (i ∙ ap (λ (u : Keys). u.items) (sym d))
+    go false t g rest = ap (λ xs. (e.0, e.1.items) ∷ xs) (rest g i)
 
-  -- one more key for a node that has keys
-  pub on-set_value : (n k key : ℕ) (es : List (ℕ × Vec ℕ A)) (v w : Vec ℕ A) → lookup (nat_eq k) es ≡ Some v → w.items ≡ v.items ++ key ∷ []
-      → on n (listed (set_value (nat_eq k) es w)) ≡ on n (listed es) ++ (if n == k then key ∷ [] else [])
-  on-set_value n k key [] v w h i = cc
-  on-set_value n k key (e ∷ es) v w h i = go (same_or k e.0) (same_or n e.0) (on-set_value n k key es v w)
-    where
-      go : Same k e.0 → Same n e.0 → (lookup (nat_eq k) es ≡ Some v → w.items ≡ v.items ++ key ∷ [] → on n (listed (set_value (nat_eq k) es w)) ≡ on n (listed es) ++ (if n == k then key ∷ [] else []))
-          → on n (listed (set_value (nat_eq k) (e ∷ es) w)) ≡ on n (listed (e ∷ es)) ++ (if n == k then key ∷ [] else [])
-      go (same d t) (same f u) rest =
-          let g = rw t at h in
-          let same_vec : e.1 ≡ v = cc g in
-          let m : (n == k) ≡ true = subst (λ j. (n == j) ≡ true) (sym d) u in
-          rw (t, u, m) (i ∙ ap (λ (x : Vec ℕ A). x.items ++ key ∷ []) (sym same_vec))
-      go (same d t) (apart ne u) rest =
-          let m : (n == k) ≡ false = subst (λ j. (n == j) ≡ false) (sym d) u in
-          rw (t, u, m) (sym (append-nil (on n (listed es))))
-      go (apart ne t) (same f u) rest =
-          let m : (n == k) ≡ false = elim (same_or n k) [ same g _ ↦ absurd (ne (sym g ∙ f)) | apart _ x ↦ x ] in
-          rw (t, u, m) (sym (append-nil e.1.items))
-      go (apart ne t) (apart nf u) rest =
-          let g = rw t at h in
-          rw (t, u) (rest g i)
+-- one more key for a node that has keys
+pub on-set_value : (n k key : ℕ) (es : List (ℕ × Keys)) (v w : Keys) → lookup (nat_eq k) es ≡ Some v → w.items ≡ v.items ++ key ∷ []
+    → on n (listed (set_value (nat_eq k) es w)) ≡ on n (listed es) ++ (if n == k then key ∷ [] else [])
+on-set_value n k key [] v w h i = cc
+on-set_value n k key (e ∷ es) v w h i = go (same_or k e.0) (same_or n e.0) (on-set_value n k key es v w)
+  where
+    go : Same k e.0 → Same n e.0 → (lookup (nat_eq k) es ≡ Some v → w.items ≡ v.items ++ key ∷ [] → on n (listed (set_value (nat_eq k) es w)) ≡ on n (listed es) ++ (if n == k then key ∷ [] else []))
+        → on n (listed (set_value (nat_eq k) (e ∷ es) w)) ≡ on n (listed (e ∷ es)) ++ (if n == k then key ∷ [] else [])
+    go (same d t) (same f u) rest =
+        let g = rw t at h in
+        let same_vec : e.1 ≡ v = cc g in
+        let m : (n == k) ≡ true = subst (λ j. (n == j) ≡ true) (sym d) u in
+        rw (t, u, m) (i ∙ ap (λ (x : Keys). x.items ++ key ∷ []) (sym same_vec))
+    go (same d t) (apart ne u) rest =
+        let m : (n == k) ≡ false = subst (λ j. (n == j) ≡ false) (sym d) u in
+        rw (t, u, m) (sym (append-nil (on n (listed es))))
+    go (apart ne t) (same f u) rest =
+        let m : (n == k) ≡ false = elim (same_or n k) [ same g _ ↦ absurd (ne (sym g ∙ f)) | apart _ x ↦ x ] in
+        rw (t, u, m) (sym (append-nil e.1.items))
+    go (apart ne t) (apart nf u) rest =
+        let g = rw t at h in
+        rw (t, u) (rest g i)
 
-  -- the first key of a node
-  pub on-insert_entry : (n k key : ℕ) (es : List (ℕ × Vec ℕ A)) (w : Vec ℕ A) → lookup (nat_eq k) es ≡ None → w.items ≡ key ∷ []
-      → on n (listed (insert_entry nat_eq es k w)) ≡ on n (listed es) ++ (if n == k then key ∷ [] else [])
-  on-insert_entry n k key [] w h i = ap (λ items. if n == k then items else []) i
-  on-insert_entry n k key (e ∷ es) w h i = go (same_or k e.0) (same_or n e.0) (on-insert_entry n k key es w)
-    where
-      go : Same k e.0 → Same n e.0 → (lookup (nat_eq k) es ≡ None → w.items ≡ key ∷ [] → on n (listed (insert_entry nat_eq es k w)) ≡ on n (listed es) ++ (if n == k then key ∷ [] else []))
-          → on n (listed (insert_entry nat_eq (e ∷ es) k w)) ≡ on n (listed (e ∷ es)) ++ (if n == k then key ∷ [] else [])
-      go (same d t) z rest = let g = rw t at h in cc g
-      go (apart ne t) (same f u) rest =
-          let m : (n == k) ≡ false = elim (same_or n k) [ same g _ ↦ absurd (ne (sym g ∙ f)) | apart _ x ↦ x ] in
-          rw (t, u, m) (sym (append-nil e.1.items))
-      go (apart ne t) (apart nf u) rest =
-          let g = rw t at h in
-          rw (t, u) (rest g i)
+-- the first key of a node
+pub on-insert_entry : (n k key : ℕ) (es : List (ℕ × Keys)) (w : Keys) → lookup (nat_eq k) es ≡ None → w.items ≡ key ∷ []
+    → on n (listed (insert_entry nat_eq es k w)) ≡ on n (listed es) ++ (if n == k then key ∷ [] else [])
+on-insert_entry n k key [] w h i = ap (λ items. if n == k then items else []) i
+on-insert_entry n k key (e ∷ es) w h i = go (same_or k e.0) (same_or n e.0) (on-insert_entry n k key es w)
+  where
+    go : Same k e.0 → Same n e.0 → (lookup (nat_eq k) es ≡ None → w.items ≡ key ∷ [] → on n (listed (insert_entry nat_eq es k w)) ≡ on n (listed es) ++ (if n == k then key ∷ [] else []))
+        → on n (listed (insert_entry nat_eq (e ∷ es) k w)) ≡ on n (listed (e ∷ es)) ++ (if n == k then key ∷ [] else [])
+    go (same d t) z rest = let g = rw t at h in cc g
+    go (apart ne t) (same f u) rest =
+        let m : (n == k) ≡ false = elim (same_or n k) [ same g _ ↦ absurd (ne (sym g ∙ f)) | apart _ x ↦ x ] in
+        rw (t, u, m) (sym (append-nil e.1.items))
+    go (apart ne t) (apart nf u) rest =
+        let g = rw t at h in
+        rw (t, u) (rest g i)
 
-module _ {A : Type 0} where
-  -- what a node has in the lists, by its keys
-  pub looked-set : (n k : ℕ) (es : List (ℕ × Vec ℕ A)) (v w : Vec ℕ A) → lookup (nat_eq k) es ≡ Some v → lookup (nat_eq n) (listed (set_value (nat_eq k) es w)) ≡ (if n == k then Some w.items else lookup (nat_eq n) (listed es))
-  looked-set n k [] v w h = cc
-  looked-set n k (e ∷ es) v w h = go (same_or k e.0) (same_or n e.0) (looked-set n k es v w)
-    where
-      go : Same k e.0 → Same n e.0 → (lookup (nat_eq k) es ≡ Some v → lookup (nat_eq n) (listed (set_value (nat_eq k) es w)) ≡ (if n == k then Some w.items else lookup (nat_eq n) (listed es)))
-          → lookup (nat_eq n) (listed (set_value (nat_eq k) (e ∷ es) w)) ≡ (if n == k then Some w.items else lookup (nat_eq n) (listed (e ∷ es)))
-      go (same d t) (same f u) rest = let m : (n == k) ≡ true = subst (λ j. (n == j) ≡ true) (sym d) u in rw (t, u, m) refl
-      go (same d t) (apart ne u) rest = let m : (n == k) ≡ false = subst (λ j. (n == j) ≡ false) (sym d) u in rw (t, u, m) refl
-      go (apart ne t) (same f u) rest =
-          let m : (n == k) ≡ false = elim (same_or n k) [ same g _ ↦ absurd (ne (sym g ∙ f)) | apart _ x ↦ x ] in
-          rw (t, u, m) refl
-      go (apart ne t) (apart nf u) rest = let g = rw t at h in rw (t, u) (rest g)
+-- what a node has in the lists, by its keys
+pub looked-set : (n k : ℕ) (es : List (ℕ × Keys)) (v w : Keys) → lookup (nat_eq k) es ≡ Some v → lookup (nat_eq n) (listed (set_value (nat_eq k) es w)) ≡ (if n == k then Some w.items else lookup (nat_eq n) (listed es))
+looked-set n k [] v w h = cc
+looked-set n k (e ∷ es) v w h = go (same_or k e.0) (same_or n e.0) (looked-set n k es v w)
+  where
+    go : Same k e.0 → Same n e.0 → (lookup (nat_eq k) es ≡ Some v → lookup (nat_eq n) (listed (set_value (nat_eq k) es w)) ≡ (if n == k then Some w.items else lookup (nat_eq n) (listed es)))
+        → lookup (nat_eq n) (listed (set_value (nat_eq k) (e ∷ es) w)) ≡ (if n == k then Some w.items else lookup (nat_eq n) (listed (e ∷ es)))
+    go (same d t) (same f u) rest = let m : (n == k) ≡ true = subst (λ j. (n == j) ≡ true) (sym d) u in rw (t, u, m) refl
+    go (same d t) (apart ne u) rest = let m : (n == k) ≡ false = subst (λ j. (n == j) ≡ false) (sym d) u in rw (t, u, m) refl
+    go (apart ne t) (same f u) rest =
+        let m : (n == k) ≡ false = elim (same_or n k) [ same g _ ↦ absurd (ne (sym g ∙ f)) | apart _ x ↦ x ] in
+        rw (t, u, m) refl
+    go (apart ne t) (apart nf u) rest = let g = rw t at h in rw (t, u) (rest g)
 
-  pub looked-insert : (n k : ℕ) (es : List (ℕ × Vec ℕ A)) (w : Vec ℕ A) → lookup (nat_eq k) es ≡ None → lookup (nat_eq n) (listed (insert_entry nat_eq es k w)) ≡ (if n == k then Some w.items else lookup (nat_eq n) (listed es))
-  looked-insert n k [] w h = refl
-  looked-insert n k (e ∷ es) w h = go (same_or k e.0) (same_or n e.0) (looked-insert n k es w)
-    where
-      go : Same k e.0 → Same n e.0 → (lookup (nat_eq k) es ≡ None → lookup (nat_eq n) (listed (insert_entry nat_eq es k w)) ≡ (if n == k then Some w.items else lookup (nat_eq n) (listed es)))
-          → lookup (nat_eq n) (listed (insert_entry nat_eq (e ∷ es) k w)) ≡ (if n == k then Some w.items else lookup (nat_eq n) (listed (e ∷ es)))
-      go (same d t) z rest = let g = rw t at h in cc g
-      go (apart ne t) (same f u) rest =
-          let m : (n == k) ≡ false = elim (same_or n k) [ same g _ ↦ absurd (ne (sym g ∙ f)) | apart _ x ↦ x ] in
-          rw (t, u, m) refl
-      go (apart ne t) (apart nf u) rest = let g = rw t at h in rw (t, u) (rest g)
+pub looked-insert : (n k : ℕ) (es : List (ℕ × Keys)) (w : Keys) → lookup (nat_eq k) es ≡ None → lookup (nat_eq n) (listed (insert_entry nat_eq es k w)) ≡ (if n == k then Some w.items else lookup (nat_eq n) (listed es))
+looked-insert n k [] w h = refl
+looked-insert n k (e ∷ es) w h = go (same_or k e.0) (same_or n e.0) (looked-insert n k es w)
+  where
+    go : Same k e.0 → Same n e.0 → (lookup (nat_eq k) es ≡ None → lookup (nat_eq n) (listed (insert_entry nat_eq es k w)) ≡ (if n == k then Some w.items else lookup (nat_eq n) (listed es)))
+        → lookup (nat_eq n) (listed (insert_entry nat_eq (e ∷ es) k w)) ≡ (if n == k then Some w.items else lookup (nat_eq n) (listed (e ∷ es)))
+    go (same d t) z rest = let g = rw t at h in cc g
+    go (apart ne t) (same f u) rest =
+        let m : (n == k) ≡ false = elim (same_or n k) [ same g _ ↦ absurd (ne (sym g ∙ f)) | apart _ x ↦ x ] in
+        rw (t, u, m) refl
+    go (apart ne t) (apart nf u) rest = let g = rw t at h in rw (t, u) (rest g)
 
-  pub looked-listed : (n : ℕ) (es : List (ℕ × Vec ℕ A)) → lookup (nat_eq n) (listed es) ≡ option_map (λ (v : Vec ℕ A). v.items) (lookup (nat_eq n) es)
-  looked-listed n [] = refl
-  looked-listed n (e ∷ es) = go (n == e.0) (looked-listed n es)
-    where
-      go : (b : Bool) → lookup (nat_eq n) (listed es) ≡ option_map (λ (v : Vec ℕ A). v.items) (lookup (nat_eq n) es)
-          → cond b (Some e.1.items) (lookup (nat_eq n) (listed es)) ≡ option_map (λ (v : Vec ℕ A). v.items) (cond b (Some e.1) (lookup (nat_eq n) es))
-      go true i = refl
-      go false i = i
+pub looked-listed : (n : ℕ) (es : List (ℕ × Keys)) → lookup (nat_eq n) (listed es) ≡ option_map (λ (v : Keys). v.items) (lookup (nat_eq n) es)
+looked-listed n [] = refl
+looked-listed n (e ∷ es) = go (n == e.0) (looked-listed n es)
+  where
+    go : (b : Bool) → lookup (nat_eq n) (listed es) ≡ option_map (λ (v : Keys). v.items) (lookup (nat_eq n) es)
+        → cond b (Some e.1.items) (lookup (nat_eq n) (listed es)) ≡ option_map (λ (v : Keys). v.items) (cond b (Some e.1) (lookup (nat_eq n) es))
+    go true i = refl
+    go false i = i
 
 -- the keys of a node, by a look-up in the lists
 abbrev pub keys_in : Option (List ℕ) → List ℕ
@@ -142,7 +141,7 @@ some_key [] ys key e none = let k : key ∷ [] ≡ [] = sym e ∙ none in cc k
 some_key (x ∷ xs) ys key e none = let k : x ∷ (xs ++ key ∷ []) ≡ [] = sym e ∙ none in cc k
 
 -- keys are taken out of those of a node, which stays listed
-module _ {A : Type 0} (k : ℕ) (stays : ℕ → Bool) (es : List (ℕ × Vec ℕ A)) (v w : Vec ℕ A) (there : lookup (nat_eq k) es ≡ Some v) (taken : w.items ≡ filter stays v.items) where
+module _ (k : ℕ) (stays : ℕ → Bool) (es : List (ℕ × Keys)) (v w : Keys) (there : lookup (nat_eq k) es ≡ Some v) (taken : w.items ≡ filter stays v.items) where
   pub taken-on : (n : ℕ) → on n (listed (set_value (nat_eq k) es w)) ≡ (if n == k then filter stays (on n (listed es)) else on n (listed es))
   taken-on n = on-looked n (listed (set_value (nat_eq k) es w)) ∙ ap keys_in (looked-set n k es v w there) ∙ go (same_or n k)
     where
@@ -170,7 +169,7 @@ module _ {A : Type 0} (k : ℕ) (stays : ℕ → Bool) (es : List (ℕ × Vec �
       cc e
 
 -- a node without an entry
-pub taken-absent : {A : Type 0} (k : ℕ) (stays : ℕ → Bool) (es : List (ℕ × Vec ℕ A)) → lookup (nat_eq k) es ≡ None → (n : ℕ) → on n (listed es) ≡ (if n == k then filter stays (on n (listed es)) else on n (listed es))
+pub taken-absent : (k : ℕ) (stays : ℕ → Bool) (es : List (ℕ × Keys)) → lookup (nat_eq k) es ≡ None → (n : ℕ) → on n (listed es) ≡ (if n == k then filter stays (on n (listed es)) else on n (listed es))
 taken-absent k stays es none n = elim (same_or n k) [
   | same e t ↦
       let bare : on n (listed es) ≡ [] = ap (λ m. on m (listed es)) e ∙ on-lookup k es ∙ ap items_in none in
@@ -179,11 +178,11 @@ taken-absent k stays es none n = elim (same_or n k) [
 ]
 
 -- a node that was left without keys goes
-module _ {A : Type 0} (k : ℕ) (es es' : List (ℕ × Vec ℕ A)) (gone : (n : ℕ) → lookup (nat_eq n) es' ≡ (if k == n then None else lookup (nat_eq n) es)) where
+module _ (k : ℕ) (es es' : List (ℕ × Keys)) (gone : (n : ℕ) → lookup (nat_eq n) es' ≡ (if k == n then None else lookup (nat_eq n) es)) where
   looked-gone : (n : ℕ) → lookup (nat_eq n) (listed es') ≡ (if k == n then None else lookup (nat_eq n) (listed es))
-  looked-gone n = looked-listed n es' ∙ ap (option_map (λ (v : Vec ℕ A). v.items)) (gone n) ∙ go (k == n)
+  looked-gone n = looked-listed n es' ∙ ap (option_map (λ (v : Keys). v.items)) (gone n) ∙ go (k == n)
     where
-      go : (b : Bool) → option_map (λ (v : Vec ℕ A). v.items) (if b then None else lookup (nat_eq n) es) ≡ (if b then None else lookup (nat_eq n) (listed es))
+      go : (b : Bool) → option_map (λ (v : Keys). v.items) (if b then None else lookup (nat_eq n) es) ≡ (if b then None else lookup (nat_eq n) (listed es))
       go true = refl
       go false = sym (looked-listed n es)
 

@@ -22,6 +22,7 @@ pub mod Keys
 pub mod KeysOnce
 pub mod Named
 pub mod NamedRecords
+pub mod NodeKeys
 pub mod Noting
 pub mod Once
 pub mod Ordered

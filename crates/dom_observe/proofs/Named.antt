@@ -1,6 +1,6 @@
 -- The nodes that registrations and waiting records name, asked in the order of the code and in that of the definitions.
 use Rattle.std.proofs.Common.{◌≡◌, ℕ, suc, ◌+◌, ◌==◌, Bool, true, false, ◌||◌, if◌then◌else◌, List, [], ◌∷◌, ◌++◌, length, filter, refl, ap, sym, ◌∙◌, nat_eq, arith, cond}
-use Rattle.std.specs.Prelude.{Vec, Option, unwrap_or, flat_map}
+use Rattle.std.specs.Prelude.{Option, unwrap_or, flat_map}
 use Rattle.std.specs.Map.{keys_of}
 use Rattle.std.specs.List.{list_any, IsDistinct, AllByRecursion}
 use Rattle.std.proofs.lemmas.List.Folds.{list_any-append}
@@ -15,6 +15,7 @@ use Rattle.dom_model.proofs.PlainLists.Numbers.{Same, same_or, same, apart}
 use Rattle.dom_model.proofs.PlainLists.Searches.{alike}
 use Rattle.dom_observe.specs.declared.registration.Registration as held
 use Rattle.dom_observe.specs.Once.{once}
+use Rattle.dom_observe.specs.Keys.{Keys}
 use Rattle.dom_observe.specs.Watchers.{on, records_at}
 use Rattle.dom_observe.specs.Kept.{registered_nodes}
 use Rattle.dom_observe.proofs.Once.{any-once}
@@ -99,8 +100,8 @@ queues-waiting x (place ∷ places) (q ∷ qs) o e h =
     later : (i : ℕ) → suc i + o ≡ i + suc o
     later i = omega arith
 
-module _ {A : Type 0} (table : Slab held.Registration) where
-  pub keys-registered_nodes : (es : List (ℕ × Vec ℕ A)) → keys_of (registered_nodes table es) ≡ keys_of es
+module _ (table : Slab held.Registration) where
+  pub keys-registered_nodes : (es : List (ℕ × Keys)) → keys_of (registered_nodes table es) ≡ keys_of es
   keys-registered_nodes [] = refl
   keys-registered_nodes (e ∷ es) = ap (λ ks. e.0 ∷ ks) (keys-registered_nodes es)
 

@@ -1,6 +1,6 @@
 -- What is told of a mutation that is queued, by the registrations that stand on the ancestors of its target.
 use Rattle.std.proofs.Common.{◌≡◌, ℕ, ◌==◌, Bool, true, false, ◌&&◌, ◌||◌, if◌then◌else◌, cond, List, [], ◌∷◌, ◌++◌, map, filter, Option, None, Some, refl, ap, sym, ◌∙◌, subst}
-use Rattle.std.specs.Prelude.{filter_map, flat_map, option_to_list, Vec}
+use Rattle.std.specs.Prelude.{filter_map, flat_map, option_to_list}
 use Rattle.std.specs.List.{AllByRecursion, list_any}
 use Rattle.std.specs.Map.{keys_of}
 use Rattle.std.proofs.lemmas.Bool.{true≢false}
@@ -13,6 +13,7 @@ use Rattle.dom_model.specs.MutationObservers.Records.{interests, observers_of, a
 use Rattle.dom_model.specs.PlainLists.LastOnce.{with_last, with_all_last}
 use Rattle.dom_observe.specs.declared.registration.Registration as held
 use Rattle.dom_observe.specs.Once.{once}
+use Rattle.dom_observe.specs.Keys.{Keys}
 use Rattle.dom_observe.specs.Watchers.{on}
 use Rattle.dom_observe.specs.Registrations.{at, listed, Stands, AllStand}
 use Rattle.dom_observe.specs.Kept.{has_queue, AllThere, IsKept}
@@ -47,7 +48,7 @@ unheard p ls old new pended off = flag-none p ls (go (among p (keys_of ls)) refl
     go true e = absurd (true≢false (sym (subst (λ ns. among p ns ≡ true) (sym pended) (all_last-there p old (keys_of ls) e)) ∙ off))
     go false e = refl
 
-module _ {A : Type 0} (table : Slab held.Registration) (entries : List (ℕ × Vec ℕ A)) (queues : List (Option (List Record))) (pending : List ℕ)
+module _ (table : Slab held.Registration) (entries : List (ℕ × Keys)) (queues : List (Option (List Record))) (pending : List ℕ)
     (kept : IsKept table entries queues pending) (queues' : List (Option (List Record))) (pending' : List ℕ) (same : (o : ℕ) → has_queue queues' o ≡ has_queue queues o)
     (there : AllThere (has_queue queues) pending') where
   pub kept-queued : IsKept table entries queues' pending'

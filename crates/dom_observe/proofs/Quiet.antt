@@ -1,6 +1,6 @@
 -- Where no ancestor of a node is named, no key stands there, and nobody is told.
 use Rattle.std.proofs.Common.{◌≡◌, ℕ, ◌<◌, ◌==◌, Bool, false, List, [], ◌∷◌, ◌++◌, length, refl, ap, sym, ◌∙◌, subst, arith}
-use Rattle.std.specs.Prelude.{Vec, filter_map, flat_map, filter, Option}
+use Rattle.std.specs.Prelude.{filter_map, flat_map, filter, Option}
 use Rattle.std.specs.List.{AllByRecursion, list_any}
 use Rattle.std.proofs.lemmas.Bool.{true≢false, or_parts}
 use Rattle.slab.specs.Slab.{Slab}
@@ -15,6 +15,7 @@ use Rattle.dom_observe.specs.declared.registration.Registration as held
 use Rattle.dom_observe.specs.Held.{named, NamesNoneOf}
 use Rattle.dom_observe.specs.Naming.{names_one, NamesNone, TellsNone}
 use Rattle.dom_observe.specs.Once.{once}
+use Rattle.dom_observe.specs.Keys.{Keys}
 use Rattle.dom_observe.specs.Watchers.{Watchers, on}
 use Rattle.dom_observe.specs.Registrations.{at, listed, StandsOn, AllStand, deep_at}
 use Rattle.dom_observe.specs.Kept.{registered_nodes}
@@ -55,7 +56,7 @@ among-any : (n : ℕ) (xs : List ℕ) → among n xs ≡ list_any (λ m. m == n)
 among-any n [] = refl
 among-any n (x ∷ xs) = elim (same_or x n) [ same e t ↦ rw t refl | apart ne t ↦ rw t (among-any n xs) ]
 
-module _ {A : Type 0} (table : Slab held.Registration) (entries : List (ℕ × Vec ℕ A)) (there : ℕ → Bool) (all : AllStand (at table) there (listed entries)) where
+module _ (table : Slab held.Registration) (entries : List (ℕ × Keys)) (there : ℕ → Bool) (all : AllStand (at table) there (listed entries)) where
   module _ (queues : List (Option (List Record))) (pending : List ℕ) (o : Watchers) (is : record { nodes = registered_nodes table entries; queues = queues; pending = pending } ≡ o) where
     -- a node that is not named has no keys
     no_keys : (n : ℕ) → among n (named o) ≡ false → on n (listed entries) ≡ []
@@ -82,7 +83,7 @@ module _ {A : Type 0} (table : Slab held.Registration) (entries : List (ℕ × V
       none-deep = none-flat (λ n. filter (deep_at (at table)) (on n (listed entries))) ns (λ n k. ap (filter (deep_at (at table))) (no_keys n (unnamed n k)))
 
 -- where no key stands, no registration does
-pub none-standing : {A : Type 0} (table : Slab held.Registration) (entries : List (ℕ × Vec ℕ A)) (rs : List Registration) → ((n : ℕ) → on n (registered_nodes table entries) ≡ once (registered_on n rs)) → (ns : List ℕ) → flat_map (λ n. on n (listed entries)) ns ≡ [] → standing_on ns rs ≡ []
+pub none-standing : (table : Slab held.Registration) (entries : List (ℕ × Keys)) (rs : List Registration) → ((n : ℕ) → on n (registered_nodes table entries) ≡ once (registered_on n rs)) → (ns : List ℕ) → flat_map (λ n. on n (listed entries)) ns ≡ [] → standing_on ns rs ≡ []
 none-standing table entries rs shown ns e = go ns (each-none (λ n. on n (listed entries)) ns e)
   where
     here : (n : ℕ) → on n (listed entries) ≡ [] → registered_on n rs ≡ []

@@ -1,6 +1,5 @@
 -- What is left half-way: lists that begin as they were, and queues with a record more at most.
 use Rattle.std.proofs.Common.{◌≡◌, ◌≢◌, ℕ, ◌==◌, Bool, true, false, not, ◌&&◌, if◌then◌else◌, List, [], ◌∷◌, ◌++◌, Option, Some, None, refl, ap, sym, ◌∙◌, subst, append-nil, append_assoc}
-use Rattle.std.specs.Prelude.{Vec}
 use Rattle.std.specs.List.{list_any}
 use Rattle.slab.specs.Slab.{Slab}
 use Rattle.dom_model.specs.PlainLists.Lists.{among}
@@ -11,6 +10,7 @@ use Rattle.dom_model.specs.MutationObservers.Records.{is_transient_from, record_
 use Rattle.dom_model.specs.MutationObservers.Observing.{transient_of}
 use Rattle.dom_model.proofs.PlainLists.Numbers.{same_or, same, apart}
 use Rattle.dom_observe.specs.declared.registration.Registration as held
+use Rattle.dom_observe.specs.Keys.{Keys}
 use Rattle.dom_observe.specs.Watchers.{Watchers, on, records_at}
 use Rattle.dom_observe.specs.Kept.{registered_nodes}
 use Rattle.dom_observe.specs.Registrations.{found, listed, origin, with_transient, with_transients_of, with_added_transients}
@@ -98,7 +98,7 @@ module _ (old new : Watchers) (e : new ≡ old) where
     queues = λ i. gets-none m (records_at old.queues i) (records_at new.queues i) (ap (λ (o : Watchers). records_at o.queues i) e);
   }
 
-module _ {A : Type 0} (table : Slab held.Registration) (entries : List (ℕ × Vec ℕ A)) (queues : List (Option (List Record))) (pending : List ℕ) (old : Watchers)
+module _ (table : Slab held.Registration) (entries : List (ℕ × Keys)) (queues : List (Option (List Record))) (pending : List ℕ) (old : Watchers)
     (is : record { nodes = registered_nodes table entries; queues = queues; pending = pending } ≡ old) where
   -- some are told
   pub partly-queued : (m : Mutation) (queues' : List (Option (List Record))) (pending' : List ℕ) → IsFront pending pending' → ((i : ℕ) → GetsAtMostOne m (records_at queues i) (records_at queues' i))
@@ -110,7 +110,7 @@ module _ {A : Type 0} (table : Slab held.Registration) (entries : List (ℕ × V
   }
 
   -- some transient registrations came in
-  module _ {B : Type 0} (table' : Slab held.Registration) (entries' : List (ℕ × Vec ℕ B)) (node : ℕ)
+  module _ (table' : Slab held.Registration) (entries' : List (ℕ × Keys)) (node : ℕ)
       (front : IsFront (found table (on node (listed entries))) (found table' (on node (listed entries'))))
       (elsewhere : (n : ℕ) → n ≢ node → found table' (on n (listed entries')) ≡ found table (on n (listed entries))) where
     before : (n : ℕ) → found table (on n (listed entries)) ≡ on n old.nodes

@@ -1,6 +1,6 @@
 -- How many registrations stand under keys: as many as are left where later equal ones are left out.
 use Rattle.std.proofs.Common.{◌≡◌, ℕ, zero, suc, ◌==◌, Bool, true, false, not, ◌||◌, List, [], ◌∷◌, length, filter, filter_map, count_by, Option, None, Some, is_some, option_map, refl, ap, sym, ◌∙◌, subst, cond, arith}
-use Rattle.std.specs.Prelude.{Vec, slice_index_or}
+use Rattle.std.specs.Prelude.{slice_index_or}
 use Rattle.std.specs.List.{AllByRecursion, IsDistinct, list_any, cons_option}
 use Rattle.std.specs.Cmp.{IsEquivalence}
 use Rattle.std.proofs.lemmas.Bool.{true≢false}
@@ -13,6 +13,7 @@ use Rattle.dom_model.specs.MutationObservers.Observing.{registered_on}
 use Rattle.dom_model.proofs.PlainLists.Numbers.{Same, same_or, same, apart}
 use Rattle.dom_observe.specs.declared.registration.Registration as held
 use Rattle.dom_observe.specs.Once.{same_registration, once}
+use Rattle.dom_observe.specs.Keys.{Keys}
 use Rattle.dom_observe.specs.Watchers.{on}
 use Rattle.dom_observe.specs.Registrations.{plain, at, found, listed, is_on, Placed}
 use Rattle.dom_observe.specs.Kept.{registered_nodes}
@@ -160,7 +161,7 @@ length-standing [] = refl
 length-standing (None ∷ ss) = omega (arith, length-standing ss, sum_by-cons (λ o. cond (is_some o) 1 0) None ss)
 length-standing (Some s ∷ ss) = omega (arith, length-standing ss, sum_by-cons (λ o. cond (is_some o) 1 0) (Some s) ss)
 
-module _ {A : Type 0} (table : Slab held.Registration) (entries : List (ℕ × Vec ℕ A)) (placed : Placed (at table) (listed entries)) (rs : List Registration)
+module _ (table : Slab held.Registration) (entries : List (ℕ × Keys)) (placed : Placed (at table) (listed entries)) (rs : List Registration)
     (by_node : (n : ℕ) → on n (registered_nodes table entries) ≡ once (registered_on n rs)) where
   abbrev standing : List Registration
   standing = filter_map (option_map plain) table.slots

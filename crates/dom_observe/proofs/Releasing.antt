@@ -1,6 +1,6 @@
 -- An observer is released: it goes from the list of those that are pending, and from those that may have transient registrations.
 use Rattle.std.proofs.Common.{◌≡◌, ℕ, ◌==◌, Bool, true, false, if◌then◌else◌, cond, List, [], ◌∷◌, refl, ap, sym, ◌∙◌, nat_eq, ◌⊎◌, inl, inr}
-use Rattle.std.specs.Prelude.{Vec, slice_set, Option, None, filter, not}
+use Rattle.std.specs.Prelude.{slice_set, Option, None, filter, not}
 use Rattle.std.specs.List.{IsDistinct, list_any}
 use Rattle.std.specs.Map.{keys_of}
 use Rattle.std.specs.Set.{remove_key}
@@ -12,6 +12,7 @@ use Rattle.dom_model.specs.MutationObservers.Record.{Record}
 use Rattle.dom_model.proofs.PlainLists.Numbers.{Same, same_or, same, apart}
 use Rattle.dom_observe.specs.declared.registration.Registration as held
 use Rattle.dom_observe.specs.declared.registration.Ended.TheVariants.{Of}
+use Rattle.dom_observe.specs.Keys.{Keys}
 use Rattle.dom_observe.specs.Watchers.{on}
 use Rattle.dom_observe.specs.Registrations.{at, listed, left_by, is_live, HaveKeys}
 use Rattle.dom_observe.specs.Kept.{has_queue, AllThere, IsKept}
@@ -105,8 +106,8 @@ module _ (o : ℕ) (old new : List ℕ) (taken : (p : ℕ) → list_any (nat_eq 
 pub others-there : (queues : List (Option (List Record))) (o p : ℕ) → (p ≡ o → ⊥) → has_queue queues p ≡ true → has_queue (slice_set queues o None) p ≡ true
 others-there queues o p ne held_there = has-gone queues o p ∙ elim (same_or p o) [ same e t ↦ absurd (ne e) | apart _ t ↦ rw t held_there ]
 
-module _ {A B : Type 0} (table : Slab held.Registration) (entries : List (ℕ × Vec ℕ A)) (queues : List (Option (List Record))) (pending : List ℕ) (kept : IsKept table entries queues pending)
-    (table' : Slab held.Registration) (entries' : List (ℕ × Vec ℕ B)) (o : ℕ) (left : (k : ℕ) → at table' k ≡ left_by (Of o) (at table k))
+module _ (table : Slab held.Registration) (entries : List (ℕ × Keys)) (queues : List (Option (List Record))) (pending : List ℕ) (kept : IsKept table entries queues pending)
+    (table' : Slab held.Registration) (entries' : List (ℕ × Keys)) (o : ℕ) (left : (k : ℕ) → at table' k ≡ left_by (Of o) (at table k))
     (swept : (n : ℕ) → on n (listed entries') ≡ filter (is_live (at table')) (on n (listed entries))) where
   pub kept-released : IsDistinct nat_eq (keys_of entries') → HaveKeys (listed entries') → IsKept table' entries' (slice_set queues o None) (left_out o pending)
   kept-released unique full = record {

@@ -1,6 +1,6 @@
 -- A node that left its parent gets transient registrations: what stands above is the same before and after, and it is told of the mutation.
 use Rattle.std.proofs.Common.{◌≡◌, ℕ, ◌==◌, if◌then◌else◌, Bool, true, false, List, [], ◌∷◌, ◌++◌, map, Option, refl, ap, sym, ◌∙◌, subst, append-nil}
-use Rattle.std.specs.Prelude.{Vec, flat_map, filter, nat_eq}
+use Rattle.std.specs.Prelude.{flat_map, filter, nat_eq}
 use Rattle.std.specs.List.{AllByRecursion, IsDistinct, cons_option}
 use Rattle.std.specs.Map.{keys_of}
 use Rattle.std.specs.Option.{option_and_then}
@@ -15,6 +15,7 @@ use Rattle.dom_model.specs.MutationObservers.Records.{interests}
 use Rattle.dom_model.proofs.MutationObservers.NodeRegistrations.{registrations-transients}
 use Rattle.dom_model.proofs.PlainLists.Numbers.{same_or, same, apart}
 use Rattle.dom_observe.specs.declared.registration.Registration as held
+use Rattle.dom_observe.specs.Keys.{Keys}
 use Rattle.dom_observe.specs.Registrations.{at, listed, is_live, AllLive, Stands, AllStand, HaveKeys}
 use Rattle.dom_observe.specs.Naming.{names_one, NamesNone}
 use Rattle.dom_observe.specs.Kept.{has_queue, IsKept}
@@ -50,8 +51,8 @@ module _ (u : ℕ → Option Registration) (lists : List (ℕ × List ℕ)) (ns 
   standing-unnamed p none = subst (AllByRecursion (λ k. names_one p (u k) ≡ false)) (sym is) (all_flat (λ k. names_one p (u k) ≡ false) lists none ns)
 
 -- what is kept, with another table and the same queues
-pub kept-left : {A B : Type 0} (table : Slab held.Registration) (entries : List (ℕ × Vec ℕ A)) (queues : List (Option (List Record))) (pending : List ℕ) → IsKept table entries queues pending
-    → (table' : Slab held.Registration) (entries' : List (ℕ × Vec ℕ B)) (queues' : List (Option (List Record))) → queues' ≡ queues → IsDistinct nat_eq (keys_of entries') → AllStand (at table') (has_queue queues) (listed entries') → HaveKeys (listed entries')
+pub kept-left : (table : Slab held.Registration) (entries : List (ℕ × Keys)) (queues : List (Option (List Record))) (pending : List ℕ) → IsKept table entries queues pending
+    → (table' : Slab held.Registration) (entries' : List (ℕ × Keys)) (queues' : List (Option (List Record))) → queues' ≡ queues → IsDistinct nat_eq (keys_of entries') → AllStand (at table') (has_queue queues) (listed entries') → HaveKeys (listed entries')
     → IsKept table' entries' queues' pending
 kept-left table entries queues pending kept table' entries' queues' same_queues unique stand full =
     subst (λ q. IsKept table' entries' q pending) (sym same_queues) (kept_table table entries queues pending kept table' entries' unique stand full)

@@ -1,6 +1,6 @@
 -- What the code keeps, as it is seen.
 use Rattle.std.proofs.Common.{◌≡◌, ◌≢◌, ℕ, Bool, true, false, ◌&&◌, ◌||◌, List, [], ◌∷◌, filter_map, Option, option_map, None, Some, refl, ap, sym, ◌∙◌, subst, nat_eq, ◌==◌}
-use Rattle.std.specs.Prelude.{Vec, unwrap_or}
+use Rattle.std.specs.Prelude.{unwrap_or}
 use Rattle.std.specs.Option.{option_map_or}
 use Rattle.std.specs.List.{AllByRecursion, IsDistinct, list_any, cons_option}
 use Rattle.std.specs.Map.{lookup}
@@ -14,6 +14,7 @@ use Rattle.dom_model.specs.MutationObservers.Records.{is_registered}
 use Rattle.dom_model.proofs.PlainLists.Numbers.{Same, same_or, same, apart}
 use Rattle.dom_observe.specs.declared.registration.Registration as held
 use Rattle.dom_observe.specs.Once.{same_options, same_registration}
+use Rattle.dom_observe.specs.Keys.{Keys}
 use Rattle.dom_observe.specs.Watchers.{Watchers, on}
 use Rattle.dom_observe.specs.Registrations.{at, found, listed, origin, is_on, StandsOn, Placed, HaveSources, Agree}
 use Rattle.dom_observe.specs.Kept.{registered_nodes, has_queue, IsKept, PlacedOnce}
@@ -50,7 +51,7 @@ any_found u p key s is on (k ∷ keys) there = go (same_or k key) (u k) refl (an
 pub itself : (m : ℕ) → (m == m) ≡ true
 itself m = elim (same_or m m) [ same e t ↦ t | apart ne t ↦ absurd (ne refl) ]
 
-module _ {A : Type 0} (table : Slab held.Registration) (entries : List (ℕ × Vec ℕ A)) (queues : List (Option (List Record))) (pending : List ℕ)
+module _ (table : Slab held.Registration) (entries : List (ℕ × Keys)) (queues : List (Option (List Record))) (pending : List ℕ)
     (kept : IsKept table entries queues pending) (placed : Placed (at table) (listed entries)) (placed_once : PlacedOnce (listed entries)) (have : HaveSources (at table)) (agree : Agree (at table)) where
   abbrev seen : Watchers
   seen = record { nodes = registered_nodes table entries; queues = queues; pending = pending }
@@ -88,7 +89,7 @@ module _ {A : Type 0} (table : Slab held.Registration) (entries : List (ℕ × V
 
   pub seen-sound : IsSound seen
   seen-sound = record {
-    listed = subst (IsDistinct nat_eq) (sym (keys_of-map_values (found table) (listed entries) ∙ keys_of-map_values (λ (l : Vec ℕ A). l.items) entries)) kept.unique;
+    listed = subst (IsDistinct nat_eq) (sym (keys_of-map_values (found table) (listed entries) ∙ keys_of-map_values (λ (l : Keys). l.items) entries)) kept.unique;
     filled = is_filled;
     here = λ n. all_on n (λ r. r.node ≡ n) (λ k r s is. subst (λ (t : Registration). t.node ≡ n) (its_own n k r s is) s.node);
     observers = λ n. all_on n (IsThere seen) (λ k r s is. subst (IsThere seen) (its_own n k r s is) s.observer);

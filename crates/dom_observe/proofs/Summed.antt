@@ -1,6 +1,6 @@
 -- How many registrations stand under keys, with no observing part at hand: as many as all nodes have together.
 use Rattle.std.proofs.Common.{◌≡◌, ◌≢◌, ℕ, zero, suc, ◌+◌, ◌<◌, ◌==◌, Bool, true, false, if◌then◌else◌, List, [], ◌∷◌, length, filter_map, count_by, Option, None, Some, is_some, option_map, refl, ap, sym, ◌∙◌, subst, cond, arith, nat_eq, length-append}
-use Rattle.std.specs.Prelude.{flat_map, Vec, slice_index_or}
+use Rattle.std.specs.Prelude.{flat_map, slice_index_or}
 use Rattle.std.specs.List.{AllByRecursion, IsDistinct, cons_option, sum_by}
 use Rattle.std.specs.Map.{keys_of}
 use Rattle.std.proofs.lemmas.Bool.{true≢false}
@@ -11,6 +11,7 @@ use Rattle.dom_model.specs.Worlds.World.{Registration}
 use Rattle.dom_model.proofs.PlainLists.Numbers.{same_or, same, apart}
 use Rattle.dom_model.proofs.Forests.Climbing.{hits-append, among-hits, not_among-hits}
 use Rattle.dom_observe.specs.declared.registration.Registration as held
+use Rattle.dom_observe.specs.Keys.{Keys}
 use Rattle.dom_observe.specs.Watchers.{on}
 use Rattle.dom_observe.specs.Registrations.{plain, at, found, listed, is_on, Placed}
 use Rattle.dom_observe.specs.Kept.{registered_nodes, PlacedOnce}
@@ -63,47 +64,46 @@ module _ {A : Type 0} where
       omega (arith, first, rest, length-lower ks, sum_by-cons (λ (o : Option A). cond (is_some o) 1 0) (Some a) ss)
 
 -- The keys of all nodes.
-module _ {A : Type 0} where
-  abbrev all_keys : List (ℕ × Vec ℕ A) → List ℕ
-  all_keys es = flat_map (λ (e : ℕ × Vec ℕ A). e.1.items) es
+abbrev all_keys : List (ℕ × Keys) → List ℕ
+all_keys es = flat_map (λ (e : ℕ × Keys). e.1.items) es
 
-  distinct-first : (e : ℕ × Vec ℕ A) (es : List (ℕ × Vec ℕ A)) → IsDistinct nat_eq (keys_of (e ∷ es)) → AllByRecursion (λ n. (e.0 == n) ≡ false) (keys_of es)
-  unfolding IsDistinct
-  distinct-first e es d = d.0
+distinct-first : (e : ℕ × Keys) (es : List (ℕ × Keys)) → IsDistinct nat_eq (keys_of (e ∷ es)) → AllByRecursion (λ n. (e.0 == n) ≡ false) (keys_of es)
+unfolding IsDistinct
+distinct-first e es d = d.0
 
-  distinct-rest : (e : ℕ × Vec ℕ A) (es : List (ℕ × Vec ℕ A)) → IsDistinct nat_eq (keys_of (e ∷ es)) → IsDistinct nat_eq (keys_of es)
-  unfolding IsDistinct
-  distinct-rest e es d = d.1
+distinct-rest : (e : ℕ × Keys) (es : List (ℕ × Keys)) → IsDistinct nat_eq (keys_of (e ∷ es)) → IsDistinct nat_eq (keys_of es)
+unfolding IsDistinct
+distinct-rest e es d = d.1
 
-  none-on : (n : ℕ) (es : List (ℕ × Vec ℕ A)) → AllByRecursion (λ m. (n == m) ≡ false) (keys_of es) → on n (listed es) ≡ []
-  none-on n [] h = refl
-  none-on n (e ∷ es) h = rw h.0 (none-on n es h.1)
+none-on : (n : ℕ) (es : List (ℕ × Keys)) → AllByRecursion (λ m. (n == m) ≡ false) (keys_of es) → on n (listed es) ≡ []
+none-on n [] h = refl
+none-on n (e ∷ es) h = rw h.0 (none-on n es h.1)
 
-  -- where no other node has a key, it is as often among the keys of all as among those of that node
-  hits-keys : (k n0 : ℕ) (es : List (ℕ × Vec ℕ A)) → IsDistinct nat_eq (keys_of es) → ((n : ℕ) → n ≢ n0 → hits k (on n (listed es)) ≡ 0) → hits k (all_keys es) ≡ hits k (on n0 (listed es))
-  hits-keys k n0 [] d h = refl
-  hits-keys k n0 (e ∷ es) d h =
-      hits-append k e.1.items (all_keys es)
-      ∙ ap (λ m. hits k e.1.items + m) (hits-keys k n0 es (distinct-rest e es d) further)
-      ∙ elim (same_or n0 e.0) [
-        | same f t ↦ let none : hits k (on n0 (listed es)) ≡ 0 = ap (λ m. hits k (on m (listed es))) f ∙ ap (hits k) gone in rw t (omega (arith, none))
-        | apart nf t ↦ let none = only nf in rw t (omega (arith, none))
-      ]
-    where
-      gone : on e.0 (listed es) ≡ []
-      gone = none-on e.0 es (distinct-first e es d)
+-- where no other node has a key, it is as often among the keys of all as among those of that node
+hits-keys : (k n0 : ℕ) (es : List (ℕ × Keys)) → IsDistinct nat_eq (keys_of es) → ((n : ℕ) → n ≢ n0 → hits k (on n (listed es)) ≡ 0) → hits k (all_keys es) ≡ hits k (on n0 (listed es))
+hits-keys k n0 [] d h = refl
+hits-keys k n0 (e ∷ es) d h =
+    hits-append k e.1.items (all_keys es)
+    ∙ ap (λ m. hits k e.1.items + m) (hits-keys k n0 es (distinct-rest e es d) further)
+    ∙ elim (same_or n0 e.0) [
+      | same f t ↦ let none : hits k (on n0 (listed es)) ≡ 0 = ap (λ m. hits k (on m (listed es))) f ∙ ap (hits k) gone in rw t (omega (arith, none))
+      | apart nf t ↦ let none = only nf in rw t (omega (arith, none))
+    ]
+  where
+    gone : on e.0 (listed es) ≡ []
+    gone = none-on e.0 es (distinct-first e es d)
 
-      further : (n : ℕ) → n ≢ n0 → hits k (on n (listed es)) ≡ 0
-      further n ne = elim (same_or n e.0) [
-        | same f t ↦ ap (λ m. hits k (on m (listed es))) f ∙ ap (hits k) gone
-        | apart nf t ↦ let all = h n ne in rw t at all
-      ]
+    further : (n : ℕ) → n ≢ n0 → hits k (on n (listed es)) ≡ 0
+    further n ne = elim (same_or n e.0) [
+      | same f t ↦ ap (λ m. hits k (on m (listed es))) f ∙ ap (hits k) gone
+      | apart nf t ↦ let all = h n ne in rw t at all
+    ]
 
-      only : (n0 ≡ e.0 → ⊥) → hits k e.1.items ≡ 0
-      only nf = elim (same_or e.0 e.0) [
-        | same g s ↦ let all = h e.0 (λ f. nf (sym f)) in rw s at all
-        | apart ng s ↦ absurd (ng refl)
-      ]
+    only : (n0 ≡ e.0 → ⊥) → hits k e.1.items ≡ 0
+    only nf = elim (same_or e.0 e.0) [
+      | same g s ↦ let all = h e.0 (λ f. nf (sym f)) in rw s at all
+      | apart ng s ↦ absurd (ng refl)
+    ]
 
 -- as many are found as there are keys, where something stands under each
 length-found : (u : ℕ → Option Registration) (ks : List ℕ) → ((k : ℕ) → 0 < hits k ks → is_some (u k) ≡ true) → length (filter_map u ks) ≡ length ks
@@ -117,8 +117,8 @@ length-found u (k ∷ ks) h = go (u k) (h k first) (length-found u ks (λ m i. h
     go None e rest = absurd (true≢false (sym e))
     go (Some r) e rest = ap suc rest
 
-module _ {A : Type 0} (table : Slab held.Registration) where
-  sum-found : (es : List (ℕ × Vec ℕ A)) → ((k : ℕ) → 0 < hits k (all_keys es) → is_some (at table k) ≡ true)
+module _ (table : Slab held.Registration) where
+  sum-found : (es : List (ℕ × Keys)) → ((k : ℕ) → 0 < hits k (all_keys es) → is_some (at table k) ≡ true)
       → sum_by (λ (e : ℕ × List Registration). length e.1) (registered_nodes table es) ≡ length (all_keys es)
   sum-found [] h = refl
   sum-found (e ∷ es) h =
@@ -128,7 +128,7 @@ module _ {A : Type 0} (table : Slab held.Registration) where
       ∙ (λ i. here i + rest i)
       ∙ sym (length-append e.1.items (all_keys es))
 
-  module _ (entries : List (ℕ × Vec ℕ A)) (unique : IsDistinct nat_eq (keys_of entries)) (placed : Placed (at table) (listed entries)) (once : PlacedOnce (listed entries)) where
+  module _ (entries : List (ℕ × Keys)) (unique : IsDistinct nat_eq (keys_of entries)) (placed : Placed (at table) (listed entries)) (once : PlacedOnce (listed entries)) where
     -- a key is there once if something stands under it, and else not at all
     hits-live : (k : ℕ) → hits k (all_keys entries) ≡ (if is_some (at table k) then 1 else 0)
     hits-live k = go (at table k) refl

@@ -1,5 +1,5 @@
 -- What the code keeps of observers, as the definitions speak of it, and what holds of it at all times.
-use Rattle.std.specs.Prelude.{◌≡◌, ℕ, ◌≤◌, Bool, true, false, List, [], map, slice_index_or, Option, is_some, Vec, nat_eq}
+use Rattle.std.specs.Prelude.{◌≡◌, ℕ, ◌≤◌, Bool, true, false, List, [], map, slice_index_or, Option, is_some, nat_eq}
 use Rattle.std.specs.List.{AllByRecursion, IsDistinct}
 use Rattle.std.specs.Map.{keys_of}
 use Rattle.slab.specs.Slab.{Slab}
@@ -7,11 +7,12 @@ use Rattle.dom_model.specs.PlainLists.Lists.{hits, among}
 use Rattle.dom_model.specs.Worlds.World as model
 use Rattle.dom_model.specs.MutationObservers.Record.{Record}
 use Rattle.dom_observe.specs.declared.registration.Registration.{Registration}
+use Rattle.dom_observe.specs.Keys.{Keys}
 use Rattle.dom_observe.specs.Registrations.{at, found, listed, lasts_for, passes_for, AllStand, HaveKeys, Placed, Owned, Ordered}
 use Rattle.dom_observe.specs.Watchers.{on, queue_at, records_at}
 
 -- each node with the registrations on it
-abbrev pub registered_nodes : {A : Type 0} → Slab Registration → List (ℕ × Vec ℕ A) → List (ℕ × List model.Registration)
+abbrev pub registered_nodes : Slab Registration → List (ℕ × Keys) → List (ℕ × List model.Registration)
 registered_nodes table entries = map (λ e. (e.0, found table e.1)) (listed entries)
 
 -- whether an observer is there: it has a queue
@@ -24,7 +25,7 @@ AllThere there os = AllByRecursion (λ o. there o ≡ true) os
 
 -- each key has a registration on its node, of an observer that is there, and no node is listed without a key; the pending observers
 -- are there
-pub record IsKept {A : Type 0} (table : Slab Registration) (entries : List (ℕ × Vec ℕ A)) (queues : List (Option (List Record)))
+pub record IsKept (table : Slab Registration) (entries : List (ℕ × Keys)) (queues : List (Option (List Record)))
     (pending : List ℕ) : Type 0 where
   pub unique : IsDistinct nat_eq (keys_of entries)
   pub stand : AllStand (at table) (has_queue queues) (listed entries)

@@ -1,5 +1,6 @@
 pub mod Held
 pub mod Kept
+pub mod Keys
 pub mod Lending
 pub mod Names
 pub mod Naming

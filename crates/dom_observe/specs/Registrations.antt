@@ -1,5 +1,5 @@
 -- The registrations in the code's table, as those of the definitions.
-use Rattle.std.specs.Prelude.{◌≡◌, ◌≢◌, ◌⊎◌, [], ◌∷◌, ◌++◌, ℕ, ◌==◌, ◌<◌, ◌≤◌, ⊤, Bool, not, ◌&&◌, ◌||◌, List, map, filter_map, take, drop, Option, option_map, None, Some, is_none, is_some, slice_index_or, unwrap_or, nat_eq, Vec, if◌then◌else◌, false, true}
+use Rattle.std.specs.Prelude.{◌≡◌, ◌≢◌, ◌⊎◌, [], ◌∷◌, ◌++◌, ℕ, ◌==◌, ◌<◌, ◌≤◌, ⊤, Bool, not, ◌&&◌, ◌||◌, List, map, filter_map, take, drop, Option, option_map, None, Some, is_none, is_some, slice_index_or, unwrap_or, nat_eq, if◌then◌else◌, false, true}
 use Rattle.std.specs.Option.{option_map_or}
 use Rattle.std.specs.List.{AllByRecursion, insert, list_any}
 use Rattle.std.specs.Map.{lookup}
@@ -9,6 +9,7 @@ use Rattle.dom_model.specs.Worlds.World as model
 use Rattle.dom_model.specs.PlainLists.Lists.{among}
 use Rattle.dom_model.specs.MutationObservers.Observing.{transient_of}
 use Rattle.dom_model.specs.MutationObservers.Records.{is_registered, is_transient_from, is_transient_of, type_passes}
+use Rattle.dom_observe.specs.Keys.{Keys}
 use Rattle.dom_observe.specs.Watchers.{on}
 use Rattle.dom_observe.specs.declared.registration.Registration.{Registration}
 use Rattle.dom_observe.specs.declared.registration.Ended.{Ended}
@@ -40,7 +41,7 @@ abbrev pub found : Slab Registration → List ℕ → List model.Registration
 found slab keys = filter_map (at slab) keys
 
 -- the keys that each node has
-abbrev pub listed : {A : Type 0} → List (ℕ × Vec ℕ A) → List (ℕ × List ℕ)
+abbrev pub listed : List (ℕ × Keys) → List (ℕ × List ℕ)
 listed entries = map (λ e. (e.0, e.1.items)) entries
 
 -- what a step leaves of what stood under a key

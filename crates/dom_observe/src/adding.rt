@@ -13,11 +13,12 @@ ghost use Rattle.dom_observe.specs.Origins.{NotesIfAny};
 ghost use Rattle.dom_observe.specs.Refused.{IsFront};
 ghost use Rattle.dom_observe.specs.Turns.{Rising};
 
+use crate::node_keys::{NodeKeys, keys_on, put_key};
 use crate::observer_id::ObserverId;
 use crate::origins::Origins;
 use crate::registration::Registration;
 use crate::roster::Roster;
-use crate::table::{keys_on, next_turn, place_past, put_key};
+use crate::table::{next_turn, place_past};
 use crate::telling::pend;
 use dom_tree::{NodeId, Tree};
 use indexmap::{IndexMap, IndexSet};
@@ -27,7 +28,7 @@ use std::alloc::{AllocError, Global};
 // Puts a registration last among those of its node, and its key at a place among those of its observer.
 pub(crate) fn add(
     table: &mut Slab<Registration>,
-    nodes: &mut IndexMap<u32, Vec<usize>>,
+    nodes: &mut IndexMap<u32, NodeKeys>,
     keys: &mut Vec<usize>,
     place: usize,
     mut registration: Registration,
@@ -92,7 +93,7 @@ fn transient_of(
 // Puts a transient registration on a node for each registration with subtree among those under the keys, once for each observer and origin.
 pub(crate) fn add_transients(
     table: &mut Slab<Registration>,
-    nodes: &mut IndexMap<u32, Vec<usize>>,
+    nodes: &mut IndexMap<u32, NodeKeys>,
     roster: &mut Roster,
     fleeting: &mut IndexSet<ObserverId>,
     standing: &[usize],
@@ -142,7 +143,7 @@ pub(crate) fn add_transients(
 
 // The keys of the registrations that stand on the inclusive ancestors of a node, from the node upwards.
 pub(crate) fn find_standing<X>(
-    nodes: &IndexMap<u32, Vec<usize>>,
+    nodes: &IndexMap<u32, NodeKeys>,
     tree: &Tree<X>,
     node: NodeId,
     keys: &mut Vec<usize>,
@@ -191,7 +192,7 @@ fn push_deep(
 // The keys of the registrations with subtree that stand on the inclusive ancestors of a node, from the node upwards.
 pub(crate) fn find_standing_deep<X>(
     table: &Slab<Registration>,
-    nodes: &IndexMap<u32, Vec<usize>>,
+    nodes: &IndexMap<u32, NodeKeys>,
     tree: &Tree<X>,
     node: NodeId,
     keys: &mut Vec<usize>,

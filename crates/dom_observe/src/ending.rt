@@ -1,7 +1,6 @@
 //! Registrations that end, each with its key among those of its node.
 
 ghost use Rattle.std.specs.Prelude.{◌≡◌, ◌≢◌, ℕ, ◌≤◌, ◌==◌, Bool, not, [], List, length, filter, Some, None, nat_eq, if◌then◌else◌, true, false, slice_index_or, slice_set};
-ghost use Rattle.std.specs.List.{remove_range};
 ghost use Rattle.std.specs.Map.{lookup};
 ghost use Rattle.indexmap.specs.IndexMap.{IsUnique};
 ghost use Rattle.dom_model.specs.PlainLists.Lists.{among};
@@ -11,10 +10,11 @@ ghost use Rattle.dom_observe.specs.Kept.{AllThere, HaveNone};
 ghost use Rattle.dom_observe.specs.Turns.{turn_at, Rises, Rising, Fewer};
 ghost use Rattle.dom_observe.specs.Roster.{lasting_by, passing_by, queues_by, is_there, passing_at};
 
+use crate::node_keys::NodeKeys;
 use crate::observer_id::ObserverId;
 use crate::registration::{Ended, Ending, Lifetime, Registration};
 use crate::roster::{Observer, Roster};
-use crate::table::{place_from, place_of, place_past, prune};
+use crate::table::{cut, place_from, place_of, place_past, prune};
 use dom_tree::NodeId;
 use indexmap::{IndexMap, IndexSet};
 use slab::Slab;
@@ -50,21 +50,21 @@ fn take_out_each(table: &mut Slab<Registration>, keys: &[usize], ending: &Ending
 }
 
 // Takes out those under a node's keys that end, with their keys, and answers whether none is left.
-fn end_keys(table: &mut Slab<Registration>, keys: &mut Vec<usize>, ending: &Ending) -> bool
+fn end_keys(table: &mut Slab<Registration>, keys: &mut NodeKeys, ending: &Ending) -> bool
     ensures left { (k : ℕ) → at table.new k ≡ (if among k keys.old.items then left_after ending.now (at table.old k) else at table.old k) }
     ensures fewer { Fewer table.old table.new }
     ensures kept { keys.new.items ≡ filter (is_live (at table.new)) keys.old.items }
     ensures bare { result ≡ (length keys.new.items == 0) }
 {
     take_out_each(table, keys.as_slice(), ending);
-    prune(table, keys);
+    keys.prune(table);
     keys.is_empty()
 }
 
 // The same of a node.
 fn end_keys_on(
     table: &mut Slab<Registration>,
-    nodes: &mut IndexMap<u32, Vec<usize>>,
+    nodes: &mut IndexMap<u32, NodeKeys>,
     node: NodeId,
     ending: &Ending,
 ) -> bool
@@ -88,7 +88,7 @@ fn end_keys_on(
 // Takes out the registrations on a node that end, with their keys, and the node with the last.
 fn end_on(
     table: &mut Slab<Registration>,
-    nodes: &mut IndexMap<u32, Vec<usize>>,
+    nodes: &mut IndexMap<u32, NodeKeys>,
     node: NodeId,
     ending: &Ending,
 )
@@ -109,7 +109,7 @@ fn end_on(
 // Takes out the registrations under several keys that end, and on their nodes the others that do. Each node's keys are gone through once.
 fn end_among(
     table: &mut Slab<Registration>,
-    nodes: &mut IndexMap<u32, Vec<usize>>,
+    nodes: &mut IndexMap<u32, NodeKeys>,
     keys: &[usize],
     ending: &Ending,
 )
@@ -133,7 +133,7 @@ fn end_among(
 }
 
 // Takes out the registration under one of a node's keys, with its key, and answers whether none is left.
-fn end_key(table: &mut Slab<Registration>, keys: &mut Vec<usize>, key: usize) -> bool
+fn end_key(table: &mut Slab<Registration>, keys: &mut NodeKeys, key: usize) -> bool
     requires rising { Rises (turn_at table.old) keys.old.items }
     requires live { AllLive (at table.old) keys.old.items }
     requires there { among key keys.old.items ≡ true }
@@ -143,7 +143,7 @@ fn end_key(table: &mut Slab<Registration>, keys: &mut Vec<usize>, key: usize) ->
     ensures bare { result ≡ (length keys.new.items == 0) }
 {
     let place = place_of(table, keys.as_slice(), key);
-    let _ = keys.remove(place);
+    keys.remove(place);
     let _ = table.try_remove(key);
     keys.is_empty()
 }
@@ -151,7 +151,7 @@ fn end_key(table: &mut Slab<Registration>, keys: &mut Vec<usize>, key: usize) ->
 // The same of a key of a node.
 fn end_key_on(
     table: &mut Slab<Registration>,
-    nodes: &mut IndexMap<u32, Vec<usize>>,
+    nodes: &mut IndexMap<u32, NodeKeys>,
     node: NodeId,
     key: usize,
 ) -> bool
@@ -177,7 +177,7 @@ fn end_key_on(
 // Takes out the registration on a node that is under a key, with the key, and the node with the last. The other keys of the node are not gone through.
 fn end_one(
     table: &mut Slab<Registration>,
-    nodes: &mut IndexMap<u32, Vec<usize>>,
+    nodes: &mut IndexMap<u32, NodeKeys>,
     node: NodeId,
     key: usize,
 )
@@ -199,7 +199,7 @@ fn end_one(
 // Takes out the registrations under several keys that end, one by one.
 fn end_each(
     table: &mut Slab<Registration>,
-    nodes: &mut IndexMap<u32, Vec<usize>>,
+    nodes: &mut IndexMap<u32, NodeKeys>,
     keys: &[usize],
     ending: &Ending,
 )
@@ -226,7 +226,7 @@ fn end_each(
 // Ends registrations of an observer by its keys, and leaves it the keys of those that stay.
 pub(crate) fn end_own(
     table: &mut Slab<Registration>,
-    nodes: &mut IndexMap<u32, Vec<usize>>,
+    nodes: &mut IndexMap<u32, NodeKeys>,
     keys: &mut Vec<usize>,
     ending: &Ending,
 )
@@ -246,21 +246,10 @@ pub(crate) fn end_own(
     prune(table, keys);
 }
 
-// Takes out the keys from a place up to another.
-fn cut(keys: &mut Vec<usize>, first: usize, end: usize)
-    requires order { first ≤ end }
-    requires inside { end ≤ length keys.old.items }
-    ensures { keys.new.items ≡ remove_range keys.old.items first end }
-{
-    let all = keys.len();
-    keys.copy_within(end..all, first);
-    keys.truncate(first + (all - end));
-}
-
 // Ends the transient registrations of an observer that come from a node, by its keys, which stand by where theirs come from. The others are not gone through.
 pub(crate) fn end_from(
     table: &mut Slab<Registration>,
-    nodes: &mut IndexMap<u32, Vec<usize>>,
+    nodes: &mut IndexMap<u32, NodeKeys>,
     keys: &mut Vec<usize>,
     observer: ObserverId,
     node: NodeId,
@@ -292,7 +281,7 @@ pub(crate) fn end_from(
 // Ends all registrations of an observer: those that last, and then its transient ones.
 pub(crate) fn end_all(
     table: &mut Slab<Registration>,
-    nodes: &mut IndexMap<u32, Vec<usize>>,
+    nodes: &mut IndexMap<u32, NodeKeys>,
     kept: &mut Observer,
     observer: ObserverId,
 )
@@ -328,7 +317,7 @@ pub(crate) fn end_all(
 // Takes out every transient registration, by the keys that several observers have of theirs.
 fn end_passing(
     table: &mut Slab<Registration>,
-    nodes: &mut IndexMap<u32, Vec<usize>>,
+    nodes: &mut IndexMap<u32, NodeKeys>,
     roster: &Roster,
     fleeting: &IndexSet<ObserverId>,
 )
@@ -387,7 +376,7 @@ fn forget_all_passing(roster: &mut Roster, fleeting: &IndexSet<ObserverId>)
 // Ends every transient registration, where several observers are those that have any.
 pub(crate) fn end_transients(
     table: &mut Slab<Registration>,
-    nodes: &mut IndexMap<u32, Vec<usize>>,
+    nodes: &mut IndexMap<u32, NodeKeys>,
     roster: &mut Roster,
     fleeting: &IndexSet<ObserverId>,
 )

@@ -5,6 +5,7 @@ mod adding;
 mod ending;
 mod filter;
 mod naming;
+mod node_keys;
 mod notifying;
 mod observer_id;
 mod observers;

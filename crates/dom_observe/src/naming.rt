@@ -9,20 +9,21 @@ ghost use Rattle.dom_model.specs.MutationAlgorithms.Discarding.{nodes_of_record}
 ghost use Rattle.dom_observe.specs.Kept.{AllThere};
 ghost use Rattle.dom_observe.specs.Roster.{is_there, records_of};
 
+use crate::node_keys::NodeKeys;
 use crate::observer_id::ObserverId;
 use crate::roster::Roster;
 use dom_tree::{NodeId, Tree};
 use indexmap::{IndexMap, IndexSet};
 
 // Whether a node has keys.
-fn has_keys(nodes: &IndexMap<u32, Vec<usize>>, node: NodeId) -> bool
+fn has_keys(nodes: &IndexMap<u32, NodeKeys>, node: NodeId) -> bool
     ensures { result ≡ among node (keys_of nodes.now.entries) }
 {
     nodes.contains_key(&node.number())
 }
 
 // Whether a node with keys stands inside another. It asks each of these.
-fn has_keys_inside<X>(tree: &Tree<X>, top: NodeId, nodes: &IndexMap<u32, Vec<usize>>) -> bool
+fn has_keys_inside<X>(tree: &Tree<X>, top: NodeId, nodes: &IndexMap<u32, NodeKeys>) -> bool
     ensures { result ≡ list_any (λ m. among m (inclusive_descendants tree.now.forest top)) (keys_of nodes.now.entries) }
 {
     nodes
@@ -31,7 +32,7 @@ fn has_keys_inside<X>(tree: &Tree<X>, top: NodeId, nodes: &IndexMap<u32, Vec<usi
 }
 
 // The node with keys in a place of the table, as long as there is one.
-fn node_at(nodes: &IndexMap<u32, Vec<usize>>, index: usize) -> Option<NodeId> {
+fn node_at(nodes: &IndexMap<u32, NodeKeys>, index: usize) -> Option<NodeId> {
     let (number, _) = nodes.get_index(index)?;
     Some(NodeId::new(*number))
 }
@@ -39,7 +40,7 @@ fn node_at(nodes: &IndexMap<u32, Vec<usize>>, index: usize) -> Option<NodeId> {
 // Whether a registration stands on a node inside another.
 //
 // It walks the nodes inside, or climbs from each node with a registration where that takes fewer steps.
-pub(crate) fn is_named<X>(tree: &Tree<X>, top: NodeId, nodes: &IndexMap<u32, Vec<usize>>) -> bool
+pub(crate) fn is_named<X>(tree: &Tree<X>, top: NodeId, nodes: &IndexMap<u32, NodeKeys>) -> bool
     requires { HasNode tree.now.forest top }
     ensures { result ≡ list_any (λ m. among m (inclusive_descendants tree.now.forest top)) (keys_of nodes.now.entries) }
 {

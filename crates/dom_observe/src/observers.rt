@@ -20,6 +20,7 @@ use crate::adding::{add, add_transients, find_standing, find_standing_deep};
 use crate::ending::{end_all, end_from, end_own, end_transients};
 use crate::filter::Asked;
 use crate::naming::{is_named, is_told};
+use crate::node_keys::{NodeKeys, keys_on};
 use crate::notifying::gather;
 use crate::observer_id::ObserverId;
 use crate::options::Options;
@@ -27,7 +28,7 @@ use crate::queues::{settle_each, take_from};
 use crate::record::{Mutation, Record};
 use crate::registration::{Ended, Ending, Lifetime, Registration};
 use crate::roster::Roster;
-use crate::table::{keys_on, own_key, set_options};
+use crate::table::{own_key, set_options};
 use crate::telling::tell;
 use dom_tree::{NodeId, Tree};
 use indexmap::{IndexMap, IndexSet};
@@ -44,7 +45,7 @@ use std::rc::Rc;
 pub struct Observers {
     table: Slab<Registration>,
     // the keys of the registrations on a node; no entry where there is none
-    nodes: IndexMap<u32, Vec<usize>>,
+    nodes: IndexMap<u32, NodeKeys>,
     // what is kept of each observer
     roster: Roster,
     // the observers that may have transient registrations

@@ -1,20 +1,18 @@
-//! The table of registrations, and the keys that each node has in it.
+//! The table of registrations, and what is asked of it by their keys.
 
-ghost use Rattle.std.specs.Prelude.{◌≡◌, ◌≢◌, ℕ, ◌<◌, ◌≤◌, ◌==◌, ◌++◌, [], ◌∷◌, length, remove, not, filter, find, IfOk, OnOk, OnErr, is_some, option_map, nat_eq, if◌then◌else◌, false, true};
-ghost use Rattle.indexmap.specs.IndexMap.{IsUnique};
+ghost use Rattle.std.specs.Prelude.{◌≡◌, ◌≢◌, ℕ, ◌<◌, ◌≤◌, ◌==◌, length, remove, not, filter, find, IfOk, OnOk, OnErr, is_some, option_map, true};
+ghost use Rattle.std.specs.List.{remove_range};
 ghost use Rattle.dom_model.specs.PlainLists.Lists.{among};
 ghost use Rattle.slab.specs.Slab.{get};
-ghost use Rattle.dom_observe.specs.Watchers.{on};
 ghost use Rattle.dom_observe.specs.Turns.{turn_at, Rises};
-ghost use Rattle.dom_observe.specs.Registrations.{plain, spares, at, found, listed, AllStand, HaveKeys, is_live, left_by, own_at, from_at, with_new_options, origin_at, ByOrigin, IsFirstFrom, IsPast};
+ghost use Rattle.dom_observe.specs.Registrations.{plain, spares, at, found, AllStand, is_live, left_by, own_at, from_at, with_new_options, origin_at, ByOrigin, IsFirstFrom, IsPast};
 
 use crate::filter::Asked;
 use crate::observer_id::ObserverId;
 use crate::registration::{Ended, Registration};
 use dom_tree::NodeId;
-use indexmap::IndexMap;
 use slab::Slab;
-use std::alloc::{AllocError, Global};
+use std::alloc::AllocError;
 use std::rc::Rc;
 
 // Whether there is a registration under the key.
@@ -34,38 +32,15 @@ pub(crate) fn prune(table: &Slab<Registration>, keys: &mut Vec<usize>)
     keys.retain(|key| is_live(table, *key));
 }
 
-// The keys of a node.
-pub(crate) fn keys_on(nodes: &IndexMap<u32, Vec<usize>>, node: NodeId) -> &[usize]
-    ensures { result.now ≡ on node (listed nodes.now.entries) }
+// Takes out the keys from a place up to another.
+pub(crate) fn cut(keys: &mut Vec<usize>, first: usize, end: usize)
+    requires order { first ≤ end }
+    requires inside { end ≤ length keys.old.items }
+    ensures { keys.new.items ≡ remove_range keys.old.items first end }
 {
-    match nodes.get(&node.number()) {
-        Some(keys) => keys.as_slice(),
-        None => &[],
-    }
-}
-
-// Puts a key last among those of a node.
-pub(crate) fn put_key(
-    nodes: &mut IndexMap<u32, Vec<usize>>,
-    node: NodeId,
-    key: usize,
-    alloc: Global,
-) -> Result<(), AllocError>
-    requires { IsUnique nat_eq nodes.old }
-    ensures ok { OnOk result ((n : ℕ) → on n (listed nodes.new.entries) ≡ on n (listed nodes.old.entries) ++ (if n == node then key ∷ [] else [])) }
-    ensures err { OnErr result (listed nodes.new.entries ≡ listed nodes.old.entries) }
-    ensures full { HaveKeys (listed nodes.old.entries) → HaveKeys (listed nodes.new.entries) }
-    ensures unique { IsUnique nat_eq nodes.new }
-{
-    let number = node.number();
-    match nodes.get_mut(&number) {
-        Some(keys) => keys.push(key)?,
-        None => {
-            let keys = vec![in alloc; key]?;
-            nodes.insert(number, keys)?;
-        }
-    }
-    Ok(())
+    let all = keys.len();
+    keys.copy_within(end..all, first);
+    keys.truncate(first + (all - end));
 }
 
 // Whether the observer's registration on the node is under the key.

@@ -15,8 +15,8 @@ returns-clause-kept c =
     let v = at c.try_remove.new.self in
     let keys = c.args.keys.now.items in
     let place = c.place_of-place.result in
-    c.remove.ensures.items
-    ∙ ap (λ ks. remove ks place) (sym c.as_slice.ensures.value)
+    c.remove.ensures
+    ∙ ap (λ ks. remove ks place) (sym c.as_slice.ensures)
     ∙ c.place_of-place.ensures.place
-    ∙ ap (filter (λ k. not (k == c.args.key))) c.as_slice.ensures.value
+    ∙ ap (filter (λ k. not (k == c.args.key))) c.as_slice.ensures
     ∙ one-kept u v c.args.key (one-left c.args.table.now c.try_remove.new.self c.args.key c.try_remove.ensures.updates.changed c.try_remove.ensures.updates.others) keys c.requires.live

@@ -1,0 +1,137 @@
+//! The keys of the registrations on a node, in the order of these.
+
+ghost use Rattle.std.specs.Prelude.{◌≡◌, ℕ, ◌<◌, ◌==◌, ◌++◌, [], ◌∷◌, length, remove, filter, IfOk, OnOk, OnErr, nat_eq, if◌then◌else◌};
+ghost use Rattle.indexmap.specs.IndexMap.{IsUnique};
+ghost use Rattle.dom_observe.specs.Watchers.{on};
+ghost use Rattle.dom_observe.specs.Registrations.{at, is_live, listed, HaveKeys};
+
+use crate::registration::Registration;
+use crate::table::{cut, prune};
+use dom_tree::NodeId;
+use indexmap::IndexMap;
+use slab::Slab;
+use std::alloc::{AllocError, Global};
+use std::marker::Model;
+
+/// Keys behind the first ones, which are passed over. Where more are passed over than are left they are taken out.
+#[derive(Drop)]
+pub(crate) struct NodeKeys {
+    all: Vec<usize>,
+    passed: usize,
+}
+
+impl Model for NodeKeys {
+    ghost use Rattle.std.specs.Prelude.{◌≤◌, drop, length};
+    ghost use Rattle.dom_observe.specs.Keys.{Keys};
+
+    ghost Value = { Keys };
+
+    ghost view = { λ k. record { items = drop k.passed k.all.items } };
+
+    ghost invariant = { λ k. k.passed ≤ length k.all.items };
+}
+
+impl NodeKeys {
+    /// One key.
+    pub(crate) fn one(key: usize, alloc: Global) -> Result<NodeKeys, AllocError>
+        ensures { IfOk result (λ keys. keys.items ≡ key ∷ []) }
+    {
+        let all = vec![in alloc; key]?;
+        Ok(NodeKeys { all, passed: 0 })
+    }
+
+    /// The keys.
+    pub(crate) fn as_slice(&self) -> &[usize]
+        ensures { result.now ≡ self.now.items }
+    {
+        let all = self.all.as_slice();
+        &all[self.passed..]
+    }
+
+    /// Whether no key is left.
+    pub(crate) fn is_empty(&self) -> bool
+        ensures { result ≡ (length self.now.items == 0) }
+    {
+        self.as_slice().is_empty()
+    }
+
+    /// Puts a key last.
+    pub(crate) fn push(&mut self, key: usize) -> Result<(), AllocError>
+        ensures ok { OnOk result (self.new.items ≡ self.old.items ++ key ∷ []) }
+        ensures err { OnErr result (self.new.items ≡ self.old.items) }
+    {
+        self.all.push(key)?;
+        Ok(())
+    }
+
+    /// Takes out the key in a place. Those ahead of it move, or those behind it, whichever are fewer.
+    pub(crate) fn remove(&mut self, place: usize)
+        requires { place < length self.old.items }
+        ensures { self.new.items ≡ remove self.old.items place }
+    {
+        // a law: so many keys fit the memory
+        let count = self.all.len();
+        let first = self.passed;
+        let here = first + place;
+        if place < count - here {
+            self.all.copy_within(first..here, first + 1);
+            self.passed = first + 1;
+        } else {
+            let _ = self.all.remove(here);
+        }
+        self.close_up();
+    }
+
+    /// Takes out the keys under which nothing is left.
+    pub(crate) fn prune(&mut self, table: &Slab<Registration>)
+        ensures { self.new.items ≡ filter (is_live (at table.now)) self.old.items }
+    {
+        cut(&mut self.all, 0, self.passed);
+        self.passed = 0;
+        prune(table, &mut self.all);
+    }
+
+    // Takes out what is passed over, where that is more than what is left.
+    fn close_up(&mut self)
+        ensures { self.new.items ≡ self.old.items }
+    {
+        if self.all.len() - self.passed < self.passed {
+            cut(&mut self.all, 0, self.passed);
+            self.passed = 0;
+        }
+    }
+}
+
+// The keys of a node.
+pub(crate) fn keys_on(nodes: &IndexMap<u32, NodeKeys>, node: NodeId) -> &[usize]
+    ensures { result.now ≡ on node (listed nodes.now.entries) }
+{
+    match nodes.get(&node.number()) {
+        Some(keys) => keys.as_slice(),
+        None => &[],
+    }
+}
+
+// Puts a key last among those of a node.
+pub(crate) fn put_key(
+    nodes: &mut IndexMap<u32, NodeKeys>,
+    node: NodeId,
+    key: usize,
+    alloc: Global,
+) -> Result<(), AllocError>
+    requires { IsUnique nat_eq nodes.old }
+    ensures ok { OnOk result ((n : ℕ) → on n (listed nodes.new.entries) ≡ on n (listed nodes.old.entries) ++ (if n == node then key ∷ [] else [])) }
+    ensures err { OnErr result (listed nodes.new.entries ≡ listed nodes.old.entries) }
+    ensures full { HaveKeys (listed nodes.old.entries) → HaveKeys (listed nodes.new.entries) }
+    ensures unique { IsUnique nat_eq nodes.new }
+{
+    let number = node.number();
+    match nodes.get_mut(&number) {
+        Some(keys) => keys.push(key)?,
+        None => {
+            let keys = NodeKeys::one(key, alloc)?;
+            nodes.insert(number, keys)?;
+        }
+    }
+    Ok(())
+}
