@@ -126,16 +126,16 @@ def in_a_document(*first):
     return scene
 
 
-# (where the midst is named, it stands where a block of children begins)
+# (where the midst is named, it stands where a block of children begins; some sizes are past what a block may have before it is made anew)
 MIDST_SCENES = (
     ("rangeText of one range in the midst", asked_in_the_midst("rangeText"), 256),
     ("cloneContents of one range in the midst", asked_in_the_midst("cloneContents"), 256),
-    ("insertNode at one place in the midst", inserted_in_the_midst, 256),
-    ("insertNode at two places in turn", inserted_by_two_in_turn, 256),
-    ("surroundContents of one child after another in the midst", surrounded_in_the_midst, 512),
+    ("insertNode at one place in the midst", inserted_in_the_midst, 512),
+    ("insertNode at two places in turn", inserted_by_two_in_turn, 2048),
+    ("surroundContents of one child after another in the midst", surrounded_in_the_midst, 4096),
     ("deleteContents and insertNode at one place in the midst", exchanged_in_the_midst, 256),
     ("removals at the front and in the midst in turn, beside an end", gone_in_turn, 512),
-    ("insertions at the front and in the midst in turn, beside an end", come_in_turn, 256),
+    ("insertions at the front and in the midst in turn, beside an end", come_in_turn, 2048),
     ("index in the midst, behind insertions at the front", index_behind_the_front, 256),
     ("index at random places, between moves", at_random(index), 250),
     ("ends set at random places, between moves", at_random(ends), 250),
