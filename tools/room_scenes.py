@@ -71,6 +71,21 @@ def cut_to_a_unit(texts, units):
         number += 1 + (ways[at % len(ways)] is split_and_discarded)
 
 
+def halved_from_the_front(texts, units):
+    """So many Texts of so many units, each split ahead of its middle until one unit is left; the fronts are let go of."""
+    yield pair(1, "createText", 0, "a" * units)
+    number = 2
+    for _ in range(texts):
+        yield pair(number, "cloneNode", 1, False)
+        rest, left, number = number, units, number + 1
+        while left > 1:
+            at = max(1, (left - 1) // 2)
+            yield pair(number, "splitText", rest, at)
+            yield pair(None, "discard", rest)
+            rest, left, number = number, left - at, number + 1
+        yield pair("a", "data", rest)
+
+
 def taken_off_one_by_one(units):
     """A Text loses its last unit, so often as it has units but one; then it is filled again."""
     yield pair(1, "createText", 0, "a" * units)
@@ -104,6 +119,7 @@ SCENES = (
     ("a Text split from the front", split_from_the_front, (5000,), (12,)),
     ("a Text split from the back", split_from_the_back, (5000,), (12,)),
     ("Texts cut to a unit", cut_to_a_unit, (4000, 50_000), (10, 200)),
+    ("Texts halved from the front", halved_from_the_front, (400, 50_000), (4, 200)),
     ("units taken off one by one", taken_off_one_by_one, (20_000,), (100,)),
     ("attributes lost", attributes_lost, (8000, 4000), (40, 4)),
 )
