@@ -1,6 +1,5 @@
 -- Units behind those that are passed over.
 use Rattle.std.proofs.Common.{◌≡◌, ℕ, zero, suc, ◌+◌, ◌-◌, ◌≤◌, List, [], ◌∷◌, drop, length, refl, ap, sym, ◌∙◌, arith, length-drop}
-use Rattle.std.specs.Prelude.{Result, Ok, Err, OnOk}
 use Rattle.dom_model.specs.Forests.Texts.{spliced}
 
 -- what is put in behind them leaves them as they are
@@ -15,8 +14,3 @@ drop-spliced (suc passed) at count added (unit ∷ units) h =
 -- a place among them is a place of the whole
 pub within-whole : (passed at : ℕ) (units : List ℕ) → passed ≤ length units → at ≤ length (drop passed units) → passed + at ≤ length units
 within-whole passed at units h k = let l = length-drop passed units in omega (arith, h, k, l)
-
--- what follows where a call did not fail
-pub then-ok : {T E P Q : Type 0} (result : Result T E) → (P → Q) → OnOk result P → OnOk result Q
-then-ok (Ok value) f p = f p
-then-ok (Err error) f p = tt

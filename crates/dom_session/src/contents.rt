@@ -158,11 +158,14 @@ fn range_of(command: &Contents) -> RangeId {
     }
 }
 
+// Behind how many children one is looked for ahead of a command. Nearer ones are found in a few steps each time.
+const FAR: usize = 64;
+
 // Finds the child at a point, so that what asks for it next has it at once.
 fn find_child(world: &mut World, point: Point)
     ensures { world.new ≡ world.old }
 {
-    if world.tree.holds(point.node) {
+    if FAR < point.offset && world.tree.holds(point.node) {
         let _ = world.tree.found_child(point.node, point.offset);
     }
 }

@@ -1,5 +1,5 @@
--- A walk back to the start of a block.
-use Rattle.std.proofs.Common.{◌≡◌, ℕ, ◌+◌, ◌<◌, ◌^◌, List, length, Option, Some, None, ap, sym, ◌∙◌, arith}
+-- A walk back to the start of a block, and two children in different ones.
+use Rattle.std.proofs.Common.{◌≡◌, ℕ, ◌+◌, ◌<◌, ◌^◌, nat_lt, List, length, Option, Some, None, ap, sym, ◌∙◌, arith}
 use Rattle.dom_model.specs.PlainLists.Lists.{place_in}
 use Rattle.dom_model.specs.Forests.Arena.{Arena, Entry, entry_at, parent_in, children_in, previous_in, IsSound}
 use Rattle.dom_model.proofs.PlainLists.Numbers.{same_or, same, apart}
@@ -8,7 +8,7 @@ use Rattle.dom_model.proofs.Forests.Changes.{seen, nothing, just}
 use Rattle.dom_model.proofs.Forests.Siblings.{place-first}
 use Rattle.dom_tree.specs.Slots.{Kept, index_in}
 use Rattle.dom_tree.specs.Blocks.{ahead_of, StandsInBlocks, if_in_block}
-use Rattle.dom_tree.proofs.InBlocks.{fits-start, fits-first}
+use Rattle.dom_tree.proofs.InBlocks.{fits-start, fits-first, fits-order}
 use Rattle.dom_tree.proofs.Written.{IsAhead, listed_under, before_here, ahead-next}
 
 module _ {X : Type 0} where
@@ -61,3 +61,6 @@ module _ {X : Type 0} {start : Arena (Kept X)} (l : IsSound start) (p : ℕ) {co
             let g = ap (ahead_of counts) same_block in
             omega arith
       ]
+
+  pub block-order : (a b : ℕ) → parent_in (entry_at start a) ≡ Some p → parent_in (entry_at start b) ≡ Some p → (index_in (entry_at start a) ≡ index_in (entry_at start b) → ⊥) → nat_lt (index_in (entry_at start a)) (index_in (entry_at start b)) ≡ nat_lt (place_in a list) (place_in b list)
+  block-order a b ea eb ne = fits-order st.fits a b (listed_under l p a ea) (listed_under l p b eb) ne

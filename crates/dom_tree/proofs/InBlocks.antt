@@ -317,6 +317,26 @@ module _ {cs : List ℕ} {index : ℕ → ℕ} {l : List ℕ} (f : Fits cs index
   pub fits-first : (x : ℕ) → 0 < hits x l → place_in x l ≡ 0 → ahead_of cs (index x) ≡ place_in x l
   fits-first x hx e = (let a = f.since x hx in omega arith)
 
+  -- of two in different blocks the one in the block ahead comes before the other
+  pub fits-order : (x y : ℕ) → 0 < hits x l → 0 < hits y l → (index x ≡ index y → ⊥) → nat_lt (index x) (index y) ≡ nat_lt (place_in x l) (place_in y l)
+  fits-order x y hx hy ne =
+      ⊎_elim
+      (λ (lt : index x < index y).
+      let m = grows (index x + 1) (index y) (omega arith) in
+      let u = f.until x hx in
+      let s = f.since y hy in
+      lt-ltb (index x) (index y) lt ∙ sym (lt-ltb (place_in x l) (place_in y l) (omega arith)))
+      (λ (le : index y ≤ index x).
+      ⊎_elim
+      (λ (lt : index y < index x).
+      let m = grows (index y + 1) (index x) (omega arith) in
+      let u = f.until y hy in
+      let s = f.since x hx in
+      le-ltb (index x) (index y) le ∙ sym (le-ltb (place_in x l) (place_in y l) (omega arith)))
+      (λ (ge : index x ≤ index y). absurd (ne (omega arith)))
+      (cases_lt (index y) (index x)))
+      (cases_lt (index x) (index y))
+
 -- blocks that were just made
 pub fits-filled : (cs : List ℕ) (index : ℕ → ℕ) (l : List ℕ) → AreFilled cs (length l) → ((x : ℕ) → 0 < hits x l → index x ≡ block_at (place_in x l)) → Fits cs index l
 fits-filled cs index l a h =

@@ -94,3 +94,11 @@ module _ {X : Type 0} {s : Placed (Kept X)} {table : List (Option ℕ)} {live : 
 
     pub foremost : Leads s None (previous_in (entry_at s.arena) (slot_of s p)) → previous_of w.forest (called s p) ≡ None
     foremost e = sym (previous-read k v l (called s p) (slot_of s p) None None (listed p h) e.slot refl)
+
+  -- who has the same parent by number has it by slot
+  pub under_one : IsSound s.arena → (a b : ℕ) (p q r : Ptr) → Leads s (Some p) (slot_in table a) → Leads s (Some q) (slot_in table b) → parent_of w.forest a ≡ parent_of w.forest b → Leads s (Some r) (parent_in (entry_at s.arena (slot_of s p))) → parent_in (entry_at s.arena (slot_of s q)) ≡ Some (slot_of s r)
+  under_one l a b p q r ea eb e er =
+      let i = begins a p ea in
+      let j = begins b q eb in
+      let u = up l p i.0 r er in
+      under l q j.0 r u.0 (ap (parent_of w.forest) j.1 ∙ sym e ∙ sym (ap (parent_of w.forest) i.1) ∙ u.1)

@@ -1,6 +1,6 @@
 //! How the children of a long list come into blocks, and stay right in them, in the same time at any number of siblings.
 
-ghost use Rattle.std.specs.Prelude.{◌≡◌, ℕ, ◌+◌, ◌<◌, ◌≤◌, nat_eq, min, length, Some, IfSome, slice_get};
+ghost use Rattle.std.specs.Prelude.{◌≡◌, ℕ, ◌+◌, ◌<◌, ◌≤◌, nat_eq, nat_lt, min, length, Some, IfSome, slice_get};
 ghost use Rattle.std.specs.Option.{ForSome};
 ghost use Rattle.dom_model.specs.PlainLists.Lists.{place_in};
 ghost use Rattle.dom_model.specs.Forests.Arena.{IsSound, entry_at};
@@ -139,6 +139,37 @@ pub(crate) fn index_in_block<X>(
         }
     }
     None
+}
+
+/// Whether one child comes before another, where they stand in different blocks. It goes by the blocks alone, with no walk.
+pub(crate) fn before_by_block<X>(
+    links: &Store<Item<X>>,
+    blocks: &Blocks,
+    parent: Place,
+    a: Place,
+    b: Place,
+) -> Option<bool>
+    requires parent_placed { IsPlaced links.now parent }
+    requires a_placed { IsPlaced links.now a }
+    requires b_placed { IsPlaced links.now b }
+    requires sound { IsSound links.now.arena }
+    requires a_child { IsChildOf links.now parent a }
+    requires b_child { IsChildOf links.now parent b }
+    requires blocked { AreBlocked (entry_at links.now.arena) blocks.now }
+    ensures { IfSome result (λ before. before ≡ nat_lt
+        (place_in (slot_of links.now a) (children_at links.now parent))
+        (place_in (slot_of links.now b) (children_at links.now parent))) }
+{
+    if !may_be_blocked(links, parent) {
+        return None;
+    }
+    let counts = blocks.counts(links.slot(parent))?;
+    let a_block = index_of(links, a);
+    let b_block = index_of(links, b);
+    if counts.len() == 0 || a_block == b_block {
+        return None;
+    }
+    Some(a_block < b_block)
 }
 
 // Notes the child at a place where a block begins.

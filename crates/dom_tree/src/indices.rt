@@ -94,7 +94,7 @@ impl<X> Tree<X> {
         Some(child)
     }
 
-    /// Whether `a` comes before `b` among the children of their parent. Where that is not found 64 steps to both sides of `a`, the indices of both are made known, so that it is known when it is asked for again. It takes no memory.
+    /// Whether `a` comes before `b` among the children of their parent. Where no blocks tell it, and it is not found 64 steps to both sides of `a`, the indices of both are made known, so that it is known when it is asked for again. It takes no memory.
     pub fn found_comes_before(&mut self, a: NodeId, b: NodeId) -> bool
         requires a_held { HasNode self.old.forest a }
         requires b_held { HasNode self.old.forest b }
@@ -107,6 +107,9 @@ impl<X> Tree<X> {
             return false;
         }
         if let Some(before) = self.known_before(a, b) {
+            return before;
+        }
+        if let Some(before) = self.before_by_block(a, b) {
             return before;
         }
         if let Some(before) = self.is_ahead_within(a, b, NEAR) {

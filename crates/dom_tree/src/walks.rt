@@ -6,7 +6,7 @@ ghost use Rattle.dom_model.specs.Forests.Arena.{siblings_in};
 ghost use Rattle.dom_model.specs.Forests.Forest.{HasNode, entry_in, parent_of, children_of, index_of, root_of, ancestors, numbers, inclusive_descendants, adopted};
 ghost use Rattle.dom_model.specs.Worlds.Lengths.{length_of};
 
-use crate::blocking::index_in_block;
+use crate::blocking::{before_by_block, index_in_block};
 use crate::body::Body;
 use crate::nearby::{self, NEAR, number_of, place_at, place_of};
 use crate::node_id::NodeId;
@@ -87,7 +87,7 @@ impl<X> Tree<X> {
         }
     }
 
-    /// Whether `a` comes before `b` among the children of their parent. Where these stand in blocks it asks both indices; else it looks no further than from one to the other.
+    /// Whether `a` comes before `b` among the children of their parent. Where they stand in different blocks these tell it; in one block it asks both indices; else it looks no further than from one to the other.
     pub fn comes_before(&self, a: NodeId, b: NodeId) -> bool
         requires a_held { HasNode self.now.forest a }
         requires b_held { HasNode self.now.forest b }
@@ -101,6 +101,9 @@ impl<X> Tree<X> {
         if let Some(before) = self.known_before(a, b) {
             return before;
         }
+        if let Some(before) = self.before_by_block(a, b) {
+            return before;
+        }
         if let Some(before) = self.is_ahead_within(a, b, NEAR) {
             return before;
         }
@@ -109,6 +112,20 @@ impl<X> Tree<X> {
         }
         let count = self.siblings(a);
         self.is_ahead_within(a, b, count).unwrap()
+    }
+
+    // Whether one child comes before another, where they stand in different blocks.
+    pub(crate) fn before_by_block(&self, a: NodeId, b: NodeId) -> Option<bool>
+        requires a_held { HasNode self.now.forest a }
+        requires b_held { HasNode self.now.forest b }
+        requires one_parent { parent_of self.now.forest a ≡ parent_of self.now.forest b }
+        ensures { IfSome result (λ before. before ≡ nat_lt (index_of self.now.forest a) (index_of self.now.forest b)) }
+    {
+        let a = place_of(&self.links, &self.table, a);
+        let b = place_of(&self.links, &self.table, b);
+        self.links.sound();
+        let above = nearby::parent(&self.links, a)?;
+        before_by_block(&self.links, &self.blocks, above, a, b)
     }
 
     // Whether one child comes before another, where both stand in blocks.

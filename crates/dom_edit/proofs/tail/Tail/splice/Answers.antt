@@ -1,6 +1,7 @@
 use Rattle.std.proofs.Common.{◌≤◌, List, ℕ, drop, length, ap, sym, ◌∙◌, subst, arith}
 use Rattle.dom_model.specs.Forests.Texts.{spliced}
-use Rattle.dom_edit.proofs.TailUnits.{within-whole, drop-spliced, then-ok}
+use Rattle.std.proofs.lemmas.Result.{on_ok_weaker}
+use Rattle.dom_edit.proofs.TailUnits.{within-whole, drop-spliced}
 use Rattle.dom_edit.proofs.tail.Tail.splice.Goals as goal
 
 pub overflow_add-self-inside : goal.overflow_add-self-inside
@@ -10,7 +11,7 @@ overflow_add-self-inside c =
 
 pub returns-clause-ok : goal.returns-clause-ok
 returns-clause-ok c =
-    then-ok c.splice-outcome.result
+    on_ok_weaker c.splice-outcome.result
     (λ e. c.close_up.ensures ∙ ap (drop c.self.inside.passed) e
     ∙ drop-spliced c.self.inside.passed c.args.at c.args.count c.args.added.now c.self.inside.text c.self.invariant
     ∙ ap (spliced c.args.at c.args.count c.args.added.now) c.self.view_is)
