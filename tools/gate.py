@@ -1,8 +1,8 @@
 #!/usr/bin/env python3
 """Does the long work of the gate in the best order: every crate and its tests are proved, and the edits that must fail are tried.
 
-A crate is proved as soon as those below it are, with a thread for each processor. What nothing waits for, as tests and edits, fills what these proofs leave
-free, at a lower priority: as many at once as there are processors (RT_JOBS says how many else), one fewer while something is proved. All is kept beside the kit, by the sums of what was
+A crate is proved as soon as those below it are, with the threads that its share of the text allows. What nothing waits for, as tests and edits, fills what these
+proofs leave free, at a lower priority: as many at once as there are processors (RT_JOBS says how many else), one fewer while something is proved. All is kept beside the kit, by the sums of what was
 read: `rt ci`, which is the judge, then finds the proofs, and `tools/edits.py` what the edits came to. Nothing is decided here, so the status is 0 also where
 something has no proof.
 """
@@ -19,6 +19,7 @@ import edits
 import start
 
 TESTS = "tests"
+TWO = 2
 
 
 class Turns:
@@ -81,6 +82,11 @@ class Gate(edits.Edits):
 
     def is_ready(self, crate):
         return self.is_waited_for(crate) and super().is_ready(crate)
+
+    def threads(self, crate, jobs):
+        """Returns how many threads a proof gets: at most two beside tests or edits, which lack what a third one wastes."""
+        most = super().threads(crate, jobs)
+        return max(jobs, min(most, TWO)) if self.turns.others else most
 
     def prove(self, crate, given, jobs):
         if not self.is_waited_for(crate):

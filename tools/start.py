@@ -202,7 +202,7 @@ class Start:
         rt.Crate.allowed = rt.handles_of(top)
         self.crates = {it.name: it for it in rt.rtlib.crates_below(top) if it.name in names}
         self.kept = store(rt, [*self.crates.values()])
-        self.running, self.proved, self.done = set(), set(), 0
+        self.running, self.proved, self.done, self.sizes = set(), set(), 0, {}
         self.began, self.saying = time.monotonic(), threading.Lock()
 
     def say(self, text):
@@ -256,10 +256,19 @@ class Start:
         """Returns whether a crate may be proved now, or is being proved, and others wait for it."""
         return crate.name not in self.proved and all(it.name in self.proved for it in crate.below())
 
+    def size(self, crate):
+        """Returns how many bytes a crate is proved of."""
+        if crate.name not in self.sizes:
+            parts = [f"{crate.folder}/{part}" for part in ("src", "specs", "proofs")]
+            self.sizes[crate.name] = sum(os.path.getsize(f"{at}/{it}") for part in parts for at, _, found in os.walk(part) for it in found)
+        return self.sizes[crate.name]
+
     def threads(self, crate, jobs):
-        """Returns how many threads a proof gets: as many as the kit reckons, or its share of the processors where memory holds that."""
+        """Returns how many threads a proof gets: as many as the kit reckons, or the share of the processors that its text has among those that are ready, where
+        memory holds that."""
         # (each thread is a copy that reads anew what the others have read: four take up to two thirds more processor time than one)
-        share = -(-self.rt.processors() // max(1, sum(self.is_ready(it) for it in self.crates.values())))
+        ready = sum(self.size(it) for it in self.crates.values() if self.is_ready(it))
+        share = -(-self.rt.processors() * self.size(crate) // max(1, ready))
         # (the kit reckons at least twice what a check was seen to take, and six tenths of that for each further thread)
         most = int(1 + (2 * self.rt.free() / self.rt.need(crate) - 1) / 0.6)
         return max(jobs, min(share, most))
