@@ -32,6 +32,7 @@ impl Kept {
     }
 
     // Keeps a reply whose answer is small, and tells its status.
+    #[inline(always)]
     fn note(&mut self, reply: Brief) -> u8
         ensures kept { self.new ≡ with_reply self.old (reply_of reply) }
         ensures status { result ≡ status_of (reply_view (reply_of reply)) }
@@ -102,6 +103,7 @@ impl Kept {
     }
 
     /// Applies a command that changes where nodes stand, and keeps its reply.
+    #[inline(always)]
     pub(crate) fn edit(&mut self, command: Editing) -> u8
         ensures { Steps (step_for self.old (Ok (editing_view command))) self.old self.new result }
     {

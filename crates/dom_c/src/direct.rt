@@ -69,6 +69,7 @@ impl Handle {
     }
 
     /// Takes a command that changes where nodes stand.
+    #[inline(always)]
     pub(crate) fn edit(&mut self, command: Editing) -> u8
         ensures { Answers self.old self.new (Ok (editing_view command)) result }
     {

@@ -74,6 +74,7 @@ fn is_inside(top: &At<'_, Content>, node: At<'_, Content>) -> bool
 }
 
 // The check at a place. All refusals but one have one name, so that what costs least is asked first.
+#[inline(always)]
 fn check(tree: &Tree<Content>, parent: NodeId, node: NodeId, place: Place) -> Result<(), DomError>
     requires parent_held { HasNode tree.now.forest parent }
     requires node_held { HasNode tree.now.forest node }

@@ -161,6 +161,7 @@ impl World {
     }
 
     // Roots come in, with a record or, where it is suppressed or nobody observes, without one.
+    #[inline(always)]
     fn insert_all(
         &mut self,
         alloc: Global,

@@ -26,6 +26,7 @@ use slab::Slab;
 use std::alloc::{AllocError, Global};
 
 // Puts a registration last among those of its node, and its key at a place among those of its observer.
+#[inline(always)]
 pub(crate) fn add(
     table: &mut Slab<Registration>,
     nodes: &mut IndexMap<u32, NodeKeys>,

@@ -103,6 +103,7 @@ impl NodeKeys {
 }
 
 // The keys of a node.
+#[inline(always)]
 pub(crate) fn keys_on(nodes: &IndexMap<u32, NodeKeys>, node: NodeId) -> &[usize]
     ensures { result.now ≡ on node (listed nodes.now.entries) }
 {

@@ -24,6 +24,7 @@ use slab::Slab;
 use std::alloc::{AllocError, Global};
 
 // The observer that a registration under a key makes interested, and whether it asks for the old value.
+#[inline(always)]
 fn listener_at(
     table: &Slab<Registration>,
     key: usize,
@@ -87,6 +88,7 @@ fn only_listener(
 }
 
 // Puts an observer on the pending list, where it is not there yet.
+#[inline(always)]
 pub(crate) fn pend(
     pending: &mut IndexSet<ObserverId>,
     observer: ObserverId,
@@ -127,6 +129,7 @@ fn listen(
 }
 
 // Puts a record last in a queue.
+#[inline(always)]
 fn deliver(roster: &mut Roster, observer: u32, told: Record) -> Result<(), AllocError>
     requires { is_there roster.old observer ≡ true }
     ensures ok { OnOk result ((p : ℕ) → records_of roster.new p ≡ (if observer == p then records_of roster.old p ++ told ∷ [] else records_of roster.old p)) }

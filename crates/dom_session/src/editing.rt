@@ -40,6 +40,7 @@ fn is_child_node(kind: Kind) -> bool
 }
 
 /// Inserts a node under a parent, before a child of it or last.
+#[inline(always)]
 pub(crate) fn insert_before(
     world: &mut World,
     alloc: Global,
@@ -61,6 +62,7 @@ pub(crate) fn insert_before(
 }
 
 /// Appends a node to the children of a parent.
+#[inline(always)]
 pub(crate) fn append_child(
     world: &mut World,
     alloc: Global,
@@ -200,6 +202,7 @@ pub(crate) fn discard(world: &mut World, top: NodeId) -> Brief
 }
 
 /// Answers the commands that change where nodes stand.
+#[inline(always)]
 pub(crate) fn edit_tree(
     world: &mut World,
     alloc: Global,

@@ -63,6 +63,7 @@ pub(crate) fn new_document(
 }
 
 /// Makes an Element.
+#[inline(always)]
 pub(crate) fn create_element(
     world: &mut World,
     numbers: u64,
@@ -87,6 +88,7 @@ pub(crate) fn create_element(
 }
 
 /// Makes a Text.
+#[inline(always)]
 pub(crate) fn create_text(
     world: &mut World,
     numbers: u64,

@@ -194,6 +194,7 @@ impl Session {
     }
 
     /// Answers a command that changes where nodes stand as `apply` does, with less to hand on.
+    #[inline(always)]
     pub fn edit(&mut self, command: Editing) -> Result<Brief, Ended>
         ensures answers { IfOk result
             (λ reply. (w : PlainWorld) → StandsFor self.old w → IsAnswered (reply_of reply) w self.old self.new (editing_view command)) }

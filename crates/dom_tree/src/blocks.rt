@@ -170,6 +170,7 @@ impl Blocks {
     }
 
     /// Makes room for blocks of a parent's children, where it was wanted, or where they have become twice as many: so a question finds it.
+    #[inline(never)]
     pub(crate) fn make_room(&mut self, parent: Slot, count: u32) -> Result<(), AllocError>
         ensures { (p : ℕ) → counts_in self.new p ≡ counts_in self.old p }
     {

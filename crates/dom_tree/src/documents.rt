@@ -56,6 +56,7 @@ fn replace_document<X>(links: &mut Store<Item<X>>, place: Place, document: NodeI
 
 impl<X> Tree<X> {
     /// Sets the node document of one node. Where no node has that number, nodes are no longer counted by their node documents.
+    #[inline(always)]
     pub(crate) fn move_to(&mut self, id: NodeId, document: NodeId)
         requires { HasNode self.old.forest id }
         ensures { self.new ≡ record self.old { forest = with_node id (in_document document) self.old.forest } }

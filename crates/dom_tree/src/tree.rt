@@ -269,6 +269,7 @@ impl<X> Tree<X> {
     }
 
     /// Puts a root among a parent's children, just before one of them or last.
+    #[inline(always)]
     pub fn put(&mut self, parent: NodeId, child: NodeId, before: Option<NodeId>)
         requires parent_held { HasNode self.old.forest parent }
         requires child_held { HasNode self.old.forest child }
