@@ -30,7 +30,8 @@ pub(crate) fn value_in<'a>(map: &'a IndexMap<String, Units>, name: &str) -> Opti
 // Whether there is an attribute of that name and that value.
 pub(crate) fn has_in(map: &IndexMap<String, Units>, name: &str, value: &Units) -> bool
     requires { IsDistinct string_eq (keys_of map.now.entries) }
-    ensures { result ≡ list_any (is_attribute (record { name = name.now; value = value.now })) (attributes_of map.now.entries) }
+    ensures { result ≡ list_any (is_attribute (record { name = name.now; value = value.now }))
+        (attributes_of map.now.entries) }
 {
     match map.get(name) {
         None => false,
@@ -68,8 +69,10 @@ pub(crate) fn put_in(
     name: String,
     value: Units,
 ) -> Result<Option<Units>, AllocError>
-    ensures old { IfOk result (λ old. old ≡ attribute_value (string_bytes name) (attributes_of map.old.entries)) }
-    ensures ok { OnOk result (attributes_of map.new.entries ≡ with_attribute (string_bytes name) value (attributes_of map.old.entries)) }
+    ensures old { IfOk result (λ old. old ≡ attribute_value (string_bytes name)
+        (attributes_of map.old.entries)) }
+    ensures ok { OnOk result (attributes_of map.new.entries
+        ≡ with_attribute (string_bytes name) value (attributes_of map.old.entries)) }
     ensures err { OnErr result (map.new.entries ≡ map.old.entries) }
     ensures unique { IsDistinct string_eq (keys_of map.new.entries) }
 {
@@ -108,7 +111,8 @@ fn give_back(map: &mut IndexMap<String, Units>)
 // Takes the attribute of that name out, and answers its value.
 pub(crate) fn take_from(map: &mut IndexMap<String, Units>, name: &str) -> Option<Units>
     ensures value { result ≡ attribute_value name.now (attributes_of map.old.entries) }
-    ensures rest { attributes_of map.new.entries ≡ without_attribute name.now (attributes_of map.old.entries) }
+    ensures rest { attributes_of map.new.entries ≡ without_attribute name.now
+        (attributes_of map.old.entries) }
     ensures unique { IsDistinct string_eq (keys_of map.new.entries) }
 {
     let value = map.shift_remove(name);
@@ -121,7 +125,8 @@ pub(crate) fn copied(
     alloc: Global,
     map: &IndexMap<String, Units>,
 ) -> Result<Box<IndexMap<String, Units>>, AllocError>
-    ensures same { IfOk result (λ copy. attributes_of copy.value.entries ≡ attributes_of map.now.entries) }
+    ensures same { IfOk result (λ copy. attributes_of copy.value.entries
+        ≡ attributes_of map.now.entries) }
     ensures unique { IfOk result (λ copy. IsDistinct string_eq (keys_of copy.value.entries)) }
 {
     let copy = map.clone()?;

@@ -174,7 +174,8 @@ impl Attrs {
 
     // Whether there is an attribute of that name and that value.
     fn has(&self, name: &str, value: &Units) -> bool
-        ensures { result ≡ list_any (is_attribute (record { name = name.now; value = value.now })) self.now }
+        ensures { result ≡ list_any (is_attribute (record { name = name.now; value = value.now }))
+            self.now }
     {
         match &self.map {
             None => false,

@@ -78,7 +78,8 @@ impl Kept {
 
     // Makes an Element, and keeps the reply.
     fn make_element(&mut self, document: NodeId, name: &str) -> u8
-        ensures { Steps (step_for self.old (Ok (CreateElement document name.now))) self.old self.new result }
+        ensures { Steps (step_for self.old (Ok (CreateElement document name.now))) self.old self.new
+            result }
     {
         if self.ended {
             return HP_OUT_OF_MEMORY;
@@ -91,7 +92,8 @@ impl Kept {
 
     // Makes a Text, and keeps the reply.
     fn make_text(&mut self, document: NodeId, text: Units) -> u8
-        ensures { Steps (step_for self.old (Ok (CreateText document text))) self.old self.new result }
+        ensures { Steps (step_for self.old (Ok (CreateText document text))) self.old self.new
+            result }
     {
         if self.ended {
             return HP_OUT_OF_MEMORY;
@@ -157,7 +159,8 @@ impl Kept {
 
     // Says what is wrong with arguments. Memory that was wanting ends the session.
     fn refuse(&mut self, fault: Fault) -> u8
-        ensures { (c : Result PlainCommand ℕ) → IsFaultOf fault c → Steps (step_for self.old c) self.old self.new result }
+        ensures { (c : Result PlainCommand ℕ) → IsFaultOf fault c →
+            Steps (step_for self.old c) self.old self.new result }
     {
         if self.ended {
             return HP_OUT_OF_MEMORY;
@@ -172,7 +175,8 @@ impl Kept {
 
     /// Takes a command that was read, or says what is wrong with its arguments.
     pub(crate) fn take(&mut self, command: Result<Command, Fault>) -> u8
-        ensures { (c : Result PlainCommand ℕ) → Reads command_view command c → Steps (step_for self.old c) self.old self.new result }
+        ensures { (c : Result PlainCommand ℕ) → Reads command_view command c →
+            Steps (step_for self.old c) self.old self.new result }
     {
         match command {
             Ok(command) => self.apply(command),
@@ -182,7 +186,8 @@ impl Kept {
 
     /// The same of a command that makes a node.
     pub(crate) fn take_making(&mut self, command: Result<Making, Fault>) -> u8
-        ensures { (c : Result PlainCommand ℕ) → Reads making_view command c → Steps (step_for self.old c) self.old self.new result }
+        ensures { (c : Result PlainCommand ℕ) → Reads making_view command c →
+            Steps (step_for self.old c) self.old self.new result }
     {
         match command {
             Ok(command) => self.make(command),
@@ -193,7 +198,8 @@ impl Kept {
     /// Makes an Element of a name that was read, or says what is wrong with it.
     pub(crate) fn create_element(&mut self, document: NodeId, name: Result<&str, Fault>) -> u8
         ensures { (c : Result (List ℕ) ℕ) → Reads (λ name. name.now) name.entry c →
-            Steps (step_for self.old (then_make c (λ name. Ok (CreateElement document name)))) self.old self.new result }
+            Steps (step_for self.old (then_make c (λ name. Ok (CreateElement document name))))
+            self.old self.new result }
     {
         match name {
             Ok(name) => self.make_element(document, name),
@@ -204,7 +210,8 @@ impl Kept {
     /// Makes a Text of data that was read, or says what is wrong with it.
     pub(crate) fn create_text(&mut self, document: NodeId, text: Result<Units, Fault>) -> u8
         ensures { (c : Result (List ℕ) ℕ) → Reads (λ text. text) text c →
-            Steps (step_for self.old (then_make c (λ text. Ok (CreateText document text)))) self.old self.new result }
+            Steps (step_for self.old (then_make c (λ text. Ok (CreateText document text)))) self.old
+            self.new result }
     {
         match text {
             Ok(text) => self.make_text(document, text),
@@ -215,7 +222,8 @@ impl Kept {
     /// Makes a move of a walker that was read, or says what is wrong with it.
     pub(crate) fn walk(&mut self, walker: WalkerId, direction: Result<Move, Fault>) -> u8
         ensures { (c : Result AMove ℕ) → Reads (λ direction. direction) direction c →
-            Steps (step_for self.old (then_make c (λ direction. Ok (Walk walker direction)))) self.old self.new result }
+            Steps (step_for self.old (then_make c (λ direction. Ok (Walk walker direction))))
+            self.old self.new result }
     {
         match direction {
             Ok(direction) => self.move_walker(walker, direction),
@@ -227,7 +235,8 @@ impl Kept {
 impl Handle {
     /// Takes a command that was read, or says what is wrong with its arguments.
     pub(crate) fn take(&mut self, command: Result<Command, Fault>) -> u8
-        ensures { (c : Result PlainCommand ℕ) → Reads command_view command c → Answers self.old self.new c result }
+        ensures { (c : Result PlainCommand ℕ) → Reads command_view command c →
+            Answers self.old self.new c result }
     {
         if !self.is_open {
             return HP_CLOSED;

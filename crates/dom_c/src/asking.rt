@@ -66,7 +66,8 @@ pub extern "C" fn hp_root(handle: &mut Handle, node: u32, root: &mut u32) -> u8
 /// Whether another node is an inclusive descendant; `HP_NONE` is none.
 #[unsafe(no_mangle)]
 pub extern "C" fn hp_contains(handle: &mut Handle, node: u32, other: u32, contains: &mut u8) -> u8
-    ensures answers { Answers handle.old handle.new (Ok (IsContaining node (number_or_none other))) result }
+    ensures answers { Answers handle.old handle.new (Ok (IsContaining node (number_or_none other)))
+        result }
     ensures told { contains.new ≡ flag_told (told handle.new result) contains.old }
 {
     handle.take_flag(
@@ -78,7 +79,8 @@ pub extern "C" fn hp_contains(handle: &mut Handle, node: u32, other: u32, contai
 /// Whether both nodes are equal; `HP_NONE` is equal to none.
 #[unsafe(no_mangle)]
 pub extern "C" fn hp_is_equal(handle: &mut Handle, node: u32, other: u32, is_equal: &mut u8) -> u8
-    ensures answers { Answers handle.old handle.new (Ok (IsEqual node (number_or_none other))) result }
+    ensures answers { Answers handle.old handle.new (Ok (IsEqual node (number_or_none other)))
+        result }
     ensures told { is_equal.new ≡ flag_told (told handle.new result) is_equal.old }
 {
     handle.take_flag(

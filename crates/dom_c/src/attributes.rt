@@ -123,7 +123,8 @@ fn read_toggle_attribute(
     force: u8,
 ) -> Result<Command, Fault>
     ensures { Reads command_view result
-        (then_make (name_in name.now) (λ name. then_make (choice_in force) (λ force. Ok (ToggleAttribute element name force)))) }
+        (then_make (name_in name.now) (λ name. then_make (choice_in force) (λ force.
+        Ok (ToggleAttribute element name force)))) }
 {
     let name = name_of(alloc, name)?;
     let force = choice_of(force)?;
@@ -141,7 +142,8 @@ pub extern "C" fn hp_toggle_attribute(
     is_there: &mut u8,
 ) -> u8
     ensures answers { Answers handle.old handle.new
-        (then_make (name_in name.now) (λ name. then_make (choice_in force) (λ force. Ok (ToggleAttribute element name force)))) result }
+        (then_make (name_in name.now) (λ name. then_make (choice_in force) (λ force.
+        Ok (ToggleAttribute element name force)))) result }
     ensures told { is_there.new ≡ flag_told (told handle.new result) is_there.old }
 {
     handle.take_flag(read_toggle_attribute(alloc, element, name, force), is_there)

@@ -16,7 +16,8 @@ use dom_session::{Editing, IteratorId, Making, Move, NodeId, Units, WalkerId};
 impl Handle {
     /// Takes a command that makes a node, or says what is wrong with its arguments. Writes the number of the node.
     pub(crate) fn make(&mut self, command: Result<Making, Fault>, number: &mut u32) -> u8
-        ensures answers { (c : Result PlainCommand ℕ) → Reads making_view command c → Answers self.old self.new c result }
+        ensures answers { (c : Result PlainCommand ℕ) → Reads making_view command c →
+            Answers self.old self.new c result }
         ensures told { number.new ≡ number_told (told self.new result) number.old }
     {
         if !self.is_open {
@@ -36,7 +37,8 @@ impl Handle {
         number: &mut u32,
     ) -> u8
         ensures answers { (c : Result (List ℕ) ℕ) → Reads (λ name. name.now) name.entry c →
-            Answers self.old self.new (then_make c (λ name. Ok (CreateElement document name))) result }
+            Answers self.old self.new (then_make c (λ name. Ok (CreateElement document name)))
+            result }
         ensures told { number.new ≡ number_told (told self.new result) number.old }
     {
         if !self.is_open {
@@ -115,7 +117,8 @@ impl Handle {
         number: &mut u32,
     ) -> u8
         ensures answers { (c : Result AMove ℕ) → Reads (λ direction. direction) direction c →
-            Answers self.old self.new (then_make c (λ direction. Ok (Walk walker direction))) result }
+            Answers self.old self.new (then_make c (λ direction. Ok (Walk walker direction)))
+            result }
         ensures told { number.new ≡ maybe_number_told (told self.new result) number.old }
     {
         if !self.is_open {

@@ -38,8 +38,10 @@ pub extern "C" fn hp_attribute_at<'a>(
     name: &mut Bytes<'a>,
     value: &mut Text<'a>,
 ) -> u8
-    ensures name { LendsForest handle.old (attribute_name_told node index) name.old.bytes.now name.new.bytes.now result }
-    ensures value { LendsForest handle.old (attribute_value_told node index) value.old.units.now value.new.units.now result }
+    ensures name { LendsForest handle.old (attribute_name_told node index) name.old.bytes.now
+        name.new.bytes.now result }
+    ensures value { LendsForest handle.old (attribute_value_told node index) value.old.units.now
+        value.new.units.now result }
 {
     if !handle.is_open {
         return HP_CLOSED;

@@ -71,7 +71,8 @@ impl Kept {
 #[unsafe(no_mangle)]
 pub extern "C" fn hp_node_name<'a>(handle: &'a mut Handle, part: u8, out: &mut Bytes<'a>) -> u8
     ensures status { result ≡ look_up_status handle.old (node_name_part part) }
-    ensures name { out.new.bytes.now ≡ or_before (looked_up handle.old (node_name_part part)) out.old.bytes.now }
+    ensures name { out.new.bytes.now ≡ or_before (looked_up handle.old (node_name_part part))
+        out.old.bytes.now }
 {
     if !handle.is_open {
         return HP_CLOSED;

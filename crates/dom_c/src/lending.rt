@@ -49,7 +49,8 @@ fn name_of(answer: &Answer, index: usize) -> Option<&[u8]>
 
 impl Kept {
     fn text(&self) -> Option<&[u16]>
-        ensures { option_map (λ text. text.now) result ≡ option_and_then text_in (last_of self.now) }
+        ensures { option_map (λ text. text.now) result
+            ≡ option_and_then text_in (last_of self.now) }
     {
         match &self.reply {
             Some(Reply::Done(answer)) => text_of(answer),
@@ -94,7 +95,8 @@ pub extern "C" fn hp_text<'a>(handle: &'a mut Handle, out: &mut Text<'a>) -> u8
 #[unsafe(no_mangle)]
 pub extern "C" fn hp_name_at<'a>(handle: &'a mut Handle, index: usize, out: &mut Bytes<'a>) -> u8
     ensures status { result ≡ look_up_status handle.old (name_at index) }
-    ensures name { out.new.bytes.now ≡ or_before (looked_up handle.old (name_at index)) out.old.bytes.now }
+    ensures name { out.new.bytes.now ≡ or_before (looked_up handle.old (name_at index))
+        out.old.bytes.now }
 {
     if !handle.is_open {
         return HP_CLOSED;

@@ -34,7 +34,8 @@ fn reply_to(
 ) -> Result<Reply, AllocError>
     ensures reply { IfOk result (λ reply. IsReply (reply_view reply) session.old session.new
         (step_in session.old limit line.now)) }
-    ensures refused { IfOk result (λ reply. is_refusal (reply_view reply) ≡ true → session.new ≡ session.old) }
+    ensures refused { IfOk result (λ reply. is_refusal (reply_view reply) ≡ true →
+        session.new ≡ session.old) }
     ensures bounds { session.new.bounds ≡ session.old.bounds }
 {
     match read_within(alloc, limit, line) {

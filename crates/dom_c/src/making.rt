@@ -118,7 +118,8 @@ fn read_create_doctype(
 ) -> Result<Making, Fault>
     ensures { Reads making_view result
         (then_make (name_in name.now) (λ name. then_make (name_in public_id.now)
-        (λ public_id. then_make (name_in system_id.now) (λ system_id. Ok (CreateDoctype document name public_id system_id))))) }
+        (λ public_id. then_make (name_in system_id.now) (λ system_id.
+        Ok (CreateDoctype document name public_id system_id))))) }
 {
     let name = name_of(alloc, name)?;
     let public_id = name_of(alloc, public_id)?;
@@ -139,7 +140,8 @@ pub extern "C" fn hp_create_doctype(
 ) -> u8
     ensures answers { Answers handle.old handle.new
         (then_make (name_in name.now) (λ name. then_make (name_in public_id.now)
-        (λ public_id. then_make (name_in system_id.now) (λ system_id. Ok (CreateDoctype document name public_id system_id))))) result }
+        (λ public_id. then_make (name_in system_id.now) (λ system_id.
+        Ok (CreateDoctype document name public_id system_id))))) result }
     ensures told { doctype.new ≡ number_told (told handle.new result) doctype.old }
 {
     handle.make(

@@ -56,7 +56,8 @@ impl Kept {
     }
 
     fn first_child(&self, node: u32) -> Result<u32, OwnError>
-        ensures { (w : World) → StandsFor self.now.session w → result ≡ first_child_told node w.forest }
+        ensures { (w : World) → StandsFor self.now.session w →
+            result ≡ first_child_told node w.forest }
     {
         match self.session.first_child(NodeId::new(node)) {
             Ok(found) => Ok(node_number(found)),
@@ -65,7 +66,8 @@ impl Kept {
     }
 
     fn last_child(&self, node: u32) -> Result<u32, OwnError>
-        ensures { (w : World) → StandsFor self.now.session w → result ≡ last_child_told node w.forest }
+        ensures { (w : World) → StandsFor self.now.session w →
+            result ≡ last_child_told node w.forest }
     {
         match self.session.last_child(NodeId::new(node)) {
             Ok(found) => Ok(node_number(found)),
@@ -74,7 +76,8 @@ impl Kept {
     }
 
     fn child_at(&self, node: u32, index: usize) -> Result<u32, OwnError>
-        ensures { (w : World) → StandsFor self.now.session w → result ≡ child_told node index w.forest }
+        ensures { (w : World) → StandsFor self.now.session w →
+            result ≡ child_told node index w.forest }
     {
         match self.session.child_at(NodeId::new(node), index) {
             Ok(found) => Ok(node_number(found)),
@@ -182,7 +185,8 @@ pub extern "C" fn hp_children_into(
 ) -> u8
     ensures kept { handle.new.slot.kept ≡ handle.old.slot.kept }
     ensures count { ReadsForest handle.old (count_told node) count.old count.new result }
-    ensures copied { ReadsForest handle.old (children_over node numbers.old) numbers.old numbers.new result }
+    ensures copied { ReadsForest handle.old (children_over node numbers.old) numbers.old numbers.new
+        result }
 {
     if !handle.is_open {
         return HP_CLOSED;

@@ -34,7 +34,8 @@ fn read_observe(
     lengths: &[u32],
 ) -> Result<Command, Fault>
     ensures { Reads command_view result
-        (then_make (options_in options.now names.now lengths.now) (λ options. Ok (Observe observer node options))) }
+        (then_make (options_in options.now names.now lengths.now) (λ options.
+        Ok (Observe observer node options))) }
 {
     let options = options_of(alloc, options, names, lengths)?;
     Ok(Command::Observing(Observing::Observe(
@@ -56,7 +57,8 @@ pub extern "C" fn hp_observe(
     lengths: &[u32],
 ) -> u8
     ensures { Answers handle.old handle.new
-        (then_make (options_in options.now names.now lengths.now) (λ options. Ok (Observe observer node options))) result }
+        (then_make (options_in options.now names.now lengths.now) (λ options.
+        Ok (Observe observer node options))) result }
 {
     handle.take(read_observe(alloc, observer, node, options, names, lengths))
 }

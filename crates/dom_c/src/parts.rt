@@ -69,7 +69,8 @@ impl Kept {
     }
 
     fn numbers(&self) -> Option<&[u32]>
-        ensures { option_map (λ numbers. numbers.now) result ≡ option_and_then numbers_in (last_of self.now) }
+        ensures { option_map (λ numbers. numbers.now) result
+            ≡ option_and_then numbers_in (last_of self.now) }
     {
         match &self.reply {
             Some(Reply::Done(answer)) => numbers_of(answer),
@@ -115,7 +116,8 @@ pub extern "C" fn hp_count(handle: &mut Handle, count: &mut usize) -> u8
 pub extern "C" fn hp_number_at(handle: &mut Handle, index: usize, number: &mut u32) -> u8
     ensures kept { handle.new.slot.kept ≡ handle.old.slot.kept }
     ensures status { result ≡ look_up_status handle.old (listed_number index) }
-    ensures number { number.new ≡ or_before (looked_up handle.old (listed_number index)) number.old }
+    ensures number { number.new ≡ or_before (looked_up handle.old (listed_number index))
+        number.old }
 {
     if !handle.is_open {
         return HP_CLOSED;
@@ -139,7 +141,8 @@ pub extern "C" fn hp_number_at(handle: &mut Handle, index: usize, number: &mut u
 pub extern "C" fn hp_numbers_into(handle: &mut Handle, numbers: &mut [u32], count: &mut usize) -> u8
     ensures kept { handle.new.slot.kept ≡ handle.old.slot.kept }
     ensures status { result ≡ look_up_status handle.old numbers_in }
-    ensures count { count.new ≡ or_before (option_map length (looked_up handle.old numbers_in)) count.old }
+    ensures count { count.new ≡ or_before (option_map length (looked_up handle.old numbers_in))
+        count.old }
     ensures copied { numbers.new ≡ laid_or_before (looked_up handle.old numbers_in) numbers.old }
 {
     if !handle.is_open {

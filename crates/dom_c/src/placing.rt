@@ -165,7 +165,8 @@ impl Kept {
 impl Handle {
     /// Takes a command. Writes the ends of a live range.
     pub(crate) fn take_ends(&mut self, command: Result<Command, Fault>, ends: &mut Ends) -> u8
-        ensures answers { (c : Result PlainCommand ℕ) → Reads command_view command c → Answers self.old self.new c result }
+        ensures answers { (c : Result PlainCommand ℕ) → Reads command_view command c →
+            Answers self.old self.new c result }
         ensures told { ends.new ≡ ends_told (told self.new result) ends.old }
     {
         let status = self.take(command);
@@ -181,7 +182,8 @@ impl Handle {
         command: Result<Command, Fault>,
         ends: &mut StaticEnds,
     ) -> u8
-        ensures answers { (c : Result PlainCommand ℕ) → Reads command_view command c → Answers self.old self.new c result }
+        ensures answers { (c : Result PlainCommand ℕ) → Reads command_view command c →
+            Answers self.old self.new c result }
         ensures told { ends.new ≡ static_ends_told (told self.new result) ends.old }
     {
         let status = self.take(command);
@@ -197,7 +199,8 @@ impl Handle {
         command: Result<Command, Fault>,
         place: &mut IteratorAt,
     ) -> u8
-        ensures answers { (c : Result PlainCommand ℕ) → Reads command_view command c → Answers self.old self.new c result }
+        ensures answers { (c : Result PlainCommand ℕ) → Reads command_view command c →
+            Answers self.old self.new c result }
         ensures told { place.new ≡ iterator_at_told (told self.new result) place.old }
     {
         let status = self.take(command);
@@ -213,7 +216,8 @@ impl Handle {
         command: Result<Command, Fault>,
         place: &mut WalkerAt,
     ) -> u8
-        ensures answers { (c : Result PlainCommand ℕ) → Reads command_view command c → Answers self.old self.new c result }
+        ensures answers { (c : Result PlainCommand ℕ) → Reads command_view command c →
+            Answers self.old self.new c result }
         ensures told { place.new ≡ walker_at_told (told self.new result) place.old }
     {
         let status = self.take(command);
@@ -225,7 +229,8 @@ impl Handle {
 
     /// Takes a command. Writes where a node stands, and of which kind it is.
     pub(crate) fn take_place(&mut self, command: Result<Command, Fault>, place: &mut Place) -> u8
-        ensures answers { (c : Result PlainCommand ℕ) → Reads command_view command c → Answers self.old self.new c result }
+        ensures answers { (c : Result PlainCommand ℕ) → Reads command_view command c →
+            Answers self.old self.new c result }
         ensures told { place.new ≡ place_told (told self.new result) place.old }
     {
         let status = self.take(command);

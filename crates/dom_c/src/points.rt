@@ -18,7 +18,8 @@ pub extern "C" fn hp_compare_boundary_points(
     source: u32,
     order: &mut i8,
 ) -> u8
-    ensures answers { Answers handle.old handle.new (Ok (CompareBoundaryPoints range how source)) result }
+    ensures answers { Answers handle.old handle.new (Ok (CompareBoundaryPoints range how source))
+        result }
     ensures told { order.new ≡ order_told (told handle.new result) order.old }
 {
     handle.take_order(

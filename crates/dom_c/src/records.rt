@@ -49,7 +49,8 @@ fn type_number(what: RecordType) -> u8
 
 // The records of a notice; those that were taken stand as the first.
 fn records_in(answer: &Answer, notice: usize) -> Option<&[MutationRecord]>
-    ensures { option_map (λ records. records.now) result ≡ records_in notice (answer_view answer.now) }
+    ensures { option_map (λ records. records.now) result
+        ≡ records_in notice (answer_view answer.now) }
 {
     match answer {
         Answer::Records(records) if notice == 0 => Some(records.as_slice()),
@@ -62,7 +63,8 @@ fn records_in(answer: &Answer, notice: usize) -> Option<&[MutationRecord]>
 }
 
 fn record_in(answer: &Answer, notice: usize, index: usize) -> Option<&MutationRecord>
-    ensures { option_map (λ found. found.now) result ≡ record_in notice index (answer_view answer.now) }
+    ensures { option_map (λ found. found.now) result
+        ≡ record_in notice index (answer_view answer.now) }
 {
     match records_in(answer, notice) {
         Some(records) => records.get(index),
@@ -204,7 +206,8 @@ pub extern "C" fn hp_record_at(
 ) -> u8
     ensures kept { handle.new.slot.kept ≡ handle.old.slot.kept }
     ensures status { result ≡ look_up_status handle.old (record_at notice index) }
-    ensures found { record.new ≡ or_before (looked_up handle.old (record_at notice index)) record.old }
+    ensures found { record.new ≡ or_before (looked_up handle.old (record_at notice index))
+        record.old }
 {
     if !handle.is_open {
         return HP_CLOSED;
@@ -233,8 +236,10 @@ pub extern "C" fn hp_records_into(
 ) -> u8
     ensures kept { handle.new.slot.kept ≡ handle.old.slot.kept }
     ensures status { result ≡ look_up_status handle.old (records_at notice) }
-    ensures count { count.new ≡ or_before (option_map length (looked_up handle.old (records_at notice))) count.old }
-    ensures copied { records.new ≡ laid_or_before (looked_up handle.old (records_at notice)) records.old }
+    ensures count { count.new ≡ or_before (option_map length
+        (looked_up handle.old (records_at notice))) count.old }
+    ensures copied { records.new ≡ laid_or_before (looked_up handle.old (records_at notice))
+        records.old }
 {
     if !handle.is_open {
         return HP_CLOSED;
@@ -293,7 +298,8 @@ pub extern "C" fn hp_record_removed_at(
 ) -> u8
     ensures kept { handle.new.slot.kept ≡ handle.old.slot.kept }
     ensures status { result ≡ look_up_status handle.old (removed_at notice index at) }
-    ensures node { node.new ≡ or_before (looked_up handle.old (removed_at notice index at)) node.old }
+    ensures node { node.new ≡ or_before (looked_up handle.old (removed_at notice index at))
+        node.old }
 {
     if !handle.is_open {
         return HP_CLOSED;
@@ -320,7 +326,8 @@ pub extern "C" fn hp_record_name<'a>(
     out: &mut Bytes<'a>,
 ) -> u8
     ensures status { result ≡ look_up_status handle.old (record_name_at notice index) }
-    ensures name { out.new.bytes.now ≡ or_before (looked_up handle.old (record_name_at notice index)) out.old.bytes.now }
+    ensures name { out.new.bytes.now ≡ or_before (looked_up handle.old
+        (record_name_at notice index)) out.old.bytes.now }
 {
     if !handle.is_open {
         return HP_CLOSED;
@@ -347,7 +354,8 @@ pub extern "C" fn hp_record_old_value<'a>(
     out: &mut Text<'a>,
 ) -> u8
     ensures status { result ≡ look_up_status handle.old (old_value_at notice index) }
-    ensures value { out.new.units.now ≡ or_before (looked_up handle.old (old_value_at notice index)) out.old.units.now }
+    ensures value { out.new.units.now ≡ or_before (looked_up handle.old (old_value_at notice index))
+        out.old.units.now }
 {
     if !handle.is_open {
         return HP_CLOSED;

@@ -78,7 +78,8 @@ fn attribute_value_in(row: &TreeRow, at: usize) -> Option<&[u16]>
 
 impl Kept {
     fn row(&self, index: usize) -> Option<&TreeRow>
-        ensures { option_map (λ row. row.now) result ≡ option_and_then (row_in index) (last_of self.now) }
+        ensures { option_map (λ row. row.now) result
+            ≡ option_and_then (row_in index) (last_of self.now) }
     {
         match &self.reply {
             Some(Reply::Done(answer)) => row_in(answer, index),
@@ -169,7 +170,8 @@ pub extern "C" fn hp_row_name<'a>(
     out: &mut Bytes<'a>,
 ) -> u8
     ensures status { result ≡ look_up_status handle.old (row_name_at index part) }
-    ensures name { out.new.bytes.now ≡ or_before (looked_up handle.old (row_name_at index part)) out.old.bytes.now }
+    ensures name { out.new.bytes.now ≡ or_before (looked_up handle.old (row_name_at index part))
+        out.old.bytes.now }
 {
     if !handle.is_open {
         return HP_CLOSED;
@@ -191,7 +193,8 @@ pub extern "C" fn hp_row_name<'a>(
 #[unsafe(no_mangle)]
 pub extern "C" fn hp_row_text<'a>(handle: &'a mut Handle, index: usize, out: &mut Text<'a>) -> u8
     ensures status { result ≡ look_up_status handle.old (row_text_at index) }
-    ensures text { out.new.units.now ≡ or_before (looked_up handle.old (row_text_at index)) out.old.units.now }
+    ensures text { out.new.units.now ≡ or_before (looked_up handle.old (row_text_at index))
+        out.old.units.now }
 {
     if !handle.is_open {
         return HP_CLOSED;
@@ -218,7 +221,8 @@ pub extern "C" fn hp_row_attribute_name<'a>(
     out: &mut Bytes<'a>,
 ) -> u8
     ensures status { result ≡ look_up_status handle.old (row_attribute_name_at index at) }
-    ensures name { out.new.bytes.now ≡ or_before (looked_up handle.old (row_attribute_name_at index at)) out.old.bytes.now }
+    ensures name { out.new.bytes.now ≡ or_before (looked_up handle.old
+        (row_attribute_name_at index at)) out.old.bytes.now }
 {
     if !handle.is_open {
         return HP_CLOSED;
@@ -245,7 +249,8 @@ pub extern "C" fn hp_row_attribute_value<'a>(
     out: &mut Text<'a>,
 ) -> u8
     ensures status { result ≡ look_up_status handle.old (row_attribute_value_at index at) }
-    ensures value { out.new.units.now ≡ or_before (looked_up handle.old (row_attribute_value_at index at)) out.old.units.now }
+    ensures value { out.new.units.now ≡ or_before (looked_up handle.old
+        (row_attribute_value_at index at)) out.old.units.now }
 {
     if !handle.is_open {
         return HP_CLOSED;

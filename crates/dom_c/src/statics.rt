@@ -22,7 +22,8 @@ pub extern "C" fn hp_create_static_range(
     range: &mut u32,
 ) -> u8
     ensures answers { Answers handle.old handle.new
-        (Ok (CreateStaticRange (record { node = start; offset = start_offset }) (record { node = end; offset = end_offset }))) result }
+        (Ok (CreateStaticRange (record { node = start; offset = start_offset })
+        (record { node = end; offset = end_offset }))) result }
     ensures told { range.new ≡ number_told (told handle.new result) range.old }
 {
     handle.take_number(

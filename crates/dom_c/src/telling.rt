@@ -155,7 +155,8 @@ impl Kept {
 impl Handle {
     /// Takes a command. Writes a number.
     pub(crate) fn take_number(&mut self, command: Result<Command, Fault>, number: &mut u32) -> u8
-        ensures answers { (c : Result PlainCommand ℕ) → Reads command_view command c → Answers self.old self.new c result }
+        ensures answers { (c : Result PlainCommand ℕ) → Reads command_view command c →
+            Answers self.old self.new c result }
         ensures told { number.new ≡ number_told (told self.new result) number.old }
     {
         let status = self.take(command);
@@ -167,7 +168,8 @@ impl Handle {
 
     /// Takes a command. Writes an index or a length.
     pub(crate) fn take_count(&mut self, command: Result<Command, Fault>, count: &mut usize) -> u8
-        ensures answers { (c : Result PlainCommand ℕ) → Reads command_view command c → Answers self.old self.new c result }
+        ensures answers { (c : Result PlainCommand ℕ) → Reads command_view command c →
+            Answers self.old self.new c result }
         ensures told { count.new ≡ count_told (told self.new result) count.old }
     {
         let status = self.take(command);
@@ -179,7 +181,8 @@ impl Handle {
 
     /// Takes a command. Writes a yes or a no: 1 or 0.
     pub(crate) fn take_flag(&mut self, command: Result<Command, Fault>, flag: &mut u8) -> u8
-        ensures answers { (c : Result PlainCommand ℕ) → Reads command_view command c → Answers self.old self.new c result }
+        ensures answers { (c : Result PlainCommand ℕ) → Reads command_view command c →
+            Answers self.old self.new c result }
         ensures told { flag.new ≡ flag_told (told self.new result) flag.old }
     {
         let status = self.take(command);
@@ -191,7 +194,8 @@ impl Handle {
 
     /// Takes a command. Writes how one place stands to another: -1, 0 or 1.
     pub(crate) fn take_order(&mut self, command: Result<Command, Fault>, order: &mut i8) -> u8
-        ensures answers { (c : Result PlainCommand ℕ) → Reads command_view command c → Answers self.old self.new c result }
+        ensures answers { (c : Result PlainCommand ℕ) → Reads command_view command c →
+            Answers self.old self.new c result }
         ensures told { order.new ≡ order_told (told self.new result) order.old }
     {
         let status = self.take(command);

@@ -28,7 +28,8 @@ fn read_create_iterator(
     verdicts: &[u8],
 ) -> Result<Command, Fault>
     ensures { Reads command_view result
-        (then_make (rules_in names.now lengths.now verdicts.now) (λ rules. Ok (CreateIterator root (record { show = show; rules = rules })))) }
+        (then_make (rules_in names.now lengths.now verdicts.now) (λ rules.
+        Ok (CreateIterator root (record { show = show; rules = rules })))) }
 {
     let rules = rules_of(alloc, names, lengths, verdicts)?;
     Ok(Command::Traversing(Traversing::CreateIterator(NodeId::new(root), Filter { show, rules })))
@@ -47,7 +48,8 @@ pub extern "C" fn hp_create_iterator(
     iterator: &mut u32,
 ) -> u8
     ensures answers { Answers handle.old handle.new
-        (then_make (rules_in names.now lengths.now verdicts.now) (λ rules. Ok (CreateIterator root (record { show = show; rules = rules })))) result }
+        (then_make (rules_in names.now lengths.now verdicts.now) (λ rules.
+        Ok (CreateIterator root (record { show = show; rules = rules })))) result }
     ensures told { iterator.new ≡ number_told (told handle.new result) iterator.old }
 {
     handle.take_number(
@@ -66,7 +68,8 @@ fn read_create_walker(
     verdicts: &[u8],
 ) -> Result<Command, Fault>
     ensures { Reads command_view result
-        (then_make (rules_in names.now lengths.now verdicts.now) (λ rules. Ok (CreateWalker root (record { show = show; rules = rules })))) }
+        (then_make (rules_in names.now lengths.now verdicts.now) (λ rules.
+        Ok (CreateWalker root (record { show = show; rules = rules })))) }
 {
     let rules = rules_of(alloc, names, lengths, verdicts)?;
     Ok(Command::Traversing(Traversing::CreateWalker(NodeId::new(root), Filter { show, rules })))
@@ -85,7 +88,8 @@ pub extern "C" fn hp_create_walker(
     walker: &mut u32,
 ) -> u8
     ensures answers { Answers handle.old handle.new
-        (then_make (rules_in names.now lengths.now verdicts.now) (λ rules. Ok (CreateWalker root (record { show = show; rules = rules })))) result }
+        (then_make (rules_in names.now lengths.now verdicts.now) (λ rules.
+        Ok (CreateWalker root (record { show = show; rules = rules })))) result }
     ensures told { walker.new ≡ number_told (told handle.new result) walker.old }
 {
     handle.take_number(

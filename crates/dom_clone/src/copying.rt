@@ -32,7 +32,8 @@ pub fn clone_node(
 ) -> Result<NodeId, AllocError>
     requires whole { IsWhole world.old }
     requires held { HasNode world.old.tree.forest node }
-    requires room { world.old.tree.made + size (original deep node world.old.tree.forest) ≤ 4294967295 }
+    requires room { world.old.tree.made + size (original deep node world.old.tree.forest)
+        ≤ 4294967295 }
     ensures number { IfOk result (λ id. id ≡ world.old.tree.made) }
     ensures cloned { OnOk result (Follows world.old world.new (clone_node deep node)) }
     ensures left { LeavesAll world.old world.new }
@@ -55,11 +56,13 @@ pub fn import(
     requires whole { IsWhole world.old }
     requires document_kind { is_of_kind Document world.old.tree.forest document ≡ true }
     requires held { HasNode world.old.tree.forest node }
-    requires room { check_adopt world.old.tree.forest node ≡ None → world.old.tree.made + size (original deep node world.old.tree.forest) ≤ 4294967295 }
+    requires room { check_adopt world.old.tree.forest node ≡ None →
+        world.old.tree.made + size (original deep node world.old.tree.forest) ≤ 4294967295 }
     ensures allowed { OnOk result (check_adopt world.old.tree.forest node ≡ None) }
     ensures number { IfOk result (λ id. id ≡ world.old.tree.made) }
     ensures imported { OnOk result (Follows world.old world.new (import_node document deep node)) }
-    ensures refused { IfErr result (λ e. IsRefused e (check_adopt world.old.tree.forest node) world.old world.new) }
+    ensures refused { IfErr result (λ e. IsRefused e (check_adopt world.old.tree.forest node)
+        world.old world.new) }
     ensures left { LeavesAll world.old world.new }
     ensures whole { IsWhole world.new }
 {
@@ -73,7 +76,8 @@ pub fn import(
 // The node document of a node's copies; none where the first of them is a Document, whose own it is.
 fn document_of_copies(tree: &Tree<Content>, node: NodeId) -> Option<NodeId>
     requires { HasNode tree.now.forest node }
-    ensures { IfSome (entry_in tree.now.forest node) (λ e. result ≡ (if is_kind Document e.value.label.kind then None else Some e.value.document)) }
+    ensures { IfSome (entry_in tree.now.forest node) (λ e. result
+        ≡ (if is_kind Document e.value.label.kind then None else Some e.value.document)) }
 {
     if tree.label(node).kind == Kind::Document {
         None
@@ -92,11 +96,15 @@ fn copy_tree(
 ) -> Result<NodeId, AllocError>
     requires whole { IsWhole world.old }
     requires held { HasNode world.old.tree.forest node }
-    requires room { world.old.tree.made + size (original deep node world.old.tree.forest) ≤ 4294967295 }
-    requires document_kind { ForSome document (λ d. is_of_kind Document world.old.tree.forest d ≡ true) }
-    requires own_document { document ≡ None → is_of_kind Document world.old.tree.forest node ≡ true }
+    requires room { world.old.tree.made + size (original deep node world.old.tree.forest)
+        ≤ 4294967295 }
+    requires document_kind { ForSome document (λ d. is_of_kind Document world.old.tree.forest d
+        ≡ true) }
+    requires own_document { document ≡ None → is_of_kind Document world.old.tree.forest node
+        ≡ true }
     ensures number { IfOk result (λ id. id ≡ world.old.tree.made) }
-    ensures copied { OnOk result (Follows world.old world.new (λ w. with_copies (unwrap_or document world.old.tree.made) (original deep node w.forest) w)) }
+    ensures copied { OnOk result (Follows world.old world.new (λ w.
+        with_copies (unwrap_or document world.old.tree.made) (original deep node w.forest) w)) }
     ensures left { LeavesAll world.old world.new }
     ensures whole { IsWhole world.new }
 {
@@ -124,11 +132,14 @@ fn copy_node(
     requires whole { IsWhole world.old }
     requires held { HasNode world.old.tree.forest node }
     requires room { world.old.tree.made < 4294967295 }
-    requires document_kind { ForSome document (λ d. is_of_kind Document world.old.tree.forest d ≡ true) }
-    requires own_document { document ≡ None → is_of_kind Document world.old.tree.forest node ≡ true }
+    requires document_kind { ForSome document (λ d. is_of_kind Document world.old.tree.forest d
+        ≡ true) }
+    requires own_document { document ≡ None → is_of_kind Document world.old.tree.forest node
+        ≡ true }
     ensures number { IfOk result (λ id. id ≡ world.old.tree.made) }
     ensures copied { IfSome (entry_in world.old.tree.forest node)
-        (λ e. OnOk result (Follows world.old world.new (made_node (unwrap_or document world.old.tree.made) e.value.label e.value.body))) }
+        (λ e. OnOk result (Follows world.old world.new
+        (made_node (unwrap_or document world.old.tree.made) e.value.label e.value.body))) }
     ensures left { LeavesAll world.old world.new }
     ensures whole { IsWhole world.new }
 {
@@ -151,7 +162,8 @@ fn copy_under(
     requires kinds { MayStand world.old.tree.forest parent node }
     ensures number { IfOk result (λ id. id ≡ world.old.tree.made) }
     ensures copied { IfSome (entry_in world.old.tree.forest parent)
-        (λ p. IfSome (entry_in world.old.tree.forest node) (λ e. OnOk result (Follows world.old world.new (made_under parent p.value.document e.value)))) }
+        (λ p. IfSome (entry_in world.old.tree.forest node) (λ e.
+        OnOk result (Follows world.old world.new (made_under parent p.value.document e.value)))) }
     ensures failed { OnErr result (LeavesAll world.old world.new) }
     ensures observers { world.new.observers ≡ world.old.observers }
     ensures whole { IsWhole world.new }

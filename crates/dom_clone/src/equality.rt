@@ -59,7 +59,8 @@ fn is_followed_inside(tree: &Tree<Content>, top: NodeId, id: NodeId) -> bool
 fn agree(tree: &Tree<Content>, left: NodeId, right: NodeId) -> bool
     requires left_held { HasNode tree.now.forest left }
     requires right_held { HasNode tree.now.forest right }
-    ensures { result ≡ agree_in (value_of (entry_in tree.now.forest left)) (value_of (entry_in tree.now.forest right)) }
+    ensures { result ≡ agree_in (value_of (entry_in tree.now.forest left))
+        (value_of (entry_in tree.now.forest right)) }
 {
     let label = tree.label(left);
     let other = tree.label(right);
@@ -84,7 +85,8 @@ fn same_attributes(tree: &Tree<Content>, left: NodeId, right: NodeId) -> bool
     requires left_held { HasNode tree.now.forest left }
     requires right_held { HasNode tree.now.forest right }
     ensures { IfSome (entry_in tree.now.forest left)
-        (λ l. IfSome (entry_in tree.now.forest right) (λ r. result ≡ same_attributes l.value.body.attributes r.value.body.attributes)) }
+        (λ l. IfSome (entry_in tree.now.forest right) (λ r. result
+        ≡ same_attributes l.value.body.attributes r.value.body.attributes)) }
 {
     let body = tree.body(left);
     let other = tree.body(right);
@@ -96,7 +98,8 @@ fn same_text(tree: &Tree<Content>, left: NodeId, right: NodeId) -> bool
     requires left_held { HasNode tree.now.forest left }
     requires right_held { HasNode tree.now.forest right }
     ensures { IfSome (entry_in tree.now.forest left)
-        (λ l. IfSome (entry_in tree.now.forest right) (λ r. result ≡ bytes_eq l.value.body.text r.value.body.text)) }
+        (λ l. IfSome (entry_in tree.now.forest right) (λ r. result
+        ≡ bytes_eq l.value.body.text r.value.body.text)) }
 {
     let body = tree.body(left);
     let other = tree.body(right);

@@ -19,7 +19,8 @@ pub(crate) fn children_between(
 ) -> Result<Vec<NodeId>, AllocError>
     requires held { HasNode tree.now.forest parent }
     requires child { IsAmong from (children_of tree.now.forest parent) }
-    ensures { IfOk result (λ list. list.items ≡ ahead_of until (from_optional from (children_of tree.now.forest parent))) }
+    ensures { IfOk result (λ list. list.items ≡ ahead_of until
+        (from_optional from (children_of tree.now.forest parent))) }
 {
     tree.sound();
     let mut list = Vec::new(alloc);

@@ -27,7 +27,8 @@ fn tail_of(
     offset: usize,
 ) -> Result<Vec<NodeId>, AllocError>
     requires held { HasNode world.now.tree.forest node }
-    ensures { IfOk result (λ list. list.items ≡ tail_nodes (unwatched world.now) offset (node ∷ [])) }
+    ensures { IfOk result (λ list. list.items ≡ tail_nodes (unwatched world.now) offset
+        (node ∷ [])) }
 {
     if world.tree.has_data(node) {
         return Ok(Vec::new(alloc));
@@ -43,7 +44,8 @@ fn head_of(
     offset: usize,
 ) -> Result<Vec<NodeId>, AllocError>
     requires held { HasNode world.now.tree.forest node }
-    ensures { IfOk result (λ list. list.items ≡ head_nodes (unwatched world.now) offset (node ∷ [])) }
+    ensures { IfOk result (λ list. list.items ≡ head_nodes (unwatched world.now) offset
+        (node ∷ [])) }
 {
     if world.tree.has_data(node) {
         return Ok(Vec::new(alloc));
@@ -110,7 +112,8 @@ pub(crate) fn contained_tops(
     requires whole { IsWhole world.now }
     requires range { IsRange world.now.tree.forest (record { start = start; end = end }) }
     requires parts { ArePartsOf world.now.tree.forest start end parts.now }
-    ensures { IfOk result (λ tops. tops.items ≡ contained_tops (unwatched world.now) (record { start = start; end = end })) }
+    ensures { IfOk result (λ tops. tops.items ≡ contained_tops (unwatched world.now)
+        (record { start = start; end = end })) }
 {
     let mut tops = tail_nodes(world, alloc, start.offset, &parts.first)?;
     tops.extend_from_slice(&parts.contained)?;
@@ -126,8 +129,10 @@ pub(crate) fn last_ahead(tree: &Tree<Content>, point: Point) -> NodeId
     ensures held { HasNode tree.now.forest result }
     ensures one_root { root_of tree.now.forest result ≡ root_of tree.now.forest point.node }
     ensures ahead { is_before tree.now.forest point (record { node = result; offset = 0 }) ≡ false }
-    ensures behind { (root next : ℕ) → root_of tree.now.forest point.node ≡ Some root → point.offset ≤ node_length unit_count tree.now.forest point.node →
-        after result (inclusive_descendants tree.now.forest root) ≡ Some next → is_before tree.now.forest point (record { node = next; offset = 0 }) ≡ true }
+    ensures behind { (root next : ℕ) → root_of tree.now.forest point.node ≡ Some root →
+        point.offset ≤ node_length unit_count tree.now.forest point.node →
+        after result (inclusive_descendants tree.now.forest root) ≡ Some next →
+        is_before tree.now.forest point (record { node = next; offset = 0 }) ≡ true }
 {
     tree.sound();
     let Point { node, offset } = point;

@@ -50,7 +50,8 @@ fn cut_units(
 // the start, where that stands in the ancestor itself.
 pub(crate) fn new_place(tree: &Tree<Content>, start: Point, path: &[NodeId]) -> Point
     requires way { (ancestor : ℕ) × IsWay tree.now.forest ancestor path.now start.node }
-    ensures { (ancestor : ℕ) → IsWay tree.now.forest ancestor path.now start.node → result ≡ place_behind tree.now.forest ancestor start path.now }
+    ensures { (ancestor : ℕ) → IsWay tree.now.forest ancestor path.now start.node →
+        result ≡ place_behind tree.now.forest ancestor start path.now }
 {
     match head(path) {
         Some(child) => point_after(tree, child).unwrap(),
@@ -74,7 +75,8 @@ pub(crate) fn stand_at(world: &mut World, range: RangeId, place: Point)
 fn cut_from(world: &mut World, alloc: Global, start: Point) -> Result<(), AllocError>
     requires whole { IsWhole world.old }
     requires held { HasNode world.old.tree.forest start.node }
-    requires within { kind_passes is_character_data world.old.tree.forest start.node ≡ true → start.offset ≤ length (data_of (unwatched world.old) start.node) }
+    requires within { kind_passes is_character_data world.old.tree.forest start.node ≡ true →
+        start.offset ≤ length (data_of (unwatched world.old) start.node) }
     ensures cut { OnOk result (Follows world.old world.new (cut_from start.node start.offset)) }
     ensures kept { KeepsLabels world.old world.new }
     ensures whole { IsWhole world.new }
@@ -126,8 +128,10 @@ fn delete_between(
 ) -> Result<(), AllocError>
     requires whole { IsWhole world.old }
     requires ends { range_in world.old.ranges range ≡ Some (record { start = start; end = end }) }
-    requires apart { is_in_one_data (unwatched world.old) (record { start = start; end = end }) ≡ false }
-    ensures deleted { OnOk result (Follows world.old world.new (deleted_between range (record { start = start; end = end }))) }
+    requires apart { is_in_one_data (unwatched world.old) (record { start = start; end = end })
+        ≡ false }
+    ensures deleted { OnOk result (Follows world.old world.new
+        (deleted_between range (record { start = start; end = end }))) }
     ensures kept { KeepsLabels world.old world.new }
     ensures whole { IsWhole world.new }
 {

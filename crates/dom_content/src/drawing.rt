@@ -53,9 +53,12 @@ fn has_doctype(tree: &Tree<Content>, nodes: &[NodeId]) -> bool
 fn drawable_parts(world: &World, alloc: Global, start: Point, end: Point) -> Result<Parts, Refusal>
     requires whole { IsWhole world.now }
     requires range { IsRange world.now.tree.forest (record { start = start; end = end }) }
-    ensures allowed { OnOk result (check_draw (unwatched world.now) (record { start = start; end = end }) ≡ None) }
+    ensures allowed { OnOk result (check_draw (unwatched world.now)
+        (record { start = start; end = end }) ≡ None) }
     ensures parts { IfOk result (λ parts. ArePartsOf world.now.tree.forest start end parts) }
-    ensures refused { IfErr result (λ e. IsRefused e (check_draw (unwatched world.now) (record { start = start; end = end })) world.now world.now) }
+    ensures refused { IfErr result (λ e. IsRefused e
+        (check_draw (unwatched world.now) (record { start = start; end = end })) world.now
+        world.now) }
 {
     let parts = parts_of(&world.tree, alloc, start, end)?;
     if has_doctype(&world.tree, &parts.contained) {
@@ -67,7 +70,8 @@ fn drawable_parts(world: &World, alloc: Global, start: Point, end: Point) -> Res
 // Whether the ends of a range follow the cut, once its contents are gone.
 fn follows_cut(tree: &Tree<Content>, start: Point, end: Point) -> bool
     requires held { HasNode tree.now.forest start.node }
-    ensures { result ≡ (is_collapsed (record { start = start; end = end }) || in_one_data tree.now.forest (record { start = start; end = end })) }
+    ensures { result ≡ (is_collapsed (record { start = start; end = end })
+        || in_one_data tree.now.forest (record { start = start; end = end })) }
 {
     start == end || is_in_one_data(tree, start, end)
 }
@@ -86,8 +90,10 @@ fn draw_units(
     requires kind { kind_passes is_character_data world.old.tree.forest start.node ≡ true }
     requires within { start.offset ≤ length (data_of (unwatched world.old) start.node) }
     requires ahead { start.offset ≤ end.offset }
-    requires room { HasRoom world.old (units_into moves into start.node start.offset (end.offset - start.offset)) }
-    ensures drawn { OnOk result (Follows world.old world.new (units_into moves into start.node start.offset (end.offset - start.offset))) }
+    requires room { HasRoom world.old (units_into moves into start.node start.offset
+        (end.offset - start.offset)) }
+    ensures drawn { OnOk result (Follows world.old world.new
+        (units_into moves into start.node start.offset (end.offset - start.offset))) }
     ensures stays { OnOk result (Stays world.old world.new) }
     ensures left { moves ≡ false → LeavesOlder (into ∷ []) world.old world.new }
     ensures kept { KeepsLabels world.old world.new }
@@ -108,11 +114,13 @@ fn draw_parts(
     parts: &Parts,
 ) -> Result<(), AllocError>
     requires whole { IsWhole world.old }
-    requires may { MayDraw world.old into (parts.now.first.items ++ (parts.now.contained.items ++ parts.now.last.items)) }
+    requires may { MayDraw world.old into (parts.now.first.items
+        ++ (parts.now.contained.items ++ parts.now.last.items)) }
     requires first_way { IsPathTo world.old.tree.forest start.offset parts.now.first.items }
     requires last_way { IsPathTo world.old.tree.forest 0 parts.now.last.items }
     requires room { HasRoom world.old (drawn_by moves into start end parts.now) }
-    ensures drawn { OnOk result (Follows world.old world.new (drawn_by moves into start end parts.now)) }
+    ensures drawn { OnOk result (Follows world.old world.new
+        (drawn_by moves into start end parts.now)) }
     ensures stays { OnOk result (Stays world.old world.new) }
     ensures left { moves ≡ false → LeavesOlder (into ∷ []) world.old world.new }
     ensures kept { KeepsLabels world.old world.new }
@@ -135,15 +143,20 @@ fn fill(
 ) -> Result<(), AllocError>
     requires whole { IsWhole world.old }
     requires start_held { HasNode world.old.tree.forest start.node }
-    requires within { in_one_data world.old.tree.forest (record { start = start; end = end }) ≡ true →
+    requires within { in_one_data world.old.tree.forest (record { start = start; end = end })
+        ≡ true →
         start.offset ≤ length (data_of (unwatched world.old) start.node) }
     requires ahead { (start.node == end.node) ≡ true → start.offset ≤ end.offset }
-    requires may { MayDraw world.old into (parts.now.first.items ++ (parts.now.contained.items ++ parts.now.last.items)) }
+    requires may { MayDraw world.old into (parts.now.first.items
+        ++ (parts.now.contained.items ++ parts.now.last.items)) }
     requires first_way { IsPathTo world.old.tree.forest start.offset parts.now.first.items }
     requires last_way { IsPathTo world.old.tree.forest 0 parts.now.last.items }
-    requires room { HasRoom world.old (filled_by moves (in_one_data world.old.tree.forest (record { start = start; end = end })) into start end parts.now) }
+    requires room { HasRoom world.old (filled_by moves
+        (in_one_data world.old.tree.forest (record { start = start; end = end })) into start end
+        parts.now) }
     ensures drawn { OnOk result (Follows world.old world.new
-        (filled_by moves (in_one_data world.old.tree.forest (record { start = start; end = end })) into start end parts.now)) }
+        (filled_by moves (in_one_data world.old.tree.forest (record { start = start; end = end }))
+        into start end parts.now)) }
     ensures stays { OnOk result (Stays world.old world.new) }
     ensures left { moves ≡ false → LeavesOlder (into ∷ []) world.old world.new }
     ensures kept { KeepsLabels world.old world.new }
@@ -169,11 +182,13 @@ fn draw(
 ) -> Result<NodeId, AllocError>
     requires whole { IsWhole world.old }
     requires range { IsRange world.old.tree.forest (record { start = start; end = end }) }
-    requires allowed { check_draw (unwatched world.old) (record { start = start; end = end }) ≡ None }
+    requires allowed { check_draw (unwatched world.old) (record { start = start; end = end })
+        ≡ None }
     requires parts { ArePartsOf world.old.tree.forest start end parts.now }
     requires room { HasRoom world.old (contents_drawn moves (record { start = start; end = end })) }
     ensures number { IfOk result (λ id. id ≡ world.old.tree.made) }
-    ensures drawn { OnOk result (Follows world.old world.new (contents_drawn moves (record { start = start; end = end }))) }
+    ensures drawn { OnOk result (Follows world.old world.new
+        (contents_drawn moves (record { start = start; end = end }))) }
     ensures stays { OnOk result (Stays world.old world.new) }
     ensures left { moves ≡ false → LeavesAll world.old world.new }
     ensures kept { KeepsLabels world.old world.new }
@@ -197,11 +212,13 @@ fn extract_parts(
     requires whole { IsWhole world.old }
     requires live { IsSome (range_in world.old.ranges range) }
     requires range { IsRange world.old.tree.forest (record { start = start; end = end }) }
-    requires allowed { check_draw (unwatched world.old) (record { start = start; end = end }) ≡ None }
+    requires allowed { check_draw (unwatched world.old) (record { start = start; end = end })
+        ≡ None }
     requires parts { ArePartsOf world.old.tree.forest start end parts.now }
     requires room { HasRoom world.old (contents_drawn true (record { start = start; end = end })) }
     ensures number { IfOk result (λ id. id ≡ world.old.tree.made) }
-    ensures extracted { OnOk result (Follows world.old world.new (extracted range (record { start = start; end = end }))) }
+    ensures extracted { OnOk result (Follows world.old world.new
+        (extracted range (record { start = start; end = end }))) }
     ensures kept { KeepsLabels world.old world.new }
     ensures whole { IsWhole world.new }
 {
@@ -220,10 +237,12 @@ fn extract_parts(
 pub fn extract(world: &mut World, alloc: Global, range: RangeId) -> Result<NodeId, Refusal>
     requires whole { IsWhole world.old }
     requires held { IsSome (range_in world.old.ranges range) }
-    requires room { check_extract range (unwatched world.old) ≡ None → (extract range (unwatched world.old)).made ≤ 4294967295 }
+    requires room { check_extract range (unwatched world.old) ≡ None →
+        (extract range (unwatched world.old)).made ≤ 4294967295 }
     ensures extracted { IfOk result (Extracted world.old world.new range) }
     ensures allowed { OnOk result (check_extract range (unwatched world.old) ≡ None) }
-    ensures refused { IfErr result (λ e. IsRefused e (check_extract range (unwatched world.old)) world.old world.new) }
+    ensures refused { IfErr result (λ e. IsRefused e (check_extract range (unwatched world.old))
+        world.old world.new) }
     ensures kept { KeepsLabels world.old world.new }
     ensures whole { IsWhole world.new }
 {
@@ -259,14 +278,16 @@ pub fn extract_checked(
 pub fn clone_contents(world: &mut World, alloc: Global, range: RangeId) -> Result<NodeId, Refusal>
     requires whole { IsWhole world.old }
     requires held { IsSome (range_in world.old.ranges range) }
-    requires room { check_extract range (unwatched world.old) ≡ None → (clone_contents range (unwatched world.old)).made ≤ 4294967295 }
+    requires room { check_extract range (unwatched world.old) ≡ None →
+        (clone_contents range (unwatched world.old)).made ≤ 4294967295 }
     ensures number { IfOk result (λ id. id ≡ world.old.tree.made) }
     ensures allowed { OnOk result (check_extract range (unwatched world.old) ≡ None) }
     ensures cloned { OnOk result (Follows world.old world.new (clone_contents range)) }
     ensures markers { OnOk result (StandByEdits world.old world.new (clone_contents_edits range)) }
     ensures held { IfOk result (λ id. HoldsBetween world.old world.new range id) }
     ensures copied { IfOk result (λ id. CopiesBetween world.old world.new range id) }
-    ensures refused { IfErr result (λ e. IsRefused e (check_extract range (unwatched world.old)) world.old world.new) }
+    ensures refused { IfErr result (λ e. IsRefused e (check_extract range (unwatched world.old))
+        world.old world.new) }
     ensures left { LeavesAll world.old world.new }
     ensures kept { KeepsLabels world.old world.new }
     ensures whole { IsWhole world.new }

@@ -55,7 +55,8 @@ pub(crate) fn open_partial(
     requires held { HasNode world.old.tree.forest node }
     requires room { HasRoom world.old (opened into node) }
     ensures copy { IfOk result (λ p. p.copy ≡ world.old.tree.made) }
-    ensures inner { IfOk result (λ p. (w : model.World) → Keeps world.old w → p.inner ≡ inner_of into node w) }
+    ensures inner { IfOk result (λ p. (w : model.World) → Keeps world.old w →
+        p.inner ≡ inner_of into node w) }
     ensures children { IfOk result (λ p. p.children.items ≡ children.items) }
     ensures opened { OnOk result (Follows world.old world.new (opened into node)) }
     ensures stays { OnOk result (Stays world.old world.new) }
@@ -88,7 +89,8 @@ fn close_partial(
     requires room { HasRoom world.old (closed_one moves partial.now) }
     ensures closed { OnOk result (Follows world.old world.new (closed_one moves partial.now)) }
     ensures stays { OnOk result (Stays world.old world.new) }
-    ensures left { moves ≡ false → LeavesOlder (partial.now.copy ∷ partial.now.inner ∷ []) world.old world.new }
+    ensures left { moves ≡ false → LeavesOlder (partial.now.copy ∷ partial.now.inner ∷ []) world.old
+        world.new }
     ensures kept { KeepsLabels world.old world.new }
     ensures whole { IsWhole world.new }
 {
@@ -108,7 +110,8 @@ pub(crate) fn close_all(
     requires room { HasRoom world.old (closed moves partials.items) }
     ensures closed { OnOk result (Follows world.old world.new (closed moves partials.items)) }
     ensures stays { OnOk result (Stays world.old world.new) }
-    ensures left { moves ≡ false → LeavesOlder (numbers_of_copies partials.items) world.old world.new }
+    ensures left { moves ≡ false → LeavesOlder (numbers_of_copies partials.items) world.old
+        world.new }
     ensures kept { KeepsLabels world.old world.new }
     ensures whole { IsWhole world.new }
 {
@@ -131,8 +134,10 @@ pub(crate) fn copy_into(
     requires may { MayDraw world.old into (node ∷ children.items) }
     requires no_data { kind_passes is_character_data world.old.tree.forest node ≡ false }
     requires held { HasNode world.old.tree.forest node }
-    requires room { HasRoom world.old (copy_into into node (λ inner v. children_into moves inner children.items v)) }
-    ensures copied { OnOk result (Follows world.old world.new (copy_into into node (λ inner v. children_into moves inner children.items v))) }
+    requires room { HasRoom world.old (copy_into into node (λ inner v.
+        children_into moves inner children.items v)) }
+    ensures copied { OnOk result (Follows world.old world.new
+        (copy_into into node (λ inner v. children_into moves inner children.items v))) }
     ensures stays { OnOk result (Stays world.old world.new) }
     ensures left { moves ≡ false → LeavesOlder (into ∷ []) world.old world.new }
     ensures kept { KeepsLabels world.old world.new }

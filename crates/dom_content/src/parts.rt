@@ -78,7 +78,8 @@ fn child_behind(
 ) -> Option<NodeId>
     requires held { HasNode tree.now.forest point.node }
     requires way { IsWay tree.now.forest parent path.now point.node }
-    ensures { result ≡ slice_get (children_of tree.now.forest parent) (index_behind tree.now.forest point path.now) }
+    ensures { result ≡ slice_get (children_of tree.now.forest parent)
+        (index_behind tree.now.forest point path.now) }
 {
     tree.sound();
     match head(path) {
@@ -91,7 +92,8 @@ fn child_behind(
 fn child_at(tree: &Tree<Content>, parent: NodeId, point: Point, path: &[NodeId]) -> Option<NodeId>
     requires held { HasNode tree.now.forest point.node }
     requires way { IsWay tree.now.forest parent path.now point.node }
-    ensures { result ≡ slice_get (children_of tree.now.forest parent) (index_at tree.now.forest point path.now) }
+    ensures { result ≡ slice_get (children_of tree.now.forest parent)
+        (index_at tree.now.forest point path.now) }
 {
     tree.sound();
     match head(path) {
@@ -113,9 +115,12 @@ fn contained_children(
 ) -> Result<Vec<NodeId>, AllocError>
     requires range { IsRange tree.now.forest (record { start = start; end = end }) }
     requires ancestor { ancestor ≡ common_ancestor tree.now.forest start.node end.node }
-    requires first { first.now ≡ path_below tree.now.forest (common_ancestor tree.now.forest start.node end.node) start.node }
-    requires last { last.now ≡ path_below tree.now.forest (common_ancestor tree.now.forest start.node end.node) end.node }
-    ensures { IfOk result (λ list. list.items ≡ contained_children tree.now.forest (record { start = start; end = end })) }
+    requires first { first.now ≡ path_below tree.now.forest
+        (common_ancestor tree.now.forest start.node end.node) start.node }
+    requires last { last.now ≡ path_below tree.now.forest
+        (common_ancestor tree.now.forest start.node end.node) end.node }
+    ensures { IfOk result (λ list. list.items ≡ contained_children tree.now.forest
+        (record { start = start; end = end })) }
 {
     tree.sound();
     let from = child_behind(tree, ancestor, start, first);

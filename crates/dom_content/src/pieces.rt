@@ -62,7 +62,8 @@ pub(crate) fn put_last(
     ensures stays { OnOk result (Stays world.old world.new) }
     ensures kinds { OnOk result (KindsStay world.old world.new) }
     ensures texts { OnOk result (DataStays world.old world.new) }
-    ensures left { IsFragmentOrRoot world.old.tree.forest node → LeavesOlder (parent ∷ node ∷ []) world.old world.new }
+    ensures left { IsFragmentOrRoot world.old.tree.forest node →
+        LeavesOlder (parent ∷ node ∷ []) world.old world.new }
     ensures kept { KeepsLabels world.old world.new }
     ensures whole { IsWhole world.new }
 {
@@ -121,7 +122,8 @@ fn part_of(
 ) -> Result<Units, AllocError>
     requires held { HasNode tree.now.forest node }
     requires within { offset ≤ length (content_in (entry_in tree.now.forest node)).text }
-    ensures { IfOk result (λ units. units ≡ substring offset count (content_in (entry_in tree.now.forest node)).text) }
+    ensures { IfOk result (λ units. units ≡ substring offset count
+        (content_in (entry_in tree.now.forest node)).text) }
 {
     let data = data_in(tree, node);
     let count = count.min(data.len() - offset);
@@ -195,7 +197,8 @@ pub(crate) fn units_into(
     requires kind { kind_passes is_character_data world.old.tree.forest node ≡ true }
     requires within { offset ≤ length (data_of (unwatched world.old) node) }
     requires room { HasRoom world.old (units_into moves into node offset count) }
-    ensures drawn { OnOk result (Follows world.old world.new (units_into moves into node offset count)) }
+    ensures drawn { OnOk result (Follows world.old world.new
+        (units_into moves into node offset count)) }
     ensures stays { OnOk result (Stays world.old world.new) }
     ensures left { moves ≡ false → LeavesOlder (into ∷ []) world.old world.new }
     ensures kept { KeepsLabels world.old world.new }

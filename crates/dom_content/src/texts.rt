@@ -34,7 +34,8 @@ fn append_part(
 ) -> Result<(), AllocError>
     requires held { HasNode tree.now.forest node }
     requires ahead { is_of_kind Text tree.now.forest node ≡ true → from ≤ to }
-    requires within { is_of_kind Text tree.now.forest node ≡ true → to ≤ length (content_in (entry_in tree.now.forest node)).text }
+    requires within { is_of_kind Text tree.now.forest node ≡ true →
+        to ≤ length (content_in (entry_in tree.now.forest node)).text }
     ensures { OnOk result (text.new ≡ text.old ++ part_of tree.now.forest node from (to - from)) }
 {
     if !tree.is_of_kind(node, Kind::Text) {
@@ -47,7 +48,8 @@ fn append_part(
 // Puts the data of a node from a point on behind a text, where the node is a Text.
 fn append_tail(tree: &Tree<Content>, from: Point, text: &mut Units) -> Result<(), AllocError>
     requires held { HasNode tree.now.forest from.node }
-    requires within { is_of_kind Text tree.now.forest from.node ≡ true → from.offset ≤ length (content_in (entry_in tree.now.forest from.node)).text }
+    requires within { is_of_kind Text tree.now.forest from.node ≡ true →
+        from.offset ≤ length (content_in (entry_in tree.now.forest from.node)).text }
     ensures { OnOk result (text.new ≡ text.old ++ part_behind tree.now.forest from) }
 {
     let Point { node, offset } = from;
@@ -69,7 +71,8 @@ fn append_contained(
     requires one_root { root_of tree.now.forest node ≡ root_of tree.now.forest start.node }
     requires behind { is_before tree.now.forest start (record { node = node; offset = 0 }) ≡ true }
     requires not_past { is_before tree.now.forest end (record { node = node; offset = 0 }) ≡ false }
-    ensures { OnOk result (text.new ≡ text.old ++ text_within tree.now.forest (record { start = start; end = end }) node) }
+    ensures { OnOk result (text.new ≡ text.old ++ text_within tree.now.forest
+        (record { start = start; end = end }) node) }
 {
     tree.sound();
     if node == end.node {
@@ -87,7 +90,8 @@ fn append_between(
     text: &mut Units,
 ) -> Result<(), AllocError>
     requires range { IsRange tree.now.forest (record { start = start; end = end }) }
-    ensures { OnOk result (text.new ≡ text.old ++ texts_within tree.now.forest (record { start = start; end = end })) }
+    ensures { OnOk result (text.new ≡ text.old ++ texts_within tree.now.forest
+        (record { start = start; end = end })) }
 {
     tree.sound();
     let root = tree.root(start.node);
@@ -105,7 +109,8 @@ fn append_between(
 fn gather_text(world: &World, alloc: Global, range: RangeId) -> Result<Units, AllocError>
     requires whole { IsWhole world.now }
     requires held { IsSome (range_in world.now.ranges range) }
-    ensures { IfOk result (λ text. IfSome (range_in world.now.ranges range) (λ r. text ≡ range_text (unwatched world.now) r)) }
+    ensures { IfOk result (λ text. IfSome (range_in world.now.ranges range) (λ r. text
+        ≡ range_text (unwatched world.now) r)) }
 {
     let tree = &world.tree;
     let (start, end) = world.ranges.ends(range);
@@ -126,9 +131,12 @@ fn gather_text(world: &World, alloc: Global, range: RangeId) -> Result<Units, Al
 pub fn range_text(world: &World, alloc: Global, range: RangeId) -> Result<Units, AllocError>
     requires whole { IsWhole world.now }
     requires held { IsSome (range_in world.now.ranges range) }
-    ensures text { IfOk result (λ text. IfSome (range_in world.now.ranges range) (λ r. text ≡ range_text (unwatched world.now) r)) }
-    ensures between { IfOk result (λ text. IfSome (range_in world.now.ranges range) (λ r. IfSome (root_of world.now.tree.forest r.start.node)
-        (λ root. text ≡ text_of_range (unwatched world.now) range (text_among root (texts_of (unwatched world.now)))))) }
+    ensures text { IfOk result (λ text. IfSome (range_in world.now.ranges range) (λ r. text
+        ≡ range_text (unwatched world.now) r)) }
+    ensures between { IfOk result (λ text. IfSome (range_in world.now.ranges range) (λ r.
+        IfSome (root_of world.now.tree.forest r.start.node)
+        (λ root. text ≡ text_of_range (unwatched world.now) range
+        (text_among root (texts_of (unwatched world.now)))))) }
 {
     gather_text(world, alloc, range)
 }

@@ -46,8 +46,10 @@ fn open_tail(
     requires next_held { HasNode world.old.tree.forest next }
     requires room { HasRoom world.old (opened into node) }
     ensures copy { IfOk result (λ p. p.copy ≡ world.old.tree.made) }
-    ensures inner { IfOk result (λ p. (w : model.World) → Keeps world.old w → p.inner ≡ inner_of into node w) }
-    ensures children { IfOk result (λ p. p.children.items ≡ past next (children_of world.old.tree.forest node)) }
+    ensures inner { IfOk result (λ p. (w : model.World) → Keeps world.old w →
+        p.inner ≡ inner_of into node w) }
+    ensures children { IfOk result (λ p. p.children.items
+        ≡ past next (children_of world.old.tree.forest node)) }
     ensures opened { OnOk result (Follows world.old world.new (opened into node)) }
     ensures stays { OnOk result (Stays world.old world.new) }
     ensures texts { OnOk result (DataStays world.old world.new) }
@@ -74,7 +76,8 @@ fn tail_of_last(
     requires way { IsPathTo world.old.tree.forest offset (node ∷ []) }
     requires held { HasNode world.old.tree.forest node }
     requires room { HasRoom world.old (tail_into moves into offset (node ∷ [])) }
-    ensures drawn { OnOk result (Follows world.old world.new (tail_into moves into offset (node ∷ []))) }
+    ensures drawn { OnOk result (Follows world.old world.new
+        (tail_into moves into offset (node ∷ []))) }
     ensures stays { OnOk result (Stays world.old world.new) }
     ensures left { moves ≡ false → LeavesOlder (into ∷ []) world.old world.new }
     ensures kept { KeepsLabels world.old world.new }
@@ -102,7 +105,8 @@ fn tail_along(
     requires may { MayDraw world.old into (first ∷ below.now) }
     requires way { IsPathTo world.old.tree.forest offset (first ∷ below.now) }
     requires room { HasRoom world.old (tail_into moves into offset (first ∷ below.now)) }
-    ensures drawn { OnOk result (Follows world.old world.new (tail_into moves into offset (first ∷ below.now))) }
+    ensures drawn { OnOk result (Follows world.old world.new
+        (tail_into moves into offset (first ∷ below.now))) }
     ensures stays { OnOk result (Stays world.old world.new) }
     ensures left { moves ≡ false → LeavesOlder (into ∷ []) world.old world.new }
     ensures kept { KeepsLabels world.old world.new }
@@ -134,7 +138,8 @@ pub(crate) fn tail_into(
     requires may { MayDraw world.old into path.now }
     requires way { IsPathTo world.old.tree.forest offset path.now }
     requires room { HasRoom world.old (tail_into moves into offset path.now) }
-    ensures drawn { OnOk result (Follows world.old world.new (tail_into moves into offset path.now)) }
+    ensures drawn { OnOk result (Follows world.old world.new
+        (tail_into moves into offset path.now)) }
     ensures stays { OnOk result (Stays world.old world.new) }
     ensures left { moves ≡ false → LeavesOlder (into ∷ []) world.old world.new }
     ensures kept { KeepsLabels world.old world.new }
@@ -161,7 +166,8 @@ fn open_head(
     requires held { HasNode world.old.tree.forest node }
     requires room { HasRoom world.old (entered moves into node next) }
     ensures copy { IfOk result (λ p. p.copy ≡ world.old.tree.made) }
-    ensures inner { IfOk result (λ p. (w : model.World) → Keeps world.old w → p.inner ≡ inner_of into node w) }
+    ensures inner { IfOk result (λ p. (w : model.World) → Keeps world.old w →
+        p.inner ≡ inner_of into node w) }
     ensures children { IfOk result (λ p. p.children.items ≡ []) }
     ensures entered { OnOk result (Follows world.old world.new (entered moves into node next)) }
     ensures stays { OnOk result (Stays world.old world.new) }
@@ -189,7 +195,8 @@ fn head_of_last(
     requires may { MayDraw world.old into (node ∷ []) }
     requires held { HasNode world.old.tree.forest node }
     requires room { HasRoom world.old (head_into moves into offset (node ∷ [])) }
-    ensures drawn { OnOk result (Follows world.old world.new (head_into moves into offset (node ∷ []))) }
+    ensures drawn { OnOk result (Follows world.old world.new
+        (head_into moves into offset (node ∷ []))) }
     ensures stays { OnOk result (Stays world.old world.new) }
     ensures left { moves ≡ false → LeavesOlder (into ∷ []) world.old world.new }
     ensures kept { KeepsLabels world.old world.new }
@@ -216,7 +223,8 @@ fn head_along(
     requires may { MayDraw world.old into (first ∷ below.now) }
     requires way { IsPathTo world.old.tree.forest 0 (first ∷ below.now) }
     requires room { HasRoom world.old (head_into moves into offset (first ∷ below.now)) }
-    ensures drawn { OnOk result (Follows world.old world.new (head_into moves into offset (first ∷ below.now))) }
+    ensures drawn { OnOk result (Follows world.old world.new
+        (head_into moves into offset (first ∷ below.now))) }
     ensures stays { OnOk result (Stays world.old world.new) }
     ensures left { moves ≡ false → LeavesOlder (into ∷ []) world.old world.new }
     ensures kept { KeepsLabels world.old world.new }
@@ -248,7 +256,8 @@ pub(crate) fn head_into(
     requires may { MayDraw world.old into path.now }
     requires way { IsPathTo world.old.tree.forest 0 path.now }
     requires room { HasRoom world.old (head_into moves into offset path.now) }
-    ensures drawn { OnOk result (Follows world.old world.new (head_into moves into offset path.now)) }
+    ensures drawn { OnOk result (Follows world.old world.new
+        (head_into moves into offset path.now)) }
     ensures stays { OnOk result (Stays world.old world.new) }
     ensures left { moves ≡ false → LeavesOlder (into ∷ []) world.old world.new }
     ensures kept { KeepsLabels world.old world.new }

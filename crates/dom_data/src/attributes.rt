@@ -26,7 +26,8 @@ pub fn set_attribute(
 ) -> Result<(), AllocError>
     requires whole { IsWhole world.old }
     requires kind { is_of_kind Element world.old.tree.forest node ≡ true }
-    ensures set { OnOk result (Follows world.old world.new (set_attribute node (string_bytes name) value)) }
+    ensures set { OnOk result (Follows world.old world.new
+        (set_attribute node (string_bytes name) value)) }
     ensures kept { OnErr result (world.new ≡ record world.old { observers = world.new.observers }) }
     ensures observers { SameObservers world.old.observers world.new.observers }
     ensures whole { IsWhole world.new }
@@ -69,8 +70,10 @@ pub fn toggle_attribute(
 ) -> Result<bool, AllocError>
     requires whole { IsWhole world.old }
     requires kind { is_of_kind Element world.old.tree.forest node ≡ true }
-    ensures answer { IfOk result (λ on. on ≡ is_toggled_on force (has_attribute (unwatched world.old) node (string_bytes name))) }
-    ensures toggled { OnOk result (Follows world.old world.new (toggle_attribute node (string_bytes name) force)) }
+    ensures answer { IfOk result (λ on. on ≡ is_toggled_on force
+        (has_attribute (unwatched world.old) node (string_bytes name))) }
+    ensures toggled { OnOk result (Follows world.old world.new
+        (toggle_attribute node (string_bytes name) force)) }
     ensures kept { OnErr result (world.new ≡ record world.old { observers = world.new.observers }) }
     ensures observers { SameObservers world.old.observers world.new.observers }
     ensures whole { IsWhole world.new }

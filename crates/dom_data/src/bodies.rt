@@ -24,7 +24,8 @@ pub(crate) fn kind_in(tree: &Tree<Content>, node: NodeId) -> Kind
 // The value of an attribute of a node.
 pub(crate) fn value_in<'a>(tree: &'a Tree<Content>, node: NodeId, name: &str) -> Option<&'a [u16]>
     requires held { HasNode tree.now.forest node }
-    ensures { option_copied result ≡ attribute_value name.now (content_in (entry_in tree.now.forest node)).attributes }
+    ensures { option_copied result ≡ attribute_value name.now
+        (content_in (entry_in tree.now.forest node)).attributes }
 {
     match tree.body(node).attribute(name) {
         Some(value) => Some(value.units()),
@@ -45,9 +46,11 @@ pub(crate) fn splice_data(
     requires within { offset + count ≤ length (content_in (entry_in tree.old.forest node)).text }
     ensures ok { OnOk result (tree.new ≡ record tree.old {
       forest = with_node node
-          (with_data (spliced offset count added.now (content_in (entry_in tree.old.forest node)).text)) tree.old.forest;
+          (with_data (spliced offset count added.now
+        (content_in (entry_in tree.old.forest node)).text)) tree.old.forest;
     }) }
-    ensures fits { OnOk result (length (spliced offset count added.now (content_in (entry_in tree.old.forest node)).text) < 2 ^ 64) }
+    ensures fits { OnOk result (length (spliced offset count added.now
+        (content_in (entry_in tree.old.forest node)).text) < 2 ^ 64) }
     ensures err { OnErr result (tree.new ≡ tree.old) }
 {
     tree.sound();
@@ -70,7 +73,8 @@ pub(crate) fn move_tail(
     requires new_held { HasNode tree.old.forest new }
     requires within { offset ≤ length (content_in (entry_in tree.old.forest node)).text }
     requires bare { (content_in (entry_in tree.old.forest new)).attributes ≡ [] }
-    ensures ok { OnOk result (tree.new ≡ record tree.old { forest = tail_in node offset new tree.old.forest }) }
+    ensures ok { OnOk result (tree.new ≡ record tree.old
+        { forest = tail_in node offset new tree.old.forest }) }
     ensures err { OnErr result (tree.new ≡ tree.old) }
 {
     tree.sound();
@@ -84,7 +88,8 @@ pub(crate) fn move_tail(
 // Whether a node has an attribute of that name.
 pub(crate) fn has_in(tree: &Tree<Content>, node: NodeId, name: &str) -> bool
     requires held { HasNode tree.now.forest node }
-    ensures { result ≡ is_some (attribute_value name.now (content_in (entry_in tree.now.forest node)).attributes) }
+    ensures { result ≡ is_some (attribute_value name.now
+        (content_in (entry_in tree.now.forest node)).attributes) }
 {
     tree.body(node).attribute(name).is_some()
 }
@@ -100,7 +105,8 @@ pub(crate) fn set_in(
     requires held { HasNode tree.old.forest node }
     ensures ok { OnOk result (tree.new ≡ record tree.old {
       forest = with_node node
-          (with_attributes (with_attribute (string_bytes name) value (content_in (entry_in tree.old.forest node)).attributes)) tree.old.forest;
+          (with_attributes (with_attribute (string_bytes name) value
+        (content_in (entry_in tree.old.forest node)).attributes)) tree.old.forest;
     }) }
     ensures err { OnErr result (tree.new ≡ tree.old) }
 {
@@ -115,7 +121,8 @@ pub(crate) fn remove_in(tree: &mut Tree<Content>, node: NodeId, name: &str)
     requires held { HasNode tree.old.forest node }
     ensures { tree.new ≡ record tree.old {
       forest = with_node node
-          (with_attributes (without_attribute name.now (content_in (entry_in tree.old.forest node)).attributes)) tree.old.forest;
+          (with_attributes (without_attribute name.now
+        (content_in (entry_in tree.old.forest node)).attributes)) tree.old.forest;
     } }
 {
     tree.sound();

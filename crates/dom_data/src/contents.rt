@@ -37,7 +37,8 @@ fn append_data(tree: &Tree<Content>, node: NodeId, text: &mut Units) -> Result<(
 // The data of the Texts below a node, one after another ("descendant text content").
 fn descendant_text(tree: &Tree<Content>, alloc: Global, top: NodeId) -> Result<Units, AllocError>
     requires held { HasNode tree.now.forest top }
-    ensures { IfOk result (λ text. text ≡ gathered tree.now.forest (drop 1 (inclusive_descendants tree.now.forest top))) }
+    ensures { IfOk result (λ text. text ≡ gathered tree.now.forest
+        (drop 1 (inclusive_descendants tree.now.forest top))) }
 {
     tree.sound();
     let mut text = Units::new(alloc);
@@ -101,9 +102,11 @@ pub fn set_text_content(
 ) -> Result<(), AllocError>
     requires whole { IsWhole world.old }
     requires held { HasNode world.old.tree.forest node }
-    requires room { makes_text (unwatched world.old) node text ≡ true → world.old.tree.made < 4294967295 }
+    requires room { makes_text (unwatched world.old) node text ≡ true →
+        world.old.tree.made < 4294967295 }
     ensures set { OnOk result (Follows world.old world.new (set_text_content node text)) }
-    ensures markers { OnOk result (StandByEdits world.old world.new (set_text_content_edits node text)) }
+    ensures markers { OnOk result (StandByEdits world.old world.new
+        (set_text_content_edits node text)) }
     ensures left { kind_passes is_character_data world.old.tree.forest node ≡ true →
         OnErr result (world.new ≡ record world.old { observers = world.new.observers }) }
     ensures kept { KeepsLabels world.old world.new }

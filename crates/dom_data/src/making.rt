@@ -24,7 +24,8 @@ pub(crate) fn make_text(
     requires kind { is_of_kind Document world.old.tree.forest document ≡ true }
     requires room { world.old.tree.made < 4294967295 }
     ensures number { IfOk result (λ id. id ≡ world.old.tree.made) }
-    ensures made { OnOk result (Follows world.old world.new (made_node document (named Text []) (with_text text))) }
+    ensures made { OnOk result (Follows world.old world.new
+        (made_node document (named Text []) (with_text text))) }
     ensures kept { KeepsLabels world.old world.new }
     ensures whole { IsWhole world.new }
 {

@@ -42,7 +42,8 @@ fn append_text(
 // The Texts below a node, in tree order.
 fn texts_below(tree: &Tree<Content>, alloc: Global, top: NodeId) -> Result<Vec<NodeId>, AllocError>
     requires held { HasNode tree.now.forest top }
-    ensures { IfOk result (λ texts. texts.items ≡ texts_among tree.now.forest (drop 1 (inclusive_descendants tree.now.forest top))) }
+    ensures { IfOk result (λ texts. texts.items ≡ texts_among tree.now.forest
+        (drop 1 (inclusive_descendants tree.now.forest top))) }
 {
     tree.sound();
     let mut texts = Vec::new(alloc);
@@ -101,7 +102,8 @@ fn data_among(tree: &Tree<Content>, alloc: Global, nodes: &[NodeId]) -> Result<U
 /// The index of a child where an end stands in its parent; where none does, no end asks for it.
 pub(crate) fn index_if_asked(world: &World, parent: NodeId, child: NodeId) -> usize
     requires held { HasNode world.now.tree.forest child }
-    ensures asked { among parent (live_nodes world.now.ranges) ≡ true → result ≡ index_of world.now.tree.forest child }
+    ensures asked { among parent (live_nodes world.now.ranges) ≡ true →
+        result ≡ index_of world.now.tree.forest child }
     ensures within { result ≤ index_of world.now.tree.forest child }
 {
     if world.ranges.stands_in(parent) {
@@ -123,7 +125,8 @@ fn take_in(
     requires whole { IsWhole world.old }
     requires next { IsNextTaken world.old node parent base next }
     ensures taken { OnOk result (Follows world.old world.new (taken_in node base next)) }
-    ensures further { IfOk result (λ further. further ≡ base + length (data_of (unwatched world.old) next)) }
+    ensures further { IfOk result (λ further. further
+        ≡ base + length (data_of (unwatched world.old) next)) }
     ensures kept { KeepsNumbers world.old world.new }
     ensures whole { IsWhole world.new }
 {
@@ -167,7 +170,8 @@ fn append_units(
 ) -> Result<(), AllocError>
     requires whole { IsWhole world.old }
     requires kind { is_of_kind Text world.old.tree.forest node ≡ true }
-    ensures appended { OnOk result (Follows world.old world.new (λ w. replace_data node (length (data_of w node)) 0 added.now w)) }
+    ensures appended { OnOk result (Follows world.old world.new (λ w.
+        replace_data node (length (data_of w node)) 0 added.now w)) }
     ensures kept { KeepsNumbers world.old world.new }
     ensures whole { IsWhole world.new }
 {
@@ -185,7 +189,8 @@ fn join_siblings(
     requires whole { IsWhole world.old }
     requires kind { is_of_kind Text world.old.tree.forest node ≡ true }
     requires child { parent_of world.old.tree.forest node ≡ Some parent }
-    ensures joined { OnOk result (Follows world.old world.new (λ w. join_following node (following_texts w node) w)) }
+    ensures joined { OnOk result (Follows world.old world.new (λ w.
+        join_following node (following_texts w node) w)) }
     ensures kept { KeepsNumbers world.old world.new }
     ensures whole { IsWhole world.new }
 {
@@ -200,7 +205,8 @@ fn join_siblings(
 fn join_following(world: &mut World, alloc: Global, node: NodeId) -> Result<(), AllocError>
     requires whole { IsWhole world.old }
     requires kind { is_of_kind Text world.old.tree.forest node ≡ true }
-    ensures joined { OnOk result (Follows world.old world.new (λ w. join_following node (following_texts w node) w)) }
+    ensures joined { OnOk result (Follows world.old world.new (λ w.
+        join_following node (following_texts w node) w)) }
     ensures kept { KeepsNumbers world.old world.new }
     ensures whole { IsWhole world.new }
 {
@@ -235,7 +241,8 @@ fn normalize_below(
     requires whole { IsWhole world.old }
     requires kind { is_of_kind Text world.old.tree.forest node ≡ true }
     requires told { is_told_by_parent world.old.tree.forest top node }
-    ensures normalized { OnOk result (Follows world.old world.new (λ w. if is_descendant w top node then normalize_text node w else w)) }
+    ensures normalized { OnOk result (Follows world.old world.new (λ w. if is_descendant w top node
+        then normalize_text node w else w)) }
     ensures kept { KeepsNumbers world.old world.new }
     ensures whole { IsWhole world.new }
 {
@@ -254,7 +261,8 @@ fn normalize_each(
     texts: &[NodeId],
 ) -> Result<(), AllocError>
     requires whole { IsWhole world.old }
-    requires kinds { (n : ℕ) → 0 < hits n texts.now → is_of_kind Text world.old.tree.forest n ≡ true }
+    requires kinds { (n : ℕ) → 0 < hits n texts.now →
+        is_of_kind Text world.old.tree.forest n ≡ true }
     requires told { (n : ℕ) → 0 < hits n texts.now → is_told_by_parent world.old.tree.forest top n }
     ensures normalized { OnOk result (Follows world.old world.new (normalize_each top texts.now)) }
     ensures kept { KeepsNumbers world.old world.new }

@@ -41,7 +41,8 @@ pub(crate) fn tell_data(world: &mut World, _alloc: Global, node: NodeId) -> Resu
 // The change of an attribute of a node, with the value that it has.
 fn attribute_change<'a>(tree: &'a Tree<Content>, node: NodeId, name: &'a str) -> Mutation<'a>
     requires held { HasNode tree.now.forest node }
-    ensures { result ≡ change_of Attributes node (Some name.now) (attribute_value name.now (content_in (entry_in tree.now.forest node)).attributes) }
+    ensures { result ≡ change_of Attributes node (Some name.now)
+        (attribute_value name.now (content_in (entry_in tree.now.forest node)).attributes) }
 {
     let old_value = value_in(tree, node, name);
     Mutation {

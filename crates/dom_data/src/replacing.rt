@@ -32,7 +32,8 @@ pub(crate) fn replace_units(
     requires whole { IsWhole world.old }
     requires kind { kind_passes is_character_data world.old.tree.forest node ≡ true }
     requires within { offset + count ≤ length (data_of (unwatched world.old) node) }
-    ensures replaced { OnOk result (Follows world.old world.new (λ w. replace_units node offset count added.now (data_record node w))) }
+    ensures replaced { OnOk result (Follows world.old world.new (λ w.
+        replace_units node offset count added.now (data_record node w))) }
     ensures kept { OnErr result (world.new ≡ record world.old { observers = world.new.observers }) }
     ensures nodes { KeepsNumbers world.old world.new }
     ensures whole { IsWhole world.new }
@@ -57,9 +58,12 @@ pub fn replace_data(
     requires whole { IsWhole world.old }
     requires kind { kind_passes is_character_data world.old.tree.forest node ≡ true }
     ensures allowed { OnOk result (check_offset (unwatched world.old) node offset ≡ None) }
-    ensures replaced { OnOk result (Follows world.old world.new (replace_data node offset count added.now)) }
-    ensures markers { OnOk result (StandByEdits world.old world.new (replace_data_edits node offset count added.now)) }
-    ensures refused { IfErr result (λ e. IsRefused e (check_offset (unwatched world.old) node offset) world.old world.new) }
+    ensures replaced { OnOk result (Follows world.old world.new
+        (replace_data node offset count added.now)) }
+    ensures markers { OnOk result (StandByEdits world.old world.new
+        (replace_data_edits node offset count added.now)) }
+    ensures refused { IfErr result (λ e. IsRefused e
+        (check_offset (unwatched world.old) node offset) world.old world.new) }
     ensures left { OnErr result (world.new ≡ record world.old { observers = world.new.observers }) }
     ensures kept { KeepsNumbers world.old world.new }
     ensures whole { IsWhole world.new }
@@ -83,8 +87,10 @@ pub fn replace_data_checked(
     requires whole { IsWhole world.old }
     requires kind { kind_passes is_character_data world.old.tree.forest node ≡ true }
     requires within { offset ≤ length (data_of (unwatched world.old) node) }
-    ensures replaced { OnOk result (Follows world.old world.new (replace_data node offset count added.now)) }
-    ensures markers { OnOk result (StandByEdits world.old world.new (replace_data_edits node offset count added.now)) }
+    ensures replaced { OnOk result (Follows world.old world.new
+        (replace_data node offset count added.now)) }
+    ensures markers { OnOk result (StandByEdits world.old world.new
+        (replace_data_edits node offset count added.now)) }
     ensures kept { OnErr result (world.new ≡ record world.old { observers = world.new.observers }) }
     ensures nodes { KeepsNumbers world.old world.new }
     ensures whole { IsWhole world.new }
@@ -104,7 +110,8 @@ pub fn set_data(
     requires whole { IsWhole world.old }
     requires kind { kind_passes is_character_data world.old.tree.forest node ≡ true }
     ensures set { OnOk result (Follows world.old world.new (set_data node text.now)) }
-    ensures markers { OnOk result (StandByEdits world.old world.new (set_data_edits node text.now)) }
+    ensures markers { OnOk result (StandByEdits world.old world.new
+        (set_data_edits node text.now)) }
     ensures kept { OnErr result (world.new ≡ record world.old { observers = world.new.observers }) }
     ensures nodes { KeepsNumbers world.old world.new }
     ensures whole { IsWhole world.new }
@@ -126,8 +133,10 @@ pub fn substring(
     requires whole { IsWhole world.now }
     requires kind { kind_passes is_character_data world.now.tree.forest node ≡ true }
     ensures allowed { OnOk result (check_offset (unwatched world.now) node offset ≡ None) }
-    ensures units { IfOk result (λ units. units ≡ substring_data (unwatched world.now) node offset count) }
-    ensures refused { IfErr result (λ e. IsNamed e (check_offset (unwatched world.now) node offset)) }
+    ensures units { IfOk result (λ units. units ≡ substring_data (unwatched world.now) node offset
+        count) }
+    ensures refused { IfErr result (λ e. IsNamed e
+        (check_offset (unwatched world.now) node offset)) }
 {
     let data = data_in(&world.tree, node);
     let length = data.len();

@@ -37,8 +37,10 @@ fn counted(tree: &Tree<Content>, parent: NodeId)
 fn put_behind(world: &mut World, alloc: Global, node: NodeId, new: NodeId) -> Result<(), AllocError>
     requires whole { IsWhole world.old }
     requires tail { IsTail world.old node new }
-    ensures behind { OnOk result (Follows world.old world.new (put_behind node new (parent_of world.old.tree.forest node))) }
-    ensures parent { OnOk result (parent_of world.new.tree.forest node ≡ parent_of world.old.tree.forest node) }
+    ensures behind { OnOk result (Follows world.old world.new
+        (put_behind node new (parent_of world.old.tree.forest node))) }
+    ensures parent { OnOk result (parent_of world.new.tree.forest node
+        ≡ parent_of world.old.tree.forest node) }
     ensures room { OnOk result (HasRoom world.new.tree.forest node) }
     ensures kept { KeepsNodes world.old world.new }
     ensures whole { IsWhole world.new }
@@ -59,7 +61,8 @@ fn split_ends(world: &mut World, node: NodeId, offset: usize, new: NodeId)
     requires room { HasRoom world.old.tree.forest node }
     requires covered { AreCovered world.old.tree world.old.ranges.covered }
     ensures { world.new ≡ record world.old {
-      ranges = record world.old.ranges { ranges = ends_behind node offset new (parent_of world.old.tree.forest node) (unwatched world.old) };
+      ranges = record world.old.ranges { ranges = ends_behind node offset new
+        (parent_of world.old.tree.forest node) (unwatched world.old) };
     } }
 {
     world.tree.sound();
@@ -84,12 +87,14 @@ pub fn split(
 ) -> Result<NodeId, Refusal>
     requires whole { IsWhole world.old }
     requires kind { is_of_kind Text world.old.tree.forest node ≡ true }
-    requires room { check_offset (unwatched world.old) node offset ≡ None → world.old.tree.made < 4294967295 }
+    requires room { check_offset (unwatched world.old) node offset ≡ None →
+        world.old.tree.made < 4294967295 }
     ensures number { IfOk result (λ id. id ≡ world.old.tree.made) }
     ensures allowed { OnOk result (check_offset (unwatched world.old) node offset ≡ None) }
     ensures split { OnOk result (Follows world.old world.new (split node offset)) }
     ensures markers { OnOk result (StandByEdits world.old world.new (split_edits node offset)) }
-    ensures refused { IfErr result (λ e. IsRefused e (check_offset (unwatched world.old) node offset) world.old world.new) }
+    ensures refused { IfErr result (λ e. IsRefused e
+        (check_offset (unwatched world.old) node offset) world.old world.new) }
     ensures kept { KeepsLabels world.old world.new }
     ensures whole { IsWhole world.new }
 {

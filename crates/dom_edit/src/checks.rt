@@ -19,7 +19,8 @@ use dom_tree::{At, NodeId, Tree};
 // Whether a kind may stand nowhere under the other: a Document, a Text under a Document, a doctype under anything else.
 fn is_misplaced(parent: Kind, kind: Kind) -> bool
     ensures { result ≡ (is_kind Document kind
-        || ((is_kind Text kind && is_kind Document parent) || (is_kind DocumentType kind && not (is_kind Document parent)))) }
+        || ((is_kind Text kind && is_kind Document parent)
+        || (is_kind DocumentType kind && not (is_kind Document parent)))) }
 {
     match kind {
         Kind::Document => true,
@@ -46,7 +47,8 @@ fn is_elsewhere(tree: &Tree<Content>, parent: NodeId, child: Option<NodeId>) -> 
 
 // The kind of a node.
 fn kind_at(node: &At<'_, Content>) -> Kind
-    ensures { (test : Kind → Bool) → kind_passes test node.now.tree.forest node.now.node ≡ test result }
+    ensures { (test : Kind → Bool) → kind_passes test node.now.tree.forest node.now.node
+        ≡ test result }
 {
     node.sound();
     node.label().kind
@@ -55,7 +57,8 @@ fn kind_at(node: &At<'_, Content>) -> Kind
 // Whether a node stands inside another. Nothing is climbed where the other has no children.
 fn is_inside(top: &At<'_, Content>, node: At<'_, Content>) -> bool
     requires { node.tree ≡ top.now.tree }
-    ensures { result ≡ among node.entry.node (inclusive_descendants top.now.tree.forest top.now.node) }
+    ensures { result ≡ among node.entry.node (inclusive_descendants top.now.tree.forest
+        top.now.node) }
 {
     top.sound();
     let end = top.number();
@@ -79,7 +82,8 @@ fn check(tree: &Tree<Content>, parent: NodeId, node: NodeId, place: Place) -> Re
     requires parent_held { HasNode tree.now.forest parent }
     requires node_held { HasNode tree.now.forest node }
     requires child_held { ForSome (child_of place) (λ c. HasNode tree.now.forest c) }
-    ensures { MatchResult result (λ _. first_refusal (conditions_at place tree.now.forest parent node) ≡ None)
+    ensures { MatchResult result (λ _. first_refusal
+        (conditions_at place tree.now.forest parent node) ≡ None)
         (λ e. first_refusal (conditions_at place tree.now.forest parent node) ≡ Some e) }
 {
     tree.sound();
@@ -119,7 +123,8 @@ pub fn check_insert(
     requires parent_held { HasNode tree.now.forest parent }
     requires node_held { HasNode tree.now.forest node }
     requires child_held { ForSome child (λ c. HasNode tree.now.forest c) }
-    ensures { MatchResult result (λ _. check_insert tree.now.forest parent node child ≡ None) (λ e. check_insert tree.now.forest parent node child ≡ Some e) }
+    ensures { MatchResult result (λ _. check_insert tree.now.forest parent node child
+        ≡ None) (λ e. check_insert tree.now.forest parent node child ≡ Some e) }
 {
     check(tree, parent, node, Place::Before(child))
 }
@@ -136,7 +141,8 @@ pub fn check_replace(
     requires parent_held { HasNode tree.now.forest parent }
     requires node_held { HasNode tree.now.forest node }
     requires child_held { HasNode tree.now.forest child }
-    ensures { MatchResult result (λ _. check_replace tree.now.forest parent node child ≡ None) (λ e. check_replace tree.now.forest parent node child ≡ Some e) }
+    ensures { MatchResult result (λ _. check_replace tree.now.forest parent node child
+        ≡ None) (λ e. check_replace tree.now.forest parent node child ≡ Some e) }
 {
     check(tree, parent, node, Place::Instead(child))
 }

@@ -258,7 +258,8 @@ impl Content {
     ) -> Result<(), AllocError>
         requires within { at ≤ length self.old.text }
         requires enough { count ≤ length self.old.text - at }
-        ensures ok { OnOk result (self.new ≡ record self.old { text = spliced at count added.now self.old.text }) }
+        ensures ok { OnOk result (self.new ≡ record self.old
+            { text = spliced at count added.now self.old.text }) }
         ensures err { OnErr result (self.new ≡ self.old) }
     {
         let mut text = match mem::replace(&mut self.held, Held::Nothing) {
@@ -289,7 +290,8 @@ impl Content {
     ) -> Result<(), AllocError>
         requires within { at ≤ length self.old.text }
         requires enough { count ≤ length self.old.text - at }
-        ensures ok { OnOk result (self.new ≡ record self.old { text = spliced at count added.now self.old.text }) }
+        ensures ok { OnOk result (self.new ≡ record self.old
+            { text = spliced at count added.now self.old.text }) }
         ensures err { OnErr result (self.new ≡ self.old) }
     {
         let mut text = Units::from_units(alloc, self.text())?;
@@ -366,8 +368,10 @@ impl Content {
         name: String,
         value: Units,
     ) -> Result<Option<Units>, AllocError>
-        ensures old { IfOk result (λ old. old ≡ attribute_value (string_bytes name) self.old.attributes) }
-        ensures ok { OnOk result (self.new ≡ record self.old { attributes = with_attribute (string_bytes name) value self.old.attributes }) }
+        ensures old { IfOk result (λ old. old ≡ attribute_value (string_bytes name)
+            self.old.attributes) }
+        ensures ok { OnOk result (self.new ≡ record self.old
+            { attributes = with_attribute (string_bytes name) value self.old.attributes }) }
         ensures err { OnErr result (self.new ≡ self.old) }
     {
         let mut attrs = match mem::replace(&mut self.held, Held::Nothing) {
@@ -390,8 +394,10 @@ impl Content {
         name: String,
         value: Units,
     ) -> Result<Option<Units>, AllocError>
-        ensures old { IfOk result (λ old. old ≡ attribute_value (string_bytes name) self.old.attributes) }
-        ensures ok { OnOk result (self.new ≡ record self.old { attributes = with_attribute (string_bytes name) value self.old.attributes }) }
+        ensures old { IfOk result (λ old. old ≡ attribute_value (string_bytes name)
+            self.old.attributes) }
+        ensures ok { OnOk result (self.new ≡ record self.old
+            { attributes = with_attribute (string_bytes name) value self.old.attributes }) }
         ensures err { OnErr result (self.new ≡ self.old) }
     {
         let text = Units::from_units(alloc, self.text())?;
@@ -406,7 +412,8 @@ impl Content {
     /// Where neither an attribute nor a unit is left, all memory is given back.
     pub fn remove_attribute(&mut self, name: &str) -> Option<Units>
         ensures value { result ≡ attribute_value name.now self.old.attributes }
-        ensures rest { self.new ≡ record self.old { attributes = without_attribute name.now self.old.attributes } }
+        ensures rest { self.new ≡ record self.old { attributes = without_attribute name.now
+            self.old.attributes } }
     {
         match mem::replace(&mut self.held, Held::Nothing) {
             Held::Attributes(mut attrs) => {

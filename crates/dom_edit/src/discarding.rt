@@ -43,8 +43,10 @@ impl World {
     // Whether something else than a tree names a node or a descendant of it.
     fn is_named(&self, top: NodeId) -> bool
         requires { HasNode self.now.tree.forest top }
-        ensures own { result ≡ list_any (λ m. among m (inclusive_descendants self.now.tree.forest top)) (named_in self.now) }
-        ensures shown { (w : PlainWorld) → Shows self.now w → result ≡ list_any (λ m. among m (inclusive_descendants w.forest top)) (named_nodes w) }
+        ensures own { result ≡ list_any (λ m. among m
+            (inclusive_descendants self.now.tree.forest top)) (named_in self.now) }
+        ensures shown { (w : PlainWorld) → Shows self.now w →
+            result ≡ list_any (λ m. among m (inclusive_descendants w.forest top)) (named_nodes w) }
     {
         self.ranges.refers(&self.tree, top)
             || self.statics.refers(&self.tree, top)

@@ -47,8 +47,10 @@ impl World {
         requires child_held { ForSome child (λ c. HasNode self.old.tree.forest c) }
         ensures allowed { OnOk result (check_insert self.old.tree.forest parent node child ≡ None) }
         ensures inserted { OnOk result (Follows self.old self.new (pre_insert node parent child)) }
-        ensures markers { OnOk result (StandByEdits self.old self.new (pre_insert_edits node parent child)) }
-        ensures refused { IfErr result (λ e. IsRefused e (check_insert self.old.tree.forest parent node child) self.old self.new) }
+        ensures markers { OnOk result (StandByEdits self.old self.new
+            (pre_insert_edits node parent child)) }
+        ensures refused { IfErr result (λ e. IsRefused e
+            (check_insert self.old.tree.forest parent node child) self.old self.new) }
         ensures kept { KeepsNodes self.old self.new }
         ensures whole { IsWhole self.new }
     {
@@ -73,7 +75,8 @@ impl World {
         requires node_held { HasNode self.old.tree.forest node }
         requires allowed { check_insert self.old.tree.forest parent node child ≡ None }
         ensures inserted { OnOk result (Follows self.old self.new (pre_insert node parent child)) }
-        ensures markers { OnOk result (StandByEdits self.old self.new (pre_insert_edits node parent child)) }
+        ensures markers { OnOk result (StandByEdits self.old self.new
+            (pre_insert_edits node parent child)) }
         ensures kept { KeepsNodes self.old self.new }
         ensures whole { IsWhole self.new }
     {
@@ -93,8 +96,10 @@ impl World {
     ) -> Result<(), AllocError>
         requires whole { IsWhole self.old }
         requires allowed { IsInsertable self.old.tree.forest node parent child }
-        ensures inserted { OnOk result (Follows self.old self.new (insert false node parent child)) }
-        ensures markers { OnOk result (StandByEdits self.old self.new (insert_edits node parent child)) }
+        ensures inserted { OnOk result (Follows self.old self.new
+            (insert false node parent child)) }
+        ensures markers { OnOk result (StandByEdits self.old self.new
+            (insert_edits node parent child)) }
         ensures kept { KeepsNodes self.old self.new }
         ensures whole { IsWhole self.new }
     {
@@ -119,9 +124,12 @@ impl World {
         requires whole { IsWhole self.old }
         requires allowed { IsInsertable self.old.tree.forest node parent child }
         requires unreferred { IsUnreferred self.old node }
-        ensures inserted { OnOk result (Follows self.old self.new (insert false node parent child)) }
-        ensures markers { OnOk result (StandByEdits self.old self.new (insert_edits node parent child)) }
-        ensures left { child ≡ None → IsFragmentOrRoot self.old.tree.forest node → LeavesOlder (parent ∷ node ∷ []) self.old self.new }
+        ensures inserted { OnOk result (Follows self.old self.new
+            (insert false node parent child)) }
+        ensures markers { OnOk result (StandByEdits self.old self.new
+            (insert_edits node parent child)) }
+        ensures left { child ≡ None → IsFragmentOrRoot self.old.tree.forest node →
+            LeavesOlder (parent ∷ node ∷ []) self.old self.new }
         ensures kept { KeepsNodes self.old self.new }
         ensures whole { IsWhole self.new }
     {
@@ -137,7 +145,8 @@ impl World {
         ensures allowed { OnOk result (check_insert self.old.tree.forest parent node None ≡ None) }
         ensures appended { OnOk result (Follows self.old self.new (append node parent)) }
         ensures markers { OnOk result (StandByEdits self.old self.new (append_edits node parent)) }
-        ensures refused { IfErr result (λ e. IsRefused e (check_insert self.old.tree.forest parent node None) self.old self.new) }
+        ensures refused { IfErr result (λ e. IsRefused e
+            (check_insert self.old.tree.forest parent node None) self.old self.new) }
         ensures kept { KeepsNodes self.old self.new }
         ensures whole { IsWhole self.new }
     {
@@ -158,10 +167,13 @@ impl World {
         requires parent_held { HasNode self.old.tree.forest parent }
         requires node_held { HasNode self.old.tree.forest node }
         requires child_held { HasNode self.old.tree.forest child }
-        ensures allowed { OnOk result (check_replace self.old.tree.forest parent node child ≡ None) }
+        ensures allowed { OnOk result (check_replace self.old.tree.forest parent node child
+            ≡ None) }
         ensures replaced { OnOk result (Follows self.old self.new (replace child node parent)) }
-        ensures markers { OnOk result (StandByEdits self.old self.new (replace_edits child node parent)) }
-        ensures refused { IfErr result (λ e. IsRefused e (check_replace self.old.tree.forest parent node child) self.old self.new) }
+        ensures markers { OnOk result (StandByEdits self.old self.new
+            (replace_edits child node parent)) }
+        ensures refused { IfErr result (λ e. IsRefused e
+            (check_replace self.old.tree.forest parent node child) self.old self.new) }
         ensures kept { KeepsNodes self.old self.new }
         ensures whole { IsWhole self.new }
     {
@@ -197,11 +209,14 @@ impl World {
         requires whole { IsWhole self.old }
         requires parent_held { HasNode self.old.tree.forest parent }
         requires child_held { HasNode self.old.tree.forest child }
-        ensures allowed { OnOk result (check_remove_child self.old.tree.forest parent child ≡ None) }
+        ensures allowed { OnOk result (check_remove_child self.old.tree.forest parent child
+            ≡ None) }
         ensures removed { OnOk result (Follows self.old self.new (remove false child)) }
         ensures markers { OnOk result (StandByEdits self.old self.new (remove_edits child)) }
-        ensures moved { check_remove_child self.old.tree.forest parent child ≡ None → Moves self.old self.new (remove false child) }
-        ensures refused { IfErr result (λ e. IsRefused e (check_remove_child self.old.tree.forest parent child) self.old self.new) }
+        ensures moved { check_remove_child self.old.tree.forest parent child ≡ None →
+            Moves self.old self.new (remove false child) }
+        ensures refused { IfErr result (λ e. IsRefused e
+            (check_remove_child self.old.tree.forest parent child) self.old self.new) }
         ensures kept { KeepsNodes self.old self.new }
         ensures whole { IsWhole self.new }
     {
@@ -242,8 +257,10 @@ impl World {
         requires node_held { ForSome node (λ n. HasNode self.old.tree.forest n) }
         ensures allowed { OnOk result (check_only_child self.old.tree.forest parent node ≡ None) }
         ensures replaced { OnOk result (Follows self.old self.new (replace_all node parent)) }
-        ensures markers { OnOk result (StandByEdits self.old self.new (replace_all_edits node parent)) }
-        ensures refused { IfErr result (λ e. IsRefused e (check_only_child self.old.tree.forest parent node) self.old self.new) }
+        ensures markers { OnOk result (StandByEdits self.old self.new
+            (replace_all_edits node parent)) }
+        ensures refused { IfErr result (λ e. IsRefused e
+            (check_only_child self.old.tree.forest parent node) self.old self.new) }
         ensures kept { KeepsNodes self.old self.new }
         ensures whole { IsWhole self.new }
     {
@@ -269,7 +286,8 @@ impl World {
         requires node_held { ForSome node (λ n. HasNode self.old.tree.forest n) }
         requires allowed { check_only_child self.old.tree.forest parent node ≡ None }
         ensures replaced { OnOk result (Follows self.old self.new (replace_all node parent)) }
-        ensures markers { OnOk result (StandByEdits self.old self.new (replace_all_edits node parent)) }
+        ensures markers { OnOk result (StandByEdits self.old self.new
+            (replace_all_edits node parent)) }
         ensures kept { KeepsNodes self.old self.new }
         ensures whole { IsWhole self.new }
     {
@@ -292,7 +310,8 @@ impl World {
         ensures allowed { OnOk result (check_adopt self.old.tree.forest node ≡ None) }
         ensures adopted { OnOk result (Follows self.old self.new (adopt node document)) }
         ensures markers { OnOk result (StandByEdits self.old self.new (adopt_edits node)) }
-        ensures refused { IfErr result (λ e. IsRefused e (check_adopt self.old.tree.forest node) self.old self.new) }
+        ensures refused { IfErr result (λ e. IsRefused e (check_adopt self.old.tree.forest node)
+            self.old self.new) }
         ensures kept { KeepsNodes self.old self.new }
         ensures whole { IsWhole self.new }
     {

@@ -149,7 +149,8 @@ impl World {
         requires nodes { nodes.now ≡ entering self.old.tree.forest node }
         requires unreferred { IsUnreferred self.old node }
         ensures freed { OnOk result (Follows self.old self.new (freed node nodes.now)) }
-        ensures left { IsFragmentOrRoot self.old.tree.forest node → LeavesOlder (node ∷ []) self.old self.new }
+        ensures left { IsFragmentOrRoot self.old.tree.forest node →
+            LeavesOlder (node ∷ []) self.old self.new }
         ensures kept { KeepsNodes self.old self.new }
         ensures whole { IsWhole self.new }
     {
@@ -172,7 +173,8 @@ impl World {
     ) -> Result<(), AllocError>
         requires whole { IsWhole self.old }
         requires ready { IsOpen self.old.tree.forest parent child nodes.now }
-        ensures inserted { OnOk result (Follows self.old self.new (insert_all suppressed parent child nodes.now)) }
+        ensures inserted { OnOk result (Follows self.old self.new
+            (insert_all suppressed parent child nodes.now)) }
         ensures left { child ≡ None → LeavesOlder (parent ∷ nodes.now) self.old self.new }
         ensures kept { KeepsNodes self.old self.new }
         ensures whole { IsWhole self.new }
@@ -210,7 +212,8 @@ impl World {
         requires whole { IsWhole self.old }
         requires allowed { IsInsertable self.old.tree.forest node parent child }
         requires nodes { nodes.now ≡ entering self.old.tree.forest node }
-        ensures inserted { OnOk result (Follows self.old self.new (insert suppressed node parent child)) }
+        ensures inserted { OnOk result (Follows self.old self.new
+            (insert suppressed node parent child)) }
         ensures kept { KeepsNodes self.old self.new }
         ensures whole { IsWhole self.new }
     {
@@ -235,8 +238,10 @@ impl World {
         requires allowed { IsInsertable self.old.tree.forest node parent child }
         requires nodes { nodes.now ≡ entering self.old.tree.forest node }
         requires unreferred { IsUnreferred self.old node }
-        ensures inserted { OnOk result (Follows self.old self.new (insert false node parent child)) }
-        ensures left { child ≡ None → IsFragmentOrRoot self.old.tree.forest node → LeavesOlder (parent ∷ node ∷ []) self.old self.new }
+        ensures inserted { OnOk result (Follows self.old self.new
+            (insert false node parent child)) }
+        ensures left { child ≡ None → IsFragmentOrRoot self.old.tree.forest node →
+            LeavesOlder (parent ∷ node ∷ []) self.old self.new }
         ensures kept { KeepsNodes self.old self.new }
         ensures whole { IsWhole self.new }
     {

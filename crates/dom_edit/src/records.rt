@@ -33,10 +33,12 @@ impl World {
         requires removed { AreThere self.old.tree.forest removed.now }
         requires previous { ForSome previous (λ n. HasNode self.old.tree.forest n) }
         requires next { ForSome next (λ n. HasNode self.old.tree.forest n) }
-        ensures queued { OnOk result (Follows self.old self.new (tree_record target added.now removed.now previous next)) }
+        ensures queued { OnOk result (Follows self.old self.new
+            (tree_record target added.now removed.now previous next)) }
         ensures parts { self.new ≡ record self.old { observers = self.new.observers } }
         ensures observers { SameObservers self.old.observers self.new.observers }
-        ensures quiet { NamesNoneOf (ancestors target self.old.tree.forest) self.old.observers → self.new ≡ self.old }
+        ensures quiet { NamesNoneOf (ancestors target self.old.tree.forest) self.old.observers →
+            self.new ≡ self.old }
         ensures whole { IsWhole self.new }
     {
         let mutation = Mutation {

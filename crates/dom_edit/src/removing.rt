@@ -43,7 +43,8 @@ fn number(node: Option<At<'_, Content>>) -> Option<NodeId>
 // Where a node stands; none for a root. It is looked up once.
 fn seat_of(tree: &Tree<Content>, node: NodeId) -> Option<Seat>
     requires { HasNode tree.now.forest node }
-    ensures { MatchOption result (parent_of tree.now.forest node ≡ None) (λ s. IsSeat tree.now.forest node s) }
+    ensures { MatchOption result (parent_of tree.now.forest node
+        ≡ None) (λ s. IsSeat tree.now.forest node s) }
 {
     let here = tree.at(node);
     let parent = number(here.parent())?;
@@ -85,7 +86,8 @@ impl World {
     fn take_out(&mut self, parent: NodeId, node: NodeId)
         requires whole { IsWhole self.old }
         requires child { parent_of self.old.tree.forest node ≡ Some parent }
-        ensures taken { IfSome (parent_of self.old.tree.forest node) (λ parent. Follows self.old self.new (taken_out node parent)) }
+        ensures taken { IfSome (parent_of self.old.tree.forest node) (λ parent.
+            Follows self.old self.new (taken_out node parent)) }
         ensures kept { KeepsNodes self.old self.new }
         ensures whole { IsWhole self.new }
     {
@@ -101,7 +103,8 @@ impl World {
         ensures made { OnOk result (Follows self.old self.new (transients_made node parent)) }
         ensures parts { self.new ≡ record self.old { observers = self.new.observers } }
         ensures observers { SameObservers self.old.observers self.new.observers }
-        ensures quiet { NamesNoneOf (ancestors parent self.old.tree.forest) self.old.observers → self.new ≡ self.old }
+        ensures quiet { NamesNoneOf (ancestors parent self.old.tree.forest) self.old.observers →
+            self.new ≡ self.old }
         ensures whole { IsWhole self.new }
     {
         if self.observers.is_idle() {
@@ -124,7 +127,8 @@ impl World {
         requires apart { among node (ancestors parent self.old.tree.forest) ≡ false }
         requires previous { ForSome previous (λ n. HasNode self.old.tree.forest n) }
         requires next { ForSome next (λ n. HasNode self.old.tree.forest n) }
-        ensures noted { OnOk result (Follows self.old self.new (removal_noted node parent previous next)) }
+        ensures noted { OnOk result (Follows self.old self.new
+            (removal_noted node parent previous next)) }
         ensures parts { self.new ≡ record self.old { observers = self.new.observers } }
         ensures observers { SameObservers self.old.observers self.new.observers }
         ensures whole { IsWhole self.new }

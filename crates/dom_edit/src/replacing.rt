@@ -41,7 +41,8 @@ pub(crate) fn check_only_child(
 ) -> Result<(), DomError>
     requires parent_held { HasNode tree.now.forest parent }
     requires node_held { ForSome node (λ n. HasNode tree.now.forest n) }
-    ensures { MatchResult result (λ _. check_only_child tree.now.forest parent node ≡ None) (λ e. check_only_child tree.now.forest parent node ≡ Some e) }
+    ensures { MatchResult result (λ _. check_only_child tree.now.forest parent node
+        ≡ None) (λ e. check_only_child tree.now.forest parent node ≡ Some e) }
 {
     match node {
         Some(node) => check_insert(tree, parent, node, None),
@@ -84,7 +85,8 @@ impl World {
         requires parent_held { HasNode self.old.tree.forest parent }
         requires added { AreThere self.old.tree.forest added.now }
         requires removed { AreThere self.old.tree.forest removed.now }
-        ensures queued { OnOk result (Follows self.old self.new (replaced_record parent added.now removed.now)) }
+        ensures queued { OnOk result (Follows self.old self.new
+            (replaced_record parent added.now removed.now)) }
         ensures kept { KeepsNodes self.old self.new }
         ensures whole { IsWhole self.new }
     {

@@ -83,7 +83,8 @@ fn found_between(
 ) -> Found
     requires held { HasNode tree.now.forest parent }
     requires child { IsAmong from (children_of tree.now.forest parent) }
-    ensures { IsFound tree.now.forest (ahead_of until (from_optional from (children_of tree.now.forest parent))) result }
+    ensures { IsFound tree.now.forest (ahead_of until
+        (from_optional from (children_of tree.now.forest parent))) result }
 {
     tree.sound();
     let mut found = NOTHING;
@@ -113,7 +114,9 @@ struct Around {
 impl Around {
     // Whether an element is refused: there is another, or a doctype does not come first.
     fn refuses_element(&self) -> bool
-        ensures { result ≡ (self.now.ahead.element || (self.now.at.element || (self.now.past.element || (self.now.at.doctype || self.now.past.doctype)))) }
+        ensures { result ≡ (self.now.ahead.element
+            || (self.now.at.element || (self.now.past.element
+            || (self.now.at.doctype || self.now.past.doctype)))) }
     {
         self.ahead.element
             || self.at.element
@@ -124,7 +127,8 @@ impl Around {
 
     // Whether a doctype is refused: there is another, or an element comes first.
     fn refuses_doctype(&self) -> bool
-        ensures { result ≡ (self.now.ahead.doctype || (self.now.at.doctype || (self.now.past.doctype || self.now.ahead.element))) }
+        ensures { result ≡ (self.now.ahead.doctype
+            || (self.now.at.doctype || (self.now.past.doctype || self.now.ahead.element))) }
     {
         self.ahead.doctype || self.at.doctype || self.past.doctype || self.ahead.element
     }
@@ -201,7 +205,8 @@ fn count_around(tree: &Tree<Content>, document: NodeId, place: Place, kind: Kind
 fn element_by_count(tree: &Tree<Content>, document: NodeId, place: Place) -> Option<bool>
     requires held { HasNode tree.now.forest document }
     requires under { IsUnder tree.now.forest document place }
-    ensures { IfSome result (λ refused. (n : ℕ) → refused ≡ refuses place Element tree.now.forest document n) }
+    ensures { IfSome result (λ refused. (n : ℕ) → refused
+        ≡ refuses place Element tree.now.forest document n) }
 {
     tree.sound();
     let elements = count_around(tree, document, place, Kind::Element)?;
@@ -222,7 +227,8 @@ fn element_by_count(tree: &Tree<Content>, document: NodeId, place: Place) -> Opt
 fn doctype_by_count(tree: &Tree<Content>, document: NodeId, place: Place) -> Option<bool>
     requires held { HasNode tree.now.forest document }
     requires under { IsUnder tree.now.forest document place }
-    ensures { IfSome result (λ refused. (n : ℕ) → refused ≡ refuses place DocumentType tree.now.forest document n) }
+    ensures { IfSome result (λ refused. (n : ℕ) → refused
+        ≡ refuses place DocumentType tree.now.forest document n) }
 {
     tree.sound();
     let doctypes = count_around(tree, document, place, Kind::DocumentType)?;

@@ -86,13 +86,16 @@ impl World {
     ) -> Result<NodeId, AllocError>
         requires whole { IsWhole self.old }
         requires room { self.old.tree.made < 4294967295 }
-        requires document_kind { ForSome document (λ d. is_of_kind Document self.old.tree.forest d ≡ true) }
+        requires document_kind { ForSome document (λ d. is_of_kind Document self.old.tree.forest d
+            ≡ true) }
         requires own_document { document ≡ None → is_kind Document label.kind ≡ true }
         ensures number { IfOk result (λ id. id ≡ self.old.tree.made) }
-        ensures made { OnOk result (Follows self.old self.new (made_node (unwrap_or document self.old.tree.made) label content)) }
+        ensures made { OnOk result (Follows self.old self.new
+            (made_node (unwrap_or document self.old.tree.made) label content)) }
         ensures kept { OnErr result (CoversAhead self.old self.new) }
         ensures labelled { KeepsLabels self.old self.new }
-        ensures parts { self.new ≡ record self.old { tree = self.new.tree; ranges = self.new.ranges } }
+        ensures parts { self.new ≡ record self.old { tree = self.new.tree;
+            ranges = self.new.ranges } }
         ensures whole { IsWhole self.new }
     {
         // each call on a world takes the allocator; here the parts have it

@@ -55,7 +55,8 @@ impl Label {
         public_id: String,
         system_id: String,
     ) -> Result<Label, AllocError>
-        ensures { IfOk result (λ made. made ≡ doctype_label (string_bytes name) (string_bytes public_id) (string_bytes system_id)) }
+        ensures { IfOk result (λ made. made ≡ doctype_label (string_bytes name)
+            (string_bytes public_id) (string_bytes system_id)) }
     {
         if public_id.is_empty() && system_id.is_empty() {
             return Label::named(alloc, Kind::DocumentType, name.as_str());

@@ -165,7 +165,8 @@ impl<T> Links<T> {
         requires child_held { IsHeld self.old child }
         requires no_parent { parent_in (entry_at self.old child) ≡ None }
         requires no_cycle { ¬ StandsUnder (entry_at self.old) child parent }
-        requires before_under { ForSome before (λ b. parent_in (entry_at self.old b) ≡ Some parent) }
+        requires before_under { ForSome before (λ b. parent_in (entry_at self.old b)
+            ≡ Some parent) }
         ensures { self.new ≡ linked self.old parent child before }
     {
         let top = self.store.place(parent);

@@ -18,8 +18,10 @@ const MOST_SLOTS: usize = 0xffff_ffff;
 pub(crate) fn free_slot(table: &mut Vec<Link>, free: &mut Vec<u32>) -> Option<u32>
     requires room { length table.old.items ≤ vec_capacity free.old }
     requires few { length table.old.items < 2 ^ 32 }
-    ensures given { IfSome result (GivesSlot table.old.items free.old.items table.new.items free.new.items) }
-    ensures unchanged { IfNone result ((table.new.items ≡ table.old.items) × (free.new.items ≡ free.old.items)) }
+    ensures given { IfSome result (GivesSlot table.old.items free.old.items table.new.items
+        free.new.items) }
+    ensures unchanged { IfNone result ((table.new.items ≡ table.old.items)
+        × (free.new.items ≡ free.old.items)) }
     ensures room { length table.new.items ≤ vec_capacity free.new }
     ensures few { length table.new.items < 2 ^ 32 }
 {
@@ -57,7 +59,8 @@ pub(crate) fn link_before<T>(pool: &Pool<Node<T>>, top: *mut Node<T>, next: Link
 /// What comes after `prev` under `top` becomes `next`.
 pub(crate) fn lead_on<T>(pool: &mut Pool<Node<T>>, top: *mut Node<T>, prev: Link, next: Link)
     requires { IsSome (look (link_or prev top) pool.old.cells) }
-    ensures nodes { (q : Ptr) → look q pool.new.cells ≡ option_map (with_next top prev next q) (look q pool.old.cells) }
+    ensures nodes { (q : Ptr) → look q pool.new.cells
+        ≡ option_map (with_next top prev next q) (look q pool.old.cells) }
     ensures many { length pool.new.cells ≡ length pool.old.cells }
 {
     match prev.ptr() {
@@ -69,7 +72,8 @@ pub(crate) fn lead_on<T>(pool: &mut Pool<Node<T>>, top: *mut Node<T>, prev: Link
 /// What comes before `next` under `top` becomes `prev`.
 pub(crate) fn lead_back<T>(pool: &mut Pool<Node<T>>, top: *mut Node<T>, next: Link, prev: Link)
     requires { IsSome (look (link_or next top) pool.old.cells) }
-    ensures nodes { (q : Ptr) → look q pool.new.cells ≡ option_map (with_previous top next prev q) (look q pool.old.cells) }
+    ensures nodes { (q : Ptr) → look q pool.new.cells
+        ≡ option_map (with_previous top next prev q) (look q pool.old.cells) }
     ensures many { length pool.new.cells ≡ length pool.old.cells }
 {
     match next.ptr() {
@@ -80,7 +84,8 @@ pub(crate) fn lead_back<T>(pool: &mut Pool<Node<T>>, top: *mut Node<T>, next: Li
 
 pub(crate) fn recount<T>(pool: &mut Pool<Node<T>>, ptr: *mut Node<T>, count: u32)
     requires { IsSome (look ptr pool.old.cells) }
-    ensures nodes { (q : Ptr) → look q pool.new.cells ≡ option_map (recounted ptr count q) (look q pool.old.cells) }
+    ensures nodes { (q : Ptr) → look q pool.new.cells
+        ≡ option_map (recounted ptr count q) (look q pool.old.cells) }
     ensures many { length pool.new.cells ≡ length pool.old.cells }
 {
     pool.get_mut(NodePtr { ptr }).count = count;
@@ -95,7 +100,8 @@ pub(crate) fn settle<T>(
     next: Link,
 )
     requires { IsSome (look ptr pool.old.cells) }
-    ensures nodes { (q : Ptr) → look q pool.new.cells ≡ option_map (settled ptr parent prev next q) (look q pool.old.cells) }
+    ensures nodes { (q : Ptr) → look q pool.new.cells
+        ≡ option_map (settled ptr parent prev next q) (look q pool.old.cells) }
     ensures many { length pool.new.cells ≡ length pool.old.cells }
 {
     let node = pool.get_mut(NodePtr { ptr });

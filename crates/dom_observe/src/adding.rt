@@ -37,12 +37,15 @@ pub(crate) fn add(
 ) -> Result<(), AllocError>
     requires unique { IsUnique nat_eq nodes.old }
     requires inside { place ≤ length keys.old.items }
-    ensures ok { OnOk result (Added (at table.old) (listed nodes.old.entries) (plain registration) (at table.new) (listed nodes.new.entries)) }
-    ensures own { OnOk result (NewKey (at table.old) (plain registration) (at table.new) place keys.old.items keys.new.items) }
+    ensures ok { OnOk result (Added (at table.old) (listed nodes.old.entries) (plain registration)
+        (at table.new) (listed nodes.new.entries)) }
+    ensures own { OnOk result (NewKey (at table.old) (plain registration) (at table.new) place
+        keys.old.items keys.new.items) }
     ensures err_own { OnErr result (keys.new.items ≡ keys.old.items) }
     ensures err_table { OnErr result (table.new.slots ≡ table.old.slots) }
     ensures err_nodes { OnErr result (listed nodes.new.entries ≡ listed nodes.old.entries) }
-    ensures rising { Placed (at table.old) (listed nodes.old.entries) → Rising table.old (listed nodes.old.entries) → Rising table.new (listed nodes.new.entries) }
+    ensures rising { Placed (at table.old) (listed nodes.old.entries) →
+        Rising table.old (listed nodes.old.entries) → Rising table.new (listed nodes.new.entries) }
     ensures full { HaveKeys (listed nodes.old.entries) → HaveKeys (listed nodes.new.entries) }
     ensures unique { IsUnique nat_eq nodes.new }
 {
@@ -81,7 +84,8 @@ fn transient_of(
     node: NodeId,
 ) -> Result<Option<Registration>, AllocError>
     requires { NotesIfAny (at table.now) own.now origins.now.noted }
-    ensures { IfOk result (λ made. option_map plain made ≡ transient_under (at table.now) own.now node key) }
+    ensures { IfOk result (λ made. option_map plain made
+        ≡ transient_under (at table.now) own.now node key) }
 {
     match table.get(key) {
         Some(registration) if gives(table, own, origins, registration) => {
@@ -106,23 +110,33 @@ pub(crate) fn add_transients(
     requires standing { AllLive (at table.old) standing.now }
     requires there { AllByRecursion (Stands (at table.old) (is_there roster.old)) standing.now }
     ensures ok { OnOk result ((n : ℕ) → found table.new (on n (listed nodes.new.entries))
-        ≡ with_added_transients node (found table.old standing.now) n (found table.old (on n (listed nodes.old.entries)))) }
+        ≡ with_added_transients node (found table.old standing.now) n
+        (found table.old (on n (listed nodes.old.entries)))) }
     ensures front { IsFront (found table.old (on node (listed nodes.old.entries)))
         (found table.new (on node (listed nodes.new.entries))) }
     ensures elsewhere { (n : ℕ) → n ≢ node →
-        found table.new (on n (listed nodes.new.entries)) ≡ found table.old (on n (listed nodes.old.entries)) }
+        found table.new (on n (listed nodes.new.entries))
+        ≡ found table.old (on n (listed nodes.old.entries)) }
     ensures stay { AllByRecursion (λ key. at table.new key ≡ at table.old key) standing.now }
-    ensures all_stand { (p : ℕ → Bool) → AllByRecursion (Stands (at table.old) p) standing.now → AllStand (at table.old) p (listed nodes.old.entries) →
+    ensures all_stand { (p : ℕ → Bool) → AllByRecursion (Stands (at table.old) p) standing.now →
+        AllStand (at table.old) p (listed nodes.old.entries) →
         AllStand (at table.new) p (listed nodes.new.entries) }
-    ensures names { (p : ℕ → Bool) → p node ≡ false → AllByRecursion (λ key. names_one p (at table.old key) ≡ false) standing.now →
-        NamesNone p (at table.old) (listed nodes.old.entries) → NamesNone p (at table.new) (listed nodes.new.entries) }
+    ensures names { (p : ℕ → Bool) → p node ≡ false →
+        AllByRecursion (λ key. names_one p (at table.old key) ≡ false) standing.now →
+        NamesNone p (at table.old) (listed nodes.old.entries) →
+        NamesNone p (at table.new) (listed nodes.new.entries) }
     ensures full { HaveKeys (listed nodes.old.entries) → HaveKeys (listed nodes.new.entries) }
-    ensures indexed { (lasts : List (List ℕ)) (p : ℕ → Bool) → AllByRecursion (Stands (at table.old) p) standing.now →
-        IsIndexed (at table.old) (listed nodes.old.entries) lasts (passing_by roster.old) fleeting.old.keys p →
-        IsIndexed (at table.new) (listed nodes.new.entries) lasts (passing_by roster.new) fleeting.new.keys p }
+    ensures indexed { (lasts : List (List ℕ)) (p : ℕ → Bool) →
+        AllByRecursion (Stands (at table.old) p) standing.now →
+        IsIndexed (at table.old) (listed nodes.old.entries) lasts (passing_by roster.old)
+        fleeting.old.keys p →
+        IsIndexed (at table.new) (listed nodes.new.entries) lasts (passing_by roster.new)
+        fleeting.new.keys p }
     ensures sources { HaveSources (at table.old) → HaveSources (at table.new) }
-    ensures agree { Placed (at table.old) (listed nodes.old.entries) → Agree (at table.old) → Agree (at table.new) }
-    ensures rising { Placed (at table.old) (listed nodes.old.entries) → Rising table.old (listed nodes.old.entries) → Rising table.new (listed nodes.new.entries) }
+    ensures agree { Placed (at table.old) (listed nodes.old.entries) → Agree (at table.old) →
+        Agree (at table.new) }
+    ensures rising { Placed (at table.old) (listed nodes.old.entries) →
+        Rising table.old (listed nodes.old.entries) → Rising table.new (listed nodes.new.entries) }
     ensures lasting { lasting_by roster.new ≡ lasting_by roster.old }
     ensures queues { queues_by roster.new ≡ queues_by roster.old }
     ensures unique { IsUnique nat_eq nodes.new }
@@ -150,7 +164,8 @@ pub(crate) fn find_standing<X>(
     keys: &mut Vec<usize>,
 ) -> Result<(), AllocError>
     requires { HasNode tree.now.forest node }
-    ensures { OnOk result (keys.new.items ≡ flat_map (λ n. on n (listed nodes.now.entries)) (ancestors node tree.now.forest)) }
+    ensures { OnOk result (keys.new.items ≡ flat_map (λ n. on n (listed nodes.now.entries))
+        (ancestors node tree.now.forest)) }
 {
     tree.sound();
     keys.clear();
@@ -180,7 +195,8 @@ fn push_deep(
     table: &Slab<Registration>,
     own: &[usize],
 ) -> Result<(), AllocError>
-    ensures { OnOk result (keys.new.items ≡ keys.old.items ++ filter (deep_at (at table.now)) own.now) }
+    ensures { OnOk result (keys.new.items ≡ keys.old.items
+        ++ filter (deep_at (at table.now)) own.now) }
 {
     for key in own {
         if is_deep(table, *key) {
@@ -200,7 +216,8 @@ pub(crate) fn find_standing_deep<X>(
 ) -> Result<(), AllocError>
     requires { HasNode tree.now.forest node }
     ensures { OnOk result (keys.new.items
-        ≡ flat_map (λ n. filter (deep_at (at table.now)) (on n (listed nodes.now.entries))) (ancestors node tree.now.forest)) }
+        ≡ flat_map (λ n. filter (deep_at (at table.now)) (on n (listed nodes.now.entries)))
+        (ancestors node tree.now.forest)) }
 {
     tree.sound();
     keys.clear();

@@ -31,7 +31,8 @@ fn ending_node(table: &Slab<Registration>, key: usize, ending: &Ending) -> Optio
 
 // Takes out the registration under a key, where it ends.
 fn take_out(table: &mut Slab<Registration>, key: usize, ending: &Ending)
-    ensures left { (k : ℕ) → at table.new k ≡ (if k == key then left_after ending.now (at table.old k) else at table.old k) }
+    ensures left { (k : ℕ) → at table.new k ≡ (if k == key
+        then left_after ending.now (at table.old k) else at table.old k) }
     ensures fewer { Fewer table.old table.new }
 {
     if ending_node(table, key, ending).is_some() {
@@ -41,7 +42,8 @@ fn take_out(table: &mut Slab<Registration>, key: usize, ending: &Ending)
 
 // Takes out those under several keys that end.
 fn take_out_each(table: &mut Slab<Registration>, keys: &[usize], ending: &Ending)
-    ensures left { (k : ℕ) → at table.new k ≡ (if among k keys.now then left_after ending.now (at table.old k) else at table.old k) }
+    ensures left { (k : ℕ) → at table.new k ≡ (if among k keys.now
+        then left_after ending.now (at table.old k) else at table.old k) }
     ensures fewer { Fewer table.old table.new }
 {
     for key in keys {
@@ -51,7 +53,8 @@ fn take_out_each(table: &mut Slab<Registration>, keys: &[usize], ending: &Ending
 
 // Takes out those under a node's keys that end, with their keys, and answers whether none is left.
 fn end_keys(table: &mut Slab<Registration>, keys: &mut NodeKeys, ending: &Ending) -> bool
-    ensures left { (k : ℕ) → at table.new k ≡ (if among k keys.old.items then left_after ending.now (at table.old k) else at table.old k) }
+    ensures left { (k : ℕ) → at table.new k ≡ (if among k keys.old.items
+        then left_after ending.now (at table.old k) else at table.old k) }
     ensures fewer { Fewer table.old table.new }
     ensures kept { keys.new.items ≡ filter (is_live (at table.new)) keys.old.items }
     ensures bare { result ≡ (length keys.new.items == 0) }
@@ -70,13 +73,17 @@ fn end_keys_on(
 ) -> bool
     requires { IsUnique nat_eq nodes.old }
     ensures left { (k : ℕ) → at table.new k
-        ≡ (if among k (on node (listed nodes.old.entries)) then left_after ending.now (at table.old k) else at table.old k) }
+        ≡ (if among k (on node (listed nodes.old.entries))
+        then left_after ending.now (at table.old k) else at table.old k) }
     ensures fewer { Fewer table.old table.new }
     ensures kept { (n : ℕ) → on n (listed nodes.new.entries)
-        ≡ (if n == node then filter (is_live (at table.new)) (on n (listed nodes.old.entries)) else on n (listed nodes.old.entries)) }
-    ensures others { (n : ℕ) → n ≢ node → lookup (nat_eq n) (listed nodes.new.entries) ≡ lookup (nat_eq n) (listed nodes.old.entries) }
+        ≡ (if n == node then filter (is_live (at table.new)) (on n (listed nodes.old.entries))
+        else on n (listed nodes.old.entries)) }
+    ensures others { (n : ℕ) → n ≢ node → lookup (nat_eq n) (listed nodes.new.entries)
+        ≡ lookup (nat_eq n) (listed nodes.old.entries) }
     ensures bare { result ≡ true → on node (listed nodes.new.entries) ≡ [] }
-    ensures some { result ≡ false → (keys : List ℕ) → lookup (nat_eq node) (listed nodes.new.entries) ≡ Some keys → keys ≢ [] }
+    ensures some { result ≡ false → (keys : List ℕ) →
+        lookup (nat_eq node) (listed nodes.new.entries) ≡ Some keys → keys ≢ [] }
     ensures unique { IsUnique nat_eq nodes.new }
 {
     match nodes.get_mut(&node.number()) {
@@ -94,10 +101,12 @@ fn end_on(
 )
     requires { IsUnique nat_eq nodes.old }
     ensures left { (k : ℕ) → at table.new k
-        ≡ (if among k (on node (listed nodes.old.entries)) then left_after ending.now (at table.old k) else at table.old k) }
+        ≡ (if among k (on node (listed nodes.old.entries))
+        then left_after ending.now (at table.old k) else at table.old k) }
     ensures fewer { Fewer table.old table.new }
     ensures kept { (n : ℕ) → on n (listed nodes.new.entries)
-        ≡ (if n == node then filter (is_live (at table.new)) (on n (listed nodes.old.entries)) else on n (listed nodes.old.entries)) }
+        ≡ (if n == node then filter (is_live (at table.new)) (on n (listed nodes.old.entries))
+        else on n (listed nodes.old.entries)) }
     ensures full { HaveKeys (listed nodes.old.entries) → HaveKeys (listed nodes.new.entries) }
     ensures unique { IsUnique nat_eq nodes.new }
 {
@@ -162,10 +171,13 @@ fn end_key_on(
     ensures left { (k : ℕ) → at table.new k ≡ (if k == key then None else at table.old k) }
     ensures fewer { Fewer table.old table.new }
     ensures kept { (n : ℕ) → on n (listed nodes.new.entries)
-        ≡ (if n == node then filter (is_live (at table.new)) (on n (listed nodes.old.entries)) else on n (listed nodes.old.entries)) }
-    ensures others { (n : ℕ) → n ≢ node → lookup (nat_eq n) (listed nodes.new.entries) ≡ lookup (nat_eq n) (listed nodes.old.entries) }
+        ≡ (if n == node then filter (is_live (at table.new)) (on n (listed nodes.old.entries))
+        else on n (listed nodes.old.entries)) }
+    ensures others { (n : ℕ) → n ≢ node → lookup (nat_eq n) (listed nodes.new.entries)
+        ≡ lookup (nat_eq n) (listed nodes.old.entries) }
     ensures bare { result ≡ true → on node (listed nodes.new.entries) ≡ [] }
-    ensures some { result ≡ false → (keys : List ℕ) → lookup (nat_eq node) (listed nodes.new.entries) ≡ Some keys → keys ≢ [] }
+    ensures some { result ≡ false → (keys : List ℕ) →
+        lookup (nat_eq node) (listed nodes.new.entries) ≡ Some keys → keys ≢ [] }
     ensures unique { IsUnique nat_eq nodes.new }
 {
     match nodes.get_mut(&node.number()) {
@@ -187,7 +199,8 @@ fn end_one(
     requires there { is_on node (at table.old key) ≡ true }
     ensures left { (k : ℕ) → at table.new k ≡ (if k == key then None else at table.old k) }
     ensures fewer { Fewer table.old table.new }
-    ensures swept { (n : ℕ) → on n (listed nodes.new.entries) ≡ filter (is_live (at table.new)) (on n (listed nodes.old.entries)) }
+    ensures swept { (n : ℕ) → on n (listed nodes.new.entries)
+        ≡ filter (is_live (at table.new)) (on n (listed nodes.old.entries)) }
     ensures full { HaveKeys (listed nodes.old.entries) → HaveKeys (listed nodes.new.entries) }
     ensures unique { IsUnique nat_eq nodes.new }
 {
@@ -233,10 +246,13 @@ pub(crate) fn end_own(
     requires unique { IsUnique nat_eq nodes.old }
     requires placed { Placed (at table.old) (listed nodes.old.entries) }
     requires rising { Rising table.old (listed nodes.old.entries) }
-    requires owned { (k : ℕ) → among k keys.old.items ≡ of_kind ending.now.lifetime ending.now.observer (at table.old k) }
-    ensures left { (k : ℕ) → at table.new k ≡ (if among k keys.old.items then left_by ending.now.ended (at table.old k) else at table.old k) }
+    requires owned { (k : ℕ) → among k keys.old.items
+        ≡ of_kind ending.now.lifetime ending.now.observer (at table.old k) }
+    ensures left { (k : ℕ) → at table.new k ≡ (if among k keys.old.items
+        then left_by ending.now.ended (at table.old k) else at table.old k) }
     ensures fewer { Fewer table.old table.new }
-    ensures swept { (n : ℕ) → on n (listed nodes.new.entries) ≡ filter (is_live (at table.new)) (on n (listed nodes.old.entries)) }
+    ensures swept { (n : ℕ) → on n (listed nodes.new.entries)
+        ≡ filter (is_live (at table.new)) (on n (listed nodes.old.entries)) }
     ensures keys { keys.new.items ≡ filter (is_live (at table.new)) keys.old.items }
     ensures placed { Placed (at table.new) (listed nodes.new.entries) }
     ensures full { HaveKeys (listed nodes.old.entries) → HaveKeys (listed nodes.new.entries) }
@@ -259,9 +275,11 @@ pub(crate) fn end_from(
     requires rising { Rising table.old (listed nodes.old.entries) }
     requires owned { (k : ℕ) → among k keys.old.items ≡ passes_for observer (at table.old k) }
     requires ordered { ByOrigin (at table.old) keys.old.items }
-    ensures left { (k : ℕ) → at table.new k ≡ (if among k keys.old.items then left_by (Ended.From observer node) (at table.old k) else at table.old k) }
+    ensures left { (k : ℕ) → at table.new k ≡ (if among k keys.old.items
+        then left_by (Ended.From observer node) (at table.old k) else at table.old k) }
     ensures fewer { Fewer table.old table.new }
-    ensures swept { (n : ℕ) → on n (listed nodes.new.entries) ≡ filter (is_live (at table.new)) (on n (listed nodes.old.entries)) }
+    ensures swept { (n : ℕ) → on n (listed nodes.new.entries)
+        ≡ filter (is_live (at table.new)) (on n (listed nodes.old.entries)) }
     ensures keys { keys.new.items ≡ filter (is_live (at table.new)) keys.old.items }
     ensures placed { Placed (at table.new) (listed nodes.new.entries) }
     ensures full { HaveKeys (listed nodes.old.entries) → HaveKeys (listed nodes.new.entries) }
@@ -288,11 +306,14 @@ pub(crate) fn end_all(
     requires unique { IsUnique nat_eq nodes.old }
     requires placed { Placed (at table.old) (listed nodes.old.entries) }
     requires rising { Rising table.old (listed nodes.old.entries) }
-    requires lasting { (k : ℕ) → among k kept.old.lasting.items ≡ lasts_for observer (at table.old k) }
-    requires passing { (k : ℕ) → among k kept.old.passing.items ≡ passes_for observer (at table.old k) }
+    requires lasting { (k : ℕ) → among k kept.old.lasting.items
+        ≡ lasts_for observer (at table.old k) }
+    requires passing { (k : ℕ) → among k kept.old.passing.items
+        ≡ passes_for observer (at table.old k) }
     ensures left { (k : ℕ) → at table.new k ≡ left_by (Ended.Of observer) (at table.old k) }
     ensures fewer { Fewer table.old table.new }
-    ensures swept { (n : ℕ) → on n (listed nodes.new.entries) ≡ filter (is_live (at table.new)) (on n (listed nodes.old.entries)) }
+    ensures swept { (n : ℕ) → on n (listed nodes.new.entries)
+        ≡ filter (is_live (at table.new)) (on n (listed nodes.old.entries)) }
     ensures lasting { kept.new.lasting.items ≡ [] }
     ensures passing { kept.new.passing.items ≡ [] }
     ensures queue { kept.new.queue ≡ kept.old.queue }
@@ -387,7 +408,8 @@ pub(crate) fn end_transients(
     requires all { HaveNone fleeting.now.keys (passing_by roster.old) }
     ensures left { (k : ℕ) → at table.new k ≡ left_by Ended.Transient (at table.old k) }
     ensures fewer { Fewer table.old table.new }
-    ensures swept { (n : ℕ) → on n (listed nodes.new.entries) ≡ filter (is_live (at table.new)) (on n (listed nodes.old.entries)) }
+    ensures swept { (n : ℕ) → on n (listed nodes.new.entries)
+        ≡ filter (is_live (at table.new)) (on n (listed nodes.old.entries)) }
     ensures none { (o : ℕ) → passing_at roster.new o ≡ [] }
     ensures owned { Owned passes_for (at table.new) (passing_by roster.new) }
     ensures lasting { lasting_by roster.new ≡ lasting_by roster.old }

@@ -24,7 +24,8 @@ fn has_keys(nodes: &IndexMap<u32, NodeKeys>, node: NodeId) -> bool
 
 // Whether a node with keys stands inside another. It asks each of these.
 fn has_keys_inside<X>(tree: &Tree<X>, top: NodeId, nodes: &IndexMap<u32, NodeKeys>) -> bool
-    ensures { result ≡ list_any (λ m. among m (inclusive_descendants tree.now.forest top)) (keys_of nodes.now.entries) }
+    ensures { result ≡ list_any (λ m. among m (inclusive_descendants tree.now.forest top))
+        (keys_of nodes.now.entries) }
 {
     nodes
         .keys()
@@ -42,7 +43,8 @@ fn node_at(nodes: &IndexMap<u32, NodeKeys>, index: usize) -> Option<NodeId> {
 // It walks the nodes inside, or climbs from each node with a registration where that takes fewer steps.
 pub(crate) fn is_named<X>(tree: &Tree<X>, top: NodeId, nodes: &IndexMap<u32, NodeKeys>) -> bool
     requires { HasNode tree.now.forest top }
-    ensures { result ≡ list_any (λ m. among m (inclusive_descendants tree.now.forest top)) (keys_of nodes.now.entries) }
+    ensures { result ≡ list_any (λ m. among m (inclusive_descendants tree.now.forest top))
+        (keys_of nodes.now.entries) }
 {
     let steps = tree.steps_inside(top, |index| node_at(nodes, index));
     tree.any_inside(top, steps, |node| has_keys(nodes, node))
@@ -59,7 +61,8 @@ fn is_told_by<X>(
     requires held { HasNode tree.now.forest top }
     requires there { AllThere (is_there roster.now) observers.now.keys }
     ensures { result ≡ list_any
-        (λ o. list_any (λ m. among m (inclusive_descendants tree.now.forest top)) (flat_map nodes_of_record (records_of roster.now o))) observers.now.keys }
+        (λ o. list_any (λ m. among m (inclusive_descendants tree.now.forest top))
+        (flat_map nodes_of_record (records_of roster.now o))) observers.now.keys }
 {
     for observer in observers.as_slice() {
         if roster.get(*observer).queue.names_inside(tree, top) {
@@ -80,8 +83,11 @@ pub(crate) fn is_told<X>(
     requires held { HasNode tree.now.forest top }
     requires pending { AllThere (is_there roster.now) pending.now.keys }
     requires untold { AllThere (is_there roster.now) untold.now.keys }
-    ensures { result ≡ (list_any (λ o. list_any (λ m. among m (inclusive_descendants tree.now.forest top)) (flat_map nodes_of_record (records_of roster.now o))) pending.now.keys
-        || list_any (λ o. list_any (λ m. among m (inclusive_descendants tree.now.forest top)) (flat_map nodes_of_record (records_of roster.now o))) untold.now.keys) }
+    ensures { result ≡ (list_any (λ o. list_any (λ m.
+        among m (inclusive_descendants tree.now.forest top))
+        (flat_map nodes_of_record (records_of roster.now o))) pending.now.keys
+        || list_any (λ o. list_any (λ m. among m (inclusive_descendants tree.now.forest top))
+        (flat_map nodes_of_record (records_of roster.now o))) untold.now.keys) }
 {
     is_told_by(tree, top, roster, pending) || is_told_by(tree, top, roster, untold)
 }

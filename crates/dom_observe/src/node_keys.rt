@@ -121,7 +121,8 @@ pub(crate) fn put_key(
     alloc: Global,
 ) -> Result<(), AllocError>
     requires { IsUnique nat_eq nodes.old }
-    ensures ok { OnOk result ((n : ℕ) → on n (listed nodes.new.entries) ≡ on n (listed nodes.old.entries) ++ (if n == node then key ∷ [] else [])) }
+    ensures ok { OnOk result ((n : ℕ) → on n (listed nodes.new.entries)
+        ≡ on n (listed nodes.old.entries) ++ (if n == node then key ∷ [] else [])) }
     ensures err { OnErr result (listed nodes.new.entries ≡ listed nodes.old.entries) }
     ensures full { HaveKeys (listed nodes.old.entries) → HaveKeys (listed nodes.new.entries) }
     ensures unique { IsUnique nat_eq nodes.new }

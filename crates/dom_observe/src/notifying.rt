@@ -25,11 +25,14 @@ pub(crate) fn gather(
     alloc: Global,
 ) -> Result<Vec<(ObserverId, Vec<Record>)>, AllocError>
     requires { AllThere (is_there roster.old) pending.now.keys }
-    ensures told { IfOk result (λ told. told_of told.items ≡ filter has_records (map (waiting_for (queues_by roster.old)) pending.now.keys)) }
-    ensures emptied { OnOk result ((p : ℕ) → records_of roster.new p ≡ (if among p pending.now.keys then [] else records_of roster.old p)) }
+    ensures told { IfOk result (λ told. told_of told.items
+        ≡ filter has_records (map (waiting_for (queues_by roster.old)) pending.now.keys)) }
+    ensures emptied { OnOk result ((p : ℕ) → records_of roster.new p
+        ≡ (if among p pending.now.keys then [] else records_of roster.old p)) }
     ensures err { OnErr result (roster.new ≡ roster.old) }
     ensures empty { (p : ℕ) → records_of roster.old p ≡ [] → records_of roster.new p ≡ [] }
-    ensures names { (p : ℕ → Bool) → TellsNone p (queues_by roster.old) → TellsNone p (queues_by roster.new) }
+    ensures names { (p : ℕ → Bool) → TellsNone p (queues_by roster.old) →
+        TellsNone p (queues_by roster.new) }
     ensures keys { keys_by roster.new ≡ keys_by roster.old }
 {
     let mut told = Vec::with_capacity(alloc, pending.len())?;

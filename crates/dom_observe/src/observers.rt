@@ -152,7 +152,8 @@ impl Observers {
     /// Whether nothing is observed.
     pub fn is_idle(&self) -> bool
         ensures idle { (x : Observing) → Watches self.now x → result ≡ true → x.registrations ≡ [] }
-        ensures observing { (x : Observing) → Watches self.now x → x.registrations ≡ [] → result ≡ true }
+        ensures observing { (x : Observing) → Watches self.now x → x.registrations ≡ [] →
+            result ≡ true }
         ensures own { result ≡ (length self.now.nodes == 0) }
     {
         self.nodes.is_empty()
@@ -273,7 +274,8 @@ impl Observers {
         ensures records { Answers (queue_of observer) self.old result.items }
         ensures taken { Steps (records_taken observer) self.old self.new }
         ensures own { result.items ≡ records_at self.old.queues observer }
-        ensures left { self.new ≡ record self.old { queues = slice_set self.old.queues observer (Some []) } }
+        ensures left { self.new ≡ record self.old { queues = slice_set self.old.queues observer
+            (Some []) } }
         ensures names { NamesOnly [] self.old self.new }
         ensures made { SameObservers self.old self.new }
     {
@@ -292,11 +294,13 @@ impl Observers {
         node: NodeId,
     ) -> Result<(), AllocError>
         requires { HasNode tree.now.forest parent }
-        ensures left { OnOk result ((x : Observing) → Watches self.old x → Watches self.new (with_transients node (ancestors parent tree.now.forest) x)) }
+        ensures left { OnOk result ((x : Observing) → Watches self.old x →
+            Watches self.new (with_transients node (ancestors parent tree.now.forest) x)) }
         ensures partly { OnErr result (IsPartlyLeft node self.old self.new) }
         ensures names { NamesOnly (node ∷ []) self.old self.new }
         ensures made { SameObservers self.old self.new }
-        ensures quiet { NamesNoneOf (ancestors parent tree.now.forest) self.old → self.new ≡ self.old }
+        ensures quiet { NamesNoneOf (ancestors parent tree.now.forest) self.old →
+            self.new ≡ self.old }
     {
         find_standing_deep(&self.table, &self.nodes, tree, parent, &mut self.standing)?;
         if self.standing.is_empty() {
@@ -320,11 +324,14 @@ impl Observers {
     pub fn queue<X>(&mut self, tree: &Tree<X>, mutation: &Mutation<'_>) -> Result<(), AllocError>
         requires { HasNode tree.now.forest mutation.now.target }
         ensures queued { OnOk result ((x : Observing) → Watches self.old x →
-            Watches self.new (noted (record (mutation.now) { standing = standing_on (ancestors mutation.now.target tree.now.forest) x.registrations }) x)) }
+            Watches self.new (noted (record (mutation.now)
+            { standing = standing_on (ancestors mutation.now.target tree.now.forest) x.registrations
+            }) x)) }
         ensures partly { OnErr result (IsPartlyQueued mutation.now self.old self.new) }
         ensures names { NamesOnly (nodes_of_mutation mutation.now) self.old self.new }
         ensures made { SameObservers self.old self.new }
-        ensures quiet { NamesNoneOf (ancestors mutation.now.target tree.now.forest) self.old → self.new ≡ self.old }
+        ensures quiet { NamesNoneOf (ancestors mutation.now.target tree.now.forest) self.old →
+            self.new ≡ self.old }
     {
         if self.nodes.is_empty() {
             return Ok(());
@@ -357,11 +364,13 @@ impl Observers {
         requires held { HasNode tree.now.forest mutation.now.target }
         requires apart { among node (ancestors mutation.now.target tree.now.forest) ≡ false }
         ensures removed { OnOk result (Steps
-            (removed_below node (ancestors mutation.now.target tree.now.forest) mutation.now) self.old self.new) }
+            (removed_below node (ancestors mutation.now.target tree.now.forest) mutation.now)
+            self.old self.new) }
         ensures partly { OnErr result (IsPartlyRemoved node mutation.now self.old self.new) }
         ensures names { NamesOnly (node ∷ nodes_of_mutation mutation.now) self.old self.new }
         ensures made { SameObservers self.old self.new }
-        ensures quiet { NamesNoneOf (ancestors mutation.now.target tree.now.forest) self.old → self.new ≡ self.old }
+        ensures quiet { NamesNoneOf (ancestors mutation.now.target tree.now.forest) self.old →
+            self.new ≡ self.old }
     {
         if self.is_idle() {
             return Ok(());
@@ -396,7 +405,8 @@ impl Observers {
     pub fn notify(&mut self) -> Result<Vec<(ObserverId, Vec<Record>)>, AllocError>
         ensures told { IfOk result (λ all. Answers told self.old (told_of all.items)) }
         ensures after { OnOk result (Steps after_notify self.old self.new) }
-        ensures own { IfOk result (λ all. told_of all.items ≡ waiting_in self.old.queues self.old.pending) }
+        ensures own { IfOk result (λ all. told_of all.items
+            ≡ waiting_in self.old.queues self.old.pending) }
         ensures notified { OnOk result (IsNotified self.old self.new) }
         ensures err { OnErr result (self.new ≡ self.old) }
         ensures names { NamesOnly [] self.old self.new }
@@ -473,9 +483,11 @@ impl Observers {
     pub fn refers<X>(&self, tree: &Tree<X>, top: NodeId) -> bool
         requires { HasNode tree.now.forest top }
         ensures observed { Answers
-            (λ x. list_any (λ m. among m (inclusive_descendants tree.now.forest top)) (observed_nodes x))
+            (λ x. list_any (λ m. among m (inclusive_descendants tree.now.forest top))
+            (observed_nodes x))
             self.now result }
-        ensures named { result ≡ list_any (λ m. among m (inclusive_descendants tree.now.forest top)) (named self.now) }
+        ensures named { result ≡ list_any (λ m. among m (inclusive_descendants tree.now.forest top))
+            (named self.now) }
     {
         is_named(tree, top, &self.nodes)
             || is_told(tree, top, &self.roster, &self.pending, &self.untold)

@@ -44,7 +44,8 @@ pub(crate) struct Origins {
 
 // The origin of the transient registration under a key.
 fn origin_at(table: &Slab<Registration>, key: usize) -> Option<Origin>
-    ensures { (origin : Origin) → option_map_or (same_origin origin) result false ≡ from_at (at table.now) origin.observer origin.node key }
+    ensures { (origin : Origin) → option_map_or (same_origin origin) result false
+        ≡ from_at (at table.now) origin.observer origin.node key }
 {
     let registration = table.get(key)?;
     let source = registration.source?;

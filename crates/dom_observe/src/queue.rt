@@ -101,7 +101,8 @@ impl Queue {
     // It asks the set for the nodes that are named there, and climbs from each node of the records that came since.
     pub fn names_inside<X>(&self, tree: &Tree<X>, top: NodeId) -> bool
         requires { HasNode tree.now.forest top }
-        ensures { result ≡ list_any (λ m. among m (inclusive_descendants tree.now.forest top)) (flat_map nodes_of_record self.now) }
+        ensures { result ≡ list_any (λ m. among m (inclusive_descendants tree.now.forest top))
+            (flat_map nodes_of_record self.now) }
     {
         is_named_inside(tree, top, &self.named)
             || is_told_inside(tree, top, &self.records.as_slice()[self.settled..])
@@ -126,7 +127,8 @@ fn is_named(named: &IndexSet<u32>, node: NodeId) -> bool
 // It walks the nodes inside, or climbs from each node of the set where that takes fewer steps.
 fn is_named_inside<X>(tree: &Tree<X>, top: NodeId, named: &IndexSet<u32>) -> bool
     requires { HasNode tree.now.forest top }
-    ensures { result ≡ list_any (λ m. among m (inclusive_descendants tree.now.forest top)) named.now.keys }
+    ensures { result ≡ list_any (λ m. among m (inclusive_descendants tree.now.forest top))
+        named.now.keys }
 {
     let steps = tree.steps_inside(top, |index| node_at(named, index));
     tree.any_inside(top, steps, |node| is_named(named, node))
@@ -135,7 +137,8 @@ fn is_named_inside<X>(tree: &Tree<X>, top: NodeId, named: &IndexSet<u32>) -> boo
 
 // The same. It climbs from each node of the set.
 fn has_name_inside<X>(tree: &Tree<X>, top: NodeId, named: &IndexSet<u32>) -> bool
-    ensures { result ≡ list_any (λ m. among m (inclusive_descendants tree.now.forest top)) named.now.keys }
+    ensures { result ≡ list_any (λ m. among m (inclusive_descendants tree.now.forest top))
+        named.now.keys }
 {
     named
         .iter()
@@ -144,14 +147,16 @@ fn has_name_inside<X>(tree: &Tree<X>, top: NodeId, named: &IndexSet<u32>) -> boo
 
 // Whether one of these nodes is inside another.
 fn is_any_inside<X>(tree: &Tree<X>, top: NodeId, nodes: &[NodeId]) -> bool
-    ensures { result ≡ list_any (λ m. among m (inclusive_descendants tree.now.forest top)) nodes.now }
+    ensures { result ≡ list_any (λ m. among m (inclusive_descendants tree.now.forest top))
+        nodes.now }
 {
     nodes.iter().any(|node| tree.is_inside(top, *node))
 }
 
 // Whether a node that may be missing is inside another.
 fn is_some_inside<X>(tree: &Tree<X>, top: NodeId, node: Option<NodeId>) -> bool
-    ensures { result ≡ list_any (λ m. among m (inclusive_descendants tree.now.forest top)) (if_any node) }
+    ensures { result ≡ list_any (λ m. among m (inclusive_descendants tree.now.forest top))
+        (if_any node) }
 {
     match node {
         Some(node) => tree.is_inside(top, node),
@@ -161,7 +166,8 @@ fn is_some_inside<X>(tree: &Tree<X>, top: NodeId, node: Option<NodeId>) -> bool
 
 // Whether a node that a record names is inside another.
 fn has_node_inside<X>(tree: &Tree<X>, top: NodeId, told: &Record) -> bool
-    ensures { result ≡ list_any (λ m. among m (inclusive_descendants tree.now.forest top)) (nodes_of_record told.now) }
+    ensures { result ≡ list_any (λ m. among m (inclusive_descendants tree.now.forest top))
+        (nodes_of_record told.now) }
 {
     tree.is_inside(top, told.target)
         || is_any_inside(tree, top, told.added.as_slice())
@@ -172,7 +178,8 @@ fn has_node_inside<X>(tree: &Tree<X>, top: NodeId, told: &Record) -> bool
 
 // The same of the nodes that some records name.
 fn is_told_inside<X>(tree: &Tree<X>, top: NodeId, records: &[Record]) -> bool
-    ensures { result ≡ list_any (λ r. list_any (λ m. among m (inclusive_descendants tree.now.forest top)) (nodes_of_record r)) records.now }
+    ensures { result ≡ list_any (λ r. list_any (λ m.
+        among m (inclusive_descendants tree.now.forest top)) (nodes_of_record r)) records.now }
 {
     records.iter().any(|told| has_node_inside(tree, top, told))
 }
@@ -187,7 +194,8 @@ fn room_for(told: &Record) -> usize
 // Puts a node among those that are named, for which there is room.
 fn name(named: &mut IndexSet<u32>, node: NodeId)
     requires { 0 < spare named.old }
-    ensures named { (n : ℕ) → contains nat_eq named.new n ≡ (contains nat_eq named.old n || (node == n)) }
+    ensures named { (n : ℕ) → contains nat_eq named.new n
+        ≡ (contains nat_eq named.old n || (node == n)) }
     ensures room { spare named.old ≤ spare named.new + 1 }
 {
     named.insert(node.number()).unwrap();
@@ -196,7 +204,8 @@ fn name(named: &mut IndexSet<u32>, node: NodeId)
 // The same of a node that may be missing.
 fn name_any(named: &mut IndexSet<u32>, node: Option<NodeId>)
     requires { length (if_any node) ≤ spare named.old }
-    ensures named { (n : ℕ) → contains nat_eq named.new n ≡ (contains nat_eq named.old n || among n (if_any node)) }
+    ensures named { (n : ℕ) → contains nat_eq named.new n
+        ≡ (contains nat_eq named.old n || among n (if_any node)) }
     ensures room { spare named.old ≤ spare named.new + length (if_any node) }
 {
     if let Some(node) = node {
@@ -207,7 +216,8 @@ fn name_any(named: &mut IndexSet<u32>, node: Option<NodeId>)
 // The same of several nodes.
 fn name_all(named: &mut IndexSet<u32>, nodes: &[NodeId])
     requires { length nodes.now ≤ spare named.old }
-    ensures named { (n : ℕ) → contains nat_eq named.new n ≡ (contains nat_eq named.old n || among n nodes.now) }
+    ensures named { (n : ℕ) → contains nat_eq named.new n
+        ≡ (contains nat_eq named.old n || among n nodes.now) }
     ensures room { spare named.old ≤ spare named.new + length nodes.now }
 {
     for node in nodes {
@@ -218,7 +228,8 @@ fn name_all(named: &mut IndexSet<u32>, nodes: &[NodeId])
 // The same of the nodes of a record.
 fn name_nodes_of(named: &mut IndexSet<u32>, told: &Record)
     requires { length (nodes_of_record told.now) ≤ spare named.old }
-    ensures named { (n : ℕ) → contains nat_eq named.new n ≡ (contains nat_eq named.old n || among n (nodes_of_record told.now)) }
+    ensures named { (n : ℕ) → contains nat_eq named.new n
+        ≡ (contains nat_eq named.old n || among n (nodes_of_record told.now)) }
     ensures room { spare named.old ≤ spare named.new + length (nodes_of_record told.now) }
 {
     name(named, told.target);
@@ -231,7 +242,8 @@ fn name_nodes_of(named: &mut IndexSet<u32>, told: &Record)
 // The same of the nodes of several records.
 fn name_each(named: &mut IndexSet<u32>, records: &[Record])
     requires { length (flat_map nodes_of_record records.now) ≤ spare named.old }
-    ensures { (n : ℕ) → contains nat_eq named.new n ≡ (contains nat_eq named.old n || among n (flat_map nodes_of_record records.now)) }
+    ensures { (n : ℕ) → contains nat_eq named.new n
+        ≡ (contains nat_eq named.old n || among n (flat_map nodes_of_record records.now)) }
 {
     for told in records {
         name_nodes_of(named, told);

@@ -109,7 +109,8 @@ impl Mutation<'_> {
     // A record of it, in memory of its own; with the old value where it is asked for.
     #[inline(always)]
     pub(crate) fn record(&self, alloc: Global, with_old_value: bool) -> Result<Record, AllocError>
-        ensures { IfOk result (λ made. made ≡ record_with self.now (if with_old_value then self.now.old_value else None)) }
+        ensures { IfOk result (λ made. made ≡ record_with self.now (if with_old_value
+            then self.now.old_value else None)) }
     {
         let name = copied_name(alloc, self.name)?;
         let old_value = copied_value(alloc, self.old_value, with_old_value)?;

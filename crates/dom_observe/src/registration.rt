@@ -97,7 +97,8 @@ impl Registration {
 
     // Whether a mutation interests its observer by it.
     pub fn concerns(&self, question: &Question<'_>) -> bool
-        ensures { result ≡ concerns question.now.what question.now.target (text_of question.now.name) (plain self.now) }
+        ensures { result ≡ concerns question.now.what question.now.target
+            (text_of question.now.name) (plain self.now) }
     {
         (self.node == question.target || self.options.subtree())
             && self.options.asks(question.what, question.name)

@@ -90,8 +90,10 @@ pub(crate) fn own_key(
     observer: ObserverId,
     node: NodeId,
 ) -> Option<usize>
-    requires either { (key : ℕ) → own_at (at table.now) observer node key ≡ true → among key keys.now ≡ among key lasting.now }
-    requires one { (key other : ℕ) → own_at (at table.now) observer node key ≡ true → own_at (at table.now) observer node other ≡ true → other ≡ key }
+    requires either { (key : ℕ) → own_at (at table.now) observer node key ≡ true →
+        among key keys.now ≡ among key lasting.now }
+    requires one { (key other : ℕ) → own_at (at table.now) observer node key ≡ true →
+        own_at (at table.now) observer node other ≡ true → other ≡ key }
     ensures { result ≡ find (own_at (at table.now) observer node) keys.now }
 {
     if lasting.len() < keys.len() {
@@ -103,7 +105,8 @@ pub(crate) fn own_key(
 
 // Puts other options in place of those of a registration.
 pub(crate) fn set_options(table: &mut Slab<Registration>, key: usize, options: Rc<Asked>)
-    ensures changed { at table.new key ≡ option_map (with_new_options options.value) (at table.old key) }
+    ensures changed { at table.new key ≡ option_map (with_new_options options.value)
+        (at table.old key) }
     ensures others { (other : ℕ) → other ≢ key → at table.new other ≡ at table.old other }
     ensures turns { (other : ℕ) → turn_at table.new other ≡ turn_at table.old other }
 {
@@ -135,7 +138,8 @@ fn origin_at(table: &Slab<Registration>, key: usize) -> u32
 // The place of the first key of what comes from a node or a higher one, among keys that stand by where theirs comes from.
 pub(crate) fn place_from(table: &Slab<Registration>, keys: &[usize], node: NodeId) -> usize
     ensures inside { result ≤ length keys.now }
-    ensures place { ByOrigin (at table.now) keys.now → IsFirstFrom (at table.now) node keys.now result }
+    ensures place { ByOrigin (at table.now) keys.now →
+        IsFirstFrom (at table.now) node keys.now result }
 {
     let number = node.number();
     keys.partition_point(|key| origin_at(table, *key) < number)
@@ -152,7 +156,8 @@ pub(crate) fn place_past(table: &Slab<Registration>, keys: &[usize], node: NodeI
 
 // A turn behind those of a node's keys.
 pub(crate) fn next_turn(table: &Slab<Registration>, keys: &[usize]) -> Result<u64, AllocError>
-    ensures { IfOk result (λ turn. Rises (turn_at table.now) keys.now → (key : ℕ) → among key keys.now ≡ true → turn_at table.now key < turn) }
+    ensures { IfOk result (λ turn. Rises (turn_at table.now) keys.now → (key : ℕ) →
+        among key keys.now ≡ true → turn_at table.now key < turn) }
 {
     match keys.last() {
         Some(key) => turn_at(table, *key).checked_add(1).ok_or(AllocError),

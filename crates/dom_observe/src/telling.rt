@@ -30,7 +30,8 @@ fn listener_at(
     key: usize,
     question: &Question<'_>,
 ) -> Option<(ObserverId, bool)>
-    ensures { result ≡ listener_under (at table.now) question.now.what question.now.target (text_of question.now.name) key }
+    ensures { result ≡ listener_under (at table.now) question.now.what question.now.target
+        (text_of question.now.name) key }
 {
     match table.get(key) {
         Some(registration) if registration.concerns(question) => Some((
@@ -44,8 +45,10 @@ fn listener_at(
 // Notes an interested observer, once; it asks for the old value where one of its registrations does.
 fn note(heard: &mut IndexMap<u32, bool>, observer: ObserverId, asks: bool) -> Result<(), AllocError>
     ensures ok { OnOk result ((p : ℕ) → get nat_eq heard.new p
-        ≡ (if observer == p then Some (unwrap_or (get nat_eq heard.old p) false || asks) else get nat_eq heard.old p)) }
-    ensures there { (p : ℕ → Bool) → p observer ≡ true → AllThere p (keys_of heard.old.entries) → OnOk result (AllThere p (keys_of heard.new.entries)) }
+        ≡ (if observer == p then Some (unwrap_or (get nat_eq heard.old p) false || asks)
+        else get nat_eq heard.old p)) }
+    ensures there { (p : ℕ → Bool) → p observer ≡ true → AllThere p (keys_of heard.old.entries) →
+        OnOk result (AllThere p (keys_of heard.new.entries)) }
     ensures unique { IsUnique nat_eq heard.new }
 {
     let number = observer.number();
@@ -75,8 +78,11 @@ fn only_listener(
     standing: &[usize],
     question: &Question<'_>,
 ) -> Option<(ObserverId, bool)>
-    ensures only { IfSome result (λ only. IsOnly only (listeners (at table.now) question.now.what question.now.target (text_of question.now.name) standing.now)) }
-    ensures known { IfSome result (λ only. (p : ℕ → Bool) → AllByRecursion (Stands (at table.now) p) standing.now → p only.0 ≡ true) }
+    ensures only { IfSome result (λ only. IsOnly only
+        (listeners (at table.now) question.now.what question.now.target (text_of question.now.name)
+        standing.now)) }
+    ensures known { IfSome result (λ only. (p : ℕ → Bool) →
+        AllByRecursion (Stands (at table.now) p) standing.now → p only.0 ≡ true) }
 {
     let mut only = None;
     for key in standing {
@@ -109,13 +115,18 @@ fn listen(
     alloc: Global,
 ) -> Result<IndexMap<u32, bool>, AllocError>
     ensures heard { IfOk result (λ heard. (p : ℕ) →
-        get nat_eq heard p ≡ flag_of p (listeners (at table.now) question.now.what question.now.target (text_of question.now.name) standing.now)) }
+        get nat_eq heard p ≡ flag_of p (listeners (at table.now) question.now.what
+        question.now.target (text_of question.now.name) standing.now)) }
     ensures pending { OnOk result (pending.new.keys
-        ≡ with_all_last pending.old.keys (keys_of (listeners (at table.now) question.now.what question.now.target (text_of question.now.name) standing.now))) }
+        ≡ with_all_last pending.old.keys (keys_of (listeners (at table.now) question.now.what
+        question.now.target (text_of question.now.name) standing.now))) }
     ensures stay { (p : ℕ) → among p pending.old.keys ≡ true → among p pending.new.keys ≡ true }
     ensures front { IsFront pending.old.keys pending.new.keys }
-    ensures there { (p : ℕ → Bool) → AllByRecursion (Stands (at table.now) p) standing.now → AllThere p pending.old.keys → AllThere p pending.new.keys }
-    ensures known { IfOk result (λ heard. (p : ℕ → Bool) → AllByRecursion (Stands (at table.now) p) standing.now → AllThere p (keys_of heard.entries)) }
+    ensures there { (p : ℕ → Bool) → AllByRecursion (Stands (at table.now) p) standing.now →
+        AllThere p pending.old.keys → AllThere p pending.new.keys }
+    ensures known { IfOk result (λ heard. (p : ℕ → Bool) →
+        AllByRecursion (Stands (at table.now) p) standing.now →
+        AllThere p (keys_of heard.entries)) }
     ensures unique { IfOk result (IsUnique nat_eq) }
 {
     let mut heard = IndexMap::new(alloc);
@@ -132,7 +143,9 @@ fn listen(
 #[inline(always)]
 fn deliver(roster: &mut Roster, observer: u32, told: Record) -> Result<(), AllocError>
     requires { is_there roster.old observer ≡ true }
-    ensures ok { OnOk result ((p : ℕ) → records_of roster.new p ≡ (if observer == p then records_of roster.old p ++ told ∷ [] else records_of roster.old p)) }
+    ensures ok { OnOk result ((p : ℕ) → records_of roster.new p
+        ≡ (if observer == p then records_of roster.old p ++ told ∷ []
+        else records_of roster.old p)) }
     ensures err { OnErr result (roster.new ≡ roster.old) }
     ensures keys { keys_by roster.new ≡ keys_by roster.old }
 {
@@ -150,13 +163,17 @@ fn tell_one(
 ) -> Result<(), AllocError>
     requires { is_there roster.old listener.0 ≡ true }
     ensures told { OnOk result ((p : ℕ) → records_of roster.new p
-        ≡ records_of roster.old p ++ delivered mutation.now (if listener.0 == p then Some listener.1 else None)) }
+        ≡ records_of roster.old p ++ delivered mutation.now (if listener.0 == p then Some listener.1
+        else None)) }
     ensures pending { OnOk result (pending.new.keys ≡ with_last pending.old.keys listener.0) }
     ensures stay { (p : ℕ) → among p pending.old.keys ≡ true → among p pending.new.keys ≡ true }
     ensures front { IsFront pending.old.keys pending.new.keys }
-    ensures there { (p : ℕ → Bool) → p listener.0 ≡ true → AllThere p pending.old.keys → AllThere p pending.new.keys }
-    ensures others { (p : ℕ) → among p pending.new.keys ≡ false → records_of roster.new p ≡ records_of roster.old p }
-    ensures each { (p : ℕ) → GetsAtMostOne mutation.now (records_of roster.old p) (records_of roster.new p) }
+    ensures there { (p : ℕ → Bool) → p listener.0 ≡ true → AllThere p pending.old.keys →
+        AllThere p pending.new.keys }
+    ensures others { (p : ℕ) → among p pending.new.keys ≡ false →
+        records_of roster.new p ≡ records_of roster.old p }
+    ensures each { (p : ℕ) → GetsAtMostOne mutation.now (records_of roster.old p)
+        (records_of roster.new p) }
     ensures err { OnErr result (roster.new ≡ roster.old) }
     ensures keys { keys_by roster.new ≡ keys_by roster.old }
 {
@@ -175,10 +192,14 @@ fn tell_each(
 ) -> Result<(), AllocError>
     requires unique { IsUnique nat_eq heard.now }
     requires there { AllThere (is_there roster.old) (keys_of heard.now.entries) }
-    ensures ok { OnOk result ((p : ℕ) → records_of roster.new p ≡ records_of roster.old p ++ delivered mutation.now (get nat_eq heard.now p)) }
-    ensures others { (p : ℕ) → get nat_eq heard.now p ≡ None → records_of roster.new p ≡ records_of roster.old p }
-    ensures each { (p : ℕ) → GetsAtMostOne mutation.now (records_of roster.old p) (records_of roster.new p) }
-    ensures names { TellsOnly (nodes_of_mutation mutation.now) (queues_by roster.old) (queues_by roster.new) }
+    ensures ok { OnOk result ((p : ℕ) → records_of roster.new p
+        ≡ records_of roster.old p ++ delivered mutation.now (get nat_eq heard.now p)) }
+    ensures others { (p : ℕ) → get nat_eq heard.now p ≡ None →
+        records_of roster.new p ≡ records_of roster.old p }
+    ensures each { (p : ℕ) → GetsAtMostOne mutation.now (records_of roster.old p)
+        (records_of roster.new p) }
+    ensures names { TellsOnly (nodes_of_mutation mutation.now) (queues_by roster.old)
+        (queues_by roster.new) }
     ensures keys { keys_by roster.new ≡ keys_by roster.old }
 {
     for index in 0..heard.len() {
@@ -203,15 +224,21 @@ pub(crate) fn tell(
 ) -> Result<(), AllocError>
     requires { AllByRecursion (Stands (at table.now) (is_there roster.old)) standing.now }
     ensures told { OnOk result ((p : ℕ) → records_of roster.new p
-        ≡ records_of roster.old p ++ delivered mutation.now (flag_of p (listeners_to (at table.now) mutation.now standing.now))) }
+        ≡ records_of roster.old p ++ delivered mutation.now
+        (flag_of p (listeners_to (at table.now) mutation.now standing.now))) }
     ensures pending { OnOk result (pending.new.keys
-        ≡ with_all_last pending.old.keys (keys_of (listeners_to (at table.now) mutation.now standing.now))) }
+        ≡ with_all_last pending.old.keys (keys_of (listeners_to (at table.now) mutation.now
+        standing.now))) }
     ensures stay { (p : ℕ) → among p pending.old.keys ≡ true → among p pending.new.keys ≡ true }
     ensures front { IsFront pending.old.keys pending.new.keys }
-    ensures there { (p : ℕ → Bool) → AllByRecursion (Stands (at table.now) p) standing.now → AllThere p pending.old.keys → AllThere p pending.new.keys }
-    ensures others { (p : ℕ) → among p pending.new.keys ≡ false → records_of roster.new p ≡ records_of roster.old p }
-    ensures each { (p : ℕ) → GetsAtMostOne mutation.now (records_of roster.old p) (records_of roster.new p) }
-    ensures names { TellsOnly (nodes_of_mutation mutation.now) (queues_by roster.old) (queues_by roster.new) }
+    ensures there { (p : ℕ → Bool) → AllByRecursion (Stands (at table.now) p) standing.now →
+        AllThere p pending.old.keys → AllThere p pending.new.keys }
+    ensures others { (p : ℕ) → among p pending.new.keys ≡ false →
+        records_of roster.new p ≡ records_of roster.old p }
+    ensures each { (p : ℕ) → GetsAtMostOne mutation.now (records_of roster.old p)
+        (records_of roster.new p) }
+    ensures names { TellsOnly (nodes_of_mutation mutation.now) (queues_by roster.old)
+        (queues_by roster.new) }
     ensures keys { keys_by roster.new ≡ keys_by roster.old }
 {
     let question = mutation.question();

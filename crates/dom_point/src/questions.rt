@@ -49,7 +49,8 @@ pub fn found_before<X>(tree: &mut Tree<X>, a: Point, b: Point) -> bool
 /// The refusal of a node and an offset to be a boundary point: a doctype has none, and an offset is at most the length.
 pub fn checked_point<X: Body>(tree: &Tree<X>, node: NodeId, offset: usize) -> Result<(), DomError>
     requires { HasNode tree.now.forest node }
-    ensures { result ≡ refused (check_point X.length tree.now.forest (record { node = node; offset = offset })) }
+    ensures { result ≡ refused (check_point X.length tree.now.forest
+        (record { node = node; offset = offset })) }
 {
     if tree.is_of_kind(node, Kind::DocumentType) {
         return Err(DomError::InvalidNodeTypeError);
@@ -84,7 +85,8 @@ pub fn point_after<X>(tree: &Tree<X>, node: NodeId) -> Option<Point>
 /// The points ahead of a node and behind it in its parent; none without a parent.
 pub fn points_around<X>(tree: &Tree<X>, node: NodeId) -> Option<(Point, Point)>
     requires { HasNode tree.now.forest node }
-    ensures { option_map (λ ends. record { start = ends.0; end = ends.1 }) result ≡ around tree.now.forest node }
+    ensures { option_map (λ ends. record { start = ends.0; end = ends.1 }) result
+        ≡ around tree.now.forest node }
 {
     let parent = tree.parent(node)?;
     Some(around_child(tree, parent, node, tree.index(node)))
@@ -93,7 +95,8 @@ pub fn points_around<X>(tree: &Tree<X>, node: NodeId) -> Option<(Point, Point)>
 /// The points ahead of a node and behind it in its parent; none without a parent. An index that this asks for is known when it is asked for again, as by [`Tree::found_index`].
 pub fn found_around<X>(tree: &mut Tree<X>, node: NodeId) -> Option<(Point, Point)>
     requires { HasNode tree.old.forest node }
-    ensures around { option_map (λ ends. record { start = ends.0; end = ends.1 }) result ≡ around tree.old.forest node }
+    ensures around { option_map (λ ends. record { start = ends.0; end = ends.1 }) result
+        ≡ around tree.old.forest node }
     ensures unchanged { tree.new ≡ tree.old }
 {
     let parent = tree.parent(node)?;

@@ -26,7 +26,8 @@ fn stands_inside<X>(end: End, tree: &Tree<X>, top: NodeId) -> bool
 impl Chains {
     /// Whether an end stands inside a node. It asks each end.
     pub(crate) fn refer<X>(&self, tree: &Tree<X>, top: NodeId) -> bool
-        ensures { result ≡ list_any (λ m. among m (inclusive_descendants tree.now.forest top)) (nodes_at (points_of self.now.table.items)) }
+        ensures { result ≡ list_any (λ m. among m (inclusive_descendants tree.now.forest top))
+            (nodes_at (points_of self.now.table.items)) }
     {
         for end in &self.table {
             if stands_inside(*end, tree, top) {
@@ -41,7 +42,9 @@ impl Chains {
         requires covered { covers (cover_of self.old.heads.items) to.node ≡ true }
         requires chains { HasChains self.old.table.items self.old.heads.items }
         ensures points { points_of self.new.table.items
-            ≡ map (λ (o : Option PointValue). option_map (moved_in (inclusive_descendants tree.now.forest top) to) o) (points_of self.old.table.items) }
+            ≡ map (λ (o : Option PointValue). option_map
+            (moved_in (inclusive_descendants tree.now.forest top) to) o)
+            (points_of self.old.table.items) }
         ensures chains { HasChains self.new.table.items self.new.heads.items }
         ensures covered { cover_of self.new.heads.items ≡ cover_of self.old.heads.items }
     {

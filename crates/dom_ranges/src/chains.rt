@@ -94,7 +94,8 @@ impl Chains {
 
     // The node in which an end stands; none past the last end.
     pub(crate) fn node(&self, index: usize) -> Option<NodeId>
-        ensures { result ≡ option_map (λ (p : PointValue). p.node) (point_at self.now.table.items index) }
+        ensures { result ≡ option_map (λ (p : PointValue). p.node)
+            (point_at self.now.table.items index) }
     {
         let end = self.table.get(index)?;
         match end.point {
@@ -143,7 +144,8 @@ impl Chains {
     fn begin(&mut self, node: NodeId, id: EndId)
         requires { IsSome (item_at self.old.heads.items node) }
         ensures table { self.new.table.items ≡ self.old.table.items }
-        ensures heads { self.new.heads.items ≡ slice_set self.old.heads.items node (Some (Some id)) }
+        ensures heads { self.new.heads.items ≡ slice_set self.old.heads.items node
+            (Some (Some id)) }
     {
         self.heads.set(node.number() as usize, Some(id));
     }
@@ -165,7 +167,8 @@ impl Chains {
     fn settle(&mut self, id: EndId, point: Point)
         requires { id < length self.old.table.items }
         ensures table { self.new.table.items
-            ≡ slice_set self.old.table.items id (record { point = Some point; prev = None; next = head_at self.old.heads.items point.node }) }
+            ≡ slice_set self.old.table.items id (record { point = Some point; prev = None;
+            next = head_at self.old.heads.items point.node }) }
         ensures heads { self.new.heads.items ≡ self.old.heads.items }
     {
         let next = self.head(node_of(&point));
@@ -180,8 +183,10 @@ impl Chains {
     pub(crate) fn take_out(&mut self, id: EndId)
         requires live { IsSome (point_at self.old.table.items id) }
         requires chains { HasChains self.old.table.items self.old.heads.items }
-        ensures points { points_of self.new.table.items ≡ slice_set (points_of self.old.table.items) id None }
-        ensures chains { Rechains (unchained id) self.old.table.items self.old.heads.items self.new.table.items self.new.heads.items }
+        ensures points { points_of self.new.table.items
+            ≡ slice_set (points_of self.old.table.items) id None }
+        ensures chains { Rechains (unchained id) self.old.table.items self.old.heads.items
+            self.new.table.items self.new.heads.items }
         ensures covered { cover_of self.new.heads.items ≡ cover_of self.old.heads.items }
     {
         let end = self.end(id);
@@ -197,8 +202,10 @@ impl Chains {
         requires free { point_at self.old.table.items id ≡ None }
         requires covered { covers (cover_of self.old.heads.items) point.node ≡ true }
         requires chains { HasChains self.old.table.items self.old.heads.items }
-        ensures points { points_of self.new.table.items ≡ slice_set (points_of self.old.table.items) id (Some point) }
-        ensures chains { Rechains (chained_first id point.node) self.old.table.items self.old.heads.items self.new.table.items self.new.heads.items }
+        ensures points { points_of self.new.table.items
+            ≡ slice_set (points_of self.old.table.items) id (Some point) }
+        ensures chains { Rechains (chained_first id point.node) self.old.table.items
+            self.old.heads.items self.new.table.items self.new.heads.items }
         ensures covered { cover_of self.new.heads.items ≡ cover_of self.old.heads.items }
     {
         let node = node_of(&point);
@@ -223,7 +230,8 @@ impl Chains {
         requires live { IsSome (point_at self.old.table.items id) }
         requires covered { covers (cover_of self.old.heads.items) point.node ≡ true }
         requires chains { HasChains self.old.table.items self.old.heads.items }
-        ensures points { points_of self.new.table.items ≡ slice_set (points_of self.old.table.items) id (Some point) }
+        ensures points { points_of self.new.table.items
+            ≡ slice_set (points_of self.old.table.items) id (Some point) }
         ensures chains { Rechains (moved_from id (point_at self.old.table.items id) point.node)
             self.old.table.items self.old.heads.items self.new.table.items self.new.heads.items }
         ensures covered { cover_of self.new.heads.items ≡ cover_of self.old.heads.items }
@@ -240,9 +248,11 @@ impl Chains {
     /// Shifts the ends that stand in a node. It walks the chain of that node and no other.
     pub(crate) fn shift(&mut self, node: NodeId, shift: &Shift)
         requires chains { HasChains self.old.table.items self.old.heads.items }
-        requires within { MovesWithin node (shifted shift.now) self.old.table.items (cover_of self.old.heads.items) }
+        requires within { MovesWithin node (shifted shift.now) self.old.table.items
+            (cover_of self.old.heads.items) }
         ensures points { points_of self.new.table.items
-            ≡ map (λ (o : Option PointValue). option_map (on_node node (shifted shift.now)) o) (points_of self.old.table.items) }
+            ≡ map (λ (o : Option PointValue). option_map (on_node node (shifted shift.now)) o)
+            (points_of self.old.table.items) }
         ensures chains { HasChains self.new.table.items self.new.heads.items }
         ensures covered { cover_of self.new.heads.items ≡ cover_of self.old.heads.items }
     {
@@ -257,11 +267,15 @@ impl Chains {
     /// Shifts the ends that stand in two nodes, which may be one. No end of the first goes to the second.
     pub(crate) fn shift_both(&mut self, first: NodeId, second: NodeId, shift: &Shift)
         requires chains { HasChains self.old.table.items self.old.heads.items }
-        requires first_within { MovesWithin first (shifted shift.now) self.old.table.items (cover_of self.old.heads.items) }
-        requires second_within { MovesWithin second (shifted shift.now) self.old.table.items (cover_of self.old.heads.items) }
+        requires first_within { MovesWithin first (shifted shift.now) self.old.table.items
+            (cover_of self.old.heads.items) }
+        requires second_within { MovesWithin second (shifted shift.now) self.old.table.items
+            (cover_of self.old.heads.items) }
         requires apart { GoesElsewhere first second (shifted shift.now) }
         requires beside { StaysBeside first second (shifted shift.now) }
-        ensures points { points_of self.new.table.items ≡ map (λ (o : Option PointValue). option_map (shifted shift.now) o) (points_of self.old.table.items) }
+        ensures points { points_of self.new.table.items
+            ≡ map (λ (o : Option PointValue). option_map (shifted shift.now) o)
+            (points_of self.old.table.items) }
         ensures chains { HasChains self.new.table.items self.new.heads.items }
         ensures covered { cover_of self.new.heads.items ≡ cover_of self.old.heads.items }
     {
@@ -291,8 +305,10 @@ impl Chains {
         requires end { covers (cover_of self.old.heads.items) end.node ≡ true }
         requires chains { HasChains self.old.table.items self.old.heads.items }
         requires few { length self.old.table.items + 2 ≤ 2 ^ 33 }
-        ensures added { OnOk result (points_of self.new.table.items ≡ points_of self.old.table.items ++ Some start ∷ Some end ∷ []) }
-        ensures unchanged { OnErr result (points_of self.new.table.items ≡ points_of self.old.table.items) }
+        ensures added { OnOk result (points_of self.new.table.items
+            ≡ points_of self.old.table.items ++ Some start ∷ Some end ∷ []) }
+        ensures unchanged { OnErr result (points_of self.new.table.items
+            ≡ points_of self.old.table.items) }
         ensures chains { HasChains self.new.table.items self.new.heads.items }
         ensures covered { cover_of self.new.heads.items ≡ cover_of self.old.heads.items }
     {
@@ -313,7 +329,8 @@ impl Chains {
         requires last_end { IsSome (point_at self.old.table.items (last + last + 1)) }
         requires last { length self.old.table.items ≡ last + last + 2 }
         requires chains { HasChains self.old.table.items self.old.heads.items }
-        ensures points { points_of self.new.table.items ≡ without_slot slot last (points_of self.old.table.items) }
+        ensures points { points_of self.new.table.items
+            ≡ without_slot slot last (points_of self.old.table.items) }
         ensures chains { HasChains self.new.table.items self.new.heads.items }
         ensures covered { cover_of self.new.heads.items ≡ cover_of self.old.heads.items }
     {
@@ -330,8 +347,10 @@ impl Chains {
     pub(crate) fn cover(&mut self, made: u64) -> Result<(), AllocError>
         requires chains { HasChains self.old.table.items self.old.heads.items }
         requires few { made ≤ 4294967295 }
-        ensures covered { OnOk result (cover_of self.new.heads.items ≡ covered_to made (cover_of self.old.heads.items)) }
-        ensures unchanged { OnErr result (cover_of self.new.heads.items ≡ cover_of self.old.heads.items) }
+        ensures covered { OnOk result (cover_of self.new.heads.items
+            ≡ covered_to made (cover_of self.old.heads.items)) }
+        ensures unchanged { OnErr result (cover_of self.new.heads.items
+            ≡ cover_of self.old.heads.items) }
         ensures table { self.new.table.items ≡ self.old.table.items }
         ensures chains { HasChains self.new.table.items self.new.heads.items }
     {
@@ -353,7 +372,8 @@ impl Chains {
         requires empty { among node (nodes_at (points_of self.old.table.items)) ≡ false }
         ensures table { self.new.table.items ≡ self.old.table.items }
         ensures chains { HasChains self.new.table.items self.new.heads.items }
-        ensures covered { cover_of self.new.heads.items ≡ slice_set (cover_of self.old.heads.items) node false }
+        ensures covered { cover_of self.new.heads.items
+            ≡ slice_set (cover_of self.old.heads.items) node false }
     {
         let index = node.number() as usize;
         if index < self.heads.len() {

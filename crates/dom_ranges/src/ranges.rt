@@ -61,7 +61,8 @@ impl Ranges {
     /// Makes room for ends in the nodes numbered below `made` that had none yet. A node that was forgotten stays forgotten.
     pub fn cover(&mut self, made: u64) -> Result<(), AllocError>
         requires { made ≤ 4294967295 }
-        ensures ok { OnOk result (self.new ≡ record self.old { covered = covered_to made self.old.covered }) }
+        ensures ok { OnOk result (self.new ≡ record self.old
+            { covered = covered_to made self.old.covered }) }
         ensures err { OnErr result (self.new ≡ self.old) }
     {
         self.chains.cover(made)
@@ -85,8 +86,10 @@ impl Ranges {
     /// Gives back what was kept for ends in the nodes of a tree that is about to go.
     pub fn forget<X>(&mut self, tree: &Tree<X>, top: NodeId)
         requires held { HasNode tree.now.forest top }
-        requires empty { list_any (λ m. among m (inclusive_descendants tree.now.forest top)) (live_nodes self.old) ≡ false }
-        ensures { self.new ≡ record self.old { covered = uncovered (inclusive_descendants tree.now.forest top) self.old.covered } }
+        requires empty { list_any (λ m. among m (inclusive_descendants tree.now.forest top))
+            (live_nodes self.old) ≡ false }
+        ensures { self.new ≡ record self.old { covered = uncovered
+            (inclusive_descendants tree.now.forest top) self.old.covered } }
     {
         tree.sound();
         let mut here = top;
@@ -109,9 +112,11 @@ impl Ranges {
         requires room { length self.old.ranges < 4294967295 }
         requires start_covered { IsCovered self.old start.node }
         requires end_covered { IsCovered self.old end.node }
-        requires in_order { IsRangeIn X.length tree.now.forest (record { start = start; end = end }) }
+        requires in_order { IsRangeIn X.length tree.now.forest
+            (record { start = start; end = end }) }
         ensures number { IfOk result (λ r. r ≡ length self.old.ranges) }
-        ensures made { OnOk result (self.new ≡ record self.old { ranges = self.old.ranges ++ Some (record { start = start; end = end }) ∷ [] }) }
+        ensures made { OnOk result (self.new ≡ record self.old { ranges = self.old.ranges
+            ++ Some (record { start = start; end = end }) ∷ [] }) }
         ensures unchanged { OnErr result (self.new ≡ self.old) }
     {
         // only what is asked of the two points names the tree
@@ -224,7 +229,8 @@ impl Ranges {
     /// It walks the nodes inside, or climbs from each end where that takes fewer steps.
     pub fn refers<X>(&self, tree: &Tree<X>, top: NodeId) -> bool
         requires { HasNode tree.now.forest top }
-        ensures { result ≡ list_any (λ m. among m (inclusive_descendants tree.now.forest top)) (live_nodes self.now) }
+        ensures { result ≡ list_any (λ m. among m (inclusive_descendants tree.now.forest top))
+            (live_nodes self.now) }
     {
         self.refers_within(tree, top, self.steps(tree, top))
     }
@@ -232,7 +238,8 @@ impl Ranges {
     // The same, asked of so many nodes inside, or of each end where there are more.
     pub(crate) fn refers_within<X>(&self, tree: &Tree<X>, top: NodeId, steps: usize) -> bool
         requires { HasNode tree.now.forest top }
-        ensures { result ≡ list_any (λ m. among m (inclusive_descendants tree.now.forest top)) (live_nodes self.now) }
+        ensures { result ≡ list_any (λ m. among m (inclusive_descendants tree.now.forest top))
+            (live_nodes self.now) }
     {
         if self.is_idle() {
             return false;

@@ -33,7 +33,8 @@ impl Ranges {
         requires stands { ForSome (range_in self.old r) (StandsIn tree.old.forest) }
         ensures refusal { result ≡ refused (check_point X.length tree.old.forest p) }
         ensures set { OnOk result (RangeBecomes r (start_set tree.old.forest p) self.old self.new) }
-        ensures markers { OnOk result (StandByEdits (IsMeasuredAs X.length tree.old.forest) self.old self.new (start_edits r p)) }
+        ensures markers { OnOk result (StandByEdits (IsMeasuredAs X.length tree.old.forest) self.old
+            self.new (start_edits r p)) }
         ensures unchanged { OnErr result (self.new ≡ self.old) }
         ensures kept { tree.new ≡ tree.old }
     {
@@ -60,7 +61,8 @@ impl Ranges {
         requires stands { ForSome (range_in self.old r) (StandsIn tree.old.forest) }
         ensures refusal { result ≡ refused (check_point X.length tree.old.forest p) }
         ensures set { OnOk result (RangeBecomes r (end_set tree.old.forest p) self.old self.new) }
-        ensures markers { OnOk result (StandByEdits (IsMeasuredAs X.length tree.old.forest) self.old self.new (end_edits r p)) }
+        ensures markers { OnOk result (StandByEdits (IsMeasuredAs X.length tree.old.forest) self.old
+            self.new (end_edits r p)) }
         ensures unchanged { OnErr result (self.new ≡ self.old) }
         ensures kept { tree.new ≡ tree.old }
     {
@@ -81,7 +83,8 @@ impl Ranges {
         requires covered { ForSome (parent_of tree.now.forest node) (IsCovered self.old) }
         ensures refusal { result ≡ refused (check_parent tree.now.forest node) }
         ensures set { OnOk result (RangeIsSet r (around tree.now.forest node) self.old self.new) }
-        ensures markers { OnOk result (StandByEdits (IsNestedAs tree.now.forest) self.old self.new (command_edits (SelectNode r node))) }
+        ensures markers { OnOk result (StandByEdits (IsNestedAs tree.now.forest) self.old self.new
+            (command_edits (SelectNode r node))) }
         ensures unchanged { OnErr result (self.new ≡ self.old) }
     {
         if tree.parent(node).is_none() {
@@ -98,7 +101,8 @@ impl Ranges {
         requires allowed { check_parent tree.now.forest node ≡ None }
         requires covered { ForSome (parent_of tree.now.forest node) (IsCovered self.old) }
         ensures set { RangeIsSet r (around tree.now.forest node) self.old self.new }
-        ensures markers { StandByEdits (IsNestedAs tree.now.forest) self.old self.new (command_edits (SelectNode r node)) }
+        ensures markers { StandByEdits (IsNestedAs tree.now.forest) self.old self.new
+            (command_edits (SelectNode r node)) }
     {
         let (start, end) = points_around(tree, node).unwrap();
         self.write(r, start, end);
@@ -117,7 +121,8 @@ impl Ranges {
         ensures refusal { result ≡ refused (check_contents tree.now.forest node) }
         ensures set { OnOk result
             (self.new ≡ with_range r (contents_of X.length tree.now.forest node) self.old) }
-        ensures markers { OnOk result (StandByEdits (IsMeasuredAs X.length tree.now.forest) self.old self.new (command_edits (SelectNodeContents r node))) }
+        ensures markers { OnOk result (StandByEdits (IsMeasuredAs X.length tree.now.forest) self.old
+            self.new (command_edits (SelectNodeContents r node))) }
         ensures unchanged { OnErr result (self.new ≡ self.old) }
     {
         if tree.is_of_kind(node, Kind::DocumentType) {
@@ -133,7 +138,8 @@ impl Ranges {
         requires held { IsSome (range_in self.old r) }
         requires covered { IsCovered self.old p.node }
         ensures set { self.new ≡ with_range r (collapsed_at p) self.old }
-        ensures markers { StandByEdits (HasPoint p) self.old self.new (ends_edits_at r (collapsed_at p)) }
+        ensures markers { StandByEdits (HasPoint p) self.old self.new
+            (ends_edits_at r (collapsed_at p)) }
     {
         self.write(r, p, p);
     }
@@ -142,7 +148,8 @@ impl Ranges {
     pub fn collapse(&mut self, r: RangeId, to_start: bool)
         requires { IsSome (range_in self.old r) }
         ensures set { RangeBecomes r (collapsed to_start) self.old self.new }
-        ensures markers { StandByEdits IsAny self.old self.new (command_edits (Collapse r to_start)) }
+        ensures markers { StandByEdits IsAny self.old self.new
+            (command_edits (Collapse r to_start)) }
     {
         let (start, end) = self.ends(r);
         if to_start {

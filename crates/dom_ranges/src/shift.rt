@@ -91,7 +91,8 @@ fn spliced(offset: usize, at: usize, count: usize, added: usize) -> usize
 
 // Where a point goes as a Text is split.
 fn split(point: Point, text: NodeId, at: usize, new: NodeId, parent: NodeId, index: usize) -> Point
-    requires { point.offset < 2 ^ 64 → (after_split text at new parent index point).offset < 2 ^ 64 }
+    requires { point.offset < 2 ^ 64 → (after_split text at new parent index point).offset
+        < 2 ^ 64 }
     ensures { result ≡ after_split text at new parent index point }
 {
     let Point { node, offset } = point;
@@ -119,7 +120,8 @@ fn merged(
     parent: NodeId,
     index: usize,
 ) -> Point
-    requires { point.offset < 2 ^ 64 → (after_merge from into base parent index point).offset < 2 ^ 64 }
+    requires { point.offset < 2 ^ 64 → (after_merge from into base parent index point).offset
+        < 2 ^ 64 }
     ensures { result ≡ after_merge from into base parent index point }
 {
     let Point { node, offset } = point;

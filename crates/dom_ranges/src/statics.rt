@@ -125,7 +125,8 @@ impl Statics {
     pub fn make(&mut self, start: Point, end: Point) -> Result<StaticId, AllocError>
         requires { length self.old < 4294967295 }
         ensures number { IfOk result (λ u. u ≡ length self.old) }
-        ensures made { OnOk result (self.new ≡ self.old ++ Some (record { start = start; end = end }) ∷ []) }
+        ensures made { OnOk result (self.new ≡ self.old
+            ++ Some (record { start = start; end = end }) ∷ []) }
         ensures unchanged { OnErr result (self.new ≡ self.old) }
     {
         self.slots.sound();
@@ -192,9 +193,11 @@ impl Statics {
     /// Whether the range is valid as the tree stands. Both its nodes are held. An index that this asks for is known when it is asked for again.
     pub fn is_valid<X: Body>(&self, tree: &mut Tree<X>, u: StaticId) -> bool
         requires held { IsSome (item_at self.now u) }
-        requires start_held { ForSome (item_at self.now u) (λ r. HasNode tree.old.forest r.start.node) }
+        requires start_held { ForSome (item_at self.now u) (λ r.
+            HasNode tree.old.forest r.start.node) }
         requires end_held { ForSome (item_at self.now u) (λ r. HasNode tree.old.forest r.end.node) }
-        ensures valid { IfSome (item_at self.now u) (λ r. result ≡ is_valid_static X.length tree.old.forest r) }
+        ensures valid { IfSome (item_at self.now u) (λ r. result
+            ≡ is_valid_static X.length tree.old.forest r) }
         ensures unchanged { tree.new ≡ tree.old }
     {
         let (start, end) = self.ends(u);
@@ -206,7 +209,8 @@ impl Statics {
     /// It walks the nodes inside, or climbs from each end where that takes fewer steps.
     pub fn refers<X>(&self, tree: &Tree<X>, top: NodeId) -> bool
         requires { HasNode tree.now.forest top }
-        ensures { result ≡ list_any (λ m. among m (inclusive_descendants tree.now.forest top)) (flat_map (nodes_unless_released nodes_of_range) self.now) }
+        ensures { result ≡ list_any (λ m. among m (inclusive_descendants tree.now.forest top))
+            (flat_map (nodes_unless_released nodes_of_range) self.now) }
     {
         self.slots.sound();
         let steps = tree.steps_inside(top, |index| self.node(index));
@@ -237,7 +241,8 @@ impl Statics {
 
 // Whether an end of one of these ranges stands inside a node. It asks each range.
 fn refer<X>(ranges: &[StaticRange], tree: &Tree<X>, top: NodeId) -> bool
-    ensures { result ≡ list_any (λ m. among m (inclusive_descendants tree.now.forest top)) (flat_map nodes_of_range ranges.now) }
+    ensures { result ≡ list_any (λ m. among m (inclusive_descendants tree.now.forest top))
+        (flat_map nodes_of_range ranges.now) }
 {
     for range in ranges {
         if tree.is_inside(top, range.start.node) || tree.is_inside(top, range.end.node) {
@@ -259,7 +264,8 @@ fn is_within<X: Body>(tree: &Tree<X>, node: NodeId, offset: usize) -> bool
 fn are_valid<X: Body>(tree: &mut Tree<X>, start: Point, end: Point) -> bool
     requires start_held { HasNode tree.old.forest start.node }
     requires end_held { HasNode tree.old.forest end.node }
-    ensures valid { result ≡ is_valid_static X.length tree.old.forest (record { start = start; end = end }) }
+    ensures valid { result ≡ is_valid_static X.length tree.old.forest
+        (record { start = start; end = end }) }
     ensures unchanged { tree.new ≡ tree.old }
 {
     if !same_root(tree, start.node, end.node) {

@@ -9,5 +9,6 @@ ghost use Rattle.dom_model.specs.Commands.Output.{whole_lines, last_piece, lines
 pub fn each_line_has_one_reply()
     ensures one_each { (b : Bounds) (input : List ℕ) →
         length (whole_lines (output_of whole_table b input)) ≡ length (lines_of input) }
-    ensures nothing_more { (b : Bounds) (input : List ℕ) → last_piece (output_of whole_table b input) ≡ [] }
+    ensures nothing_more { (b : Bounds) (input : List ℕ) →
+        last_piece (output_of whole_table b input) ≡ [] }
 {}

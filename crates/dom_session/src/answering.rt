@@ -34,7 +34,8 @@ pub(crate) fn answered(
 ) -> Result<Reply, AllocError>
     requires numbers { numbers ≤ 4294967295 }
     requires shown { IsShown world.old }
-    ensures step { IfOk result (IsStep world.old world.new (numbered numbers) (command_view command)) }
+    ensures step { IfOk result (IsStep world.old world.new (numbered numbers)
+        (command_view command)) }
     ensures left { OnErr result (IsKept world.old world.new) }
 {
     match command {

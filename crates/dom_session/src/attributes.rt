@@ -30,7 +30,8 @@ pub(crate) fn set_attribute(
     value: Units,
 ) -> Result<Reply, AllocError>
     requires shown { IsShown world.old }
-    ensures step { IfOk result (λ reply. (b : Bounds) → IsStep world.old world.new b (SetAttribute element (string_bytes name) value) reply) }
+    ensures step { IfOk result (λ reply. (b : Bounds) →
+        IsStep world.old world.new b (SetAttribute element (string_bytes name) value) reply) }
     ensures left { OnErr result (IsKept world.old world.new) }
 {
     if let Some(reply) = kind_refusal(world, element, Kind::Element) {
@@ -59,7 +60,8 @@ fn value_in(
     name: &str,
 ) -> Result<Option<Units>, AllocError>
     requires { HasNode tree.now.forest element }
-    ensures { IfOk result (λ value. value ≡ attribute_value name.now (content_in (entry_in tree.now.forest element)).attributes) }
+    ensures { IfOk result (λ value. value ≡ attribute_value name.now
+        (content_in (entry_in tree.now.forest element)).attributes) }
 {
     match content_in(tree, element).attribute(name) {
         None => Ok(None),
@@ -75,7 +77,8 @@ pub(crate) fn get_attribute(
     name: &str,
 ) -> Result<Reply, AllocError>
     requires shown { IsShown world.now }
-    ensures { IfOk result (λ reply. (b : Bounds) → IsStep world.now world.now b (GetAttribute element name.now) reply) }
+    ensures { IfOk result (λ reply. (b : Bounds) →
+        IsStep world.now world.now b (GetAttribute element name.now) reply) }
 {
     if let Some(reply) = kind_refusal(world, element, Kind::Element) {
         return Ok(reply);
@@ -87,7 +90,8 @@ pub(crate) fn get_attribute(
 // Whether there is an attribute of that name.
 fn has_in(tree: &Tree<Content>, element: NodeId, name: &str) -> bool
     requires { HasNode tree.now.forest element }
-    ensures { result ≡ is_some (attribute_value name.now (content_in (entry_in tree.now.forest element)).attributes) }
+    ensures { result ≡ is_some (attribute_value name.now
+        (content_in (entry_in tree.now.forest element)).attributes) }
 {
     content_in(tree, element).attribute(name).is_some()
 }
@@ -111,7 +115,8 @@ pub(crate) fn remove_attribute(
     name: &str,
 ) -> Result<Reply, AllocError>
     requires shown { IsShown world.old }
-    ensures step { IfOk result (λ reply. (b : Bounds) → IsStep world.old world.new b (RemoveAttribute element name.now) reply) }
+    ensures step { IfOk result (λ reply. (b : Bounds) →
+        IsStep world.old world.new b (RemoveAttribute element name.now) reply) }
     ensures left { OnErr result (IsKept world.old world.new) }
 {
     if let Some(reply) = kind_refusal(world, element, Kind::Element) {
@@ -130,7 +135,8 @@ pub(crate) fn toggle_attribute(
     force: Option<bool>,
 ) -> Result<Reply, AllocError>
     requires shown { IsShown world.old }
-    ensures step { IfOk result (λ reply. (b : Bounds) → IsStep world.old world.new b (ToggleAttribute element (string_bytes name) force) reply) }
+    ensures step { IfOk result (λ reply. (b : Bounds) →
+        IsStep world.old world.new b (ToggleAttribute element (string_bytes name) force) reply) }
     ensures left { OnErr result (IsKept world.old world.new) }
 {
     if let Some(reply) = kind_refusal(world, element, Kind::Element) {
@@ -153,7 +159,8 @@ fn pair_at(content: &Content, index: usize) -> (&str, &Units)
 
 // Copies of the names of attributes, in order.
 fn names_in(content: &Content, alloc: Global) -> Result<Vec<String>, AllocError>
-    ensures { IfOk result (λ names. map string_bytes names.items ≡ attribute_names content.now.attributes) }
+    ensures { IfOk result (λ names. map string_bytes names.items
+        ≡ attribute_names content.now.attributes) }
 {
     let count = content.attribute_count();
     let mut names: Vec<String> = Vec::with_capacity(alloc, count)?;
@@ -171,7 +178,8 @@ pub(crate) fn attribute_names(
     element: NodeId,
 ) -> Result<Reply, AllocError>
     requires shown { IsShown world.now }
-    ensures { IfOk result (λ reply. (b : Bounds) → IsStep world.now world.now b (AttributeNames element) reply) }
+    ensures { IfOk result (λ reply. (b : Bounds) →
+        IsStep world.now world.now b (AttributeNames element) reply) }
 {
     if let Some(reply) = kind_refusal(world, element, Kind::Element) {
         return Ok(reply);
@@ -187,7 +195,8 @@ pub(crate) fn change_attributes(
     command: Attributes,
 ) -> Result<Reply, AllocError>
     requires shown { IsShown world.old }
-    ensures step { IfOk result (λ reply. (b : Bounds) → IsStep world.old world.new b (attributes_view command) reply) }
+    ensures step { IfOk result (λ reply. (b : Bounds) →
+        IsStep world.old world.new b (attributes_view command) reply) }
     ensures left { OnErr result (IsKept world.old world.new) }
 {
     match command {

@@ -27,7 +27,8 @@ fn place(tree: &mut Tree<Content>, point: Point, start: Point, end: Point) -> Or
     requires point_held { HasNode tree.old.forest point.node }
     requires stands { StandsIn tree.old.forest (record { start = start; end = end }) }
     requires one_root { root_of tree.old.forest point.node ≡ root_of tree.old.forest start.node }
-    ensures place { result ≡ place_against tree.old.forest point (record { start = start; end = end }) }
+    ensures place { result ≡ place_against tree.old.forest point
+        (record { start = start; end = end }) }
     ensures unchanged { tree.new ≡ tree.old }
 {
     if found_before(tree, point, start) {
@@ -44,7 +45,8 @@ fn is_inside(tree: &mut Tree<Content>, point: Point, start: Point, end: Point) -
     requires point_held { HasNode tree.old.forest point.node }
     requires stands { StandsIn tree.old.forest (record { start = start; end = end }) }
     requires one_root { nodes.same_root tree.old.forest point.node start.node ≡ true }
-    ensures inside { result ≡ is_point_in tree.old.forest point (record { start = start; end = end }) }
+    ensures inside { result ≡ is_point_in tree.old.forest point
+        (record { start = start; end = end }) }
     ensures unchanged { tree.new ≡ tree.old }
 {
     !found_before(tree, point, start) && !found_before(tree, end, point)
@@ -59,7 +61,8 @@ pub(crate) fn compare_boundary_points(
     source: RangeId,
 ) -> Reply
     requires shown { IsShown world.old }
-    ensures step { (b : Bounds) → IsStep world.old world.new b (CompareBoundaryPoints range how source) result }
+    ensures step { (b : Bounds) → IsStep world.old world.new b
+        (CompareBoundaryPoints range how source) result }
     ensures unchanged { world.new ≡ world.old }
 {
     if !world.ranges.holds(range) || !world.ranges.holds(source) {
@@ -85,7 +88,8 @@ pub(crate) fn compare_boundary_points(
 /// Whether a point stands before a live range, in it, or after it.
 pub(crate) fn compare_point(world: &mut World, range: RangeId, node: NodeId, offset: u32) -> Reply
     requires shown { IsShown world.old }
-    ensures step { (b : Bounds) → IsStep world.old world.new b (ComparePoint range node offset) result }
+    ensures step { (b : Bounds) → IsStep world.old world.new b (ComparePoint range node offset)
+        result }
     ensures unchanged { world.new ≡ world.old }
 {
     if !world.ranges.holds(range) || !world.tree.holds(node) {
@@ -115,7 +119,8 @@ pub(crate) fn is_point_in_range(
     offset: u32,
 ) -> Reply
     requires shown { IsShown world.old }
-    ensures step { (b : Bounds) → IsStep world.old world.new b (IsPointInRange range node offset) result }
+    ensures step { (b : Bounds) → IsStep world.old world.new b (IsPointInRange range node offset)
+        result }
     ensures unchanged { world.new ≡ world.old }
 {
     if !world.ranges.holds(range) || !world.tree.holds(node) {

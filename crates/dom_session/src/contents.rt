@@ -22,7 +22,8 @@ use std::alloc::{AllocError, Global};
 /// The data of the Texts that lie in a live range.
 pub(crate) fn range_text(world: &World, alloc: Global, range: RangeId) -> Result<Reply, AllocError>
     requires shown { IsShown world.now }
-    ensures { IfOk result (λ reply. (b : Bounds) → IsStep world.now world.now b (RangeText range) reply) }
+    ensures { IfOk result (λ reply. (b : Bounds) →
+        IsStep world.now world.now b (RangeText range) reply) }
 {
     if !world.ranges.holds(range) {
         return Ok(Reply::Own(OwnError::NoSuchObject));
@@ -38,7 +39,8 @@ pub(crate) fn delete_contents(
     range: RangeId,
 ) -> Result<Reply, AllocError>
     requires shown { IsShown world.old }
-    ensures step { IfOk result (λ reply. (b : Bounds) → IsStep world.old world.new b (DeleteContents range) reply) }
+    ensures step { IfOk result (λ reply. (b : Bounds) →
+        IsStep world.old world.new b (DeleteContents range) reply) }
     ensures left { OnErr result (IsKept world.old world.new) }
 {
     if !world.ranges.holds(range) {
@@ -57,7 +59,8 @@ pub(crate) fn extract_contents(
 ) -> Result<Reply, AllocError>
     requires numbers { numbers ≤ 4294967295 }
     requires shown { IsShown world.old }
-    ensures step { IfOk result (IsStep world.old world.new (numbered numbers) (ExtractContents range)) }
+    ensures step { IfOk result (IsStep world.old world.new (numbered numbers)
+        (ExtractContents range)) }
     ensures left { OnErr result (IsKept world.old world.new) }
 {
     if !world.ranges.holds(range) {
@@ -81,7 +84,8 @@ pub(crate) fn clone_contents(
 ) -> Result<Reply, AllocError>
     requires numbers { numbers ≤ 4294967295 }
     requires shown { IsShown world.old }
-    ensures step { IfOk result (IsStep world.old world.new (numbered numbers) (CloneContents range)) }
+    ensures step { IfOk result (IsStep world.old world.new (numbered numbers)
+        (CloneContents range)) }
     ensures left { OnErr result (IsKept world.old world.new) }
 {
     if !world.ranges.holds(range) {
@@ -106,7 +110,8 @@ pub(crate) fn insert_node(
 ) -> Result<Reply, AllocError>
     requires numbers { numbers ≤ 4294967295 }
     requires shown { IsShown world.old }
-    ensures step { IfOk result (IsStep world.old world.new (numbered numbers) (InsertNode range node)) }
+    ensures step { IfOk result (IsStep world.old world.new (numbered numbers)
+        (InsertNode range node)) }
     ensures left { OnErr result (IsKept world.old world.new) }
 {
     if !world.ranges.holds(range) || !world.tree.holds(node) {
@@ -131,7 +136,8 @@ pub(crate) fn surround_contents(
 ) -> Result<Reply, AllocError>
     requires numbers { numbers ≤ 4294967295 }
     requires shown { IsShown world.old }
-    ensures step { IfOk result (IsStep world.old world.new (numbered numbers) (SurroundContents range node)) }
+    ensures step { IfOk result (IsStep world.old world.new (numbered numbers)
+        (SurroundContents range node)) }
     ensures left { OnErr result (IsKept world.old world.new) }
 {
     if !world.ranges.holds(range) || !world.tree.holds(node) {
@@ -190,7 +196,8 @@ pub(crate) fn change_contents(
 ) -> Result<Reply, AllocError>
     requires numbers { numbers ≤ 4294967295 }
     requires shown { IsShown world.old }
-    ensures step { IfOk result (IsStep world.old world.new (numbered numbers) (contents_view command)) }
+    ensures step { IfOk result (IsStep world.old world.new (numbered numbers)
+        (contents_view command)) }
     ensures left { OnErr result (IsKept world.old world.new) }
 {
     find_ends(world, range_of(&command));

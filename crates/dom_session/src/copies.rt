@@ -41,7 +41,8 @@ pub(crate) fn import_node(
 ) -> Result<Reply, AllocError>
     requires numbers { numbers ≤ 4294967295 }
     requires shown { IsShown world.old }
-    ensures step { IfOk result (IsStep world.old world.new (numbered numbers) (ImportNode document node deep)) }
+    ensures step { IfOk result (IsStep world.old world.new (numbered numbers)
+        (ImportNode document node deep)) }
     ensures left { OnErr result (IsKept world.old world.new) }
 {
     if !world.tree.holds(document) || !world.tree.holds(node) {
@@ -69,7 +70,8 @@ pub(crate) fn clone_node(
 ) -> Result<Reply, AllocError>
     requires numbers { numbers ≤ 4294967295 }
     requires shown { IsShown world.old }
-    ensures step { IfOk result (IsStep world.old world.new (numbered numbers) (CloneNode node deep)) }
+    ensures step { IfOk result (IsStep world.old world.new (numbered numbers)
+        (CloneNode node deep)) }
     ensures left { OnErr result (IsKept world.old world.new) }
 {
     if !world.tree.holds(node) {
@@ -154,7 +156,8 @@ pub(crate) fn copy_nodes(
 ) -> Result<Reply, AllocError>
     requires numbers { numbers ≤ 4294967295 }
     requires shown { IsShown world.old }
-    ensures step { IfOk result (IsStep world.old world.new (numbered numbers) (copying_view command)) }
+    ensures step { IfOk result (IsStep world.old world.new (numbered numbers)
+        (copying_view command)) }
     ensures left { OnErr result (IsKept world.old world.new) }
 {
     match command {

@@ -49,7 +49,8 @@ pub(crate) fn insert_before(
     child: Option<NodeId>,
 ) -> Result<Brief, AllocError>
     requires shown { IsShown world.old }
-    ensures step { IfOk result (λ reply. (b : Bounds) → IsStep world.old world.new b (InsertBefore parent node child) (reply_of reply)) }
+    ensures step { IfOk result (λ reply. (b : Bounds) →
+        IsStep world.old world.new b (InsertBefore parent node child) (reply_of reply)) }
     ensures left { OnErr result (IsKept world.old world.new) }
 {
     if !world.tree.holds(parent) || !world.tree.holds(node) || !holds_given(world, &child) {
@@ -70,7 +71,8 @@ pub(crate) fn append_child(
     node: NodeId,
 ) -> Result<Brief, AllocError>
     requires shown { IsShown world.old }
-    ensures step { IfOk result (λ reply. (b : Bounds) → IsStep world.old world.new b (AppendChild parent node) (reply_of reply)) }
+    ensures step { IfOk result (λ reply. (b : Bounds) →
+        IsStep world.old world.new b (AppendChild parent node) (reply_of reply)) }
     ensures left { OnErr result (IsKept world.old world.new) }
 {
     if !world.tree.holds(parent) || !world.tree.holds(node) {
@@ -91,7 +93,8 @@ pub(crate) fn replace_child(
     child: NodeId,
 ) -> Result<Brief, AllocError>
     requires shown { IsShown world.old }
-    ensures step { IfOk result (λ reply. (b : Bounds) → IsStep world.old world.new b (ReplaceChild parent node child) (reply_of reply)) }
+    ensures step { IfOk result (λ reply. (b : Bounds) →
+        IsStep world.old world.new b (ReplaceChild parent node child) (reply_of reply)) }
     ensures left { OnErr result (IsKept world.old world.new) }
 {
     if !world.tree.holds(parent) || !world.tree.holds(node) || !world.tree.holds(child) {
@@ -111,7 +114,8 @@ pub(crate) fn remove_child(
     child: NodeId,
 ) -> Result<Brief, AllocError>
     requires shown { IsShown world.old }
-    ensures step { IfOk result (λ reply. (b : Bounds) → IsStep world.old world.new b (RemoveChild parent child) (reply_of reply)) }
+    ensures step { IfOk result (λ reply. (b : Bounds) →
+        IsStep world.old world.new b (RemoveChild parent child) (reply_of reply)) }
     ensures left { OnErr result (IsKept world.old world.new) }
 {
     if !world.tree.holds(parent) || !world.tree.holds(child) {
@@ -126,7 +130,8 @@ pub(crate) fn remove_child(
 /// Takes a node out of its parent, where it has one.
 pub(crate) fn remove(world: &mut World, alloc: Global, node: NodeId) -> Result<Brief, AllocError>
     requires shown { IsShown world.old }
-    ensures step { IfOk result (λ reply. (b : Bounds) → IsStep world.old world.new b (Remove node) (reply_of reply)) }
+    ensures step { IfOk result (λ reply. (b : Bounds) →
+        IsStep world.old world.new b (Remove node) (reply_of reply)) }
     ensures left { OnErr result (IsKept world.old world.new) }
 {
     if !world.tree.holds(node) {
@@ -147,7 +152,8 @@ pub(crate) fn replace_children(
     node: Option<NodeId>,
 ) -> Result<Brief, AllocError>
     requires shown { IsShown world.old }
-    ensures step { IfOk result (λ reply. (b : Bounds) → IsStep world.old world.new b (ReplaceChildren parent node) (reply_of reply)) }
+    ensures step { IfOk result (λ reply. (b : Bounds) →
+        IsStep world.old world.new b (ReplaceChildren parent node) (reply_of reply)) }
     ensures left { OnErr result (IsKept world.old world.new) }
 {
     if !world.tree.holds(parent) || !holds_given(world, &node) {
@@ -170,7 +176,8 @@ pub(crate) fn adopt_node(
     node: NodeId,
 ) -> Result<Brief, AllocError>
     requires shown { IsShown world.old }
-    ensures step { IfOk result (λ reply. (b : Bounds) → IsStep world.old world.new b (AdoptNode document node) (reply_of reply)) }
+    ensures step { IfOk result (λ reply. (b : Bounds) →
+        IsStep world.old world.new b (AdoptNode document node) (reply_of reply)) }
     ensures left { OnErr result (IsKept world.old world.new) }
 {
     if !world.tree.holds(document) || !world.tree.holds(node) {
@@ -209,7 +216,8 @@ pub(crate) fn edit_tree(
     command: Editing,
 ) -> Result<Brief, AllocError>
     requires shown { IsShown world.old }
-    ensures step { IfOk result (λ reply. (b : Bounds) → IsStep world.old world.new b (editing_view command) (reply_of reply)) }
+    ensures step { IfOk result (λ reply. (b : Bounds) →
+        IsStep world.old world.new b (editing_view command) (reply_of reply)) }
     ensures left { OnErr result (IsKept world.old world.new) }
 {
     match command {

@@ -29,29 +29,38 @@ ghost use Rattle.dom_model.specs.Erasure.Erasing.{replies_to, makes_no_discard, 
 /// release, every other reply stays as it is, and of the replies to `notify`, to `pending` and to its taking the parts of the others stay. A
 /// `discard` may feel an observer: the list has none, or each is answered alike in both lists (DOM Standard, "Mutation observers").
 pub fn observers_apart()
-    ensures without_discard { (erased : ℕ → Bool) → (b : Bounds) → (cs : List Command) → makes_no_discard cs ≡ true →
-        replies_to b first_world (without_observers erased cs) ≡ replies_without_observers erased cs (replies_to b first_world cs) }
+    ensures without_discard { (erased : ℕ → Bool) → (b : Bounds) → (cs : List Command) →
+        makes_no_discard cs ≡ true →
+        replies_to b first_world (without_observers erased cs)
+        ≡ replies_without_observers erased cs (replies_to b first_world cs) }
     ensures with_discard { (erased : ℕ → Bool) → (b : Bounds) → (cs : List Command) →
-        replies_to_discards (without_observers erased cs) (replies_to b first_world (without_observers erased cs))
+        replies_to_discards (without_observers erased cs)
+        (replies_to b first_world (without_observers erased cs))
         ≡ replies_to_discards cs (replies_to b first_world cs) →
-        replies_to b first_world (without_observers erased cs) ≡ replies_without_observers erased cs (replies_to b first_world cs) }
+        replies_to b first_world (without_observers erased cs)
+        ≡ replies_without_observers erased cs (replies_to b first_world cs) }
 {}
 
 /// A law: the tree does not feel what only watches it. Without the commands of live ranges, static ranges, iterators and walkers,
 /// where none of them is an edit by a range, every other reply stays as it is. A `discard` may feel a watcher: the list has none, or each
 /// is answered alike in both lists (DOM Standard, "Ranges", "Traversal").
 pub fn watchers_apart()
-    ensures without_discard { (b : Bounds) → (cs : List Command) → makes_no_edit_by_range cs ≡ true → makes_no_discard cs ≡ true →
-        replies_to b first_world (without_watchers cs) ≡ replies_without_watchers cs (replies_to b first_world cs) }
+    ensures without_discard { (b : Bounds) → (cs : List Command) →
+        makes_no_edit_by_range cs ≡ true → makes_no_discard cs ≡ true →
+        replies_to b first_world (without_watchers cs)
+        ≡ replies_without_watchers cs (replies_to b first_world cs) }
     ensures with_discard { (b : Bounds) → (cs : List Command) → makes_no_edit_by_range cs ≡ true →
-        replies_to_discards (without_watchers cs) (replies_to b first_world (without_watchers cs)) ≡ replies_to_discards cs (replies_to b first_world cs) →
-        replies_to b first_world (without_watchers cs) ≡ replies_without_watchers cs (replies_to b first_world cs) }
+        replies_to_discards (without_watchers cs) (replies_to b first_world (without_watchers cs))
+        ≡ replies_to_discards cs (replies_to b first_world cs) →
+        replies_to b first_world (without_watchers cs)
+        ≡ replies_without_watchers cs (replies_to b first_world cs) }
 {}
 
 /// A law: lines leave the world that the commands among them leave, so that what holds after any commands holds after any lines (ours).
 pub fn lines_are_their_commands()
     ensures { (table : List Row) → (b : Bounds) → (w : World) → (lines : List (List ℕ)) →
-        world_after table b w lines ≡ world_past b w (commands_among (map (command_within table b.line) lines)) }
+        world_after table b w lines ≡ world_past b w
+        (commands_among (map (command_within table b.line) lines)) }
 {}
 
 /// A law: every world that commands reach is sound. The forest is one; both ends of each live range stand in one tree, within their
@@ -65,7 +74,8 @@ pub fn worlds_stay_sound()
 /// A law: a refused command leaves the world as it is, whatever the world (ours; the standard's exceptions come before the steps that
 /// change anything).
 pub fn refused_commands_leave()
-    ensures { (b : Bounds) → (w : World) → (c : Command) → is_refusal (answer b w c).reply ≡ true → (answer b w c).world ≡ w }
+    ensures { (b : Bounds) → (w : World) → (c : Command) → is_refusal (answer b w c).reply ≡ true →
+        (answer b w c).world ≡ w }
 {}
 
 /// A law: a refused command can be left out of a list of commands, and every other reply stays as it is; and so a line that is refused,
@@ -73,13 +83,19 @@ pub fn refused_commands_leave()
 pub fn refused_commands_can_go()
     ensures commands { (b : Bounds) → (cs : List Command) → (c : Command) → (ds : List Command) →
         is_refusal (answer b (world_past b first_world cs) c).reply ≡ true →
-        replies_to b first_world (cs ++ ds) ≡ remove (replies_to b first_world (cs ++ c ∷ ds)) (length cs) }
-    ensures lines { (table : List Row) → (b : Bounds) → (before : List (List ℕ)) → (line : List ℕ) → (after : List (List ℕ)) →
+        replies_to b first_world (cs ++ ds) ≡ remove (replies_to b first_world (cs ++ c ∷ ds))
+        (length cs) }
+    ensures lines { (table : List Row) → (b : Bounds) → (before : List (List ℕ)) → (line : List ℕ) →
+        (after : List (List ℕ)) →
         is_refusal (line_step table b (world_after table b first_world before) line).reply ≡ true →
-        replies_from table b first_world (before ++ after) ≡ remove (replies_from table b first_world (before ++ line ∷ after)) (length before) }
-    ensures bytes { (table : List Row) → (b : Bounds) → (front : List ℕ) → (line : List ℕ) → (rest : List ℕ) → last_piece front ≡ [] → whole_lines line ≡ [] →
-        is_refusal (line_step table b (world_after table b first_world (whole_lines front)) line).reply ≡ true →
-        due table b (front ++ rest) true ≡ remove (due table b (front ++ (line ++ 10 ∷ rest)) true) (length (whole_lines front)) }
+        replies_from table b first_world (before ++ after)
+        ≡ remove (replies_from table b first_world (before ++ line ∷ after)) (length before) }
+    ensures bytes { (table : List Row) → (b : Bounds) → (front : List ℕ) → (line : List ℕ) →
+        (rest : List ℕ) → last_piece front ≡ [] → whole_lines line ≡ [] →
+        is_refusal (line_step table b (world_after table b first_world (whole_lines front))
+        line).reply ≡ true →
+        due table b (front ++ rest) true ≡ remove (due table b (front ++ (line ++ 10 ∷ rest)) true)
+        (length (whole_lines front)) }
 {}
 
 /// A law: no command gives out more numbers than it asks for, and after any commands no kind of object has more numbers than the limit
@@ -88,42 +104,54 @@ pub fn numbers_stay_within()
     ensures as_asked { (b : Bounds) → (cs : List Command) → (c : Command) →
         AreAtMost (counts_of (answer b (world_past b first_world cs) c).world)
         (plus (counts_of (world_past b first_world cs)) (asked (world_past b first_world cs) c)) }
-    ensures limited { (b : Bounds) → (cs : List Command) → 1 ≤ b.numbers → AreAtMost (counts_of (world_past b first_world cs)) (of_each b.numbers) }
+    ensures limited { (b : Bounds) → (cs : List Command) → 1 ≤ b.numbers →
+        AreAtMost (counts_of (world_past b first_world cs)) (of_each b.numbers) }
 {}
 
 /// A law: of no kind of object are numbers taken back, whatever the world: after any commands each count is at least what it was (ours).
 pub fn numbers_only_rise()
-    ensures { (b : Bounds) → (w : World) → (cs : List Command) → AreAtMost (counts_of w) (counts_of (world_past b w cs)) }
+    ensures { (b : Bounds) → (w : World) → (cs : List Command) →
+        AreAtMost (counts_of w) (counts_of (world_past b w cs)) }
 {}
 
 /// A law: what is gone stays gone, whatever the world and the commands. A node whose number was given out and that is not there is never
 /// there again, so that a node which was not there before has a number that was not given out before; and a live range, an iterator, a
 /// walker, a static range or an observer that was released stays released (ours; a node is gone once its tree is discarded).
 pub fn what_is_gone_stays_gone()
-    ensures nodes { (b : Bounds) → (w : World) → (cs : List Command) → (n : ℕ) → n < w.made → (HasNode w.forest n → ⊥) →
+    ensures nodes { (b : Bounds) → (w : World) → (cs : List Command) → (n : ℕ) → n < w.made →
+        (HasNode w.forest n → ⊥) →
         HasNode (world_past b w cs).forest n → ⊥ }
-    ensures new_nodes { (b : Bounds) → (w : World) → (cs : List Command) → (n : ℕ) → (HasNode w.forest n → ⊥) →
+    ensures new_nodes { (b : Bounds) → (w : World) → (cs : List Command) → (n : ℕ) →
+        (HasNode w.forest n → ⊥) →
         HasNode (world_past b w cs).forest n → w.made ≤ n }
-    ensures ranges { (b : Bounds) → (w : World) → (cs : List Command) → (r : ℕ) → r < length w.ranges → range_at w r ≡ None →
+    ensures ranges { (b : Bounds) → (w : World) → (cs : List Command) → (r : ℕ) →
+        r < length w.ranges → range_at w r ≡ None →
         range_at (world_past b w cs) r ≡ None }
-    ensures iterators { (b : Bounds) → (w : World) → (cs : List Command) → (i : ℕ) → i < length w.iterators → iterator_at i w ≡ None →
+    ensures iterators { (b : Bounds) → (w : World) → (cs : List Command) → (i : ℕ) →
+        i < length w.iterators → iterator_at i w ≡ None →
         iterator_at i (world_past b w cs) ≡ None }
-    ensures walkers { (b : Bounds) → (w : World) → (cs : List Command) → (k : ℕ) → k < length w.walkers → walker_at k w ≡ None →
+    ensures walkers { (b : Bounds) → (w : World) → (cs : List Command) → (k : ℕ) →
+        k < length w.walkers → walker_at k w ≡ None →
         walker_at k (world_past b w cs) ≡ None }
-    ensures static_ranges { (b : Bounds) → (w : World) → (cs : List Command) → (u : ℕ) → u < length w.static_ranges → static_at w u ≡ None →
+    ensures static_ranges { (b : Bounds) → (w : World) → (cs : List Command) → (u : ℕ) →
+        u < length w.static_ranges → static_at w u ≡ None →
         static_at (world_past b w cs) u ≡ None }
-    ensures observers { (b : Bounds) → (w : World) → (cs : List Command) → (o : ℕ) → o < length w.observing.places →
+    ensures observers { (b : Bounds) → (w : World) → (cs : List Command) → (o : ℕ) →
+        o < length w.observing.places →
         has_observer w.observing o ≡ false → has_observer (world_past b w cs).observing o ≡ false }
 {}
 
 /// A law: no number is given out twice, whatever the world. A number that a command answers as new is the next of its kind: as many were
 /// given out before it. So of two commands of one list that each answer a new number of one kind the later answers a greater one (ours).
 pub fn new_numbers_differ()
-    ensures next { (b : Bounds) → (w : World) → (c : Command) → (kind : Numbered) → (n : ℕ) → made_by c ≡ Some kind →
+    ensures next { (b : Bounds) → (w : World) → (c : Command) → (kind : Numbered) → (n : ℕ) →
+        made_by c ≡ Some kind →
         (answer b w c).reply ≡ Done (Number n) → IsNext kind n w (answer b w c).world }
-    ensures later { (b : Bounds) → (w : World) → (c : Command) → (between : List Command) → (d : Command) → (kind : Numbered) → (n : ℕ) → (m : ℕ) →
+    ensures later { (b : Bounds) → (w : World) → (c : Command) → (between : List Command) →
+        (d : Command) → (kind : Numbered) → (n : ℕ) → (m : ℕ) →
         made_by c ≡ Some kind → made_by d ≡ Some kind →
-        (answer b w c).reply ≡ Done (Number n) → (answer b (world_past b w (c ∷ between)) d).reply ≡ Done (Number m) → n < m }
+        (answer b w c).reply ≡ Done (Number n) → (answer b (world_past b w (c ∷ between)) d).reply
+        ≡ Done (Number m) → n < m }
 {}
 
 /// A law: each end of each live range stands where its marker stands. In the token texts of a world that commands reach a marker stands
@@ -133,14 +161,19 @@ pub fn new_numbers_differ()
 /// close, are those of the world. The live ranges are as the markers stand after each command of the list (DOM Standard, "Live ranges",
 /// in the words of texts).
 pub fn ends_stay_with_their_markers()
-    ensures gaps { (b : Bounds) → (before : List Command) → (cs : List Command) → (r : ℕ) → (side : Bool) →
-        gap_among r side (texts_after b (world_past b first_world before) (texts_of (world_past b first_world before)) cs)
-        ≡ option_map (end_of side) (range_at (world_past b (world_past b first_world before) cs) r) }
+    ensures gaps { (b : Bounds) → (before : List Command) → (cs : List Command) → (r : ℕ) →
+        (side : Bool) →
+        gap_among r side (texts_after b (world_past b first_world before)
+        (texts_of (world_past b first_world before)) cs)
+        ≡ option_map (end_of side) (range_at (world_past b (world_past b first_world before) cs)
+        r) }
     ensures tokens { (b : Bounds) → (before : List Command) → (cs : List Command) → (n : ℕ) →
-        unmarked (tokens_among n (texts_after b (world_past b first_world before) (texts_of (world_past b first_world before)) cs))
+        unmarked (tokens_among n (texts_after b (world_past b first_world before)
+        (texts_of (world_past b first_world before)) cs))
         ≡ unmarked (tokens_among n (texts_of (world_past b (world_past b first_world before) cs))) }
     ensures along { (b : Bounds) → (before : List Command) → (cs : List Command) →
-        marks_along b (world_past b first_world before) (texts_of (world_past b first_world before)) cs ≡ ranges_along b (world_past b first_world before) cs }
+        marks_along b (world_past b first_world before) (texts_of (world_past b first_world before))
+        cs ≡ ranges_along b (world_past b first_world before) cs }
 {}
 
 /// A law: the text of a live range is the units of Texts that lie between its two markers, in the token text of its root. It holds in
@@ -151,7 +184,9 @@ pub fn range_text_is_what_lies_between()
         range_at w r ≡ Some range → root_of w.forest range.start.node ≡ Some root →
         range_text w range ≡ text_of_range w r (text_among root (texts_of w)) }
     ensures answered { (b : Bounds) → (cs : List Command) → (r : ℕ) → (root : ℕ) → (range : Range) →
-        range_at (world_past b first_world cs) r ≡ Some range → root_of (world_past b first_world cs).forest range.start.node ≡ Some root →
+        range_at (world_past b first_world cs) r ≡ Some range →
+        root_of (world_past b first_world cs).forest range.start.node ≡ Some root →
         (answer b (world_past b first_world cs) (RangeText r)).reply
-        ≡ Done (Units (text_of_range (world_past b first_world cs) r (text_among root (texts_of (world_past b first_world cs))))) }
+        ≡ Done (Units (text_of_range (world_past b first_world cs) r
+        (text_among root (texts_of (world_past b first_world cs))))) }
 {}

@@ -30,7 +30,8 @@ pub(crate) fn document_label() -> Label
 
 // Why a document may not get a new node.
 fn refusal(world: &World, numbers: u64, document: NodeId) -> Option<Brief>
-    ensures { option_map (λ reply. reply_view (reply_of reply)) result ≡ making_refusal world.now numbers document }
+    ensures { option_map (λ reply. reply_view (reply_of reply)) result
+        ≡ making_refusal world.now numbers document }
 {
     if !world.tree.holds(document) {
         return Some(Brief::Own(OwnError::NoSuchObject));
@@ -52,7 +53,8 @@ pub(crate) fn new_document(
 ) -> Result<Brief, AllocError>
     requires numbers { numbers ≤ 4294967295 }
     requires shown { IsShown world.old }
-    ensures step { IfOk result (λ reply. IsStep world.old world.new (numbered numbers) NewDocument (reply_of reply)) }
+    ensures step { IfOk result (λ reply. IsStep world.old world.new (numbered numbers) NewDocument
+        (reply_of reply)) }
     ensures left { OnErr result (IsKept world.old world.new) }
 {
     if numbers <= world.tree.made() {
@@ -73,7 +75,8 @@ pub(crate) fn create_element(
 ) -> Result<Brief, AllocError>
     requires numbers { numbers ≤ 4294967295 }
     requires shown { IsShown world.old }
-    ensures step { IfOk result (λ reply. IsStep world.old world.new (numbered numbers) (CreateElement document name.now) (reply_of reply)) }
+    ensures step { IfOk result (λ reply. IsStep world.old world.new (numbered numbers)
+        (CreateElement document name.now) (reply_of reply)) }
     ensures left { OnErr result (IsKept world.old world.new) }
 {
     if let Some(reply) = refusal(world, numbers, document) {
@@ -98,7 +101,8 @@ pub(crate) fn create_text(
 ) -> Result<Brief, AllocError>
     requires numbers { numbers ≤ 4294967295 }
     requires shown { IsShown world.old }
-    ensures step { IfOk result (λ reply. IsStep world.old world.new (numbered numbers) (CreateText document text) (reply_of reply)) }
+    ensures step { IfOk result (λ reply. IsStep world.old world.new (numbered numbers)
+        (CreateText document text) (reply_of reply)) }
     ensures left { OnErr result (IsKept world.old world.new) }
 {
     if let Some(reply) = refusal(world, numbers, document) {
@@ -119,7 +123,8 @@ pub(crate) fn create_comment(
 ) -> Result<Brief, AllocError>
     requires numbers { numbers ≤ 4294967295 }
     requires shown { IsShown world.old }
-    ensures step { IfOk result (λ reply. IsStep world.old world.new (numbered numbers) (CreateComment document text) (reply_of reply)) }
+    ensures step { IfOk result (λ reply. IsStep world.old world.new (numbered numbers)
+        (CreateComment document text) (reply_of reply)) }
     ensures left { OnErr result (IsKept world.old world.new) }
 {
     if let Some(reply) = refusal(world, numbers, document) {
@@ -155,7 +160,8 @@ pub(crate) fn create_instruction(
 ) -> Result<Brief, AllocError>
     requires numbers { numbers ≤ 4294967295 }
     requires shown { IsShown world.old }
-    ensures step { IfOk result (λ reply. IsStep world.old world.new (numbered numbers) (CreatePI document (string_bytes target) text) (reply_of reply)) }
+    ensures step { IfOk result (λ reply. IsStep world.old world.new (numbered numbers)
+        (CreatePI document (string_bytes target) text) (reply_of reply)) }
     ensures left { OnErr result (IsKept world.old world.new) }
 {
     if let Some(reply) = refusal(world, numbers, document) {
@@ -186,7 +192,8 @@ pub(crate) fn create_doctype(
     requires numbers { numbers ≤ 4294967295 }
     requires shown { IsShown world.old }
     ensures step { IfOk result (λ reply. IsStep world.old world.new (numbered numbers)
-        (CreateDoctype document (string_bytes name) (string_bytes public_id) (string_bytes system_id)) (reply_of reply)) }
+        (CreateDoctype document (string_bytes name) (string_bytes public_id)
+        (string_bytes system_id)) (reply_of reply)) }
     ensures left { OnErr result (IsKept world.old world.new) }
 {
     if let Some(reply) = refusal(world, numbers, document) {
@@ -209,7 +216,8 @@ pub(crate) fn create_fragment(
 ) -> Result<Brief, AllocError>
     requires numbers { numbers ≤ 4294967295 }
     requires shown { IsShown world.old }
-    ensures step { IfOk result (λ reply. IsStep world.old world.new (numbered numbers) (CreateFragment document) (reply_of reply)) }
+    ensures step { IfOk result (λ reply. IsStep world.old world.new (numbered numbers)
+        (CreateFragment document) (reply_of reply)) }
     ensures left { OnErr result (IsKept world.old world.new) }
 {
     if let Some(reply) = refusal(world, numbers, document) {
@@ -229,7 +237,8 @@ pub(crate) fn make_nodes(
 ) -> Result<Brief, AllocError>
     requires numbers { numbers ≤ 4294967295 }
     requires shown { IsShown world.old }
-    ensures step { IfOk result (λ reply. IsStep world.old world.new (numbered numbers) (making_view command) (reply_of reply)) }
+    ensures step { IfOk result (λ reply. IsStep world.old world.new (numbered numbers)
+        (making_view command) (reply_of reply)) }
     ensures left { OnErr result (IsKept world.old world.new) }
 {
     match command {

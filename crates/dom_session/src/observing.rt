@@ -40,7 +40,8 @@ pub(crate) fn observe(
     options: RawOptions,
 ) -> Result<Reply, AllocError>
     requires shown { IsShown world.old }
-    ensures step { IfOk result (λ reply. (b : Bounds) → IsStep world.old world.new b (Observe observer node options) reply) }
+    ensures step { IfOk result (λ reply. (b : Bounds) →
+        IsStep world.old world.new b (Observe observer node options) reply) }
     ensures left { OnErr result (IsKept world.old world.new) }
 {
     if !world.observers.holds(observer) || !world.tree.holds(node) {
@@ -124,7 +125,8 @@ fn pending_numbers(observers: &Observers, alloc: Global) -> Result<Vec<u32>, All
 
 /// The observers that wait to be told, in the order in which they began to wait.
 pub(crate) fn pending(world: &World, alloc: Global) -> Result<Reply, AllocError>
-    ensures step { IfOk result (λ reply. (b : Bounds) → IsStep world.now world.now b Pending reply) }
+    ensures step { IfOk result (λ reply. (b : Bounds) →
+        IsStep world.now world.now b Pending reply) }
 {
     let numbers = pending_numbers(&world.observers, alloc)?;
     Ok(Reply::Done(Answer::Numbers(numbers)))
@@ -134,7 +136,8 @@ pub(crate) fn pending(world: &World, alloc: Global) -> Result<Reply, AllocError>
 /// observers").
 pub(crate) fn take_pending(world: &mut World, alloc: Global) -> Result<Reply, AllocError>
     requires shown { IsShown world.old }
-    ensures step { IfOk result (λ reply. (b : Bounds) → IsStep world.old world.new b TakePending reply) }
+    ensures step { IfOk result (λ reply. (b : Bounds) →
+        IsStep world.old world.new b TakePending reply) }
     ensures unchanged { OnErr result (world.new ≡ world.old) }
     ensures left { OnErr result (IsKept world.old world.new) }
 {
@@ -165,7 +168,8 @@ pub(crate) fn watch(
 ) -> Result<Reply, AllocError>
     requires numbers { numbers ≤ 4294967295 }
     requires shown { IsShown world.old }
-    ensures step { IfOk result (IsStep world.old world.new (numbered numbers) (observing_view command)) }
+    ensures step { IfOk result (IsStep world.old world.new (numbered numbers)
+        (observing_view command)) }
     ensures left { OnErr result (IsKept world.old world.new) }
 {
     match command {

@@ -24,7 +24,8 @@ fn row_of(
     depth: usize,
 ) -> Result<TreeRow, AllocError>
     requires { HasNode tree.now.forest id }
-    ensures { IfOk result (λ row. IfSome (entry_in tree.now.forest id) (λ e. row ≡ row_at id depth e.value)) }
+    ensures { IfOk result (λ row. IfSome (entry_in tree.now.forest id) (λ e. row
+        ≡ row_at id depth e.value)) }
 {
     let label = tree.label(id).try_clone(alloc)?;
     let body = tree.body(id).try_clone(alloc)?;
@@ -56,7 +57,8 @@ fn rows_of(tree: &Tree<Content>, alloc: Global, top: NodeId) -> Result<Vec<TreeR
 
 /// Prints a node and all that stands below it.
 pub(crate) fn print_tree(world: &World, alloc: Global, top: NodeId) -> Result<Reply, AllocError>
-    ensures { IfOk result (λ reply. (b : Bounds) → IsStep world.now world.now b (TreeCommand top) reply) }
+    ensures { IfOk result (λ reply. (b : Bounds) →
+        IsStep world.now world.now b (TreeCommand top) reply) }
 {
     if !world.tree.holds(top) {
         return Ok(Reply::Own(OwnError::NoSuchObject));

@@ -19,7 +19,8 @@ use std::alloc::{AllocError, Global};
 
 /// Tells where a node stands, and what it is.
 pub(crate) fn describe_node(world: &World, alloc: Global, node: NodeId) -> Result<Reply, AllocError>
-    ensures { IfOk result (λ reply. (b : Bounds) → IsStep world.now world.now b (DescribeNode node) reply) }
+    ensures { IfOk result (λ reply. (b : Bounds) →
+        IsStep world.now world.now b (DescribeNode node) reply) }
 {
     if !world.tree.holds(node) {
         return Ok(Reply::Own(OwnError::NoSuchObject));
@@ -54,7 +55,8 @@ fn child_numbers(
 
 /// The children of a node, in order.
 pub(crate) fn children(world: &World, alloc: Global, node: NodeId) -> Result<Reply, AllocError>
-    ensures { IfOk result (λ reply. (b : Bounds) → IsStep world.now world.now b (Children node) reply) }
+    ensures { IfOk result (λ reply. (b : Bounds) →
+        IsStep world.now world.now b (Children node) reply) }
 {
     if !world.tree.holds(node) {
         return Ok(Reply::Own(OwnError::NoSuchObject));
@@ -109,7 +111,8 @@ pub(crate) fn ask_tree(
     command: Asking,
 ) -> Result<Reply, AllocError>
     requires shown { IsShown world.old }
-    ensures step { IfOk result (λ reply. (b : Bounds) → IsStep world.old world.new b (asking_view command) reply) }
+    ensures step { IfOk result (λ reply. (b : Bounds) →
+        IsStep world.old world.new b (asking_view command) reply) }
     ensures left { OnErr result (IsKept world.old world.new) }
 {
     match command {

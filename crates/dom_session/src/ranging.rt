@@ -27,7 +27,8 @@ pub(crate) fn create_range(
 ) -> Result<Reply, AllocError>
     requires numbers { numbers ≤ 4294967295 }
     requires shown { IsShown world.old }
-    ensures step { IfOk result (IsStep world.old world.new (numbered numbers) (CreateRange document)) }
+    ensures step { IfOk result (IsStep world.old world.new (numbered numbers)
+        (CreateRange document)) }
     ensures left { OnErr result (IsKept world.old world.new) }
 {
     if !world.tree.holds(document) {
@@ -100,7 +101,8 @@ pub(crate) fn act_on_ranges(
 ) -> Result<Reply, AllocError>
     requires numbers { numbers ≤ 4294967295 }
     requires shown { IsShown world.old }
-    ensures step { IfOk result (IsStep world.old world.new (numbered numbers) (ranging_view command)) }
+    ensures step { IfOk result (IsStep world.old world.new (numbered numbers)
+        (ranging_view command)) }
     ensures left { OnErr result (IsKept world.old world.new) }
 {
     match command {

@@ -98,8 +98,10 @@ impl Session {
     pub fn apply(&mut self, command: Command) -> Result<Reply, Ended>
         // For every world that the session stands for, the reply is that world's answer, and the session stands for its next world.
         ensures answers { IfOk result
-            (λ reply. (w : PlainWorld) → StandsFor self.old w → IsAnswered reply w self.old self.new (command_view command)) }
-        ensures refused { IfOk result (λ reply. is_refusal (reply_view reply) ≡ true → self.new ≡ self.old) }
+            (λ reply. (w : PlainWorld) → StandsFor self.old w →
+            IsAnswered reply w self.old self.new (command_view command)) }
+        ensures refused { IfOk result (λ reply. is_refusal (reply_view reply) ≡ true →
+            self.new ≡ self.old) }
         ensures open { OnOk result (self.new.ended ≡ false) }
         ensures ended { OnErr result (self.new.ended ≡ true) }
         ensures left { OnErr result (IsLeft self.old self.new) }
@@ -121,8 +123,10 @@ impl Session {
     /// Answers a command that makes a node as `apply` does, with less to hand on.
     pub fn make(&mut self, command: Making) -> Result<Brief, Ended>
         ensures answers { IfOk result
-            (λ reply. (w : PlainWorld) → StandsFor self.old w → IsAnswered (reply_of reply) w self.old self.new (making_view command)) }
-        ensures refused { IfOk result (λ reply. is_refusal (reply_view (reply_of reply)) ≡ true → self.new ≡ self.old) }
+            (λ reply. (w : PlainWorld) → StandsFor self.old w →
+            IsAnswered (reply_of reply) w self.old self.new (making_view command)) }
+        ensures refused { IfOk result (λ reply. is_refusal (reply_view (reply_of reply)) ≡ true →
+            self.new ≡ self.old) }
         ensures open { OnOk result (self.new.ended ≡ false) }
         ensures ended { OnErr result (self.new.ended ≡ true) }
         ensures left { OnErr result (IsLeft self.old self.new) }
@@ -142,8 +146,10 @@ impl Session {
     /// Makes an Element as `apply` does, of a name that is lent.
     pub fn create_element(&mut self, document: NodeId, name: &str) -> Result<Brief, Ended>
         ensures answers { IfOk result
-            (λ reply. (w : PlainWorld) → StandsFor self.old w → IsAnswered (reply_of reply) w self.old self.new (CreateElement document name.now)) }
-        ensures refused { IfOk result (λ reply. is_refusal (reply_view (reply_of reply)) ≡ true → self.new ≡ self.old) }
+            (λ reply. (w : PlainWorld) → StandsFor self.old w →
+            IsAnswered (reply_of reply) w self.old self.new (CreateElement document name.now)) }
+        ensures refused { IfOk result (λ reply. is_refusal (reply_view (reply_of reply)) ≡ true →
+            self.new ≡ self.old) }
         ensures open { OnOk result (self.new.ended ≡ false) }
         ensures ended { OnErr result (self.new.ended ≡ true) }
         ensures left { OnErr result (IsLeft self.old self.new) }
@@ -169,8 +175,10 @@ impl Session {
     /// Makes a Text as `apply` does, with less to hand on.
     pub fn create_text(&mut self, document: NodeId, text: Units) -> Result<Brief, Ended>
         ensures answers { IfOk result
-            (λ reply. (w : PlainWorld) → StandsFor self.old w → IsAnswered (reply_of reply) w self.old self.new (CreateText document text)) }
-        ensures refused { IfOk result (λ reply. is_refusal (reply_view (reply_of reply)) ≡ true → self.new ≡ self.old) }
+            (λ reply. (w : PlainWorld) → StandsFor self.old w →
+            IsAnswered (reply_of reply) w self.old self.new (CreateText document text)) }
+        ensures refused { IfOk result (λ reply. is_refusal (reply_view (reply_of reply)) ≡ true →
+            self.new ≡ self.old) }
         ensures open { OnOk result (self.new.ended ≡ false) }
         ensures ended { OnErr result (self.new.ended ≡ true) }
         ensures left { OnErr result (IsLeft self.old self.new) }
@@ -197,8 +205,10 @@ impl Session {
     #[inline(always)]
     pub fn edit(&mut self, command: Editing) -> Result<Brief, Ended>
         ensures answers { IfOk result
-            (λ reply. (w : PlainWorld) → StandsFor self.old w → IsAnswered (reply_of reply) w self.old self.new (editing_view command)) }
-        ensures refused { IfOk result (λ reply. is_refusal (reply_view (reply_of reply)) ≡ true → self.new ≡ self.old) }
+            (λ reply. (w : PlainWorld) → StandsFor self.old w →
+            IsAnswered (reply_of reply) w self.old self.new (editing_view command)) }
+        ensures refused { IfOk result (λ reply. is_refusal (reply_view (reply_of reply)) ≡ true →
+            self.new ≡ self.old) }
         ensures open { OnOk result (self.new.ended ≡ false) }
         ensures ended { OnErr result (self.new.ended ≡ true) }
         ensures left { OnErr result (IsLeft self.old self.new) }
@@ -218,8 +228,10 @@ impl Session {
     /// Moves an iterator on as `apply` does, with less to hand on.
     pub fn next_node(&mut self, iterator: IteratorId) -> Result<Brief, Ended>
         ensures answers { IfOk result
-            (λ reply. (w : PlainWorld) → StandsFor self.old w → IsAnswered (reply_of reply) w self.old self.new (NextNode iterator)) }
-        ensures refused { IfOk result (λ reply. is_refusal (reply_view (reply_of reply)) ≡ true → self.new ≡ self.old) }
+            (λ reply. (w : PlainWorld) → StandsFor self.old w →
+            IsAnswered (reply_of reply) w self.old self.new (NextNode iterator)) }
+        ensures refused { IfOk result (λ reply. is_refusal (reply_view (reply_of reply)) ≡ true →
+            self.new ≡ self.old) }
         ensures open { OnOk result (self.new.ended ≡ false) }
         ensures ended { OnErr result (self.new.ended ≡ true) }
         ensures left { OnErr result (self.new ≡ self.old) }
@@ -235,8 +247,10 @@ impl Session {
     /// Moves an iterator back as `apply` does, with less to hand on.
     pub fn previous_node(&mut self, iterator: IteratorId) -> Result<Brief, Ended>
         ensures answers { IfOk result
-            (λ reply. (w : PlainWorld) → StandsFor self.old w → IsAnswered (reply_of reply) w self.old self.new (PreviousNode iterator)) }
-        ensures refused { IfOk result (λ reply. is_refusal (reply_view (reply_of reply)) ≡ true → self.new ≡ self.old) }
+            (λ reply. (w : PlainWorld) → StandsFor self.old w →
+            IsAnswered (reply_of reply) w self.old self.new (PreviousNode iterator)) }
+        ensures refused { IfOk result (λ reply. is_refusal (reply_view (reply_of reply)) ≡ true →
+            self.new ≡ self.old) }
         ensures open { OnOk result (self.new.ended ≡ false) }
         ensures ended { OnErr result (self.new.ended ≡ true) }
         ensures left { OnErr result (self.new ≡ self.old) }
@@ -252,8 +266,10 @@ impl Session {
     /// Moves a walker as `apply` does, with less to hand on.
     pub fn walk(&mut self, walker: WalkerId, direction: Move) -> Result<Brief, Ended>
         ensures answers { IfOk result
-            (λ reply. (w : PlainWorld) → StandsFor self.old w → IsAnswered (reply_of reply) w self.old self.new (Walk walker direction)) }
-        ensures refused { IfOk result (λ reply. is_refusal (reply_view (reply_of reply)) ≡ true → self.new ≡ self.old) }
+            (λ reply. (w : PlainWorld) → StandsFor self.old w →
+            IsAnswered (reply_of reply) w self.old self.new (Walk walker direction)) }
+        ensures refused { IfOk result (λ reply. is_refusal (reply_view (reply_of reply)) ≡ true →
+            self.new ≡ self.old) }
         ensures open { OnOk result (self.new.ended ≡ false) }
         ensures ended { OnErr result (self.new.ended ≡ true) }
         ensures left { OnErr result (self.new ≡ self.old) }
@@ -278,7 +294,8 @@ impl Session {
 
     /// The first child of a node, where it has one, in constant time.
     pub fn first_child(&self, node: NodeId) -> Result<Option<NodeId>, OwnError>
-        ensures shown { (w : PlainWorld) → StandsFor self.now w → result ≡ first_child_in w.forest node }
+        ensures shown { (w : PlainWorld) → StandsFor self.now w →
+            result ≡ first_child_in w.forest node }
         ensures own { result ≡ first_child_in self.now.world.tree.forest node }
     {
         links::first_child(&self.world.tree, node)
@@ -286,7 +303,8 @@ impl Session {
 
     /// The last child of a node, where it has one, in constant time.
     pub fn last_child(&self, node: NodeId) -> Result<Option<NodeId>, OwnError>
-        ensures shown { (w : PlainWorld) → StandsFor self.now w → result ≡ last_child_in w.forest node }
+        ensures shown { (w : PlainWorld) → StandsFor self.now w →
+            result ≡ last_child_in w.forest node }
         ensures own { result ≡ last_child_in self.now.world.tree.forest node }
     {
         links::last_child(&self.world.tree, node)
@@ -294,7 +312,8 @@ impl Session {
 
     /// The child of a node at an index, where there is one. It goes there from the nearer end.
     pub fn child_at(&self, node: NodeId, index: usize) -> Result<Option<NodeId>, OwnError>
-        ensures shown { (w : PlainWorld) → StandsFor self.now w → result ≡ child_in index w.forest node }
+        ensures shown { (w : PlainWorld) → StandsFor self.now w →
+            result ≡ child_in index w.forest node }
         ensures own { result ≡ child_in index self.now.world.tree.forest node }
     {
         links::child_at(&self.world.tree, node, index)
@@ -304,17 +323,21 @@ impl Session {
     /// there are.
     pub fn copy_children(&self, node: NodeId, into: &mut [u32]) -> Result<usize, OwnError>
         ensures count { (w : PlainWorld) → StandsFor self.now w → result ≡ count_in w.forest node }
-        ensures copied { (w : PlainWorld) → StandsFor self.now w → into.new ≡ laid_over (children_of w.forest node) into.old }
+        ensures copied { (w : PlainWorld) → StandsFor self.now w →
+            into.new ≡ laid_over (children_of w.forest node) into.old }
         ensures own_count { result ≡ count_in self.now.world.tree.forest node }
-        ensures own_copied { into.new ≡ laid_over (children_of self.now.world.tree.forest node) into.old }
+        ensures own_copied { into.new ≡ laid_over (children_of self.now.world.tree.forest node)
+            into.old }
     {
         links::copy_children(&self.world.tree, node, into)
     }
 
     /// The data of a node, lent where it lies; none where its kind has no data.
     pub fn data_of(&self, node: NodeId) -> Result<Option<&[u16]>, OwnError>
-        ensures shown { (w : PlainWorld) → StandsFor self.now w → lent_as (λ units. units.now) result ≡ data_in w.forest node }
-        ensures own { lent_as (λ units. units.now) result ≡ data_in self.now.world.tree.forest node }
+        ensures shown { (w : PlainWorld) → StandsFor self.now w →
+            lent_as (λ units. units.now) result ≡ data_in w.forest node }
+        ensures own { lent_as (λ units. units.now) result
+            ≡ data_in self.now.world.tree.forest node }
     {
         lending::data_of(&self.world.tree, node)
     }
@@ -325,8 +348,10 @@ impl Session {
         node: NodeId,
         index: usize,
     ) -> Result<Option<(&str, &Units)>, OwnError>
-        ensures shown { (w : PlainWorld) → StandsFor self.now w → lent_as attribute_at result ≡ attribute_in index w.forest node }
-        ensures own { lent_as attribute_at result ≡ attribute_in index self.now.world.tree.forest node }
+        ensures shown { (w : PlainWorld) → StandsFor self.now w →
+            lent_as attribute_at result ≡ attribute_in index w.forest node }
+        ensures own { lent_as attribute_at result ≡ attribute_in index self.now.world.tree.forest
+            node }
     {
         lending::attribute_at(&self.world.tree, node, index)
     }

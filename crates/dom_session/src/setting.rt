@@ -173,7 +173,8 @@ pub(crate) fn select_node(world: &mut World, range: RangeId, node: NodeId) -> Re
 /// Sets the ends of a live range around what a node has.
 pub(crate) fn select_node_contents(world: &mut World, range: RangeId, node: NodeId) -> Reply
     requires shown { IsShown world.old }
-    ensures step { (b : Bounds) → IsStep world.old world.new b (SelectNodeContents range node) result }
+    ensures step { (b : Bounds) → IsStep world.old world.new b (SelectNodeContents range node)
+        result }
 {
     if !world.ranges.holds(range) || !world.tree.holds(node) {
         return Reply::Own(OwnError::NoSuchObject);

@@ -26,7 +26,8 @@ pub(crate) fn create_static_range(
 ) -> Result<Reply, AllocError>
     requires numbers { numbers ≤ 4294967295 }
     requires shown { IsShown world.old }
-    ensures step { IfOk result (IsStep world.old world.new (numbered numbers) (CreateStaticRange start end)) }
+    ensures step { IfOk result (IsStep world.old world.new (numbered numbers)
+        (CreateStaticRange start end)) }
     ensures left { OnErr result (IsKept world.old world.new) }
 {
     if !world.tree.holds(start.node) || !world.tree.holds(end.node) {
@@ -77,7 +78,8 @@ pub(crate) fn act_on_statics(
 ) -> Result<Reply, AllocError>
     requires numbers { numbers ≤ 4294967295 }
     requires shown { IsShown world.old }
-    ensures step { IfOk result (IsStep world.old world.new (numbered numbers) (static_ranging_view command)) }
+    ensures step { IfOk result (IsStep world.old world.new (numbered numbers)
+        (static_ranging_view command)) }
     ensures left { OnErr result (IsKept world.old world.new) }
 {
     match command {

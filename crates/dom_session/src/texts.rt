@@ -37,7 +37,8 @@ fn refusal(world: &World, node: NodeId) -> Option<Reply>
 /// The data of a node.
 pub(crate) fn data(world: &World, alloc: Global, node: NodeId) -> Result<Reply, AllocError>
     requires shown { IsShown world.now }
-    ensures { IfOk result (λ reply. (b : Bounds) → IsStep world.now world.now b (GetData node) reply) }
+    ensures { IfOk result (λ reply. (b : Bounds) →
+        IsStep world.now world.now b (GetData node) reply) }
 {
     if let Some(reply) = refusal(world, node) {
         return Ok(reply);
@@ -54,7 +55,8 @@ pub(crate) fn set_data(
     text: &[u16],
 ) -> Result<Reply, AllocError>
     requires shown { IsShown world.old }
-    ensures step { IfOk result (λ reply. (b : Bounds) → IsStep world.old world.new b (SetData node text.now) reply) }
+    ensures step { IfOk result (λ reply. (b : Bounds) →
+        IsStep world.old world.new b (SetData node text.now) reply) }
     ensures left { OnErr result (IsKept world.old world.new) }
 {
     if let Some(reply) = refusal(world, node) {
@@ -74,7 +76,8 @@ pub(crate) fn replace_data(
     text: &[u16],
 ) -> Result<Reply, AllocError>
     requires shown { IsShown world.old }
-    ensures step { IfOk result (λ reply. (b : Bounds) → IsStep world.old world.new b (ReplaceData node offset count text.now) reply) }
+    ensures step { IfOk result (λ reply. (b : Bounds) →
+        IsStep world.old world.new b (ReplaceData node offset count text.now) reply) }
     ensures left { OnErr result (IsKept world.old world.new) }
 {
     if let Some(reply) = refusal(world, node) {
@@ -94,7 +97,8 @@ pub(crate) fn append_data(
     text: &[u16],
 ) -> Result<Reply, AllocError>
     requires shown { IsShown world.old }
-    ensures step { IfOk result (λ reply. (b : Bounds) → IsStep world.old world.new b (AppendData node text.now) reply) }
+    ensures step { IfOk result (λ reply. (b : Bounds) →
+        IsStep world.old world.new b (AppendData node text.now) reply) }
     ensures left { OnErr result (IsKept world.old world.new) }
 {
     if !world.tree.holds(node) {
@@ -113,7 +117,8 @@ pub(crate) fn insert_data(
     text: &[u16],
 ) -> Result<Reply, AllocError>
     requires shown { IsShown world.old }
-    ensures step { IfOk result (λ reply. (b : Bounds) → IsStep world.old world.new b (InsertData node offset text.now) reply) }
+    ensures step { IfOk result (λ reply. (b : Bounds) →
+        IsStep world.old world.new b (InsertData node offset text.now) reply) }
     ensures left { OnErr result (IsKept world.old world.new) }
 {
     replace_data(world, alloc, node, offset as usize, 0, text)
@@ -128,7 +133,8 @@ pub(crate) fn delete_data(
     count: u32,
 ) -> Result<Reply, AllocError>
     requires shown { IsShown world.old }
-    ensures step { IfOk result (λ reply. (b : Bounds) → IsStep world.old world.new b (DeleteData node offset count) reply) }
+    ensures step { IfOk result (λ reply. (b : Bounds) →
+        IsStep world.old world.new b (DeleteData node offset count) reply) }
     ensures left { OnErr result (IsKept world.old world.new) }
 {
     replace_data(world, alloc, node, offset as usize, count as usize, &[])
@@ -143,7 +149,8 @@ pub(crate) fn substring_data(
     count: u32,
 ) -> Result<Reply, AllocError>
     requires shown { IsShown world.now }
-    ensures { IfOk result (λ reply. (b : Bounds) → IsStep world.now world.now b (SubstringData node offset count) reply) }
+    ensures { IfOk result (λ reply. (b : Bounds) →
+        IsStep world.now world.now b (SubstringData node offset count) reply) }
 {
     if let Some(reply) = refusal(world, node) {
         return Ok(reply);
@@ -157,7 +164,8 @@ pub(crate) fn substring_data(
 /// The text in a node; none in a Document and a doctype.
 pub(crate) fn text_content(world: &World, alloc: Global, node: NodeId) -> Result<Reply, AllocError>
     requires shown { IsShown world.now }
-    ensures { IfOk result (λ reply. (b : Bounds) → IsStep world.now world.now b (TextContent node) reply) }
+    ensures { IfOk result (λ reply. (b : Bounds) →
+        IsStep world.now world.now b (TextContent node) reply) }
 {
     if !world.tree.holds(node) {
         return Ok(Reply::Own(OwnError::NoSuchObject));
@@ -176,7 +184,8 @@ pub(crate) fn set_text_content(
 ) -> Result<Reply, AllocError>
     requires numbers { numbers ≤ 4294967295 }
     requires shown { IsShown world.old }
-    ensures step { IfOk result (IsStep world.old world.new (numbered numbers) (SetTextContent node text)) }
+    ensures step { IfOk result (IsStep world.old world.new (numbered numbers)
+        (SetTextContent node text)) }
     ensures left { OnErr result (IsKept world.old world.new) }
 {
     if !world.tree.holds(node) {
@@ -199,7 +208,8 @@ pub(crate) fn split_text(
 ) -> Result<Reply, AllocError>
     requires numbers { numbers ≤ 4294967295 }
     requires shown { IsShown world.old }
-    ensures step { IfOk result (IsStep world.old world.new (numbered numbers) (SplitText text offset)) }
+    ensures step { IfOk result (IsStep world.old world.new (numbered numbers)
+        (SplitText text offset)) }
     ensures left { OnErr result (IsKept world.old world.new) }
 {
     if let Some(reply) = kind_refusal(world, text, Kind::Text) {
@@ -217,7 +227,8 @@ pub(crate) fn split_text(
 /// Joins Texts below a node that stand side by side, and takes empty ones out.
 pub(crate) fn normalize(world: &mut World, alloc: Global, node: NodeId) -> Result<Reply, AllocError>
     requires shown { IsShown world.old }
-    ensures step { IfOk result (λ reply. (b : Bounds) → IsStep world.old world.new b (Normalize node) reply) }
+    ensures step { IfOk result (λ reply. (b : Bounds) →
+        IsStep world.old world.new b (Normalize node) reply) }
     ensures left { OnErr result (IsKept world.old world.new) }
 {
     if !world.tree.holds(node) {
@@ -236,7 +247,8 @@ pub(crate) fn change_texts(
 ) -> Result<Reply, AllocError>
     requires numbers { numbers ≤ 4294967295 }
     requires shown { IsShown world.old }
-    ensures step { IfOk result (IsStep world.old world.new (numbered numbers) (texts_view command)) }
+    ensures step { IfOk result (IsStep world.old world.new (numbered numbers)
+        (texts_view command)) }
     ensures left { OnErr result (IsKept world.old world.new) }
 {
     match command {

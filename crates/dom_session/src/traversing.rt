@@ -39,7 +39,8 @@ pub(crate) fn create_iterator(
 ) -> Result<Reply, AllocError>
     requires numbers { numbers ≤ 4294967295 }
     requires shown { IsShown world.old }
-    ensures step { IfOk result (IsStep world.old world.new (numbered numbers) (CreateIterator root filter)) }
+    ensures step { IfOk result (IsStep world.old world.new (numbered numbers)
+        (CreateIterator root filter)) }
     ensures left { OnErr result (IsKept world.old world.new) }
 {
     if !world.tree.holds(root) {
@@ -61,7 +62,8 @@ pub(crate) fn create_walker(
 ) -> Result<Reply, AllocError>
     requires numbers { numbers ≤ 4294967295 }
     requires shown { IsShown world.old }
-    ensures step { IfOk result (IsStep world.old world.new (numbered numbers) (CreateWalker root filter)) }
+    ensures step { IfOk result (IsStep world.old world.new (numbered numbers)
+        (CreateWalker root filter)) }
     ensures left { OnErr result (IsKept world.old world.new) }
 {
     if !world.tree.holds(root) {
@@ -88,7 +90,8 @@ pub(crate) fn describe_iterator(world: &World, iterator: IteratorId) -> Reply
 /// Moves an iterator on (`nextNode`).
 pub(crate) fn next_node(world: &mut World, iterator: IteratorId) -> Brief
     requires shown { IsShown world.old }
-    ensures step { (b : Bounds) → IsStep world.old world.new b (NextNode iterator) (reply_of result) }
+    ensures step { (b : Bounds) → IsStep world.old world.new b (NextNode iterator)
+        (reply_of result) }
 {
     if !world.iterators.holds(iterator) {
         return Brief::Own(OwnError::NoSuchObject);
@@ -100,7 +103,8 @@ pub(crate) fn next_node(world: &mut World, iterator: IteratorId) -> Brief
 /// Moves an iterator back (`previousNode`).
 pub(crate) fn previous_node(world: &mut World, iterator: IteratorId) -> Brief
     requires shown { IsShown world.old }
-    ensures step { (b : Bounds) → IsStep world.old world.new b (PreviousNode iterator) (reply_of result) }
+    ensures step { (b : Bounds) → IsStep world.old world.new b (PreviousNode iterator)
+        (reply_of result) }
 {
     if !world.iterators.holds(iterator) {
         return Brief::Own(OwnError::NoSuchObject);
@@ -135,7 +139,8 @@ pub(crate) fn set_current(world: &mut World, walker: WalkerId, node: NodeId) -> 
 /// Makes one of the seven moves of a walker, where it finds a node.
 pub(crate) fn walk(world: &mut World, walker: WalkerId, direction: Move) -> Brief
     requires shown { IsShown world.old }
-    ensures step { (b : Bounds) → IsStep world.old world.new b (Walk walker direction) (reply_of result) }
+    ensures step { (b : Bounds) → IsStep world.old world.new b (Walk walker direction)
+        (reply_of result) }
 {
     if !world.walkers.holds(walker) {
         return Brief::Own(OwnError::NoSuchObject);
@@ -176,7 +181,8 @@ pub(crate) fn traverse(
 ) -> Result<Reply, AllocError>
     requires numbers { numbers ≤ 4294967295 }
     requires shown { IsShown world.old }
-    ensures step { IfOk result (IsStep world.old world.new (numbered numbers) (traversing_view command)) }
+    ensures step { IfOk result (IsStep world.old world.new (numbered numbers)
+        (traversing_view command)) }
     ensures left { OnErr result (IsKept world.old world.new) }
 {
     match command {

@@ -75,7 +75,8 @@ impl Course {
 
     // Whether the walk does not go up past the node from what is under it.
     fn stops_at<X>(&self, filter: &Judge, node: &At<'_, X>) -> bool
-        ensures { result ≡ stops self.now.limit node.now.tree.forest filter.now self.now.root self.now.current node.now.node }
+        ensures { result ≡ stops self.now.limit node.now.tree.forest filter.now self.now.root
+            self.now.current node.now.node }
     {
         let number = node.number();
         match self.limit {
@@ -87,10 +88,12 @@ impl Course {
 
     // The sibling that follows a node, or the nearest of its ancestors that has one, within the limit.
     pub fn past<'a, X>(&self, filter: &Judge, node: At<'a, X>) -> Option<At<'a, X>>
-        requires { Ending node.tree.forest filter.now self.now (past_in node.tree.forest filter.now self.now node.node) }
+        requires { Ending node.tree.forest filter.now self.now
+            (past_in node.tree.forest filter.now self.now node.node) }
         ensures tree { ForSome result (λ a. a.tree ≡ node.entry.tree) }
         ensures leads { LeadsTo node.entry.tree.forest filter.now self.now
-            (past_in node.entry.tree.forest filter.now self.now node.entry.node) (at_or (node_at result) (ended None)) }
+            (past_in node.entry.tree.forest filter.now self.now node.entry.node)
+            (at_or (node_at result) (ended None)) }
     {
         let mut here = node;
         while !self.is_over(&here) {
@@ -108,7 +111,8 @@ impl Course {
     // The child by which the walk goes into a node, where there is one and the node is skipped.
     fn way_into<'a, X>(&self, verdict: Verdict, node: &At<'a, X>) -> Option<At<'a, X>>
         ensures tree { ForSome result (λ a. a.tree ≡ node.now.tree) }
-        ensures node { node_at result ≡ way_into verdict (child_on self.now.side node.now.tree.forest node.now.node) }
+        ensures node { node_at result ≡ way_into verdict
+            (child_on self.now.side node.now.tree.forest node.now.node) }
     {
         match verdict {
             Verdict::Skip => self.side.child(node),
@@ -122,7 +126,8 @@ impl Course {
         requires not_accepted { verdict ≢ Accept }
         requires ends { Ending node.tree.forest filter.now self.now (at node.node) }
         ensures tree { ForSome result (λ a. a.tree ≡ node.entry.tree) }
-        ensures leads { GoesOnTo node.entry.tree.forest filter.now self.now (at node.entry.node) (at_or (node_at result) (ended None)) }
+        ensures leads { GoesOnTo node.entry.tree.forest filter.now self.now (at node.entry.node)
+            (at_or (node_at result) (ended None)) }
     {
         if let Some(child) = self.way_into(verdict, &node) {
             return Some(child);
@@ -133,7 +138,8 @@ impl Course {
     // The first accepted node that the walk comes to, from a node on.
     pub fn run<X>(&self, filter: &Judge, node: At<'_, X>) -> Option<NodeId>
         requires { Ending node.tree.forest filter.now self.now (at node.node) }
-        ensures { result ≡ found_from node.entry.tree.forest filter.now self.now (at node.entry.node) }
+        ensures { result ≡ found_from node.entry.tree.forest filter.now self.now
+            (at node.entry.node) }
     {
         let mut here = node;
         loop {

@@ -23,7 +23,8 @@ pub(crate) struct Exit {
 // Whether a root loses a node that goes: it stands over it.
 fn loses<X>(tree: &Tree<X>, root: NodeId, node: NodeId) -> bool
     requires { HasNode tree.now.forest node }
-    ensures { result ≡ (not (node == root) && among node (inclusive_descendants tree.now.forest root)) }
+    ensures { result ≡ (not (node == root) && among node
+        (inclusive_descendants tree.now.forest root)) }
 {
     tree.sound();
     node != root && tree.is_ancestor(root, node)

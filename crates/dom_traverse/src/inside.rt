@@ -13,7 +13,8 @@ use dom_tree::{At, NodeId, Tree};
 pub(crate) fn previous_inside<'a, X>(node: &At<'a, X>, top: NodeId) -> Option<At<'a, X>>
     requires { among top (ancestors node.now.node node.now.tree.forest) ≡ true }
     ensures tree { ForSome result (λ a. a.tree ≡ node.now.tree) }
-    ensures node { node_at result ≡ before node.now.node (inclusive_descendants node.now.tree.forest top) }
+    ensures node { node_at result ≡ before node.now.node
+        (inclusive_descendants node.now.tree.forest top) }
 {
     node.sound();
     if node.number() == top {
@@ -29,7 +30,8 @@ pub(crate) fn previous_inside<'a, X>(node: &At<'a, X>, top: NodeId) -> Option<At
 pub(crate) fn past_inside<X>(tree: &Tree<X>, top: NodeId, node: NodeId) -> Option<NodeId>
     requires held { HasNode tree.now.forest node }
     requires under { among top (ancestors node tree.now.forest) ≡ true }
-    ensures { result ≡ head_of (following_outside node (inclusive_descendants tree.now.forest node) (inclusive_descendants tree.now.forest top)) }
+    ensures { result ≡ head_of (following_outside node (inclusive_descendants tree.now.forest node)
+        (inclusive_descendants tree.now.forest top)) }
 {
     tree.sound();
     let mut here = node;

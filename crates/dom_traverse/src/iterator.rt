@@ -40,7 +40,8 @@ impl Model for NodeIterator {
 fn next_accepted<X>(tree: &Tree<X>, filter: &Judge, root: NodeId, node: NodeId) -> Option<NodeId>
     requires held { HasNode tree.now.forest node }
     requires under { among root (ancestors node tree.now.forest) ≡ true }
-    ensures { result ≡ find (accepts tree.now.forest filter.now) (past node (inclusive_descendants tree.now.forest root)) }
+    ensures { result ≡ find (accepts tree.now.forest filter.now)
+        (past node (inclusive_descendants tree.now.forest root)) }
 {
     tree.sound();
     let mut here = tree.at(node);
@@ -62,7 +63,8 @@ fn previous_accepted<X>(
 ) -> Option<NodeId>
     requires held { HasNode tree.now.forest node }
     requires under { among root (ancestors node tree.now.forest) ≡ true }
-    ensures { result ≡ find (accepts tree.now.forest filter.now) (reverse (up_to node (inclusive_descendants tree.now.forest root))) }
+    ensures { result ≡ find (accepts tree.now.forest filter.now)
+        (reverse (up_to node (inclusive_descendants tree.now.forest root))) }
 {
     tree.sound();
     let mut here = tree.at(node);
@@ -164,7 +166,8 @@ impl NodeIterator {
     // The same of a reference inside the node.
     fn leave<X>(&mut self, tree: &Tree<X>, node: NodeId, last: Option<Exit>) -> Option<Exit>
         requires held { HasNode tree.now.forest node }
-        requires inside { among self.old.reference (inclusive_descendants tree.now.forest node) ≡ true }
+        requires inside { among self.old.reference (inclusive_descendants tree.now.forest node)
+            ≡ true }
         requires found { ForSome last (IsExit tree.now.forest node) }
         ensures moved { self.new ≡ pre_removed tree.now.forest node self.old }
         ensures found { ForSome result (IsExit tree.now.forest node) }
@@ -196,7 +199,8 @@ impl NodeIterator {
     // Whether the root or the reference is an inclusive descendant of a node.
     pub fn stands_in<X>(&self, tree: &Tree<X>, top: NodeId) -> bool
         requires { HasNode tree.now.forest top }
-        ensures { result ≡ list_any (λ m. among m (inclusive_descendants tree.now.forest top)) (nodes_of_iterator self.now) }
+        ensures { result ≡ list_any (λ m. among m (inclusive_descendants tree.now.forest top))
+            (nodes_of_iterator self.now) }
     {
         tree.is_inside(top, self.root) || tree.is_inside(top, self.reference)
     }

@@ -134,7 +134,8 @@ impl NodeIterators {
     pub fn next<X>(&mut self, tree: &Tree<X>, id: IteratorId) -> Option<NodeId>
         requires held { IsSome (iterator_in self.old id) }
         requires inside { ForSome (iterator_in self.old id) (StandsInside tree.now.forest) }
-        ensures found { IfSome (iterator_in self.old id) (λ i. result ≡ next_found tree.now.forest i) }
+        ensures found { IfSome (iterator_in self.old id) (λ i. result
+            ≡ next_found tree.now.forest i) }
         ensures moved { IteratorBecomes id (moved_to_next tree.now.forest) self.old self.new }
     {
         let slot = slot_of(&self.slots, id.number());
@@ -145,7 +146,8 @@ impl NodeIterators {
     pub fn previous<X>(&mut self, tree: &Tree<X>, id: IteratorId) -> Option<NodeId>
         requires held { IsSome (iterator_in self.old id) }
         requires inside { ForSome (iterator_in self.old id) (StandsInside tree.now.forest) }
-        ensures found { IfSome (iterator_in self.old id) (λ i. result ≡ previous_found tree.now.forest i) }
+        ensures found { IfSome (iterator_in self.old id) (λ i. result
+            ≡ previous_found tree.now.forest i) }
         ensures moved { IteratorBecomes id (moved_to_previous tree.now.forest) self.old self.new }
     {
         let slot = slot_of(&self.slots, id.number());
@@ -187,7 +189,8 @@ impl NodeIterators {
     /// It walks the nodes inside, or climbs from each iterator where that takes fewer steps, or where one has yet to be put at its reference.
     pub fn refers<X>(&self, tree: &Tree<X>, top: NodeId) -> bool
         requires { HasNode tree.now.forest top }
-        ensures { result ≡ list_any (λ m. among m (inclusive_descendants tree.now.forest top)) (flat_map (nodes_unless_released nodes_of_iterator) self.now) }
+        ensures { result ≡ list_any (λ m. among m (inclusive_descendants tree.now.forest top))
+            (flat_map (nodes_unless_released nodes_of_iterator) self.now) }
     {
         self.slots.sound();
         self.iterators.refers(tree, top)

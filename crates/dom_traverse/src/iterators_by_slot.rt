@@ -104,8 +104,10 @@ impl IteratorsBySlot {
     pub(crate) fn next<X>(&mut self, tree: &Tree<X>, slot: usize) -> Option<NodeId>
         requires held { slot < length self.old }
         requires inside { ForSome (slice_get self.old slot) (StandsInside tree.now.forest) }
-        ensures found { IfSome (slice_get self.old slot) (λ i. result ≡ next_found tree.now.forest i) }
-        ensures moved { IfSome (slice_get self.old slot) (λ i. self.new ≡ slice_set self.old slot (moved_to_next tree.now.forest i)) }
+        ensures found { IfSome (slice_get self.old slot) (λ i. result
+            ≡ next_found tree.now.forest i) }
+        ensures moved { IfSome (slice_get self.old slot) (λ i. self.new
+            ≡ slice_set self.old slot (moved_to_next tree.now.forest i)) }
     {
         let iterator = &mut self.iterators[slot];
         let found = iterator.next(tree);
@@ -117,8 +119,10 @@ impl IteratorsBySlot {
     pub(crate) fn previous<X>(&mut self, tree: &Tree<X>, slot: usize) -> Option<NodeId>
         requires held { slot < length self.old }
         requires inside { ForSome (slice_get self.old slot) (StandsInside tree.now.forest) }
-        ensures found { IfSome (slice_get self.old slot) (λ i. result ≡ previous_found tree.now.forest i) }
-        ensures moved { IfSome (slice_get self.old slot) (λ i. self.new ≡ slice_set self.old slot (moved_to_previous tree.now.forest i)) }
+        ensures found { IfSome (slice_get self.old slot) (λ i. result
+            ≡ previous_found tree.now.forest i) }
+        ensures moved { IfSome (slice_get self.old slot) (λ i. self.new
+            ≡ slice_set self.old slot (moved_to_previous tree.now.forest i)) }
     {
         let iterator = &mut self.iterators[slot];
         let found = iterator.previous(tree);
@@ -211,7 +215,8 @@ impl IteratorsBySlot {
         requires held { HasNode tree.now.forest node }
         requires there { slot < length self.old }
         requires found { ForSome last (IsExit tree.now.forest node) }
-        ensures stepped { IfSome (slice_get self.old slot) (λ i. self.new ≡ slice_set self.old slot (pre_removed tree.now.forest node i)) }
+        ensures stepped { IfSome (slice_get self.old slot) (λ i. self.new
+            ≡ slice_set self.old slot (pre_removed tree.now.forest node i)) }
         ensures found { ForSome result (IsExit tree.now.forest node) }
     {
         tree.sound();
@@ -245,7 +250,8 @@ impl IteratorsBySlot {
     // from each iterator where that takes fewer steps, or where one waits.
     pub(crate) fn refers<X>(&self, tree: &Tree<X>, top: NodeId) -> bool
         requires { HasNode tree.now.forest top }
-        ensures { result ≡ list_any (λ m. among m (inclusive_descendants tree.now.forest top)) (flat_map nodes_of_iterator self.now) }
+        ensures { result ≡ list_any (λ m. among m (inclusive_descendants tree.now.forest top))
+            (flat_map nodes_of_iterator self.now) }
     {
         if self.references.waiting().is_some() {
             return self.refer(tree, top);
@@ -260,7 +266,8 @@ impl IteratorsBySlot {
     // The same, by each iterator there is.
     fn refer<X>(&self, tree: &Tree<X>, top: NodeId) -> bool
         requires { HasNode tree.now.forest top }
-        ensures { result ≡ list_any (λ m. among m (inclusive_descendants tree.now.forest top)) (flat_map nodes_of_iterator self.now) }
+        ensures { result ≡ list_any (λ m. among m (inclusive_descendants tree.now.forest top))
+            (flat_map nodes_of_iterator self.now) }
     {
         for iterator in &self.iterators {
             if iterator.stands_in(tree, top) {

@@ -37,7 +37,8 @@ impl Model for Judge {
 // Puts a rule among the verdicts, where none is known for its name.
 fn note(verdicts: &mut BTreeMap<String, Verdict>, rule: &Rule) -> Result<(), AllocError>
     ensures { OnOk result ((name : List ℕ) (others : AVerdict) →
-        known_or verdicts.new others name ≡ known_or verdicts.old (if bytes_eq rule.now.name name then rule.now.verdict else others) name) }
+        known_or verdicts.new others name ≡ known_or verdicts.old (if bytes_eq rule.now.name name
+        then rule.now.verdict else others) name) }
 {
     if verdicts.contains_key(rule.name.as_str()) {
         return Ok(());

@@ -53,7 +53,8 @@ pub(crate) fn names_inside<X>(
 ) -> Option<bool>
     requires { HasNode tree.now.forest top }
     ensures { (ns : List ℕ) → AreNames roots.now standing.now ns →
-        IfSome result (λ b. b ≡ list_any (λ m. among m (inclusive_descendants tree.now.forest top)) ns) }
+        IfSome result (λ b. b ≡ list_any (λ m. among m (inclusive_descendants tree.now.forest top))
+        ns) }
 {
     tree.any_inside(top, steps, |node| names(roots, standing, node))
 }

@@ -70,7 +70,8 @@ impl Places {
     pub(crate) fn has(&self, place: usize, marks: &[Option<u32>], mark: u32) -> bool
         requires there { place < self.now.count }
         requires long { length marks.now ≡ length self.now.items }
-        requires placed { (e : ℕ) → slice_index_or marks.now e None ≡ Some mark → place_of_item self.now.items e ≡ Some place }
+        requires placed { (e : ℕ) → slice_index_or marks.now e None ≡ Some mark →
+            place_of_item self.now.items e ≡ Some place }
         ensures { result ≡ list_any (λ o. is_number o mark) marks.now }
     {
         has_mark(&self.seats, &self.heads, place, marks, mark)
@@ -80,7 +81,8 @@ impl Places {
     pub(crate) fn add(&mut self, place: usize) -> Result<(), AllocError>
         requires there { place < self.old.count }
         requires few { length self.old.items < 2 ^ 32 }
-        ensures added { OnOk result (self.new ≡ record self.old { items = self.old.items ++ Some place ∷ [] }) }
+        ensures added { OnOk result (self.new ≡ record self.old { items = self.old.items
+            ++ Some place ∷ [] }) }
         ensures unchanged { OnErr result (self.new ≡ self.old) }
     {
         let id = self.seats.len() as u32;

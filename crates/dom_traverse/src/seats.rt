@@ -123,7 +123,8 @@ pub(crate) fn has_mark(
 ) -> bool
     requires there { place < length heads.now }
     requires long { length marks.now ≡ length seats.now }
-    requires placed { (e : ℕ) → slice_index_or marks.now e None ≡ Some mark → place_at seats.now e ≡ Some place }
+    requires placed { (e : ℕ) → slice_index_or marks.now e None ≡ Some mark →
+        place_at seats.now e ≡ Some place }
     requires chains { HasChains seats.now heads.now }
     ensures { result ≡ list_any (λ o. is_number o mark) marks.now }
 {

@@ -36,7 +36,8 @@ impl TreeWalker {
     pub fn step<X>(&mut self, tree: &Tree<X>, direction: Move) -> Option<NodeId>
         requires { StandsThere tree.now.forest self.old }
         ensures found { result ≡ walk_found direction tree.now.forest self.old }
-        ensures moved { self.new ≡ walker_moved (walk_found direction tree.now.forest self.old) self.old }
+        ensures moved { self.new ≡ walker_moved (walk_found direction tree.now.forest self.old)
+            self.old }
     {
         let found = self.found(tree, direction)?;
         self.current = found;
@@ -65,7 +66,8 @@ impl TreeWalker {
     // Whether the root or the current node is an inclusive descendant of a node.
     pub fn stands_in<X>(&self, tree: &Tree<X>, top: NodeId) -> bool
         requires { HasNode tree.now.forest top }
-        ensures { result ≡ list_any (λ m. among m (inclusive_descendants tree.now.forest top)) (nodes_of_walker self.now) }
+        ensures { result ≡ list_any (λ m. among m (inclusive_descendants tree.now.forest top))
+            (nodes_of_walker self.now) }
     {
         tree.is_inside(top, self.root) || tree.is_inside(top, self.current)
     }

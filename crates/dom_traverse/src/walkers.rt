@@ -143,7 +143,8 @@ impl Walkers {
     pub fn step<X>(&mut self, tree: &Tree<X>, id: WalkerId, way: Move) -> Option<NodeId>
         requires held { IsSome (walker_in self.old id) }
         requires there { ForSome (walker_in self.old id) (StandsThere tree.now.forest) }
-        ensures found { IfSome (walker_in self.old id) (λ w. result ≡ walk_found way tree.now.forest w) }
+        ensures found { IfSome (walker_in self.old id) (λ w. result
+            ≡ walk_found way tree.now.forest w) }
         ensures moved { WalkerBecomes id (moved_by way tree.now.forest) self.old self.new }
     {
         let slot = slot_of(&self.slots, id.number());
@@ -174,7 +175,8 @@ impl Walkers {
     /// It walks the nodes inside, or climbs from each walker where that takes fewer steps, or where one moved since the last `settle`.
     pub fn refers<X>(&self, tree: &Tree<X>, top: NodeId) -> bool
         requires { HasNode tree.now.forest top }
-        ensures { result ≡ list_any (λ m. among m (inclusive_descendants tree.now.forest top)) (flat_map (nodes_unless_released nodes_of_walker) self.now) }
+        ensures { result ≡ list_any (λ m. among m (inclusive_descendants tree.now.forest top))
+            (flat_map (nodes_unless_released nodes_of_walker) self.now) }
     {
         self.slots.sound();
         self.walkers.refers(tree, top)

@@ -110,7 +110,8 @@ impl WalkersBySlot {
     // Sets `currentNode`; it may stand outside the root.
     pub(crate) fn set_current(&mut self, slot: usize, node: NodeId)
         requires { slot < length self.old }
-        ensures { IfSome (slice_get self.old slot) (λ w. self.new ≡ slice_set self.old slot (record w { current = node })) }
+        ensures { IfSome (slice_get self.old slot) (λ w. self.new
+            ≡ slice_set self.old slot (record w { current = node })) }
     {
         self.walkers[slot].current = node;
         self.currents.leave(slot as u32);
@@ -120,8 +121,10 @@ impl WalkersBySlot {
     pub(crate) fn step<X>(&mut self, tree: &Tree<X>, slot: usize, direction: Move) -> Option<NodeId>
         requires held { slot < length self.old }
         requires there { ForSome (slice_get self.old slot) (StandsThere tree.now.forest) }
-        ensures found { IfSome (slice_get self.old slot) (λ w. result ≡ walk_found direction tree.now.forest w) }
-        ensures moved { IfSome (slice_get self.old slot) (λ w. self.new ≡ slice_set self.old slot (walker_moved (walk_found direction tree.now.forest w) w)) }
+        ensures found { IfSome (slice_get self.old slot) (λ w. result
+            ≡ walk_found direction tree.now.forest w) }
+        ensures moved { IfSome (slice_get self.old slot) (λ w. self.new
+            ≡ slice_set self.old slot (walker_moved (walk_found direction tree.now.forest w) w)) }
     {
         let walker = &mut self.walkers[slot];
         let found = walker.step(tree, direction);
@@ -150,7 +153,8 @@ impl WalkersBySlot {
     // from each walker where that takes fewer steps, or where one waits.
     pub(crate) fn refers<X>(&self, tree: &Tree<X>, top: NodeId) -> bool
         requires { HasNode tree.now.forest top }
-        ensures { result ≡ list_any (λ m. among m (inclusive_descendants tree.now.forest top)) (flat_map nodes_of_walker self.now) }
+        ensures { result ≡ list_any (λ m. among m (inclusive_descendants tree.now.forest top))
+            (flat_map nodes_of_walker self.now) }
     {
         if self.currents.waiting().is_some() {
             return self.refer(tree, top);
@@ -165,7 +169,8 @@ impl WalkersBySlot {
     // The same, by each walker there is.
     fn refer<X>(&self, tree: &Tree<X>, top: NodeId) -> bool
         requires { HasNode tree.now.forest top }
-        ensures { result ≡ list_any (λ m. among m (inclusive_descendants tree.now.forest top)) (flat_map nodes_of_walker self.now) }
+        ensures { result ≡ list_any (λ m. among m (inclusive_descendants tree.now.forest top))
+            (flat_map nodes_of_walker self.now) }
     {
         for walker in &self.walkers {
             if walker.stands_in(tree, top) {

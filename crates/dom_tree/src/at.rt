@@ -76,7 +76,8 @@ impl<'a, X> At<'a, X> {
 
     /// The label of the node.
     pub fn label(&self) -> &Label
-        ensures { IfSome (entry_in self.now.tree.forest self.now.node) (λ e. result.now ≡ e.value.label) }
+        ensures { IfSome (entry_in self.now.tree.forest self.now.node) (λ e. result.now
+            ≡ e.value.label) }
     {
         let item = self.links.value(self.place);
         &item.label
@@ -156,7 +157,8 @@ impl<'a, X> At<'a, X> {
     pub fn next_inside(&self, top: NodeId) -> Option<At<'a, X>>
         requires { among top (ancestors self.now.node self.now.tree.forest) ≡ true }
         ensures tree { ForSome result (λ a. a.tree ≡ self.now.tree) }
-        ensures node { node_at result ≡ after self.now.node (inclusive_descendants self.now.tree.forest top) }
+        ensures node { node_at result ≡ after self.now.node
+            (inclusive_descendants self.now.tree.forest top) }
     {
         self.sound();
         self.links.sound();
@@ -186,7 +188,8 @@ impl<'a, X> At<'a, X> {
     /// The last of the inclusive descendants in tree order.
     pub fn last_inside(&self) -> At<'a, X>
         ensures tree { result.tree ≡ self.now.tree }
-        ensures node { Some result.node ≡ last_of (inclusive_descendants self.now.tree.forest self.now.node) }
+        ensures node { Some result.node ≡ last_of (inclusive_descendants self.now.tree.forest
+            self.now.node) }
     {
         self.sound();
         self.links.sound();

@@ -31,7 +31,8 @@ pub(crate) fn may_be_blocked<X>(links: &Store<Item<X>>, parent: Place) -> bool
 fn block_beside<X>(links: &Store<Item<X>>, parent: Place, before: Link) -> u32
     requires parent_placed { IsPlaced links.now parent }
     requires before_placed { ForSome before (λ b. IsPlaced links.now b) }
-    ensures { result ≡ block_beside (entry_at links.now.arena) (slot_of links.now parent) (slots_of links.now before) }
+    ensures { result ≡ block_beside (entry_at links.now.arena) (slot_of links.now parent)
+        (slots_of links.now before) }
 {
     if let Some(before) = before.get() {
         return links.value(before).index;
@@ -46,7 +47,8 @@ fn block_beside<X>(links: &Store<Item<X>>, parent: Place, before: Link) -> u32
 pub(crate) fn block_put<X>(links: &Store<Item<X>>, parent: Place, before: Link) -> Option<u32>
     requires parent_placed { IsPlaced links.now parent }
     requires before_placed { ForSome before (λ b. IsPlaced links.now b) }
-    ensures { result ≡ block_put (entry_at links.now.arena) (slot_of links.now parent) (slots_of links.now before) }
+    ensures { result ≡ block_put (entry_at links.now.arena) (slot_of links.now parent)
+        (slots_of links.now before) }
 {
     if may_be_blocked(links, parent) {
         return Some(block_beside(links, parent, before));
@@ -64,7 +66,8 @@ pub(crate) fn blocked_put<X>(
 )
     requires parent_placed { IsPlaced links.old parent }
     requires child_placed { IsPlaced links.old child }
-    ensures links { links.new ≡ with_arena (blocked_put links.old.arena (slot_of links.old parent) (slot_of links.old child) block) links.old }
+    ensures links { links.new ≡ with_arena (blocked_put links.old.arena (slot_of links.old parent)
+        (slot_of links.old child) block) links.old }
     ensures blocks { (p : ℕ) → counts_in blocks.new p ≡ counts_but (slot_of links.old parent)
         (raised (counts_in blocks.old (slot_of links.old parent)) block) blocks.old p }
 {
@@ -79,7 +82,8 @@ pub(crate) fn blocked_cut<X>(links: &Store<Item<X>>, blocks: &mut Blocks, child:
     requires has_parent { HasParent links.now child }
     requires blocked { AreBlocked (entry_at links.now.arena) blocks.old }
     ensures { (p : ℕ) → counts_in blocks.new p ≡
-        lowered_at (entry_at links.now.arena) blocks.old (slot_of links.now child) (parent_at links.now child) p }
+        lowered_at (entry_at links.now.arena) blocks.old (slot_of links.now child)
+        (parent_at links.now child) p }
 {
     let parent = nearby::parent(links, child).unwrap();
     if may_be_blocked(links, parent) {
@@ -98,7 +102,8 @@ pub(crate) fn blocked_cut<X>(links: &Store<Item<X>>, blocks: &mut Blocks, child:
 // The previous sibling, where it stands in this block.
 fn prev_in_block<X>(links: &Store<Item<X>>, child: Place, block: u32) -> Option<Place>
     requires { IsPlaced links.now child }
-    ensures { Leads links.now result (previous_in_block (entry_at links.now.arena) (slot_of links.now child) block) }
+    ensures { Leads links.now result (previous_in_block (entry_at links.now.arena)
+        (slot_of links.now child) block) }
 {
     let prev = nearby::prev(links, child)?;
     if links.value(prev).index == block {
@@ -119,7 +124,8 @@ pub(crate) fn index_in_block<X>(
     requires sound { IsSound links.now.arena }
     requires child { IsChildOf links.now parent child }
     requires blocked { AreBlocked (entry_at links.now.arena) blocks.now }
-    ensures { IfSome result (λ i. i ≡ place_in (slot_of links.now child) (children_at links.now parent)) }
+    ensures { IfSome result (λ i. i ≡ place_in (slot_of links.now child)
+        (children_at links.now parent)) }
 {
     if !may_be_blocked(links, parent) {
         return None;

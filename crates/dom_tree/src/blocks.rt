@@ -37,7 +37,8 @@ impl Model for Blocks {
 
 // Lets go of the counts of a parent.
 fn remove(by_slot: &mut IndexMap<usize, BlockCounts>, parent: usize)
-    ensures counts { (p : ℕ) → counts_in by_slot.new.entries p ≡ counts_but parent [] by_slot.old.entries p }
+    ensures counts { (p : ℕ) → counts_in by_slot.new.entries p
+        ≡ counts_but parent [] by_slot.old.entries p }
     ensures unique { IsUnique nat_eq by_slot.new }
 {
     let _ = by_slot.swap_remove(&parent);
@@ -123,7 +124,8 @@ impl Blocks {
 
     /// Counts one child more in a block of a parent.
     pub(crate) fn raise(&mut self, parent: Slot, block: u32)
-        ensures { (p : ℕ) → counts_in self.new p ≡ counts_but parent (raised (counts_in self.old parent) block) self.old p }
+        ensures { (p : ℕ) → counts_in self.new p ≡ counts_but parent
+            (raised (counts_in self.old parent) block) self.old p }
     {
         if let Some(counts) = self.by_slot.get_mut(&parent.number()) {
             counts.raise(block);
@@ -132,7 +134,8 @@ impl Blocks {
 
     /// Counts one child less in a block of a parent.
     pub(crate) fn lower(&mut self, parent: Slot, block: u32)
-        ensures { (p : ℕ) → counts_in self.new p ≡ counts_but parent (lowered (counts_in self.old parent) block) self.old p }
+        ensures { (p : ℕ) → counts_in self.new p ≡ counts_but parent
+            (lowered (counts_in self.old parent) block) self.old p }
     {
         if let Some(counts) = self.by_slot.get_mut(&parent.number()) {
             counts.lower(block);
@@ -143,7 +146,8 @@ impl Blocks {
     pub(crate) fn fill(&mut self, parent: Slot, count: u32) -> bool
         ensures filled { IsTrue result → AreFilled (counts_in self.new parent) count }
         ensures none { result ≡ false → counts_in self.new parent ≡ [] }
-        ensures others { (p : ℕ) → counts_in self.new p ≡ counts_but parent (counts_in self.new parent) self.old p }
+        ensures others { (p : ℕ) → counts_in self.new p
+            ≡ counts_but parent (counts_in self.new parent) self.old p }
     {
         if count < LONG {
             self.remove(parent);

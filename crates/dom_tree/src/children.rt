@@ -65,7 +65,8 @@ impl<X> Tree<X> {
     /// The children of a node from one of them on; none where no child is given.
     pub fn children_from(&self, parent: NodeId, child: Option<NodeId>) -> Children<'_, X>
         requires { ForSome child (λ c. parent_of self.now.forest c ≡ Some parent) }
-        ensures { MatchOption child (result ≡ []) (λ c. result ≡ from_first c (children_of self.now.forest parent)) }
+        ensures { MatchOption child (result ≡ []) (λ c. result
+            ≡ from_first c (children_of self.now.forest parent)) }
     {
         self.links.sound();
         let from = link_to(&self.links, &self.table, child);

@@ -16,7 +16,8 @@ use dom_links::{Place, Store};
 // Sets how many nodes have the node at a place as their node document.
 fn set_owned<X>(links: &mut Store<Item<X>>, place: Place, owned: u32)
     requires { IsPlaced links.old place }
-    ensures { links.new ≡ with_arena (owning links.old.arena (slot_of links.old place) owned) links.old }
+    ensures { links.new ≡ with_arena (owning links.old.arena (slot_of links.old place) owned)
+        links.old }
 {
     let item = links.value_mut(place);
     item.owned = owned;
@@ -26,7 +27,8 @@ fn set_owned<X>(links: &mut Store<Item<X>>, place: Place, owned: u32)
 fn count_in<X>(links: &mut Store<Item<X>>, document: Place)
     requires placed { IsPlaced links.old document }
     requires few { owned_in (entry_behind links.old document) + 1 < 2 ^ 32 }
-    ensures { links.new ≡ with_arena (one_more links.old.arena (slot_of links.old document)) links.old }
+    ensures { links.new ≡ with_arena (one_more links.old.arena (slot_of links.old document))
+        links.old }
 {
     let owned = links.value(document).owned;
     set_owned(links, document, owned + 1);
@@ -36,7 +38,8 @@ fn count_in<X>(links: &mut Store<Item<X>>, document: Place)
 fn count_out<X>(links: &mut Store<Item<X>>, document: Place)
     requires placed { IsPlaced links.old document }
     requires some { 0 < owned_in (entry_behind links.old document) }
-    ensures { links.new ≡ with_arena (one_less links.old.arena (slot_of links.old document)) links.old }
+    ensures { links.new ≡ with_arena (one_less links.old.arena (slot_of links.old document))
+        links.old }
 {
     let owned = links.value(document).owned;
     set_owned(links, document, owned - 1);
@@ -46,7 +49,8 @@ fn count_out<X>(links: &mut Store<Item<X>>, document: Place)
 fn replace_document<X>(links: &mut Store<Item<X>>, place: Place, document: NodeId) -> NodeId
     requires { IsPlaced links.old place }
     ensures former { document_in_slot (entry_behind links.old place) ≡ Some result }
-    ensures written { links.new ≡ with_arena (homed links.old.arena (slot_of links.old place) document) links.old }
+    ensures written { links.new ≡ with_arena (homed links.old.arena (slot_of links.old place)
+        document) links.old }
 {
     let item = links.value_mut(place);
     let former = item.document;
@@ -59,7 +63,8 @@ impl<X> Tree<X> {
     #[inline(always)]
     pub(crate) fn move_to(&mut self, id: NodeId, document: NodeId)
         requires { HasNode self.old.forest id }
-        ensures { self.new ≡ record self.old { forest = with_node id (in_document document) self.old.forest } }
+        ensures { self.new ≡ record self.old { forest = with_node id (in_document document)
+            self.old.forest } }
     {
         let place = place_of(&self.links, &self.table, id);
         let former = replace_document(&mut self.links, place, document);

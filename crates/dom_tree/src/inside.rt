@@ -76,7 +76,8 @@ impl<X> Tree<X> {
         ensures asked { (says : ℕ → Bool) →
             ((n : ℕ) (passes : Bool) → F.post test n passes → passes ≡ says n) →
             result ≡ first_asked (inclusive_descendants self.now.forest top) steps says }
-        ensures answered { length (inclusive_descendants self.now.forest top) ≤ steps → IsSome result }
+        ensures answered { length (inclusive_descendants self.now.forest top) ≤ steps →
+            IsSome result }
     {
         self.sound();
         let mut here = top;

@@ -23,7 +23,8 @@ impl<X> Tree<X> {
     /// How many children of a node are of a kind, where that is known without a look at them: how many elements or doctypes a Document has. It takes no memory.
     pub fn children_of_kind(&self, parent: NodeId, kind: Kind) -> Option<u32>
         requires { HasNode self.now.forest parent }
-        ensures { IfSome result (λ n. n ≡ count_kind kind self.now.forest (children_of self.now.forest parent)) }
+        ensures { IfSome result (λ n. n ≡ count_kind kind self.now.forest
+            (children_of self.now.forest parent)) }
     {
         let place = place_of(&self.links, &self.table, parent);
         self.links.sound();

@@ -90,7 +90,8 @@ impl<X> Tree<X> {
         requires held { HasNode self.now.forest id }
         requires within { steps < length (ancestors id self.now.forest) }
         ensures way { IsOnWay self.now.forest id result.node result.child }
-        ensures height { length (ancestors result.node self.now.forest) + steps ≡ length (ancestors id self.now.forest) }
+        ensures height { length (ancestors result.node self.now.forest) + steps
+            ≡ length (ancestors id self.now.forest) }
         ensures start { steps ≡ 0 → result.child ≡ None }
     {
         self.sound();
@@ -114,7 +115,8 @@ impl<X> Tree<X> {
         requires b_held { HasNode self.now.forest b }
         requires apart { ¬ (a ≡ b) }
         requires one_root { root_of self.now.forest a ≡ root_of self.now.forest b }
-        requires one_depth { length (ancestors a self.now.forest) ≡ length (ancestors b self.now.forest) }
+        requires one_depth { length (ancestors a self.now.forest)
+            ≡ length (ancestors b self.now.forest) }
         ensures left { CameThrough self.now.forest a result.node (Some result.left) }
         ensures right { CameThrough self.now.forest b result.node (Some result.right) }
         ensures apart { ¬ (result.left ≡ result.right) }

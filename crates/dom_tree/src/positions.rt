@@ -33,7 +33,8 @@ impl<X> Tree<X> {
     // The child at an index, where one that stood in its block is still a child.
     fn child_in_block(&self, id: NodeId, index: usize) -> Option<NodeId>
         requires { HasNode self.now.forest id }
-        ensures { IfSome result (λ child. Some child ≡ slice_get (children_of self.now.forest id) index) }
+        ensures { IfSome result (λ child. Some child
+            ≡ slice_get (children_of self.now.forest id) index) }
     {
         self.sound();
         let near = self.near_in_block(id, index)?;
@@ -111,7 +112,8 @@ impl<X> Tree<X> {
     fn child_from_last(&self, id: NodeId, steps: usize) -> Option<NodeId>
         requires held { HasNode self.now.forest id }
         requires within { steps < length (children_of self.now.forest id) }
-        ensures { result ≡ slice_get (children_of self.now.forest id) (length (children_of self.now.forest id) - 1 - steps) }
+        ensures { result ≡ slice_get (children_of self.now.forest id)
+            (length (children_of self.now.forest id) - 1 - steps) }
     {
         self.sound();
         self.links.sound();

@@ -98,7 +98,9 @@ impl Tallies {
 
     /// Counts one child more of a parent.
     pub(crate) fn raise(&mut self, parent: Slot, kind: Kind)
-        ensures { (p : ℕ) → tally_in self.new p ≡ tally_but parent (option_map (raised (λ counted. is_kind counted kind)) (tally_in self.old parent)) self.old p }
+        ensures { (p : ℕ) → tally_in self.new p ≡ tally_but parent
+            (option_map (raised (λ counted. is_kind counted kind)) (tally_in self.old parent))
+            self.old p }
     {
         if let Some(tally) = self.by_slot.get_mut(&parent.number()) {
             raise(tally, kind);
@@ -107,7 +109,9 @@ impl Tallies {
 
     /// Counts one child less of a parent.
     pub(crate) fn lower(&mut self, parent: Slot, kind: Kind)
-        ensures { (p : ℕ) → tally_in self.new p ≡ tally_but parent (option_map (lowered (λ counted. is_kind counted kind)) (tally_in self.old parent)) self.old p }
+        ensures { (p : ℕ) → tally_in self.new p ≡ tally_but parent
+            (option_map (lowered (λ counted. is_kind counted kind)) (tally_in self.old parent))
+            self.old p }
     {
         if let Some(tally) = self.by_slot.get_mut(&parent.number()) {
             lower(tally, kind);

@@ -17,7 +17,8 @@ use dom_links::{Place, Store};
 // The kind of the node at a place.
 fn kind_at<X>(links: &Store<Item<X>>, place: Place) -> Kind
     requires { IsPlaced links.now place }
-    ensures { (kind : Kind) → has_in (entry_at (nodes_alone links.now.arena)) (slot_of links.now place) kind ≡ is_kind kind result }
+    ensures { (kind : Kind) → has_in (entry_at (nodes_alone links.now.arena))
+        (slot_of links.now place) kind ≡ is_kind kind result }
 {
     links.value(place).label.kind
 }
@@ -33,7 +34,8 @@ pub(crate) fn tallied_put<X>(
     requires child_placed { IsPlaced links.now child }
     requires tallied { AreTallied (entry_at (nodes_alone links.now.arena)) tallies.old }
     ensures { (p : ℕ) → tally_in tallies.new p ≡
-        tally_put (entry_at (nodes_alone links.now.arena)) tallies.old (slot_of links.now parent) (slot_of links.now child) p }
+        tally_put (entry_at (nodes_alone links.now.arena)) tallies.old (slot_of links.now parent)
+        (slot_of links.now child) p }
 {
     if kind_at(links, parent) == Kind::Document {
         tallies.raise(links.slot(parent), kind_at(links, child));
@@ -46,7 +48,8 @@ pub(crate) fn tallied_cut<X>(links: &Store<Item<X>>, tallies: &mut Tallies, chil
     requires has_parent { HasParent links.now child }
     requires tallied { AreTallied (entry_at (nodes_alone links.now.arena)) tallies.old }
     ensures { (p : ℕ) → tally_in tallies.new p ≡
-        tally_cut (entry_at (nodes_alone links.now.arena)) tallies.old (slot_of links.now child) (parent_at links.now child) p }
+        tally_cut (entry_at (nodes_alone links.now.arena)) tallies.old (slot_of links.now child)
+        (parent_at links.now child) p }
 {
     let parent = nearby::parent(links, child).unwrap();
     if kind_at(links, parent) == Kind::Document {
@@ -58,7 +61,8 @@ pub(crate) fn tallied_cut<X>(links: &Store<Item<X>>, tallies: &mut Tallies, chil
 pub(crate) fn tallied_take<X>(links: &Store<Item<X>>, tallies: &mut Tallies, place: Place)
     requires placed { IsPlaced links.now place }
     requires tallied { AreTallied (entry_at (nodes_alone links.now.arena)) tallies.old }
-    ensures { (p : ℕ) → tally_in tallies.new p ≡ tally_but (slot_of links.now place) None tallies.old p }
+    ensures { (p : ℕ) → tally_in tallies.new p ≡ tally_but (slot_of links.now place) None
+        tallies.old p }
 {
     if kind_at(links, place) == Kind::Document {
         tallies.remove(links.slot(place));

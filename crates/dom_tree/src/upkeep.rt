@@ -16,7 +16,8 @@ use dom_links::{Link, Place, Store};
 /// Sets the kept index of a node.
 pub(crate) fn set_index<X>(links: &mut Store<Item<X>>, place: Place, index: u32)
     requires { IsPlaced links.old place }
-    ensures { links.new ≡ with_arena (indexed links.old.arena (slot_of links.old place) index) links.old }
+    ensures { links.new ≡ with_arena (indexed links.old.arena (slot_of links.old place) index)
+        links.old }
 {
     let item = links.value_mut(place);
     item.index = index;
@@ -25,7 +26,8 @@ pub(crate) fn set_index<X>(links: &mut Store<Item<X>>, place: Place, index: u32)
 /// Sets how many of a node's first children have a right index, and how many may have any.
 pub(crate) fn set_sure<X>(links: &mut Store<Item<X>>, place: Place, sure: u32, reach: u32)
     requires { IsPlaced links.old place }
-    ensures { links.new ≡ with_arena (assured links.old.arena (slot_of links.old place) sure reach) links.old }
+    ensures { links.new ≡ with_arena (assured links.old.arena (slot_of links.old place) sure reach)
+        links.old }
 {
     let item = links.value_mut(place);
     item.sure = sure;
@@ -71,7 +73,8 @@ fn new_index<X>(links: &Store<Item<X>>, parent: Place, before: Link) -> u32
     requires parent_placed { IsPlaced links.now parent }
     requires child { 0 < length (children_at links.now parent) }
     requires before_placed { ForSome before (λ b. IsPlaced links.now b) }
-    ensures { result ≡ index_put (entry_at links.now.arena) (slot_of links.now parent) (slots_of links.now before) }
+    ensures { result ≡ index_put (entry_at links.now.arena) (slot_of links.now parent)
+        (slots_of links.now before) }
 {
     match before.get() {
         Some(before) => links.value(before).index,
@@ -84,7 +87,8 @@ fn new_index<X>(links: &Store<Item<X>>, parent: Place, before: Link) -> u32
 fn new_sure<X>(links: &Store<Item<X>>, parent: Place, before: Link, index: u32) -> u32
     requires parent_placed { IsPlaced links.now parent }
     requires child { 0 < length (children_at links.now parent) }
-    ensures { result ≡ sure_put (entry_at links.now.arena) (slot_of links.now parent) (slots_of links.now before) index }
+    ensures { result ≡ sure_put (entry_at links.now.arena) (slot_of links.now parent)
+        (slots_of links.now before) index }
 {
     let count = links.count(parent);
     let sure = sure_of(links, parent);
@@ -98,7 +102,8 @@ fn new_sure<X>(links: &Store<Item<X>>, parent: Place, before: Link, index: u32) 
 fn new_reach<X>(links: &Store<Item<X>>, parent: Place, before: Link) -> u32
     requires parent_placed { IsPlaced links.now parent }
     requires child { 0 < length (children_at links.now parent) }
-    ensures reach { result ≡ reach_put (entry_at links.now.arena) (slot_of links.now parent) (slots_of links.now before) }
+    ensures reach { result ≡ reach_put (entry_at links.now.arena) (slot_of links.now parent)
+        (slots_of links.now before) }
     ensures few { length (children_at links.now parent) < 2 ^ 32 }
 {
     let count = links.count(parent);
@@ -116,7 +121,9 @@ pub(crate) fn number_put<X>(links: &mut Store<Item<X>>, parent: Place, child: Pl
     requires child_placed { IsPlaced links.old child }
     requires child { 0 < length (children_at links.old parent) }
     requires before_placed { ForSome before (λ b. IsPlaced links.old b) }
-    ensures numbered { links.new ≡ with_arena (numbered_put links.old.arena (slot_of links.old parent) (slot_of links.old child) (slots_of links.old before)) links.old }
+    ensures numbered { links.new ≡ with_arena (numbered_put links.old.arena
+        (slot_of links.old parent) (slot_of links.old child) (slots_of links.old before))
+        links.old }
     ensures few { length (children_at links.old parent) < 2 ^ 32 }
 {
     let index = new_index(links, parent, before);
@@ -130,7 +137,8 @@ pub(crate) fn number_put<X>(links: &mut Store<Item<X>>, parent: Place, child: Pl
 pub(crate) fn number_cut<X>(links: &mut Store<Item<X>>, child: Place)
     requires placed { IsPlaced links.old child }
     requires has_parent { HasParent links.old child }
-    ensures { links.new ≡ with_arena (numbered_cut links.old.arena (slot_of links.old child)) links.old }
+    ensures { links.new ≡ with_arena (numbered_cut links.old.arena (slot_of links.old child))
+        links.old }
 {
     let parent = nearby::parent(links, child).unwrap();
     let index = links.value(child).index;

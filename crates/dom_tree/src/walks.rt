@@ -52,7 +52,8 @@ impl<X> Tree<X> {
     /// The node that follows in tree order, among the inclusive descendants of the root.
     pub fn next_in_order(&self, id: NodeId) -> Option<NodeId>
         requires { HasNode self.now.forest id }
-        ensures { IfSome (root_of self.now.forest id) (λ root. result ≡ after id (inclusive_descendants self.now.forest root)) }
+        ensures { IfSome (root_of self.now.forest id) (λ root. result
+            ≡ after id (inclusive_descendants self.now.forest root)) }
     {
         self.sound();
         self.links.sound();
@@ -76,7 +77,8 @@ impl<X> Tree<X> {
         requires a_held { HasNode self.now.forest a }
         requires b_held { HasNode self.now.forest b }
         requires one_root { root_of self.now.forest a ≡ root_of self.now.forest b }
-        ensures { result ≡ nat_lt (place_in a (numbers self.now.forest)) (place_in b (numbers self.now.forest)) }
+        ensures { result ≡ nat_lt (place_in a (numbers self.now.forest))
+            (place_in b (numbers self.now.forest)) }
     {
         self.sound();
         let met = self.meeting(a, b);
@@ -119,7 +121,8 @@ impl<X> Tree<X> {
         requires a_held { HasNode self.now.forest a }
         requires b_held { HasNode self.now.forest b }
         requires one_parent { parent_of self.now.forest a ≡ parent_of self.now.forest b }
-        ensures { IfSome result (λ before. before ≡ nat_lt (index_of self.now.forest a) (index_of self.now.forest b)) }
+        ensures { IfSome result (λ before. before ≡ nat_lt (index_of self.now.forest a)
+            (index_of self.now.forest b)) }
     {
         let a = place_of(&self.links, &self.table, a);
         let b = place_of(&self.links, &self.table, b);
@@ -132,7 +135,8 @@ impl<X> Tree<X> {
     fn before_in_blocks(&self, a: NodeId, b: NodeId) -> Option<bool>
         requires a_held { HasNode self.now.forest a }
         requires b_held { HasNode self.now.forest b }
-        ensures { IfSome result (λ before. before ≡ nat_lt (index_of self.now.forest a) (index_of self.now.forest b)) }
+        ensures { IfSome result (λ before. before ≡ nat_lt (index_of self.now.forest a)
+            (index_of self.now.forest b)) }
     {
         let a_index = self.index_in_block(a)?;
         let b_index = self.index_in_block(b)?;
@@ -143,7 +147,8 @@ impl<X> Tree<X> {
     pub(crate) fn known_before(&self, a: NodeId, b: NodeId) -> Option<bool>
         requires a_held { HasNode self.now.forest a }
         requires b_held { HasNode self.now.forest b }
-        ensures { IfSome result (λ before. before ≡ nat_lt (index_of self.now.forest a) (index_of self.now.forest b)) }
+        ensures { IfSome result (λ before. before ≡ nat_lt (index_of self.now.forest a)
+            (index_of self.now.forest b)) }
     {
         let a_index = self.kept_index(a)?;
         let b_index = self.kept_index(b)?;
@@ -157,7 +162,8 @@ impl<X> Tree<X> {
         requires apart { ¬ (a ≡ b) }
         requires one_parent { parent_of self.now.forest a ≡ parent_of self.now.forest b }
         requires child { IsSome (parent_of self.now.forest a) }
-        ensures ahead { IfSome result (λ ahead. ahead ≡ nat_lt (index_of self.now.forest a) (index_of self.now.forest b)) }
+        ensures ahead { IfSome result (λ ahead. ahead
+            ≡ nat_lt (index_of self.now.forest a) (index_of self.now.forest b)) }
         ensures found { length (siblings_in (entry_in self.now.forest) a) ≤ steps → IsSome result }
     {
         self.sound();

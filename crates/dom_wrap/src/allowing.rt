@@ -34,9 +34,12 @@ fn is_left_element(world: &World, start: Point, end: Point, node: NodeId) -> boo
     requires held { HasNode world.now.tree.forest node }
     requires start_held { HasNode world.now.tree.forest start.node }
     requires end_held { HasNode world.now.tree.forest end.node }
-    requires start_root { root_of world.now.tree.forest node ≡ root_of world.now.tree.forest start.node }
-    requires end_root { root_of world.now.tree.forest node ≡ root_of world.now.tree.forest end.node }
-    ensures { result ≡ is_left_element (unwatched world.now) (record { start = start; end = end }) node }
+    requires start_root { root_of world.now.tree.forest node
+        ≡ root_of world.now.tree.forest start.node }
+    requires end_root { root_of world.now.tree.forest node
+        ≡ root_of world.now.tree.forest end.node }
+    ensures { result ≡ is_left_element (unwatched world.now) (record { start = start; end = end })
+        node }
 {
     if !world.tree.is_of_kind(node, Kind::Element) {
         return false;
@@ -54,9 +57,12 @@ fn leaves_element(world: &World, start: Point, end: Point, parent: NodeId) -> bo
     requires held { HasNode world.now.tree.forest parent }
     requires start_held { HasNode world.now.tree.forest start.node }
     requires end_held { HasNode world.now.tree.forest end.node }
-    requires start_root { root_of world.now.tree.forest parent ≡ root_of world.now.tree.forest start.node }
-    requires end_root { root_of world.now.tree.forest parent ≡ root_of world.now.tree.forest end.node }
-    ensures { result ≡ list_any (λ m. is_left_element (unwatched world.now) (record { start = start; end = end }) m)
+    requires start_root { root_of world.now.tree.forest parent
+        ≡ root_of world.now.tree.forest start.node }
+    requires end_root { root_of world.now.tree.forest parent
+        ≡ root_of world.now.tree.forest end.node }
+    ensures { result ≡ list_any (λ m. is_left_element (unwatched world.now)
+        (record { start = start; end = end }) m)
         (children_of world.now.tree.forest parent) }
 {
     world.tree.sound();
@@ -72,7 +78,8 @@ fn leaves_element(world: &World, start: Point, end: Point, parent: NodeId) -> bo
 fn has_doctype_from(tree: &Tree<Content>, parent: NodeId, first: Option<NodeId>) -> bool
     requires held { HasNode tree.now.forest parent }
     requires under { IsAmong first (children_of tree.now.forest parent) }
-    ensures { result ≡ has_kind DocumentType tree.now.forest (from_optional first (children_of tree.now.forest parent)) }
+    ensures { result ≡ has_kind DocumentType tree.now.forest
+        (from_optional first (children_of tree.now.forest parent)) }
 {
     tree.sound();
     for child in tree.children_from(parent, first) {
@@ -87,7 +94,8 @@ fn has_doctype_from(tree: &Tree<Content>, parent: NodeId, first: Option<NodeId>)
 fn first_behind(world: &World, start: Point, end: Point, common: NodeId) -> Option<NodeId>
     requires whole { IsWhole world.now }
     requires range { IsRange world.now.tree.forest (record { start = start; end = end }) }
-    requires common { common ≡ common_of (unwatched world.now) (record { start = start; end = end }) }
+    requires common { common ≡ common_of (unwatched world.now)
+        (record { start = start; end = end }) }
     requires near { is_near world.now.tree.forest common start.node ≡ true }
     ensures { result ≡ first_behind (unwatched world.now) (record { start = start; end = end }) }
 {
@@ -115,12 +123,16 @@ fn is_refused_at(world: &World, point: Point, node: NodeId) -> bool
 fn is_refused_between(world: &World, start: Point, end: Point, common: NodeId, node: NodeId) -> bool
     requires whole { IsWhole world.now }
     requires range { IsRange world.now.tree.forest (record { start = start; end = end }) }
-    requires common { common ≡ common_of (unwatched world.now) (record { start = start; end = end }) }
+    requires common { common ≡ common_of (unwatched world.now)
+        (record { start = start; end = end }) }
     requires near { is_near world.now.tree.forest common start.node ≡ true }
     requires held { HasNode world.now.tree.forest common }
-    requires start_root { root_of world.now.tree.forest common ≡ root_of world.now.tree.forest start.node }
-    requires end_root { root_of world.now.tree.forest common ≡ root_of world.now.tree.forest end.node }
-    ensures { result ≡ is_refused_between (unwatched world.now) (record { start = start; end = end }) node }
+    requires start_root { root_of world.now.tree.forest common
+        ≡ root_of world.now.tree.forest start.node }
+    requires end_root { root_of world.now.tree.forest common
+        ≡ root_of world.now.tree.forest end.node }
+    ensures { result ≡ is_refused_between (unwatched world.now)
+        (record { start = start; end = end }) node }
 {
     if world.tree.is_ancestor(node, common) {
         return true;
@@ -139,7 +151,8 @@ fn is_refused_between(world: &World, start: Point, end: Point, common: NodeId, n
 fn is_refused(world: &World, start: Point, end: Point, common: NodeId, node: NodeId) -> bool
     requires whole { IsWhole world.now }
     requires range { IsRange world.now.tree.forest (record { start = start; end = end }) }
-    requires common { common ≡ common_of (unwatched world.now) (record { start = start; end = end }) }
+    requires common { common ≡ common_of (unwatched world.now)
+        (record { start = start; end = end }) }
     requires near { is_near world.now.tree.forest common start.node ≡ true }
     requires node_held { HasNode world.now.tree.forest node }
     requires element { is_of_kind Element world.now.tree.forest node ≡ true }
@@ -156,7 +169,8 @@ fn is_refused(world: &World, start: Point, end: Point, common: NodeId, node: Nod
 fn is_deep(tree: &Tree<Content>, common: NodeId, start: NodeId, end: NodeId) -> bool
     requires start_held { HasNode tree.now.forest start }
     requires end_held { HasNode tree.now.forest end }
-    ensures { result ≡ not (is_near tree.now.forest common start && is_near tree.now.forest common end) }
+    ensures { result ≡ not (is_near tree.now.forest common start
+        && is_near tree.now.forest common end) }
 {
     !(is_near(tree, common, start) && is_near(tree, common, end))
 }
@@ -165,7 +179,8 @@ fn is_deep(tree: &Tree<Content>, common: NodeId, start: NodeId, end: NodeId) -> 
 fn is_invalid_parent(tree: &Tree<Content>, node: NodeId) -> bool
     requires held { HasNode tree.now.forest node }
     ensures { result ≡ (is_of_kind Document tree.now.forest node
-        || (is_of_kind DocumentType tree.now.forest node || is_of_kind DocumentFragment tree.now.forest node)) }
+        || (is_of_kind DocumentType tree.now.forest node
+        || is_of_kind DocumentFragment tree.now.forest node)) }
 {
     tree.is_of_kind(node, Kind::Document)
         || tree.is_of_kind(node, Kind::DocumentType)
@@ -176,10 +191,12 @@ fn is_invalid_parent(tree: &Tree<Content>, node: NodeId) -> bool
 fn is_unplaceable(world: &World, start: Point, end: Point, common: NodeId, node: NodeId) -> bool
     requires whole { IsWhole world.now }
     requires range { IsRange world.now.tree.forest (record { start = start; end = end }) }
-    requires common { common ≡ common_of (unwatched world.now) (record { start = start; end = end }) }
+    requires common { common ≡ common_of (unwatched world.now)
+        (record { start = start; end = end }) }
     requires near { is_near world.now.tree.forest common start.node ≡ true }
     requires node_held { HasNode world.now.tree.forest node }
-    ensures { result ≡ is_unplaceable (unwatched world.now) (record { start = start; end = end }) node }
+    ensures { result ≡ is_unplaceable (unwatched world.now) (record { start = start; end = end })
+        node }
 {
     !world.tree.is_of_kind(node, Kind::Element) || is_refused(world, start, end, common, node)
 }

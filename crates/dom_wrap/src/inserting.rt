@@ -28,7 +28,8 @@ use std::alloc::{AllocError, Global};
 // Whether something may come in at a start: not in an instruction or comment, in no Text without a parent, and not in itself.
 fn check_start(world: &World, start: Point, node: NodeId) -> Result<(), DomError>
     requires { HasNode world.now.tree.forest start.node }
-    ensures { MatchResult result (λ _. check_start (unwatched world.now) start node ≡ None) (λ e. check_start (unwatched world.now) start node ≡ Some e) }
+    ensures { MatchResult result (λ _. check_start (unwatched world.now) start node
+        ≡ None) (λ e. check_start (unwatched world.now) start node ≡ Some e) }
 {
     let top = start.node;
     if world.tree.is_of_kind(top, Kind::ProcessingInstruction)
@@ -77,9 +78,11 @@ fn check(world: &World, start: Point, node: NodeId) -> Result<(), DomError>
     requires start_held { HasNode world.now.tree.forest start.node }
     requires node_held { HasNode world.now.tree.forest node }
     ensures start { OnOk result (check_start (unwatched world.now) start node ≡ None) }
-    ensures insert { OnOk result (checks.check_insert world.now.tree.forest (parent_at (unwatched world.now) start) node
+    ensures insert { OnOk result (checks.check_insert world.now.tree.forest
+        (parent_at (unwatched world.now) start) node
         (reference_at (unwatched world.now) start) ≡ None) }
-    ensures refused { IfErr result (λ e. (r : ℕ) → refusal_in (inserted_at r node start (unwatched world.now)) ≡ Some e) }
+    ensures refused { IfErr result (λ e. (r : ℕ) →
+        refusal_in (inserted_at r node start (unwatched world.now)) ≡ Some e) }
 {
     check_start(world, start, node)?;
     let parent = parent_at(world, start);
@@ -95,9 +98,12 @@ fn reference_after(
 ) -> Result<Option<NodeId>, AllocError>
     requires whole { IsWhole world.old }
     requires held { HasNode world.old.tree.forest start.node }
-    requires within { is_text (unwatched world.old) start.node ≡ true → start.offset ≤ length (data_of (unwatched world.old) start.node) }
-    requires room { is_text (unwatched world.old) start.node ≡ true → world.old.tree.made < 4294967295 }
-    ensures reference { IfOk result (λ reference. reference ≡ reference_after (unwatched world.old) start) }
+    requires within { is_text (unwatched world.old) start.node ≡ true →
+        start.offset ≤ length (data_of (unwatched world.old) start.node) }
+    requires room { is_text (unwatched world.old) start.node ≡ true →
+        world.old.tree.made < 4294967295 }
+    ensures reference { IfOk result (λ reference. reference
+        ≡ reference_after (unwatched world.old) start) }
     ensures split { OnOk result (Follows world.old world.new (split_at start)) }
     ensures kept { KeepsLabels world.old world.new }
     ensures whole { IsWhole world.new }
@@ -178,8 +184,10 @@ fn place(
     requires whole { IsWhole world.old }
     requires held { HasNode world.old.tree.forest node }
     requires placeable { IsPlaceable world.old range node parent reference }
-    ensures allowed { OnOk result ((w : PlainWorld) → Keeps world.old w → refusal_in (placed_at range node parent reference w) ≡ None) }
-    ensures placed { OnOk result (Follows world.old world.new (λ w. left_by (placed_at range node parent reference w) w)) }
+    ensures allowed { OnOk result ((w : PlainWorld) → Keeps world.old w →
+        refusal_in (placed_at range node parent reference w) ≡ None) }
+    ensures placed { OnOk result (Follows world.old world.new (λ w.
+        left_by (placed_at range node parent reference w) w)) }
     ensures kept { KeepsLabels world.old world.new }
     ensures whole { IsWhole world.new }
 {
@@ -211,8 +219,10 @@ pub(crate) fn insert_at_start(
     requires node_held { HasNode world.old.tree.forest node }
     requires allowed { MayTake world.old (insert_node range node) }
     requires room { HasRoom world.old range }
-    ensures allowed { OnOk result (refusal_in (insert_node range node (unwatched world.old)) ≡ None) }
-    ensures inserted { OnOk result (Follows world.old world.new (λ w. left_by (insert_node range node w) w)) }
+    ensures allowed { OnOk result (refusal_in (insert_node range node (unwatched world.old))
+        ≡ None) }
+    ensures inserted { OnOk result (Follows world.old world.new (λ w.
+        left_by (insert_node range node w) w)) }
     ensures kept { KeepsLabels world.old world.new }
     ensures whole { IsWhole world.new }
 {
@@ -233,11 +243,16 @@ pub fn insert_node(
     requires whole { IsWhole world.old }
     requires held { IsSome (range_in world.old.ranges range) }
     requires node_held { HasNode world.old.tree.forest node }
-    requires room { refusal_in (insert_node range node (unwatched world.old)) ≡ None → HasRoom world.old range }
-    ensures allowed { OnOk result (refusal_in (insert_node range node (unwatched world.old)) ≡ None) }
-    ensures inserted { OnOk result (Follows world.old world.new (λ w. left_by (insert_node range node w) w)) }
-    ensures markers { OnOk result (StandByEdits world.old world.new (insert_node_edits range node)) }
-    ensures refused { IfErr result (λ e. IsRefused e (refusal_in (insert_node range node (unwatched world.old))) world.old world.new) }
+    requires room { refusal_in (insert_node range node (unwatched world.old)) ≡ None →
+        HasRoom world.old range }
+    ensures allowed { OnOk result (refusal_in (insert_node range node (unwatched world.old))
+        ≡ None) }
+    ensures inserted { OnOk result (Follows world.old world.new (λ w.
+        left_by (insert_node range node w) w)) }
+    ensures markers { OnOk result (StandByEdits world.old world.new
+        (insert_node_edits range node)) }
+    ensures refused { IfErr result (λ e. IsRefused e
+        (refusal_in (insert_node range node (unwatched world.old))) world.old world.new) }
     ensures kept { KeepsLabels world.old world.new }
     ensures whole { IsWhole world.new }
 {

@@ -17,20 +17,29 @@ ghost use Rattle.dom_model.specs.TokenText.Fitting.{Childless, IsReady, AllFit};
 /// is there. Afterwards the gap in which a marker stands is the gap of its end, and a range that was released or never made has no marker
 /// (ours; DOM Standard, "Live ranges").
 pub fn ends_stand_where_edits_put_their_markers()
-    ensures gaps { (w : World) → (edits : List Edit) → Childless w.forest → AllFit w edits → IsReady (all_on_world edits w) → (r : ℕ) → (side : Bool) →
-        gap_among r side (all_on_texts edits (texts_of w)) ≡ option_map (end_of side) (range_at (all_on_world edits w) r) }
-    ensures ranges { (w : World) → (edits : List Edit) → Childless w.forest → AllFit w edits → IsReady (all_on_world edits w) →
-        marked_ranges 0 (all_on_world edits w).ranges (all_on_texts edits (texts_of w)) ≡ (all_on_world edits w).ranges }
+    ensures gaps { (w : World) → (edits : List Edit) → Childless w.forest → AllFit w edits →
+        IsReady (all_on_world edits w) → (r : ℕ) → (side : Bool) →
+        gap_among r side (all_on_texts edits (texts_of w))
+        ≡ option_map (end_of side) (range_at (all_on_world edits w) r) }
+    ensures ranges { (w : World) → (edits : List Edit) → Childless w.forest → AllFit w edits →
+        IsReady (all_on_world edits w) →
+        marked_ranges 0 (all_on_world edits w).ranges (all_on_texts edits (texts_of w))
+        ≡ (all_on_world edits w).ranges }
 {}
 
 /// A law: an insertion at a point whose first two checks pass is not refused later. Where the point may take the node, and the node may come
 /// in there, the check of the insertion that follows passes too, in the world that the split of the Text and the removal of the node leave;
 /// so no step of the insertion is refused, whatever the live range (DOM Standard, "Interface Range": insert a node into a live range).
 pub fn checked_insertions_are_not_refused()
-    ensures check { (w : World) → IsForest (record { forest = w.forest; made = w.made }) → (n : ℕ) → HasNode w.forest n → (p : Point) →
-        check_start w p n ≡ None → check_insert w.forest (parent_at w p) n (reference_at w p) ≡ None →
-        check_insert (remove false n (split_at p w)).forest (parent_at w p) n (reference_child (split_at p w) n (reference_after w p)) ≡ None }
-    ensures steps { (w : World) → IsForest (record { forest = w.forest; made = w.made }) → (n : ℕ) → HasNode w.forest n → (p : Point) →
-        check_start w p n ≡ None → check_insert w.forest (parent_at w p) n (reference_at w p) ≡ None →
+    ensures check { (w : World) → IsForest (record { forest = w.forest; made = w.made }) → (n : ℕ) →
+        HasNode w.forest n → (p : Point) →
+        check_start w p n ≡ None → check_insert w.forest (parent_at w p) n (reference_at w p)
+        ≡ None →
+        check_insert (remove false n (split_at p w)).forest (parent_at w p) n
+        (reference_child (split_at p w) n (reference_after w p)) ≡ None }
+    ensures steps { (w : World) → IsForest (record { forest = w.forest; made = w.made }) → (n : ℕ) →
+        HasNode w.forest n → (p : Point) →
+        check_start w p n ≡ None → check_insert w.forest (parent_at w p) n (reference_at w p)
+        ≡ None →
         (r : ℕ) → refusal_in (inserted_at r n p w) ≡ None }
 {}

@@ -83,9 +83,11 @@ fn surround_allowed(
     requires whole { IsWhole world.old }
     requires held { IsSome (range_in world.old.ranges range) }
     requires node_held { HasNode world.old.tree.forest node }
-    requires room { (left_by (surround range node (unwatched world.old)) (unwatched world.old)).made ≤ 4294967295 }
+    requires room { (left_by (surround range node (unwatched world.old)) (unwatched world.old)).made
+        ≤ 4294967295 }
     requires allowed { check_whole_surround range node (unwatched world.old) ≡ None }
-    ensures surrounded { OnOk result (Follows world.old world.new (λ w. left_by (surround range node w) w)) }
+    ensures surrounded { OnOk result (Follows world.old world.new (λ w.
+        left_by (surround range node w) w)) }
     ensures kept { KeepsLabels world.old world.new }
     ensures whole { IsWhole world.new }
 {
@@ -106,11 +108,14 @@ pub fn surround(
     requires whole { IsWhole world.old }
     requires held { IsSome (range_in world.old.ranges range) }
     requires node_held { HasNode world.old.tree.forest node }
-    requires room { (left_by (surround range node (unwatched world.old)) (unwatched world.old)).made ≤ 4294967295 }
+    requires room { (left_by (surround range node (unwatched world.old)) (unwatched world.old)).made
+        ≤ 4294967295 }
     ensures allowed { OnOk result (check_whole_surround range node (unwatched world.old) ≡ None) }
-    ensures surrounded { OnOk result (Follows world.old world.new (λ w. left_by (surround range node w) w)) }
+    ensures surrounded { OnOk result (Follows world.old world.new (λ w.
+        left_by (surround range node w) w)) }
     ensures markers { OnOk result (StandByEdits world.old world.new (surround_edits range node)) }
-    ensures refused { IfErr result (λ e. IsRefused e (check_whole_surround range node (unwatched world.old)) world.old world.new) }
+    ensures refused { IfErr result (λ e. IsRefused e
+        (check_whole_surround range node (unwatched world.old)) world.old world.new) }
     ensures kept { KeepsLabels world.old world.new }
     ensures whole { IsWhole world.new }
 {

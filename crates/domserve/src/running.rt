@@ -79,7 +79,8 @@ fn served<R: Source, W: Sink, E: Sink>(
         reader.old reader.new writer.old writer.new) }
     ensures passed { result ≢ 3 → HasPassedOn W.writing writer.old writer.new }
     ensures reader { TellsFailure result (λ failed. IsRead R.reading failed reader.old reader.new) }
-    ensures writer { TellsFailure result (λ failed. IsWritten W.writing failed writer.old writer.new) }
+    ensures writer { TellsFailure result (λ failed.
+        IsWritten W.writing failed writer.old writer.new) }
 {
     match serve(alloc, limits, reader, writer) {
         Ok(_) => 0,
@@ -96,7 +97,8 @@ fn helped<W: Sink, E: Sink>(text: &str, writer: &mut W, errors: &mut E) -> u8
         (SaysFault E.writing errors.old errors.new)
         (IsCutOff W.writing writer.old writer.new) }
     ensures passed { result ≢ 3 → HasPassedOn W.writing writer.old writer.new }
-    ensures writer { TellsFailure result (λ failed. IsWritten W.writing failed writer.old writer.new) }
+    ensures writer { TellsFailure result (λ failed.
+        IsWritten W.writing failed writer.old writer.new) }
 {
     match write_line(writer, text.as_bytes()) {
         Ok(()) => 0,
@@ -162,7 +164,8 @@ pub fn run<S: AsStr, R: Source, W: Sink, E: Sink>(
 
     // After a failed read, write or flush the status is 3, and nothing is asked of what failed.
     ensures reader { TellsFailure result (λ failed. IsRead R.reading failed reader.old reader.new) }
-    ensures writer { TellsFailure result (λ failed. IsWritten W.writing failed writer.old writer.new) }
+    ensures writer { TellsFailure result (λ failed.
+        IsWritten W.writing failed writer.old writer.new) }
 {
     match limits_from(alloc, words) {
         Ok(limits) => served(alloc, limits, reader, writer, errors),

@@ -110,7 +110,8 @@ fn alone(
     start: Point,
     end: Point,
 ) -> Result<Ranges, AllocError>
-    ensures { IfOk result (λ ranges. ranges.ranges ≡ Some (record { start = start; end = end }) ∷ []) }
+    ensures { IfOk result (λ ranges. ranges.ranges
+        ≡ Some (record { start = start; end = end }) ∷ []) }
 {
     let mut ranges = Ranges::new(alloc);
     ranges.cover(1000)?;
@@ -127,7 +128,8 @@ fn ready(
     start: Point,
     end: Point,
 ) -> Result<Ranges, AllocError>
-    ensures { IfOk result (λ ranges. ranges.ranges ≡ Some (record { start = start; end = end }) ∷ []) }
+    ensures { IfOk result (λ ranges. ranges.ranges
+        ≡ Some (record { start = start; end = end }) ∷ []) }
 {
     let ranges = alone(rt, alloc, tree, start, end)?;
     let _ = begins(alloc)?;

@@ -61,7 +61,8 @@ fn new(
 // Whether an iterator is there, and stands in the tree.
 fn is_inside(iterators: &NodeIterators, tree: &Tree<u32>, id: IteratorId) -> bool
     ensures held { result ≡ true → IsSome (iterator_in iterators.now id) }
-    ensures inside { result ≡ true → ForSome (iterator_in iterators.now id) (StandsInside tree.now.forest) }
+    ensures inside { result ≡ true → ForSome (iterator_in iterators.now id)
+        (StandsInside tree.now.forest) }
 {
     if !iterators.holds(id) {
         return false;

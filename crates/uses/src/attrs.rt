@@ -10,8 +10,10 @@ use std::alloc::{AllocError, Global};
 
 /// Sets an attribute where there is none of that name. It answers whether it did.
 pub fn set_if_absent(attrs: &mut Attrs, name: String, value: Units) -> Result<bool, AllocError>
-    ensures was_absent { IfOk result (λ absent. absent ≡ is_none (attribute_value (string_bytes name) attrs.old)) }
-    ensures set { IfOk result (λ absent. attrs.new ≡ (if absent then with_attribute (string_bytes name) value attrs.old else attrs.old)) }
+    ensures was_absent { IfOk result (λ absent. absent
+        ≡ is_none (attribute_value (string_bytes name) attrs.old)) }
+    ensures set { IfOk result (λ absent. attrs.new
+        ≡ (if absent then with_attribute (string_bytes name) value attrs.old else attrs.old)) }
     ensures err { OnErr result (attrs.new ≡ attrs.old) }
 {
     if attrs.get(name.as_str()).is_some() {
@@ -23,7 +25,8 @@ pub fn set_if_absent(attrs: &mut Attrs, name: String, value: Units) -> Result<bo
 
 /// Sets the title of an element. What stood there goes.
 pub fn set_title(alloc: Global, attrs: &mut Attrs, text: &str) -> Result<(), AllocError>
-    ensures reads { OnOk result (attribute_value (codes "title") attrs.new ≡ Some (units_of text.now)) }
+    ensures reads { OnOk result (attribute_value (codes "title") attrs.new
+        ≡ Some (units_of text.now)) }
     ensures err { OnErr result (attrs.new ≡ attrs.old) }
 {
     let name = String::from_str(alloc, "title")?;

@@ -80,7 +80,8 @@ pub fn append_text(
     requires parent_held { HasNode world.old.tree.forest parent }
     requires room { world.old.tree.made < 4294967295 }
     ensures held { IfOk result (λ id. HasNode world.new.tree.forest id) }
-    ensures data { IfOk result (λ id. (content_in (entry_in world.new.tree.forest id)).text ≡ units_of text.now) }
+    ensures data { IfOk result (λ id. (content_in (entry_in world.new.tree.forest id)).text
+        ≡ units_of text.now) }
     ensures whole { IsWhole world.new }
 {
     let label = Label::nameless(Kind::Text);

@@ -18,7 +18,8 @@ pub fn make_caret<X: Body>(
     requires room { length ranges.old.ranges < 4294967295 }
     requires covered { IsCovered ranges.old at.node }
     requires stands { IsBoundaryIn X.length tree.now.forest at }
-    ensures stands { IfOk result (λ caret. range_in ranges.new caret ≡ Some (record { start = at; end = at })) }
+    ensures stands { IfOk result (λ caret. range_in ranges.new caret
+        ≡ Some (record { start = at; end = at })) }
     ensures err { OnErr result (ranges.new ≡ ranges.old) }
 {
     ranges.make(tree, at, at)
@@ -28,7 +29,8 @@ pub fn make_caret<X: Body>(
 pub fn start_after_typing(ranges: &mut Ranges, range: RangeId, text: NodeId, count: usize) -> Point
     requires held { IsSome (range_in ranges.old range) }
     requires fit { OffsetsFit (after_splice text 0 0 count) ranges.old.ranges }
-    ensures start { IfSome (range_in ranges.old range) (λ old. result ≡ after_splice text 0 0 count old.start) }
+    ensures start { IfSome (range_in ranges.old range) (λ old. result
+        ≡ after_splice text 0 0 count old.start) }
 {
     ranges.spliced(text, 0, 0, count);
     let (start, _) = ranges.ends(range);

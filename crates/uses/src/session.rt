@@ -18,7 +18,8 @@ pub fn set_and_read(
     text: Units,
 ) -> Result<(Reply, Reply), Ended>
     ensures replies { IfOk result (λ replies. (w : World) → StandsFor session.old w →
-        AreAnswered replies.0 replies.1 w session.old session.new (SetData node text) (GetData node)) }
+        AreAnswered replies.0 replies.1 w session.old session.new (SetData node text)
+        (GetData node)) }
     ensures bounds { session.new.bounds ≡ session.old.bounds }
 {
     let set = session.apply(Command::Texts(Texts::SetData(node, text)))?;

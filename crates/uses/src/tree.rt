@@ -17,9 +17,11 @@ pub fn make_under(
 ) -> Result<NodeId, AllocError>
     requires room { tree.old.made < 4294967295 }
     requires held { HasNode tree.old.forest parent }
-    requires kinds { IfSome (entry_in tree.old.forest parent) (λ e. may_stand_in e.value.label.kind label.kind ≡ true) }
+    requires kinds { IfSome (entry_in tree.old.forest parent) (λ e.
+        may_stand_in e.value.label.kind label.kind ≡ true) }
     ensures under { IfOk result (λ id. parent_of tree.new.forest id ≡ Some parent) }
-    ensures last { IfOk result (λ id. children_of tree.new.forest parent ≡ children_of tree.old.forest parent ++ id ∷ []) }
+    ensures last { IfOk result (λ id. children_of tree.new.forest parent
+        ≡ children_of tree.old.forest parent ++ id ∷ []) }
     ensures err { OnErr result (tree.new ≡ tree.old) }
 {
     tree.sound();
