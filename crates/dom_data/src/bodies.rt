@@ -47,7 +47,7 @@ pub(crate) fn splice_data(
     ensures ok { OnOk result (tree.new ≡ record tree.old {
       forest = with_node node
           (with_data (spliced offset count added.now
-        (content_in (entry_in tree.old.forest node)).text)) tree.old.forest;
+          (content_in (entry_in tree.old.forest node)).text)) tree.old.forest;
     }) }
     ensures fits { OnOk result (length (spliced offset count added.now
         (content_in (entry_in tree.old.forest node)).text) < 2 ^ 64) }
@@ -106,7 +106,7 @@ pub(crate) fn set_in(
     ensures ok { OnOk result (tree.new ≡ record tree.old {
       forest = with_node node
           (with_attributes (with_attribute (string_bytes name) value
-        (content_in (entry_in tree.old.forest node)).attributes)) tree.old.forest;
+          (content_in (entry_in tree.old.forest node)).attributes)) tree.old.forest;
     }) }
     ensures err { OnErr result (tree.new ≡ tree.old) }
 {
@@ -122,7 +122,7 @@ pub(crate) fn remove_in(tree: &mut Tree<Content>, node: NodeId, name: &str)
     ensures { tree.new ≡ record tree.old {
       forest = with_node node
           (with_attributes (without_attribute name.now
-        (content_in (entry_in tree.old.forest node)).attributes)) tree.old.forest;
+          (content_in (entry_in tree.old.forest node)).attributes)) tree.old.forest;
     } }
 {
     tree.sound();

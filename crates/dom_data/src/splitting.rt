@@ -61,8 +61,10 @@ fn split_ends(world: &mut World, node: NodeId, offset: usize, new: NodeId)
     requires room { HasRoom world.old.tree.forest node }
     requires covered { AreCovered world.old.tree world.old.ranges.covered }
     ensures { world.new ≡ record world.old {
-      ranges = record world.old.ranges { ranges = ends_behind node offset new
-        (parent_of world.old.tree.forest node) (unwatched world.old) };
+      ranges = record world.old.ranges {
+        ranges = ends_behind node offset new
+            (parent_of world.old.tree.forest node) (unwatched world.old);
+      };
     } }
 {
     world.tree.sound();

@@ -412,8 +412,10 @@ impl Content {
     /// Where neither an attribute nor a unit is left, all memory is given back.
     pub fn remove_attribute(&mut self, name: &str) -> Option<Units>
         ensures value { result ≡ attribute_value name.now self.old.attributes }
-        ensures rest { self.new ≡ record self.old { attributes = without_attribute name.now
-            self.old.attributes } }
+        ensures rest { self.new ≡ record self.old {
+          attributes = without_attribute name.now
+              self.old.attributes;
+        } }
     {
         match mem::replace(&mut self.held, Held::Nothing) {
             Held::Attributes(mut attrs) => {

@@ -33,8 +33,10 @@ fn put_in(tree: &mut Tree<Content>, parent: NodeId, child: Option<NodeId>, node:
 fn put_all(tree: &mut Tree<Content>, parent: NodeId, child: Option<NodeId>, nodes: &[NodeId])
     requires owned { IsOwnedWell tree.old.forest }
     requires ready { IsOpen tree.old.forest parent child nodes.now }
-    ensures { tree.new ≡ record tree.old { forest = all_placed parent child nodes.now
-        tree.old.forest } }
+    ensures { tree.new ≡ record tree.old {
+      forest = all_placed parent child nodes.now
+          tree.old.forest;
+    } }
 {
     for node in nodes {
         tree.sound();
@@ -50,8 +52,10 @@ impl World {
         requires whole { IsWhole self.old }
         requires ready { IsOpen self.old.tree.forest parent child nodes.now }
         ensures { self.new ≡ record self.old {
-          ranges = record self.old.ranges { ranges = with_room self.old.tree.forest parent child
-            (length nodes.now) self.old.ranges.ranges };
+          ranges = record self.old.ranges {
+            ranges = with_room self.old.tree.forest parent child
+                (length nodes.now) self.old.ranges.ranges;
+          };
         } }
     {
         let Some(child) = child else {

@@ -94,8 +94,10 @@ impl World {
             (made_node (unwrap_or document self.old.tree.made) label content)) }
         ensures kept { OnErr result (CoversAhead self.old self.new) }
         ensures labelled { KeepsLabels self.old self.new }
-        ensures parts { self.new ≡ record self.old { tree = self.new.tree;
-            ranges = self.new.ranges } }
+        ensures parts { self.new ≡ record self.old {
+          tree = self.new.tree;
+          ranges = self.new.ranges;
+        } }
         ensures whole { IsWhole self.new }
     {
         // each call on a world takes the allocator; here the parts have it

@@ -274,8 +274,10 @@ impl Observers {
         ensures records { Answers (queue_of observer) self.old result.items }
         ensures taken { Steps (records_taken observer) self.old self.new }
         ensures own { result.items ≡ records_at self.old.queues observer }
-        ensures left { self.new ≡ record self.old { queues = slice_set self.old.queues observer
-            (Some []) } }
+        ensures left { self.new ≡ record self.old {
+          queues = slice_set self.old.queues observer
+              (Some []);
+        } }
         ensures names { NamesOnly [] self.old self.new }
         ensures made { SameObservers self.old self.new }
     {
@@ -324,8 +326,8 @@ impl Observers {
     pub fn queue<X>(&mut self, tree: &Tree<X>, mutation: &Mutation<'_>) -> Result<(), AllocError>
         requires { HasNode tree.now.forest mutation.now.target }
         ensures queued { OnOk result ((x : Observing) → Watches self.old x →
-            Watches self.new (noted (record (mutation.now)
-            { standing = standing_on (ancestors mutation.now.target tree.now.forest) x.registrations
+            Watches self.new (noted (record (mutation.now) {
+              standing = standing_on (ancestors mutation.now.target tree.now.forest) x.registrations;
             }) x)) }
         ensures partly { OnErr result (IsPartlyQueued mutation.now self.old self.new) }
         ensures names { NamesOnly (nodes_of_mutation mutation.now) self.old self.new }

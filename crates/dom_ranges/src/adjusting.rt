@@ -16,8 +16,10 @@ impl Ranges {
     /// Nodes come in among a parent's children, `count` of them at the index `at`.
     pub fn gap(&mut self, parent: NodeId, at: usize, count: usize)
         requires { OffsetsFit (after_gap parent at count) self.old.ranges }
-        ensures { self.new ≡ record self.old { ranges = map_ranges (after_gap parent at count)
-            self.old.ranges } }
+        ensures { self.new ≡ record self.old {
+          ranges = map_ranges (after_gap parent at count)
+              self.old.ranges;
+        } }
     {
         let shift = Shift::Splice {
             inside: parent,
@@ -31,8 +33,10 @@ impl Ranges {
     /// In the data of a node `added` units take the place of `count` at the offset `at`.
     pub fn spliced(&mut self, node: NodeId, at: usize, count: usize, added: usize)
         requires { OffsetsFit (after_splice node at count added) self.old.ranges }
-        ensures { self.new ≡ record self.old { ranges = map_ranges
-            (after_splice node at count added) self.old.ranges } }
+        ensures { self.new ≡ record self.old {
+          ranges = map_ranges
+              (after_splice node at count added) self.old.ranges;
+        } }
     {
         let shift = Shift::Splice {
             inside: node,
@@ -48,8 +52,10 @@ impl Ranges {
         requires fit { OffsetsFit (after_split node at new parent index) self.old.ranges }
         requires new_covered { IsCovered self.old new }
         requires parent_covered { IsCovered self.old parent }
-        ensures { self.new ≡ record self.old { ranges = map_ranges
-            (after_split node at new parent index) self.old.ranges } }
+        ensures { self.new ≡ record self.old {
+          ranges = map_ranges
+              (after_split node at new parent index) self.old.ranges;
+        } }
     {
         let shift = Shift::Split {
             text: node,
@@ -65,8 +71,10 @@ impl Ranges {
     pub fn merged(&mut self, from: NodeId, into: NodeId, base: usize, parent: NodeId, index: usize)
         requires fit { OffsetsFit (after_merge from into base parent index) self.old.ranges }
         requires into_covered { IsCovered self.old into }
-        ensures { self.new ≡ record self.old { ranges = map_ranges
-            (after_merge from into base parent index) self.old.ranges } }
+        ensures { self.new ≡ record self.old {
+          ranges = map_ranges
+              (after_merge from into base parent index) self.old.ranges;
+        } }
     {
         let shift = Shift::Merge {
             from,
@@ -84,8 +92,10 @@ impl Ranges {
 
     // The points of a parent close up behind a child that leaves it.
     fn close_up(&mut self, parent: NodeId, index: usize)
-        ensures { self.new ≡ record self.old { ranges = map_ranges (after_splice parent index 1 0)
-            self.old.ranges } }
+        ensures { self.new ≡ record self.old {
+          ranges = map_ranges (after_splice parent index 1 0)
+              self.old.ranges;
+        } }
     {
         let shift = Shift::Splice {
             inside: parent,
@@ -100,8 +110,10 @@ impl Ranges {
     fn gather_at(&mut self, node: NodeId, to: Point)
         requires covered { IsCovered self.old to.node }
         requires fits { to.offset < 2 ^ 64 }
-        ensures { self.new ≡ record self.old { ranges = map_ranges (on_node node (λ _. to))
-            self.old.ranges } }
+        ensures { self.new ≡ record self.old {
+          ranges = map_ranges (on_node node (λ _. to))
+              self.old.ranges;
+        } }
     {
         self.chains.shift(node, &Shift::Gather { to });
     }
@@ -109,8 +121,10 @@ impl Ranges {
     // The same of all ends inside a node. It asks each end.
     fn gather_ends<X>(&mut self, tree: &Tree<X>, top: NodeId, to: Point)
         requires covered { IsCovered self.old to.node }
-        ensures { self.new ≡ record self.old { ranges = map_ranges
-            (moved_in (inclusive_descendants tree.now.forest top) to) self.old.ranges } }
+        ensures { self.new ≡ record self.old {
+          ranges = map_ranges
+              (moved_in (inclusive_descendants tree.now.forest top) to) self.old.ranges;
+        } }
     {
         self.chains.gather(tree, top, to);
     }
@@ -120,8 +134,10 @@ impl Ranges {
         requires held { HasNode tree.now.forest top }
         requires covered { IsCovered self.old to.node }
         requires fits { to.offset < 2 ^ 64 }
-        ensures { self.new ≡ record self.old { ranges = map_ranges
-            (moved_in (inclusive_descendants tree.now.forest top) to) self.old.ranges } }
+        ensures { self.new ≡ record self.old {
+          ranges = map_ranges
+              (moved_in (inclusive_descendants tree.now.forest top) to) self.old.ranges;
+        } }
     {
         tree.sound();
         let mut here = top;
@@ -142,7 +158,7 @@ impl Ranges {
         ensures { IfSome (parent_of tree.now.forest node)
             (λ p. self.new ≡ record self.old {
               ranges = map_ranges (after_removal (inclusive_descendants tree.now.forest node) p
-            (index_of tree.now.forest node)) self.old.ranges;
+                  (index_of tree.now.forest node)) self.old.ranges;
             }) }
     {
         let parent = tree.parent(node).unwrap();

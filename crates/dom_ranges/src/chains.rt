@@ -167,8 +167,11 @@ impl Chains {
     fn settle(&mut self, id: EndId, point: Point)
         requires { id < length self.old.table.items }
         ensures table { self.new.table.items
-            ≡ slice_set self.old.table.items id (record { point = Some point; prev = None;
-            next = head_at self.old.heads.items point.node }) }
+            ≡ slice_set self.old.table.items id (record {
+              point = Some point;
+              prev = None;
+              next = head_at self.old.heads.items point.node;
+            }) }
         ensures heads { self.new.heads.items ≡ self.old.heads.items }
     {
         let next = self.head(node_of(&point));

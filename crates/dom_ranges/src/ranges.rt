@@ -88,8 +88,10 @@ impl Ranges {
         requires held { HasNode tree.now.forest top }
         requires empty { list_any (λ m. among m (inclusive_descendants tree.now.forest top))
             (live_nodes self.old) ≡ false }
-        ensures { self.new ≡ record self.old { covered = uncovered
-            (inclusive_descendants tree.now.forest top) self.old.covered } }
+        ensures { self.new ≡ record self.old {
+          covered = uncovered
+              (inclusive_descendants tree.now.forest top) self.old.covered;
+        } }
     {
         tree.sound();
         let mut here = top;
@@ -115,8 +117,10 @@ impl Ranges {
         requires in_order { IsRangeIn X.length tree.now.forest
             (record { start = start; end = end }) }
         ensures number { IfOk result (λ r. r ≡ length self.old.ranges) }
-        ensures made { OnOk result (self.new ≡ record self.old { ranges = self.old.ranges
-            ++ Some (record { start = start; end = end }) ∷ [] }) }
+        ensures made { OnOk result (self.new ≡ record self.old {
+          ranges = self.old.ranges
+              ++ Some (record { start = start; end = end }) ∷ [];
+        }) }
         ensures unchanged { OnErr result (self.new ≡ self.old) }
     {
         // only what is asked of the two points names the tree

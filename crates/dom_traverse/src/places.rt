@@ -81,8 +81,10 @@ impl Places {
     pub(crate) fn add(&mut self, place: usize) -> Result<(), AllocError>
         requires there { place < self.old.count }
         requires few { length self.old.items < 2 ^ 32 }
-        ensures added { OnOk result (self.new ≡ record self.old { items = self.old.items
-            ++ Some place ∷ [] }) }
+        ensures added { OnOk result (self.new ≡ record self.old {
+          items = self.old.items
+              ++ Some place ∷ [];
+        }) }
         ensures unchanged { OnErr result (self.new ≡ self.old) }
     {
         let id = self.seats.len() as u32;

@@ -63,8 +63,10 @@ impl<X> Tree<X> {
     #[inline(always)]
     pub(crate) fn move_to(&mut self, id: NodeId, document: NodeId)
         requires { HasNode self.old.forest id }
-        ensures { self.new ≡ record self.old { forest = with_node id (in_document document)
-            self.old.forest } }
+        ensures { self.new ≡ record self.old {
+          forest = with_node id (in_document document)
+              self.old.forest;
+        } }
     {
         let place = place_of(&self.links, &self.table, id);
         let former = replace_document(&mut self.links, place, document);

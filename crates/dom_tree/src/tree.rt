@@ -79,8 +79,12 @@ impl<X: Drop> Tree<X> {
         ensures number { IfOk result (λ id. id ≡ self.old.made) }
         ensures made { OnOk result (self.new ≡ record {
           forest = beside self.old.forest
-              (node (record { number = self.old.made; document = unwrap_or document self.old.made;
-            label = label; body = body }) empty empty);
+              (node (record {
+                number = self.old.made;
+                document = unwrap_or document self.old.made;
+                label = label;
+                body = body;
+              }) empty empty);
           made = self.old.made + 1;
         }) }
         ensures unchanged { OnErr result (self.new ≡ self.old) }
@@ -97,8 +101,12 @@ impl<X: Drop> Tree<X> {
         ensures number { IfOk result (λ id. id ≡ self.old.made) }
         ensures made { OnOk result (self.new ≡ record {
           forest = beside self.old.forest
-              (node (record { number = self.old.made; document = self.old.made; label = label;
-            body = body }) empty empty);
+              (node (record {
+                number = self.old.made;
+                document = self.old.made;
+                label = label;
+                body = body;
+              }) empty empty);
           made = self.old.made + 1;
         }) }
         ensures unchanged { OnErr result (self.new ≡ self.old) }

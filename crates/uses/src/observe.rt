@@ -43,8 +43,10 @@ pub fn tell_and_take<X>(
     requires target { HasNode tree.now.forest change.now.target }
     ensures records { IfOk result (λ records. (x : Observing) → Watches observers.old x →
         records.items ≡ queue_of observer
-        (noted (record (change.now) { standing = standing_on
-        (ancestors change.now.target tree.now.forest) x.registrations }) x)) }
+        (noted (record (change.now) {
+          standing = standing_on
+              (ancestors change.now.target tree.now.forest) x.registrations;
+        }) x)) }
 {
     observers.queue(tree, change)?;
     Ok(observers.take(observer))
