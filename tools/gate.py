@@ -19,7 +19,8 @@ import edits
 import start
 
 TESTS = "tests"
-TWO = 2
+# The most threads of a proof beside tests or edits, which lack what a third one wastes.
+MOST_BESIDE = 2
 
 
 class Turns:
@@ -84,9 +85,9 @@ class Gate(edits.Edits):
         return self.is_waited_for(crate) and super().is_ready(crate)
 
     def threads(self, crate, jobs):
-        """Returns how many threads a proof gets: at most two beside tests or edits, which lack what a third one wastes."""
+        """Returns how many threads a proof gets: fewer beside tests or edits."""
         most = super().threads(crate, jobs)
-        return max(jobs, min(most, TWO)) if self.turns.others else most
+        return max(jobs, min(most, MOST_BESIDE)) if self.turns.others else most
 
     def prove(self, crate, given, jobs):
         if not self.is_waited_for(crate):

@@ -1,6 +1,6 @@
 #!/usr/bin/env python3
-"""Tests tools/setup, tools/gathered.py, tools/printed.py, tools/rows.py, tools/commands.py and tools/quoted.py where nothing is installed, built or proved:
-apt is a script that notes how it was called."""
+"""Tests tools/setup, tools/gathered.py, tools/printed.py, tools/rows.py, tools/commands.py, tools/quoted.py and how many threads a proof gets, where nothing
+is installed, built or proved: apt is a script that notes how it was called."""
 import glob
 import importlib.machinery
 import importlib.util
@@ -8,6 +8,7 @@ import os
 import subprocess
 import sys
 import tempfile
+import types
 import unittest
 
 sys.dont_write_bytecode = True
@@ -15,9 +16,11 @@ HERE = os.path.dirname(os.path.realpath(__file__))
 sys.path.insert(0, HERE)
 import commands
 import contracts
+import gate
 import gathered
 import printed
 import quoted
+import start
 
 APT = '#!/bin/sh\necho "$0 $@" >>{log}\nexit {status}\n'
 
@@ -117,6 +120,39 @@ class Pages(unittest.TestCase):
                 words[it] = len(file.read().split())
         self.assertLessEqual(words["README.md"], 900)
         self.assertLessEqual(sum(words.values()), 40000)
+
+
+class Threads(unittest.TestCase):
+    """How many threads a proof gets, of four processors."""
+
+    def run_of(self, kind, sizes, free=64e9):
+        """Returns a run over crates of so many bytes, of which only `top` stands on others."""
+        run = kind.__new__(kind)
+        run.rt = types.SimpleNamespace(processors=lambda: 4, free=lambda: free, need=lambda crate: 1e9)
+        low = {name: types.SimpleNamespace(name=name, below=lambda: [], is_program=False, is_static=False) for name in sizes}
+        top = types.SimpleNamespace(name="top", below=lambda: [*low.values()], is_program=False, is_static=False)
+        run.crates, run.sizes, run.proved, run.turns = {**low, "top": top}, dict(sizes), set(), gate.Turns(4)
+        return run
+
+    def threads(self, run, name, jobs=1):
+        return run.threads(run.crates[name], jobs)
+
+    def test_a_share_by_the_text_of_what_is_ready(self):
+        for kind in (start.Start, gate.Gate):
+            run = self.run_of(kind, {"long": 900, "short": 100})
+            self.assertEqual([self.threads(run, it) for it in ("long", "short")], [4, 1])
+            run.proved = {"long"}
+            self.assertEqual(self.threads(run, "short"), 4)
+
+    def test_as_many_as_memory_holds(self):
+        self.assertEqual(self.threads(self.run_of(start.Start, {"long": 900}, free=1e9), "long"), 2)
+        self.assertEqual(self.threads(self.run_of(start.Start, {"long": 900}, free=1e9), "long", jobs=3), 3)
+
+    def test_fewer_beside_tests_or_edits(self):
+        run = self.run_of(gate.Gate, {"long": 900})
+        with run.turns.other():
+            self.assertEqual(self.threads(run, "long"), 2)
+        self.assertEqual(self.threads(run, "long"), 4)
 
 
 class Rows(unittest.TestCase):
