@@ -1,5 +1,6 @@
 -- Steps of an insertion, and what is known of the world between them. DOM Standard, "Mutation algorithms": insert.
-use Rattle.std.proofs.Common.{◌≡◌, ℕ, zero, suc, ◌<◌, ◌==◌, Bool, true, false, if◌then◌else◌, List, [], ◌∷◌, ◌++◌, length, get_or, Option, refl, ap, sym, ◌∙◌, subst, arith}
+use Rattle.std.proofs.Common.{◌≡◌, ℕ, zero, suc, ◌<◌, ◌==◌, Bool, true, false, if◌then◌else◌, List, [], ◌∷◌, ◌++◌, length, get_or, Option, Some, None, refl, ap, sym, ◌∙◌, subst, arith}
+use Rattle.std.proofs.lemmas.Bool.{eqb-true}
 use Rattle.dom_model.specs.declared.Kind.TheVariants.{DocumentFragment}
 use Rattle.dom_model.specs.PlainLists.Lists.{hits}
 use Rattle.dom_model.specs.Forests.Forest.{Forest, occurs, children_of}
@@ -15,9 +16,11 @@ use Rattle.dom_model.proofs.Soundness.SoundInserting.{IsReady, freed_ready}
 use Rattle.dom_observe.specs.Watchers.{Watches}
 use Rattle.dom_edit.specs.declared.world.World.{World}
 use Rattle.dom_edit.specs.Whole.{IsWhole, Keeps, Follows, unwatched}
-use Rattle.dom_edit.specs.Inserting.{entering, AreThere, IsOpen}
+use Rattle.dom_edit.specs.declared.inserting.Incoming.{Incoming}
+use Rattle.dom_edit.specs.declared.inserting.Incoming.TheVariants.{Alone, Children}
+use Rattle.dom_edit.specs.Inserting.{ComesIn, brought, AreThere, IsOpen}
 use Rattle.dom_edit.specs.Keeping.{KeepsWatchers, KeepsNodes}
-use Rattle.dom_edit.proofs.Following.{keeps-unwatched, follows-then}
+use Rattle.dom_edit.proofs.Following.{keeps-unwatched, follows-none, follows-then}
 use Rattle.dom_edit.proofs.PlacedRoots.{placed-world}
 use Rattle.dom_edit.proofs.PlacedWorlds.{sound-unwatched, placing}
 use Rattle.dom_edit.proofs.LabelsKept.{told_of, kept-told, told-all_placed}
@@ -66,6 +69,15 @@ there-removed_all a b ns h i f m j =
 
 -- What comes in with a node.
 
+-- a fragment's children, or the node alone
+abbrev pub entering : Forest Content → ℕ → List ℕ
+entering f n = if is_of_kind DocumentFragment f n then children_of f n else n ∷ []
+
+-- the same of a node that may be given
+abbrev pub entering_if_any : Forest Content → Option ℕ → List ℕ
+entering_if_any f None = []
+entering_if_any f (Some n) = entering f n
+
 pub nodes-entering : (a : World) (n : ℕ) (w : model.World) → Keeps a w → nodes_of w n ≡ entering a.tree.forest n
 nodes-entering a n w k = ap (λ (f : Forest Content). entering f n) k.forest
 
@@ -75,14 +87,34 @@ if_so t x y e = rw e refl
 pub if_not : {A : Type 0} (t : Bool) (x y : A) → t ≡ false → (if t then x else y) ≡ y
 if_not t x y e = rw e refl
 
+-- a node that is no fragment, or a fragment's children
+pub alone-entering : (f : Forest Content) (n : ℕ) → is_of_kind DocumentFragment f n ≡ false → n ∷ [] ≡ entering f n
+alone-entering f n e = sym (if_not (is_of_kind DocumentFragment f n) (children_of f n) (n ∷ []) e)
+
+pub children-entering : (f : Forest Content) (n : ℕ) (ns : List ℕ) → is_of_kind DocumentFragment f n ≡ true → ns ≡ children_of f n → ns ≡ entering f n
+children-entering f n ns e d = d ∙ sym (if_so (is_of_kind DocumentFragment f n) (children_of f n) (n ∷ []) e)
+
+pub brought-entering : (f : Forest Content) (n : ℕ) (i : Incoming) → ComesIn f n i → brought n i ≡ entering f n
+brought-entering f n Alone e = alone-entering f n e
+brought-entering f n (Children nodes) e = children-entering f n nodes.items e.0 e.1
+
 -- a fragment's children are there
 pub entering-there : (a : World) (n : ℕ) → IsWhole a → is_of_kind DocumentFragment a.tree.forest n ≡ true → (ns : List ℕ) → ns ≡ entering a.tree.forest n → AreThere a.tree.forest ns
 entering-there a n h k ns e m i =
     let d = e ∙ if_so (is_of_kind DocumentFragment a.tree.forest n) (children_of a.tree.forest n) (n ∷ []) k in
     child-there a.tree.forest h.forest.once m n (subst (λ (xs : List ℕ). 0 < hits m xs) d i)
 
-pub freed-fragment : (a : World) (n : ℕ) (ns : List ℕ) → is_of_kind DocumentFragment a.tree.forest n ≡ true → (w : model.World) → Keeps a w → freed n ns w ≡ emptied_fragment n ns w
-freed-fragment a n ns e w k = if_so (is_fragment w n) (emptied_fragment n ns w) (remove false n w) (ap (λ (f : Forest Content). is_of_kind DocumentFragment f n) k.forest ∙ e)
+-- either leaves where it stands
+pub follows-freed_alone : (a b : World) (n : ℕ) (ns : List ℕ) → is_of_kind DocumentFragment a.tree.forest n ≡ false → Follows a b (remove false n) → Follows a b (freed n ns)
+follows-freed_alone a b n ns e =
+    follows-as a b (remove false n) (freed n ns)
+    (λ w k. if_not (is_fragment w n) (emptied_fragment n ns w) (remove false n w) (ap (λ (f : Forest Content). is_of_kind DocumentFragment f n) k.forest ∙ e))
+
+pub follows-freed_children : (a b c : World) (n : ℕ) (ns : List ℕ) → is_of_kind DocumentFragment a.tree.forest n ≡ true → Follows a b (remove_all ns) → Follows b c (tree_record n [] ns None None) → Follows a c (freed n ns)
+follows-freed_children a b c n ns e f r =
+    follows-as a c (emptied_fragment n ns) (freed n ns)
+    (λ w k. if_so (is_fragment w n) (emptied_fragment n ns w) (remove false n w) (ap (λ (f : Forest Content). is_of_kind DocumentFragment f n) k.forest ∙ e))
+    (follows-then a b c (remove_all ns) (tree_record n [] ns None None) f r)
 
 -- once the nodes have left where they stood they may be put
 pub open-freed : (a b : World) (n parent : ℕ) (child : Option ℕ) (ns : List ℕ) → IsWhole a → IsInsertable a.tree.forest n parent child → ns ≡ entering a.tree.forest n → Follows a b (freed n ns) → IsOpen b.tree.forest parent child ns
@@ -122,3 +154,13 @@ follows-insert a b c n parent child ns suppressed some e f i =
     parts : (w : model.World) (ms : List ℕ) → (length ms == 0) ≡ false → insert_nodes suppressed n parent child ms w ≡ insert_all suppressed parent child ms (freed n ms w)
     parts w [] none = absurd (cc none)
     parts w (m ∷ ms) none = refl
+
+-- a fragment without children
+pub follows-nothing : (a : World) (suppressed : Bool) (n parent : ℕ) (child : Option ℕ) (ns : List ℕ) → ns ≡ entering a.tree.forest n → (length ns == 0) ≡ true → Follows a a (insert suppressed n parent child)
+follows-nothing a suppressed n parent child ns e none =
+    follows-as a a (λ w. w) (insert suppressed n parent child)
+    (λ w k. ap (λ (ms : List ℕ). insert_nodes suppressed n parent child ms w) (nodes-entering a n w k ∙ sym e) ∙ parts w ns none) (follows-none a)
+  where
+    parts : (w : model.World) (ms : List ℕ) → (length ms == 0) ≡ true → insert_nodes suppressed n parent child ms w ≡ w
+    parts w [] none = refl
+    parts w (m ∷ ms) none = absurd (let z : length (m ∷ ms) ≡ 0 = eqb-true (length (m ∷ ms)) 0 none in omega arith)

@@ -3,12 +3,10 @@ use Rattle.std.proofs.Common.{◌≡◌, ℕ, ◌<◌, ◌≤◌, ◌==◌, Bool
 use Rattle.std.specs.Prelude.{All}
 use Rattle.std.proofs.lemmas.Bool.{cases_lt}
 use Rattle.std.proofs.lemmas.List.Elements.{All-head, All-tail}
-use Rattle.dom_model.specs.declared.Kind.TheVariants.{DocumentFragment}
 use Rattle.dom_model.specs.PlainLists.Lists.{hits, among}
 use Rattle.dom_model.specs.Forests.Arena.{parent_in}
 use Rattle.dom_model.specs.Forests.EachNode.{EachNode}
 use Rattle.dom_model.specs.Forests.Forest.{Forest, HasNode, empty, occurs, one_at, beside, tree_at, cut, put, adopted, in_document, entry_in, parent_of, children_of, ancestors, inclusive_descendants}
-use Rattle.dom_model.specs.Forests.Nodes.{is_of_kind}
 use Rattle.dom_model.specs.Worlds.World.{Content, Iterator}
 use Rattle.dom_model.specs.Soundness.Sound.{IsIterator}
 use Rattle.dom_model.specs.MutationAlgorithms.Editing.{document_in}
@@ -26,7 +24,7 @@ use Rattle.dom_model.proofs.Forests.TreeOrder.Flattened.{hits-numbers}
 use Rattle.dom_observe.specs.Held.{named, NamesNoneOf}
 use Rattle.dom_observe.specs.Watchers.{Watchers}
 use Rattle.dom_edit.specs.declared.world.World.{World}
-use Rattle.dom_edit.specs.Inserting.{placed_in, all_placed, entering}
+use Rattle.dom_edit.specs.Inserting.{placed_in, all_placed}
 use Rattle.dom_edit.specs.Leaving.{LeavesAll, AreNewer}
 use Rattle.dom_edit.specs.Whole.{IsWhole}
 use Rattle.dom_edit.proofs.PlacedWorlds.{with_placed}
@@ -107,13 +105,8 @@ module _ (a : World) (h : IsWhole a) where
         (λ (le : low ≤ n). le)
         (cases_lt n low)
 
-    -- what comes in with a newer node is newer
-    pub entering-newer : IsOnce v.tree.forest → (n : ℕ) → low ≤ n → (ns : List ℕ) → ns ≡ entering v.tree.forest n → AreNewer a ns
-    entering-newer o n k ns e = subst (AreNewer a) (sym e) (go (is_of_kind DocumentFragment v.tree.forest n))
-      where
-        go : (b : Bool) → AreNewer a (if b then children_of v.tree.forest n else n ∷ [])
-        go true m i = child-newer m n (child-parent v.tree.forest o m n i) k
-        go false m i = elim (same_or n m) [ same d _ ↦ subst (λ x. low ≤ x) d k | apart ne t ↦ absurd (let j = rw t at i in omega arith) ]
+    pub children-newer : IsOnce v.tree.forest → (n : ℕ) → low ≤ n → (ns : List ℕ) → ns ≡ children_of v.tree.forest n → AreNewer a ns
+    children-newer o n k ns e = subst (AreNewer a) (sym e) (λ m i. child-newer m n (child-parent v.tree.forest o m n i) k)
 
     -- no iterator stands inside a newer node
     iterator-stays : (n : ℕ) → low ≤ n → (i : Iterator) → IsIterator f i → pre_removed v.tree.forest n i ≡ i

@@ -17,13 +17,13 @@ use Rattle.dom_model.proofs.Soundness.SoundWorlds.{child_there}
 use Rattle.dom_tree.proofs.Beside.{forward-step}
 use Rattle.dom_edit.specs.declared.world.World.{World}
 use Rattle.dom_edit.specs.Whole.{IsWhole}
-use Rattle.dom_edit.specs.Inserting.{reference_in, entering, entering_if_any, AreThere}
+use Rattle.dom_edit.specs.Inserting.{reference_in, AreThere}
 use Rattle.dom_ranges.specs.Tables.{RangeTable}
 use Rattle.dom_observe.specs.Held.{SameObservers}
 use Rattle.dom_edit.specs.Keeping.{present, KeepsWatchers, KeepsLabels, KeepsNodes}
 use Rattle.dom_edit.proofs.WatchersKept.{watchers-then, watchers-none, watchers-observed, watchers-ranged}
 use Rattle.dom_edit.proofs.LabelsKept.{told_of, kept-told, told-cut, told-adopted}
-use Rattle.dom_edit.proofs.InsertedNodes.{if_not, entering-there}
+use Rattle.dom_edit.proofs.InsertedNodes.{if_not, entering, entering_if_any, entering-there}
 
 -- Steps that keep all nodes.
 

@@ -1,6 +1,6 @@
 -- Steps of a replacement, and what is known of the world between them. DOM Standard, "Mutation algorithms": pre-insert, replace, replace all.
 use Rattle.std.specs.Option.{ForSome}
-use Rattle.std.proofs.Common.{◌≡◌, ℕ, zero, suc, ◌<◌, ◌≤◌, ◌==◌, Bool, true, false, if◌then◌else◌, List, [], ◌∷◌, length, Option, Some, None, refl, ap, sym, ◌∙◌, subst, arith}
+use Rattle.std.proofs.Common.{◌≡◌, ℕ, zero, suc, ◌<◌, ◌≤◌, ◌==◌, Bool, true, false, List, [], ◌∷◌, length, Option, Some, None, refl, ap, sym, ◌∙◌, subst, arith}
 use Rattle.dom_model.specs.declared.Kind.TheVariants.{DocumentFragment}
 use Rattle.dom_model.specs.declared.DomError.TheVariants.{HierarchyRequestError}
 use Rattle.dom_model.specs.PlainLists.Lists.{hits}
@@ -23,10 +23,12 @@ use Rattle.dom_model.proofs.Soundness.SoundEditing.{IsChecked, checks, checks_in
 use Rattle.dom_edit.specs.declared.world.World.{World}
 use Rattle.dom_edit.specs.Whole.{IsWhole, Keeps, Follows, unwatched}
 use Rattle.dom_edit.specs.Refusals.{check_only_child}
-use Rattle.dom_edit.specs.Inserting.{reference_in, entering, entering_if_any, AreThere}
+use Rattle.dom_edit.specs.declared.inserting.Incoming.{Incoming}
+use Rattle.dom_edit.specs.declared.inserting.Incoming.TheVariants.{Alone, Children}
+use Rattle.dom_edit.specs.Inserting.{reference_in, ComesIn, brought_if_any, AreThere}
 use Rattle.dom_edit.proofs.Following.{follows-then}
 use Rattle.dom_edit.proofs.PlacedWorlds.{sound-unwatched}
-use Rattle.dom_edit.proofs.InsertedNodes.{follows-as, forest-after, nodes-entering}
+use Rattle.dom_edit.proofs.InsertedNodes.{follows-as, forest-after, entering, entering_if_any, nodes-entering, brought-entering}
 
 -- Records of what replaced all children.
 
@@ -68,32 +70,33 @@ all-apart (n ∷ ns) xs h =
     let e = left_out-absent n xs (h n (hits-first n ns)) in
     ap (all_left_out ns) e ∙ all-apart ns xs (λ m k. h m (omega arith))
 
--- a list that is told by a kind and by the children
-entering-same : (f g : Forest Content) (n : ℕ) → is_of_kind DocumentFragment g n ≡ is_of_kind DocumentFragment f n → children_of g n ≡ children_of f n → entering g n ≡ entering f n
-entering-same f g n e d = ap (λ t. if t then children_of g n else n ∷ []) e ∙ ap (λ xs. if is_of_kind DocumentFragment f n then xs else n ∷ []) d
+-- it is told by a kind and by the children
+come-same : (f g : Forest Content) (n : ℕ) (i : Incoming) → is_of_kind DocumentFragment g n ≡ is_of_kind DocumentFragment f n → children_of g n ≡ children_of f n → ComesIn f n i → ComesIn g n i
+come-same f g n Alone e d c = e ∙ c
+come-same f g n (Children nodes) e d c = (e ∙ c.0, c.1 ∙ sym d)
 
-module _ (a b : World) (h : IsWhole a) (parent n : ℕ) (there : 0 < occurs parent a.tree.forest) (outside : hits n (ancestors parent a.tree.forest) ≡ 0) where
-  pub entering-removed : (c : ℕ) (suppressed : Bool) → parent_of a.tree.forest c ≡ Some parent → Follows a b (remove suppressed c) → entering b.tree.forest n ≡ entering a.tree.forest n
-  entering-removed c suppressed e f =
+module _ (a b : World) (h : IsWhole a) (parent n : ℕ) (there : 0 < occurs parent a.tree.forest) (outside : hits n (ancestors parent a.tree.forest) ≡ 0) (i : Incoming) (told : ComesIn a.tree.forest n i) where
+  pub come-removed : (c : ℕ) (suppressed : Bool) → parent_of a.tree.forest c ≡ Some parent → Follows a b (remove suppressed c) → ComesIn b.tree.forest n i
+  come-removed c suppressed e f =
       let s = sound-unwatched a h in
       let hc = child_there a.tree.forest c parent e in
       let l = loosened-remove suppressed c (unwatched a) s hc in
       let z = apart-children a.tree.forest h.forest.once c n parent e (parent-other a.tree.forest parent n there outside) in
-      ap (λ (g : Forest Content). entering g n) (forest-after a b (remove suppressed c) f)
-      ∙ entering-same a.tree.forest (remove suppressed c (unwatched a)).forest n (l.kinds (is_kind DocumentFragment) n)
-      (children-remove suppressed c (unwatched a) s hc n ∙ left_out-absent c (children_of a.tree.forest n) z)
+      subst (λ (g : Forest Content). ComesIn g n i) (sym (forest-after a b (remove suppressed c) f))
+      (come-same a.tree.forest (remove suppressed c (unwatched a)).forest n i (l.kinds (is_kind DocumentFragment) n)
+      (children-remove suppressed c (unwatched a) s hc n ∙ left_out-absent c (children_of a.tree.forest n) z) told)
 
-  pub entering-emptied : Follows a b (remove_all (children_of a.tree.forest parent)) → entering b.tree.forest n ≡ entering a.tree.forest n
-  entering-emptied f =
+  pub come-emptied : Follows a b (remove_all (children_of a.tree.forest parent)) → ComesIn b.tree.forest n i
+  come-emptied f =
       let s = sound-unwatched a h in
       let ns = children_of a.tree.forest parent in
       let held : AreThere a.tree.forest ns = λ m i. child-there a.tree.forest h.forest.once m parent i in
       let l = loosened-remove_all ns (unwatched a) s held in
       let z : (m : ℕ) → 0 < hits m ns → hits m (children_of a.tree.forest n) ≡ 0 =
       λ m i. apart-children a.tree.forest h.forest.once m n parent (child-parent a.tree.forest h.forest.once m parent i) (parent-other a.tree.forest parent n there outside) in
-      ap (λ (g : Forest Content). entering g n) (forest-after a b (remove_all ns) f)
-      ∙ entering-same a.tree.forest (remove_all ns (unwatched a)).forest n (l.kinds (is_kind DocumentFragment) n)
-      (children-remove_all ns (unwatched a) s held n ∙ all-apart ns (children_of a.tree.forest n) z)
+      subst (λ (g : Forest Content). ComesIn g n i) (sym (forest-after a b (remove_all ns) f))
+      (come-same a.tree.forest (remove_all ns (unwatched a)).forest n i (l.kinds (is_kind DocumentFragment) n)
+      (children-remove_all ns (unwatched a) s held n ∙ all-apart ns (children_of a.tree.forest n) z) told)
 
 -- Pre-insert.
 
@@ -118,12 +121,11 @@ module _ (a b : World) (h : IsWhole a) (child n parent : ℕ) (reference : Optio
       subst (λ (g : Forest Content). IsInsertable g n parent reference) (sym (forest-after a b (remove true child) f))
       (subst (λ d. IsInsertable (remove true child (unwatched a)).forest n parent d) (sym r) i)
 
-  pub entering-instead : entering b.tree.forest n ≡ entering a.tree.forest n
-  entering-instead =
+  pub come-instead : (i : Incoming) → ComesIn a.tree.forest n i → ComesIn b.tree.forest n i
+  come-instead i c =
       let l = loosened-remove true child (unwatched a) (sound-unwatched a h) (child_there a.tree.forest child parent told.child_of) in
-      let i = insertable-instead in
-      let k = subst (λ (g : Forest Content). 0 < occurs parent g) (forest-after a b (remove true child) f) i.parent_there in
-      entering-removed a b h parent n (subst (λ x. 0 < x) (l.numbers parent) k) told.outside child true told.child_of f
+      let k = subst (λ (g : Forest Content). 0 < occurs parent g) (forest-after a b (remove true child) f) insertable-instead.parent_there in
+      come-removed a b h parent n (subst (λ x. 0 < x) (l.numbers parent) k) told.outside i c child true told.child_of f
 
 pub follows-replace : (a b c d : World) (child n parent : ℕ) (previous reference : Option ℕ) (nodes : List ℕ) → previous ≡ previous_of a.tree.forest child → reference ≡ reference_in a.tree.forest n (next_of a.tree.forest child) → nodes ≡ entering a.tree.forest n →
     Follows a b (remove true child) → Follows b c (insert true n parent reference) → Follows c d (tree_record parent nodes (child ∷ []) previous reference) → Follows a d (replace child n parent)
@@ -163,11 +165,18 @@ module _ (a b : World) (h : IsWhole a) (parent : ℕ) (removed : List ℕ) (r : 
       let i = may_come_before (unwatched a) (sound-unwatched a h) parent m None (occurs-HasNode a.tree.forest m (held m refl)) checked in
       subst (λ k. IsInsertable b.tree.forest k parent None) d (insertable-loosened a.tree.forest b.tree.forest m parent loosened i)
 
-  pub entering-only : HasNode a.tree.forest parent → (node : Option ℕ) → ForSome node (λ n. HasNode a.tree.forest n) → check_only_child a.tree.forest parent node ≡ None → entering_if_any b.tree.forest node ≡ entering_if_any a.tree.forest node
-  entering-only there None held checked = refl
-  entering-only there (Some m) held checked =
-      entering-emptied a b h parent m (occurs-HasNode a.tree.forest parent there) (checks_insert a.tree.forest parent m None checked).outside
-      (subst (λ (ns : List ℕ). Follows a b (remove_all ns)) r f)
+  pub come-only : HasNode a.tree.forest parent → (node : Option ℕ) → ForSome node (λ n. HasNode a.tree.forest n) → check_only_child a.tree.forest parent node ≡ None → (i : Incoming) → ForSome node (λ n. ComesIn a.tree.forest n i) →
+      ForSome node (λ n. ComesIn b.tree.forest n i)
+  come-only there None held checked i told n e = absurd (cc e)
+  come-only there (Some m) held checked i told n e =
+      let d : m ≡ n = cc e in
+      subst (λ k. ComesIn b.tree.forest k i) d
+      (come-emptied a b h parent m (occurs-HasNode a.tree.forest parent there) (checks_insert a.tree.forest parent m None checked).outside i (told m refl)
+      (subst (λ (ns : List ℕ). Follows a b (remove_all ns)) r f))
+
+pub brought-if_any : (f : Forest Content) (node : Option ℕ) (i : Incoming) → ForSome node (λ n. ComesIn f n i) → brought_if_any node i ≡ entering_if_any f node
+brought-if_any f None i all = refl
+brought-if_any f (Some n) i all = brought-entering f n i (all n refl)
 
 -- what comes in with a node that may be given
 pub added-entering : (a : World) (n : Option ℕ) (w : model.World) → Keeps a w → added_by w n ≡ entering_if_any a.tree.forest n

@@ -3,11 +3,9 @@ use Rattle.std.proofs.Common.{◌≡◌, ℕ, ◌<◌, ◌≤◌, Bool, true, fa
 use Rattle.std.proofs.lemmas.Bool.{cases_lt}
 use Rattle.std.specs.List.{list_any}
 use Rattle.dom_model.specs.PlainLists.Lists.{hits, among}
-use Rattle.dom_model.specs.declared.Kind.TheVariants.{DocumentFragment}
-use Rattle.dom_model.specs.Forests.Forest.{Forest, occurs, parent_of, children_of, index_of, ancestors, inclusive_descendants}
+use Rattle.dom_model.specs.Forests.Forest.{Forest, occurs, parent_of, index_of, ancestors, inclusive_descendants}
 use Rattle.dom_model.specs.Worlds.World.{Content, Range}
 use Rattle.dom_model.specs.BoundaryPoints.Points.{map_ranges, after_removal}
-use Rattle.dom_model.specs.Forests.Nodes.{is_of_kind}
 use Rattle.dom_model.specs.MutationAlgorithms.Editing.{remove}
 use Rattle.dom_model.proofs.PlainLists.Numbers.{same_or, same, apart}
 use Rattle.dom_model.proofs.Forests.Climbing.{hits-first, hits-not_among, ancestors-absent}
@@ -20,7 +18,7 @@ use Rattle.dom_model.proofs.RangesAndContents.RangesElsewhere.{removal-elsewhere
 use Rattle.dom_ranges.specs.Tables.{RangeTable, live_nodes}
 use Rattle.dom_edit.specs.declared.world.World.{World}
 use Rattle.dom_edit.specs.Whole.{IsWhole, Follows, unwatched}
-use Rattle.dom_edit.specs.Inserting.{IsUnreferred, entering}
+use Rattle.dom_edit.specs.Inserting.{IsUnreferred}
 use Rattle.dom_edit.proofs.Following.{sound-unwatched}
 use Rattle.dom_edit.proofs.InsertedNodes.{forest-after}
 
@@ -93,10 +91,6 @@ module _ (v : World) (h : IsWhole v) (p n : ℕ) (e : parent_of v.tree.forest n 
         ap (λ (t : Forest Content). parent_of t m) (forest-after v b (remove true n) f)
         ∙ parent-remove true n (unwatched v) (sound-unwatched v h) there m
         ∙ (elim (same_or m n) [ same d t ↦ absurd (ne d) | apart _ t ↦ rw t i ])
-
--- what comes in with a fragment
-pub entering-fragment : (f : Forest Content) (n : ℕ) → is_of_kind DocumentFragment f n ≡ true → (ns : List ℕ) → ns ≡ entering f n → ns ≡ children_of f n
-entering-fragment f n k ns e = e ∙ (rw k refl)
 
 -- the children that are left when some have left: each stands under the parent still, and comes once
 pub record AreLeft (v : World) (p : ℕ) (ns : List ℕ) : Type 0 where

@@ -1,6 +1,6 @@
 -- What comes in under a parent: nodes one after another, and the live range ends that make room for them.
 -- DOM Standard, "Mutation algorithms" (insert), "Live ranges".
-use Rattle.std.specs.Prelude.{◌≡◌, if◌then◌else◌, ℕ, ◌<◌, List, [], ◌∷◌, Option, Some, None}
+use Rattle.std.specs.Prelude.{◌≡◌, if◌then◌else◌, true, false, ℕ, ◌<◌, List, [], ◌∷◌, Option, Some, None}
 use Rattle.dom_model.specs.PlainLists.Lists.{hits, is_number}
 use Rattle.dom_model.specs.Forests.Forest.{Forest, entry_in, occurs, children_of, next_of, ancestors, index_of, put, adopted}
 use Rattle.dom_model.specs.Worlds.World.{Content, Range}
@@ -11,8 +11,8 @@ use Rattle.dom_model.specs.MutationAlgorithms.Editing.{document_in}
 use Rattle.dom_model.specs.MutationAlgorithms.Insertable.{ArePlaceable, IsChildOf}
 use Rattle.dom_ranges.specs.Tables.{live_nodes}
 use Rattle.dom_edit.specs.declared.world.World.{World}
-use Rattle.dom_edit.specs.declared.inserting.NodeList.{NodeList}
-use Rattle.dom_edit.specs.declared.inserting.NodeList.TheVariants.{One, Many}
+use Rattle.dom_edit.specs.declared.inserting.Incoming.{Incoming}
+use Rattle.dom_edit.specs.declared.inserting.Incoming.TheVariants.{Alone, Children}
 
 -- one root put under a parent, in the parent's node document
 abbrev pub placed_in : ℕ → Option ℕ → ℕ → Forest Content → Forest Content
@@ -46,16 +46,17 @@ reference_in f n child = if is_number child n then next_of f n else child
 abbrev pub IsUnreferred : World → ℕ → Type 0
 IsUnreferred v n = (m : ℕ) → 0 < hits m (live_nodes v.ranges) → hits n (ancestors m v.tree.forest) ≡ 0
 
--- what comes in with a node: a fragment's children, or the node alone
-abbrev pub entering : Forest Content → ℕ → List ℕ
-entering f n = if is_of_kind DocumentFragment f n then children_of f n else n ∷ []
+-- what comes in with a node is told: it is no fragment and comes in alone, or it is one, and these are its children
+abbrev pub ComesIn : Forest Content → ℕ → Incoming → Type 0
+ComesIn f n Alone = is_of_kind DocumentFragment f n ≡ false
+ComesIn f n (Children nodes) = (is_of_kind DocumentFragment f n ≡ true) × (nodes.items ≡ children_of f n)
+
+-- the nodes that come in with it
+abbrev pub brought : ℕ → Incoming → List ℕ
+brought n Alone = n ∷ []
+brought n (Children nodes) = nodes.items
 
 -- the same of a node that may be given
-abbrev pub entering_if_any : Forest Content → Option ℕ → List ℕ
-entering_if_any f None = []
-entering_if_any f (Some n) = entering f n
-
--- the nodes of a list
-abbrev pub listed : NodeList → List ℕ
-listed (One nodes) = nodes
-listed (Many nodes) = nodes.items
+abbrev pub brought_if_any : Option ℕ → Incoming → List ℕ
+brought_if_any None i = []
+brought_if_any (Some n) i = brought n i

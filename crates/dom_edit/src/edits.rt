@@ -24,7 +24,7 @@ use crate::checks::{check_insert, check_replace};
 use crate::inserting::{children, entering};
 use crate::questions::reference_child;
 use crate::refusal::Refusal;
-use crate::replacing::{check_only_child, entering_if_any};
+use crate::replacing::{check_only_child, entering_if_any, nodes_if_any};
 use crate::world::World;
 use dom_kinds::{DomError, Kind};
 use dom_tree::NodeId;
@@ -104,10 +104,10 @@ impl World {
         ensures whole { IsWhole self.new }
     {
         if !self.tree.is_of_kind(node, Kind::DocumentFragment) {
-            return self.enter(alloc, false, node, parent, child, &[node]);
+            return self.enter_alone(alloc, false, node, parent, child);
         }
         let nodes = children(&self.tree, alloc, node)?;
-        self.enter(alloc, false, node, parent, child, nodes.as_slice())
+        self.enter_children(alloc, false, node, parent, child, nodes.as_slice())
     }
 
     /// Inserts a node, or the children of a fragment, as [`World::insert`] does, where no end of a live range stands inside the node.
@@ -133,8 +133,8 @@ impl World {
         ensures kept { KeepsNodes self.old self.new }
         ensures whole { IsWhole self.new }
     {
-        let nodes = entering(&self.tree, alloc, node)?;
-        self.enter_unreferred(alloc, node, parent, child, nodes.as_slice())
+        let incoming = entering(&self.tree, alloc, node)?;
+        self.enter_unreferred(alloc, node, parent, child, &incoming)
     }
 
     /// Puts a node, or the children of a fragment, in as the last of a parent's children (append).
@@ -183,15 +183,15 @@ impl World {
         let previous = self.tree.prev(child);
         let following = self.tree.next(child);
         let reference = reference_child(&self.tree, node, following);
-        let nodes = entering(&self.tree, alloc, node)?;
+        let incoming = entering(&self.tree, alloc, node)?;
         self.remove_node(alloc, child, true)?;
         // the checker covers no variable of this type that is passed by value twice
         let before = reference;
-        self.enter(alloc, true, node, parent, before, nodes.as_slice())?;
+        self.enter(alloc, true, node, parent, before, &incoming)?;
         self.queue_tree_record(
             alloc,
             parent,
-            nodes.as_slice(),
+            incoming.nodes(&node),
             &[child],
             previous,
             reference,
@@ -293,11 +293,13 @@ impl World {
     {
         // the checker covers no variable of this type that is passed by value twice
         let entered = node;
-        let added = entering_if_any(&self.tree, alloc, entered)?;
+        let inserted = node;
+        let incoming = entering_if_any(&self.tree, alloc, entered)?;
         let removed = children(&self.tree, alloc, parent)?;
         self.remove_all(alloc, removed.as_slice())?;
-        self.insert_if_any(alloc, node, parent, added.as_slice())?;
-        self.queue_replaced(alloc, parent, added.as_slice(), removed.as_slice())
+        self.insert_if_any(alloc, inserted, parent, &incoming)?;
+        let added = nodes_if_any(&node, &incoming);
+        self.queue_replaced(alloc, parent, added, removed.as_slice())
     }
 
     /// Takes a node out of its parent, and gives it and all that stands under it a node document (adopt).

@@ -2,11 +2,12 @@
 
 ghost use Rattle.std.specs.Prelude.{◌≡◌, [], ◌∷◌, None, IfOk, OnOk, true, false};
 ghost use Rattle.dom_model.specs.declared.Kind.TheVariants.{DocumentFragment};
-ghost use Rattle.dom_model.specs.Forests.Forest.{HasNode, children_of};
+ghost use Rattle.dom_model.specs.Forests.Forest.{HasNode, parent_of, children_of, ancestors};
 ghost use Rattle.dom_model.specs.Forests.Nodes.{is_of_kind};
-ghost use Rattle.dom_model.specs.MutationAlgorithms.Editing.{remove_all, freed, previous_to, insert_all, insert};
+ghost use Rattle.dom_model.specs.MutationAlgorithms.Editing.{tree_record, remove_all, previous_to, insert_all, insert};
 ghost use Rattle.dom_model.specs.MutationAlgorithms.Insertable.{IsInsertable};
-ghost use Rattle.dom_edit.specs.Inserting.{AreThere, IsUnreferred, listed, entering, IsOpen};
+ghost use Rattle.dom_observe.specs.Held.{NamesNoneOf};
+ghost use Rattle.dom_edit.specs.Inserting.{AreThere, IsUnreferred, ComesIn, brought, IsOpen};
 ghost use Rattle.dom_edit.specs.Whole.{IsWhole, Follows};
 ghost use Rattle.dom_edit.specs.Keeping.{KeepsNodes};
 ghost use Rattle.dom_edit.specs.Leaving.{LeavesOlder, IsFragmentOrRoot};
@@ -16,22 +17,23 @@ use crate::world::World;
 use dom_kinds::Kind;
 use dom_tree::{NodeId, Tree};
 use std::alloc::{AllocError, Global};
+use std::slice::from_ref;
 
-/// Nodes in a row. One alone takes no memory.
+/// What comes in with a node: the node alone, which is no fragment, or the children of a fragment.
 #[derive(Drop)]
-pub(crate) enum NodeList {
-    One([NodeId; 1]),
-    Many(Vec<NodeId>),
+pub(crate) enum Incoming {
+    Alone,
+    Children(Vec<NodeId>),
 }
 
-impl NodeList {
-    /// The nodes.
-    pub(crate) fn as_slice(&self) -> &[NodeId]
-        ensures { result.now ≡ listed self.now }
+impl Incoming {
+    /// The nodes that come in with a node.
+    pub(crate) fn nodes<'a>(&'a self, node: &'a NodeId) -> &'a [NodeId]
+        ensures { result.now ≡ brought node.now self.now }
     {
         match self {
-            NodeList::One(node) => node,
-            NodeList::Many(nodes) => nodes.as_slice(),
+            Incoming::Alone => from_ref(node),
+            Incoming::Children(nodes) => nodes.as_slice(),
         }
     }
 }
@@ -52,31 +54,19 @@ pub(crate) fn children(
     Ok(list)
 }
 
-/// What comes in with a node: the children of a fragment, or the node alone.
+/// What comes in with a node. Its kind is asked here.
 pub(crate) fn entering(
     tree: &Tree<Content>,
     alloc: Global,
     node: NodeId,
-) -> Result<NodeList, AllocError>
+) -> Result<Incoming, AllocError>
     requires { HasNode tree.now.forest node }
-    ensures { IfOk result (λ list. listed list ≡ entering tree.now.forest node) }
+    ensures { IfOk result (λ i. ComesIn tree.now.forest node i) }
 {
     if tree.is_of_kind(node, Kind::DocumentFragment) {
-        return Ok(NodeList::Many(children(tree, alloc, node)?));
+        return Ok(Incoming::Children(children(tree, alloc, node)?));
     }
-    Ok(NodeList::One([node]))
-}
-
-// Whether a node is a fragment, told by what comes in with it: where it is none that is the node alone, and no fragment is among its own children.
-fn is_fragment(tree: &Tree<Content>, node: NodeId, nodes: &[NodeId]) -> bool
-    requires { nodes.now ≡ entering tree.now.forest node }
-    ensures { result ≡ is_of_kind DocumentFragment tree.now.forest node }
-{
-    tree.sound();
-    match nodes.first().copied() {
-        Some(first) => first != node,
-        None => true,
-    }
+    Ok(Incoming::Alone)
 }
 
 // What stands before a place under a parent: the sibling before the child, or the last child.
@@ -121,24 +111,8 @@ impl World {
         Ok(())
     }
 
-    // The nodes that come in leave where they stand: a fragment its children, with a record of its own, a node its parent.
-    fn free(&mut self, alloc: Global, node: NodeId, nodes: &[NodeId]) -> Result<(), AllocError>
-        requires whole { IsWhole self.old }
-        requires held { HasNode self.old.tree.forest node }
-        requires nodes { nodes.now ≡ entering self.old.tree.forest node }
-        ensures freed { OnOk result (Follows self.old self.new (freed node nodes.now)) }
-        ensures kept { KeepsNodes self.old self.new }
-        ensures whole { IsWhole self.new }
-    {
-        if is_fragment(&self.tree, node, nodes) {
-            self.remove_all(alloc, nodes)?;
-            return self.queue_tree_record(alloc, node, &[], nodes, None, None);
-        }
-        self.remove_node(alloc, node, false)
-    }
-
-    // The same of a node inside which no live range end stands: of a fragment's children no end is asked for.
-    fn free_unreferred(
+    // Queues the record of a fragment that its children left.
+    fn queue_emptied(
         &mut self,
         alloc: Global,
         node: NodeId,
@@ -146,18 +120,14 @@ impl World {
     ) -> Result<(), AllocError>
         requires whole { IsWhole self.old }
         requires held { HasNode self.old.tree.forest node }
-        requires nodes { nodes.now ≡ entering self.old.tree.forest node }
-        requires unreferred { IsUnreferred self.old node }
-        ensures freed { OnOk result (Follows self.old self.new (freed node nodes.now)) }
-        ensures left { IsFragmentOrRoot self.old.tree.forest node →
-            LeavesOlder (node ∷ []) self.old self.new }
+        requires nodes { AreThere self.old.tree.forest nodes.now }
+        ensures queued { OnOk result (Follows self.old self.new
+            (tree_record node [] nodes.now None None)) }
+        ensures quiet { NamesNoneOf (ancestors node self.old.tree.forest) self.old.observers →
+            self.new ≡ self.old }
         ensures kept { KeepsNodes self.old self.new }
         ensures whole { IsWhole self.new }
     {
-        if !is_fragment(&self.tree, node, nodes) {
-            return self.remove_node(alloc, node, false);
-        }
-        self.remove_all_unreferred(node, nodes)?;
         self.queue_tree_record(alloc, node, &[], nodes, None, None)
     }
 
@@ -199,8 +169,33 @@ impl World {
         self.tree.make_room(parent)
     }
 
-    /// Inserts a node, of which the list is what comes in with it, under a parent, before a child of it or last.
-    pub(crate) fn enter(
+    /// Inserts a node that is no fragment under a parent, before a child of it or last.
+    #[inline(always)]
+    pub(crate) fn enter_alone(
+        &mut self,
+        alloc: Global,
+        suppressed: bool,
+        node: NodeId,
+        parent: NodeId,
+        child: Option<NodeId>,
+    ) -> Result<(), AllocError>
+        requires whole { IsWhole self.old }
+        requires allowed { IsInsertable self.old.tree.forest node parent child }
+        requires alone { is_of_kind DocumentFragment self.old.tree.forest node ≡ false }
+        ensures inserted { OnOk result (Follows self.old self.new
+            (insert suppressed node parent child)) }
+        ensures left { child ≡ None → parent_of self.old.tree.forest node ≡ None →
+            LeavesOlder (parent ∷ node ∷ []) self.old self.new }
+        ensures kept { KeepsNodes self.old self.new }
+        ensures whole { IsWhole self.new }
+    {
+        self.make_room_for_blocks(parent)?;
+        self.remove_node(alloc, node, false)?;
+        self.insert_all(alloc, suppressed, parent, child, &[node])
+    }
+
+    /// Inserts a fragment, of which the list is its children, under a parent, before a child of it or last. Nothing is done where it has none.
+    pub(crate) fn enter_children(
         &mut self,
         alloc: Global,
         suppressed: bool,
@@ -211,7 +206,8 @@ impl World {
     ) -> Result<(), AllocError>
         requires whole { IsWhole self.old }
         requires allowed { IsInsertable self.old.tree.forest node parent child }
-        requires nodes { nodes.now ≡ entering self.old.tree.forest node }
+        requires fragment { is_of_kind DocumentFragment self.old.tree.forest node ≡ true }
+        requires nodes { nodes.now ≡ children_of self.old.tree.forest node }
         ensures inserted { OnOk result (Follows self.old self.new
             (insert suppressed node parent child)) }
         ensures kept { KeepsNodes self.old self.new }
@@ -221,12 +217,13 @@ impl World {
             return Ok(());
         }
         self.make_room_for_blocks(parent)?;
-        self.free(alloc, node, nodes)?;
+        self.remove_all(alloc, nodes)?;
+        self.queue_emptied(alloc, node, nodes)?;
         self.insert_all(alloc, suppressed, parent, child, nodes)
     }
 
-    /// Inserts a node inside which no live range end stands, of which the list is what comes in with it, with a record.
-    pub(crate) fn enter_unreferred(
+    // The same of a fragment inside which no live range end stands, with a record: of its children no end is asked for.
+    fn enter_children_unreferred(
         &mut self,
         alloc: Global,
         node: NodeId,
@@ -236,7 +233,62 @@ impl World {
     ) -> Result<(), AllocError>
         requires whole { IsWhole self.old }
         requires allowed { IsInsertable self.old.tree.forest node parent child }
-        requires nodes { nodes.now ≡ entering self.old.tree.forest node }
+        requires fragment { is_of_kind DocumentFragment self.old.tree.forest node ≡ true }
+        requires nodes { nodes.now ≡ children_of self.old.tree.forest node }
+        requires unreferred { IsUnreferred self.old node }
+        ensures inserted { OnOk result (Follows self.old self.new
+            (insert false node parent child)) }
+        ensures left { child ≡ None → LeavesOlder (parent ∷ node ∷ []) self.old self.new }
+        ensures kept { KeepsNodes self.old self.new }
+        ensures whole { IsWhole self.new }
+    {
+        if nodes.is_empty() {
+            return Ok(());
+        }
+        self.make_room_for_blocks(parent)?;
+        self.remove_all_unreferred(node, nodes)?;
+        self.queue_emptied(alloc, node, nodes)?;
+        self.insert_all(alloc, false, parent, child, nodes)
+    }
+
+    /// Inserts a node, of which it is told what comes in with it, under a parent, before a child of it or last.
+    pub(crate) fn enter(
+        &mut self,
+        alloc: Global,
+        suppressed: bool,
+        node: NodeId,
+        parent: NodeId,
+        child: Option<NodeId>,
+        incoming: &Incoming,
+    ) -> Result<(), AllocError>
+        requires whole { IsWhole self.old }
+        requires allowed { IsInsertable self.old.tree.forest node parent child }
+        requires incoming { ComesIn self.old.tree.forest node incoming.now }
+        ensures inserted { OnOk result (Follows self.old self.new
+            (insert suppressed node parent child)) }
+        ensures kept { KeepsNodes self.old self.new }
+        ensures whole { IsWhole self.new }
+    {
+        match incoming {
+            Incoming::Alone => self.enter_alone(alloc, suppressed, node, parent, child),
+            Incoming::Children(nodes) => {
+                self.enter_children(alloc, suppressed, node, parent, child, nodes.as_slice())
+            }
+        }
+    }
+
+    /// Inserts a node inside which no live range end stands, of which it is told what comes in with it, with a record.
+    pub(crate) fn enter_unreferred(
+        &mut self,
+        alloc: Global,
+        node: NodeId,
+        parent: NodeId,
+        child: Option<NodeId>,
+        incoming: &Incoming,
+    ) -> Result<(), AllocError>
+        requires whole { IsWhole self.old }
+        requires allowed { IsInsertable self.old.tree.forest node parent child }
+        requires incoming { ComesIn self.old.tree.forest node incoming.now }
         requires unreferred { IsUnreferred self.old node }
         ensures inserted { OnOk result (Follows self.old self.new
             (insert false node parent child)) }
@@ -245,11 +297,11 @@ impl World {
         ensures kept { KeepsNodes self.old self.new }
         ensures whole { IsWhole self.new }
     {
-        if nodes.is_empty() {
-            return Ok(());
+        match incoming {
+            Incoming::Alone => self.enter_alone(alloc, false, node, parent, child),
+            Incoming::Children(nodes) => {
+                self.enter_children_unreferred(alloc, node, parent, child, nodes.as_slice())
+            }
         }
-        self.make_room_for_blocks(parent)?;
-        self.free_unreferred(alloc, node, nodes)?;
-        self.insert_all(alloc, false, parent, child, nodes)
     }
 }

@@ -5,31 +5,41 @@ ghost use Rattle.std.specs.Option.{ForSome};
 ghost use Rattle.dom_model.specs.Forests.Forest.{HasNode};
 ghost use Rattle.dom_model.specs.MutationAlgorithms.Editing.{insert_if_any, replaced_record};
 ghost use Rattle.dom_model.specs.MutationAlgorithms.Insertable.{IsInsertable};
-ghost use Rattle.dom_edit.specs.Inserting.{AreThere, listed, entering_if_any};
+ghost use Rattle.dom_edit.specs.Inserting.{AreThere, ComesIn, brought_if_any};
 ghost use Rattle.dom_edit.specs.Refusals.{check_only_child};
 ghost use Rattle.dom_edit.specs.Whole.{IsWhole, Follows};
 ghost use Rattle.dom_edit.specs.Keeping.{KeepsNodes};
 
 use crate::checks::check_insert;
 use crate::content::Content;
-use crate::inserting::{NodeList, entering};
+use crate::inserting::{Incoming, entering};
 use crate::world::World;
 use dom_kinds::DomError;
 use dom_tree::{NodeId, Tree};
 use std::alloc::{AllocError, Global};
 
-/// What comes in with a node; nothing where none is given.
+/// What comes in with a node; no children where none is given.
 pub(crate) fn entering_if_any(
     tree: &Tree<Content>,
     alloc: Global,
     node: Option<NodeId>,
-) -> Result<NodeList, AllocError>
+) -> Result<Incoming, AllocError>
     requires { ForSome node (λ n. HasNode tree.now.forest n) }
-    ensures { IfOk result (λ list. listed list ≡ entering_if_any tree.now.forest node) }
+    ensures { IfOk result (λ i. ForSome node (λ n. ComesIn tree.now.forest n i)) }
 {
     match node {
         Some(node) => entering(tree, alloc, node),
-        None => Ok(NodeList::Many(Vec::new(alloc))),
+        None => Ok(Incoming::Children(Vec::new(alloc))),
+    }
+}
+
+/// The nodes that come in with a node; none where none is given.
+pub(crate) fn nodes_if_any<'a>(node: &'a Option<NodeId>, incoming: &'a Incoming) -> &'a [NodeId]
+    ensures { result.now ≡ brought_if_any node.now incoming.now }
+{
+    match node {
+        Some(node) => incoming.nodes(node),
+        None => &[],
     }
 }
 
@@ -51,24 +61,25 @@ pub(crate) fn check_only_child(
 }
 
 impl World {
-    /// Inserts a node, of which the list is what comes in with it, as the last of a parent's children, with no record. Nothing is done where none is given.
+    /// Inserts a node, of which it is told what comes in with it, as the last of a parent's children, with no record. Nothing is done where none is given.
     pub(crate) fn insert_if_any(
         &mut self,
         alloc: Global,
         node: Option<NodeId>,
         parent: NodeId,
-        nodes: &[NodeId],
+        incoming: &Incoming,
     ) -> Result<(), AllocError>
         requires whole { IsWhole self.old }
         requires parent_held { HasNode self.old.tree.forest parent }
         requires allowed { ForSome node (λ n. IsInsertable self.old.tree.forest n parent None) }
-        requires nodes { nodes.now ≡ entering_if_any self.old.tree.forest node }
+        requires incoming { ForSome node (λ n.
+            ComesIn self.old.tree.forest n incoming.now) }
         ensures inserted { OnOk result (Follows self.old self.new (insert_if_any node parent)) }
         ensures kept { KeepsNodes self.old self.new }
         ensures whole { IsWhole self.new }
     {
         match node {
-            Some(node) => self.enter(alloc, true, node, parent, None, nodes),
+            Some(node) => self.enter(alloc, true, node, parent, None, incoming),
             None => Ok(()),
         }
     }

@@ -18,10 +18,10 @@ returns-clause-whole c = search (tests, rules)
 
 pub returns-clause-markers : goal.returns-clause-markers
 returns-clause-markers c =
-    on_ok_weaker c.enter-2.result
-    (stand-by_insert c.args.self.now c.enter-2.new.self c.requires.whole c.enter-2.ensures.whole c.args.node c.args.parent c.args.child c.requires.allowed) c.enter-2.ensures.inserted
+    on_ok_weaker c.enter_children.result
+    (stand-by_insert c.args.self.now c.enter_children.new.self c.requires.whole c.enter_children.ensures.whole c.args.node c.args.parent c.args.child c.requires.allowed) c.enter_children.ensures.inserted
 
 pub returns-then-not-is_of_kind-clause-markers : goal.returns-then-not-is_of_kind-clause-markers
 returns-then-not-is_of_kind-clause-markers c =
-    on_ok_weaker c.enter.result
-    (stand-by_insert c.args.self.now c.enter.new.self c.requires.whole c.enter.ensures.whole c.args.node c.args.parent c.args.child c.requires.allowed) c.enter.ensures.inserted
+    on_ok_weaker c.enter_alone.result
+    (stand-by_insert c.args.self.now c.enter_alone.new.self c.requires.whole c.enter_alone.ensures.whole c.args.node c.args.parent c.args.child c.requires.allowed) c.enter_alone.ensures.inserted

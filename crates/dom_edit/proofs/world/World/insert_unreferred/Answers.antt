@@ -18,8 +18,8 @@ returns-clause-markers c =
     on_ok_weaker c.enter_unreferred.result
     (stand-by_insert c.args.self.now c.enter_unreferred.new.self c.requires.whole c.enter_unreferred.ensures.whole c.args.node c.args.parent c.args.child c.requires.allowed) c.enter_unreferred.ensures.inserted
 
-pub returns-in_err-nodes-clause-left : goal.returns-in_err-nodes-clause-left
-returns-in_err-nodes-clause-left c last root a h newer l = l
+pub returns-in_err-incoming-clause-left : goal.returns-in_err-incoming-clause-left
+returns-in_err-incoming-clause-left c last root a h newer l = l
 
 pub returns-clause-left : goal.returns-clause-left
 returns-clause-left c = c.enter_unreferred.ensures.left

@@ -1,7 +1,8 @@
-use Rattle.std.proofs.Common.{ap, sym, ◌∙◌, tests, rules}
+use Rattle.std.proofs.Common.{ap, ◌∙◌, tests, rules}
 use Rattle.dom_edit.proofs.Marking.{stand-by_replace}
 use Rattle.dom_edit.specs.Inserting.{reference_in}
-use Rattle.dom_edit.proofs.ReplacedNodes.{insertable-instead, entering-instead, follows-replace}
+use Rattle.dom_edit.proofs.InsertedNodes.{brought-entering}
+use Rattle.dom_edit.proofs.ReplacedNodes.{insertable-instead, come-instead, follows-replace}
 use Rattle.dom_edit.proofs.NodesKept.{one-there, stay-there, stay-some, previous-held, next-held, entering-held, reference-held, nodes-then}
 use Rattle.dom_edit.proofs.world.World.replace.Goals as goal
 
@@ -11,12 +12,12 @@ enter-requires-clause-allowed c =
     let r = c.reference_child-reference.ensures ∙ ap (reference_in v.tree.forest c.args.node) c.next-following.ensures in
     insertable-instead v c.remove_node.new.self c.requires.whole c.args.child c.args.node c.args.parent c.reference_child-reference.result c.requires.node_held c.in_default.ensures r c.in_ok-remove_node.ensures.removed
 
-pub enter-requires-clause-nodes : goal.enter-requires-clause-nodes
-enter-requires-clause-nodes c =
+pub enter-requires-clause-incoming : goal.enter-requires-clause-incoming
+enter-requires-clause-incoming c =
     let v = c.args.self.now in
     let r = c.reference_child-reference.ensures ∙ ap (reference_in v.tree.forest c.args.node) c.next-following.ensures in
-    c.as_slice.ensures ∙ c.in_ok-nodes.ensures
-    ∙ sym (entering-instead v c.remove_node.new.self c.requires.whole c.args.child c.args.node c.args.parent c.reference_child-reference.result c.requires.node_held c.in_default.ensures r c.in_ok-remove_node.ensures.removed)
+    come-instead v c.remove_node.new.self c.requires.whole c.args.child c.args.node c.args.parent c.reference_child-reference.result c.requires.node_held c.in_default.ensures r c.in_ok-remove_node.ensures.removed
+    c.in_ok-incoming.incoming c.in_ok-incoming.ensures
 
 pub queue_tree_record-requires-clause-held : goal.queue_tree_record-requires-clause-held
 queue_tree_record-requires-clause-held c =
@@ -30,8 +31,8 @@ queue_tree_record-requires-clause-added c =
     let v = c.args.self.now in
     let child = c.args.child in
     let stays = nodes-then v c.remove_node.new.self c.enter.new.self c.remove_node.ensures.kept c.enter.ensures.kept in
-    stay-there v c.enter.new.self stays c.as_slice-2.result.now
-    (entering-held v c.requires.whole c.args.node c.requires.node_held c.as_slice-2.result.now (c.as_slice-2.ensures ∙ c.in_ok-nodes.ensures))
+    stay-there v c.enter.new.self stays c.nodes.result.now
+    (entering-held v c.requires.whole c.args.node c.requires.node_held c.nodes.result.now (c.nodes.ensures ∙ brought-entering v.tree.forest c.args.node c.in_ok-incoming.incoming c.in_ok-incoming.ensures))
 
 pub queue_tree_record-requires-clause-removed : goal.queue_tree_record-requires-clause-removed
 queue_tree_record-requires-clause-removed c =
@@ -61,16 +62,16 @@ pub returns-clause-replaced : goal.returns-clause-replaced
 returns-clause-replaced c =
     let v = c.args.self.now in
     let r = c.reference_child-reference.ensures ∙ ap (reference_in v.tree.forest c.args.node) c.next-following.ensures in
-    follows-replace v c.remove_node.new.self c.enter.new.self c.queue_tree_record.new.self c.args.child c.args.node c.args.parent c.prev-previous.result c.reference_child-reference.result c.as_slice-2.result.now
-    c.prev-previous.ensures r (c.as_slice-2.ensures ∙ c.in_ok-nodes.ensures) c.in_ok-remove_node.ensures.removed c.in_ok-enter.ensures.inserted c.in_ok-queue_tree_record.ensures.queued
+    follows-replace v c.remove_node.new.self c.enter.new.self c.queue_tree_record.new.self c.args.child c.args.node c.args.parent c.prev-previous.result c.reference_child-reference.result c.nodes.result.now
+    c.prev-previous.ensures r (c.nodes.ensures ∙ brought-entering v.tree.forest c.args.node c.in_ok-incoming.incoming c.in_ok-incoming.ensures) c.in_ok-remove_node.ensures.removed c.in_ok-enter.ensures.inserted c.in_ok-queue_tree_record.ensures.queued
 
 pub returns-clause-markers : goal.returns-clause-markers
 returns-clause-markers c =
     let v = c.args.self.now in
     let r = c.reference_child-reference.ensures ∙ ap (reference_in v.tree.forest c.args.node) c.next-following.ensures in
     stand-by_replace v c.queue_tree_record.new.self c.requires.whole c.queue_tree_record.ensures.whole c.args.child c.args.node c.args.parent c.requires.node_held c.in_default.ensures
-    (follows-replace v c.remove_node.new.self c.enter.new.self c.queue_tree_record.new.self c.args.child c.args.node c.args.parent c.prev-previous.result c.reference_child-reference.result c.as_slice-2.result.now
-    c.prev-previous.ensures r (c.as_slice-2.ensures ∙ c.in_ok-nodes.ensures) c.in_ok-remove_node.ensures.removed c.in_ok-enter.ensures.inserted c.in_ok-queue_tree_record.ensures.queued)
+    (follows-replace v c.remove_node.new.self c.enter.new.self c.queue_tree_record.new.self c.args.child c.args.node c.args.parent c.prev-previous.result c.reference_child-reference.result c.nodes.result.now
+    c.prev-previous.ensures r (c.nodes.ensures ∙ brought-entering v.tree.forest c.args.node c.in_ok-incoming.incoming c.in_ok-incoming.ensures) c.in_ok-remove_node.ensures.removed c.in_ok-enter.ensures.inserted c.in_ok-queue_tree_record.ensures.queued)
 
 pub returns-in-Err-clause-allowed : goal.returns-in-Err-clause-allowed
 returns-in-Err-clause-allowed c = search (tests, rules)
