@@ -37,7 +37,7 @@ impl Kept {
         ensures kept { self.new ≡ with_reply self.old (reply_of reply) }
         ensures status { result ≡ status_of (reply_view (reply_of reply)) }
     {
-        self.reply = Some(reply.reply());
+        self.reply = Some(Reply::Brief(reply));
         status_of_brief(reply)
     }
 

@@ -11,7 +11,9 @@ ghost use Rattle.dom_c.specs.Lines.{AnswersLine, TakesLine, IsPrinted, IsReply, 
 use crate::handle::Handle;
 use crate::kept::Kept;
 use crate::status::{HP_CLOSED, HP_NOT_THERE, HP_OK, HP_OUT_OF_MEMORY, status_of};
-use dom_wire::{Command, Ended, OwnError, ReadError, Reply, Session, read_line, write_reply};
+use dom_wire::{
+    Brief, Command, Ended, OwnError, ReadError, Reply, Session, read_line, write_reply,
+};
 use std::alloc::{AllocError, Global};
 
 // The command of a line within a limit, or the refusal of its form.
@@ -43,7 +45,7 @@ fn reply_to(
             Ok(reply) => Ok(reply),
             Err(Ended) => Err(AllocError),
         },
-        Err(ReadError::Own(error)) => Ok(Reply::Own(error)),
+        Err(ReadError::Own(error)) => Ok(Reply::Brief(Brief::Own(error))),
         Err(ReadError::Memory) => Err(AllocError),
     }
 }

@@ -98,9 +98,8 @@ pub fn status_of(reply: &Reply) -> u8
     ensures { result ≡ status_of (reply_view reply.now) }
 {
     match reply {
+        Reply::Brief(brief) => status_of_brief(*brief),
         Reply::Done(_) => HP_OK,
-        Reply::Dom(error) => status_of_dom(*error),
-        Reply::Own(error) => status_of_own(*error),
     }
 }
 

@@ -2,16 +2,16 @@
 
 ghost use Rattle.std.specs.Prelude.{◌≡◌, ℕ, Result, Some};
 ghost use Rattle.dom_model.specs.Commands.Command.{Command as PlainCommand};
-ghost use Rattle.dom_wire.specs.Sessions.{command_view, answer_view};
+ghost use Rattle.dom_wire.specs.Sessions.{command_view, answer_view, reply_view};
 ghost use Rattle.dom_c.specs.Answers.{Answers};
 ghost use Rattle.dom_c.specs.Reads.{Reads};
-ghost use Rattle.dom_c.specs.Told.{told, told_of, number_told, count_told, number_or_null, maybe_number_told, flag_number, flag_told, order_number, order_told};
+ghost use Rattle.dom_c.specs.Told.{answer_of, told, told_of, number_told, count_told, number_or_null, maybe_number_told, flag_number, flag_told, order_number, order_told};
 
 use crate::fault::Fault;
 use crate::handle::Handle;
 use crate::kept::Kept;
 use crate::status::{HP_NONE, HP_OK};
-use dom_session::Answer;
+use dom_session::{Answer, Brief};
 use dom_wire::{Command, Reply};
 use std::cmp::Ordering;
 
@@ -43,12 +43,12 @@ fn number_or_null(number: Option<u32>) -> u32
 }
 
 // Writes a number.
-fn write_number(answer: &Answer, number: &mut u32)
-    ensures { number.new ≡ number_told (Some (answer_view answer.now)) number.old }
+fn write_number(reply: &Reply, number: &mut u32)
+    ensures { number.new ≡ number_told (answer_of (reply_view reply.now)) number.old }
 {
-    match answer {
-        Answer::Number(found) => *number = *found,
-        Answer::Count(found) => {
+    match reply {
+        Reply::Brief(Brief::Number(found)) => *number = *found,
+        Reply::Done(Answer::Count(found)) => {
             if let Ok(found) = u32::try_from(*found) {
                 *number = found;
             }
@@ -58,22 +58,13 @@ fn write_number(answer: &Answer, number: &mut u32)
 }
 
 // Writes an index or a length.
-fn write_count(answer: &Answer, count: &mut usize)
-    ensures { count.new ≡ count_told (Some (answer_view answer.now)) count.old }
+fn write_count(reply: &Reply, count: &mut usize)
+    ensures { count.new ≡ count_told (answer_of (reply_view reply.now)) count.old }
 {
-    match answer {
-        Answer::Number(found) => *count = *found as usize,
-        Answer::Count(found) => *count = *found,
+    match reply {
+        Reply::Brief(Brief::Number(found)) => *count = *found as usize,
+        Reply::Done(Answer::Count(found)) => *count = *found,
         _ => {}
-    }
-}
-
-// Writes a number, or `HP_NONE`.
-fn write_maybe_number(answer: &Answer, number: &mut u32)
-    ensures { number.new ≡ maybe_number_told (Some (answer_view answer.now)) number.old }
-{
-    if let Answer::MaybeNumber(found) = answer {
-        *number = number_or_null(*found);
     }
 }
 
@@ -101,9 +92,9 @@ impl Kept {
         ensures { number.new ≡ number_told (told_of self.now status) number.old }
     {
         if status == HP_OK
-            && let Some(Reply::Done(answer)) = &self.reply
+            && let Some(reply) = &self.reply
         {
-            write_number(answer, number);
+            write_number(reply, number);
         }
     }
 
@@ -112,9 +103,9 @@ impl Kept {
         ensures { count.new ≡ count_told (told_of self.now status) count.old }
     {
         if status == HP_OK
-            && let Some(Reply::Done(answer)) = &self.reply
+            && let Some(reply) = &self.reply
         {
-            write_count(answer, count);
+            write_count(reply, count);
         }
     }
 
@@ -123,9 +114,9 @@ impl Kept {
         ensures { number.new ≡ maybe_number_told (told_of self.now status) number.old }
     {
         if status == HP_OK
-            && let Some(Reply::Done(answer)) = &self.reply
+            && let Some(Reply::Brief(Brief::MaybeNumber(found))) = &self.reply
         {
-            write_maybe_number(answer, number);
+            *number = number_or_null(*found);
         }
     }
 

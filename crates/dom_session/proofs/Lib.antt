@@ -12,6 +12,7 @@ pub mod Parts
 pub mod RangeFacts
 pub mod RangeAnswers
 pub mod NodeData
+pub mod OtherKinds
 pub mod Unfelt
 pub mod ContentsAnswers
 pub mod Laying

@@ -17,7 +17,7 @@ use Rattle.dom_edit.specs.declared.refusal.Refusal.TheVariants as refusal
 use Rattle.dom_edit.specs.Whole.{IsWhole, Shows, Follows}
 use Rattle.dom_edit.specs.Refusals.{IsRefused}
 use Rattle.dom_session.specs.declared.reply.Reply.{Reply}
-use Rattle.dom_session.specs.declared.reply.Reply.TheVariants.{Dom}
+use Rattle.dom_session.specs.declared.brief.Brief.TheVariants.{Dom}
 use Rattle.dom_session.specs.Views.{reply_view}
 use Rattle.dom_session.specs.Refusing.{reply_to}
 use Rattle.dom_session.specs.declared.brief.Brief.{Brief}
@@ -78,7 +78,7 @@ module _ (old new : World) (c : Command) (r : Refusal) (check : Option DomError)
   step-refused b named = rw is (at r left)
     where
       at : (x : Refusal) → IsRefused x check old new → IfOk (reply_to x) (IsStep old new b c)
-      at (refusal.Dom e) h = rw h.1 (step-stays b c (Dom e) old (named e h.0))
+      at (refusal.Dom e) h = rw h.1 (step-stays b c (reply_of (Dom e)) old (named e h.0))
       at refusal.Memory h = tt
 
   -- the same within any bounds
@@ -95,5 +95,5 @@ module _ (old new : World) (c : Command) (r : Refusal) (check : Option DomError)
   steps-refused-briefly named = rw is (at r left)
     where
       at : (x : Refusal) → IsRefused x check old new → IfOk (brief_to x) (λ y. (b : Bounds) → IsStep old new b c (reply_of y))
-      at (refusal.Dom e) h = λ b. rw h.1 (step-stays b c (Dom e) old (named b e h.0))
+      at (refusal.Dom e) h = λ b. rw h.1 (step-stays b c (reply_of (Dom e)) old (named b e h.0))
       at refusal.Memory h = tt

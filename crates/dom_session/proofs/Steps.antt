@@ -13,8 +13,8 @@ use Rattle.dom_model.specs.Commands.Answer.{Bounds, Step, guarded, refused, no_n
 use Rattle.dom_model.specs.Commands.Guards.{throws}
 use Rattle.dom_edit.specs.declared.world.World.{World}
 use Rattle.dom_edit.specs.Whole.{IsWhole, Shows, Follows}
-use Rattle.dom_session.specs.declared.reply.Answer.TheVariants.{Number}
-use Rattle.dom_session.specs.declared.reply.Reply.TheVariants.{Done}
+use Rattle.dom_session.specs.declared.brief.Brief.TheVariants.{Number}
+use Rattle.dom_session.specs.declared.reply.Reply.TheVariants.{Brief}
 use Rattle.dom_session.specs.Limiting.{numbered}
 use Rattle.dom_session.specs.Stands.{IsStep}
 use Rattle.dom_session.specs.Refusing.{making_refusal}
@@ -26,9 +26,9 @@ guarded-making v b d cs w s shown none =
     guarded-none (no_node d w ∷ wrong_kind (is_kind Document) d w ∷ no_room b w.made 1 ∷ []) cs w s (rw (shown.keeps.forest, shown.keeps.made) none)
 
 -- a command that makes a node, where the new number is the next
-pub step-makes : (old new : World) (b : Bounds) (c : Command) (document number : ℕ) (label : Label) (body : Content) → ((w : model.World) → Shows old w → answer b w c ≡ makes document label body w) → number ≡ old.tree.made → Follows old new (made_node document label body) → IsWhole new → IsStep old new b c (Done (Number number))
+pub step-makes : (old new : World) (b : Bounds) (c : Command) (document number : ℕ) (label : Label) (body : Content) → ((w : model.World) → Shows old w → answer b w c ≡ makes document label body w) → number ≡ old.tree.made → Follows old new (made_node document label body) → IsWhole new → IsStep old new b c (Brief (Number number))
 step-makes old new b c document number label body e is f whole =
-    step-follows b c (Done (Number number)) old new (made_node document label body) refl
+    step-follows b c (Brief (Number number)) old new (made_node document label body) refl
     (λ w shown. e w shown ∙ ap (λ n. record { reply = model_reply.Done (model_reply.Number n); world = made_node document label body w }) (shown.keeps.made ∙ sym is))
     f whole
 

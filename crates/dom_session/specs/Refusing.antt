@@ -13,8 +13,9 @@ use Rattle.dom_model.specs.Commands.Reply as model
 use Rattle.dom_edit.specs.declared.world.World.{World}
 use Rattle.dom_edit.specs.declared.refusal.Refusal.{Refusal}
 use Rattle.dom_edit.specs.declared.refusal.Refusal.TheVariants as refusal
+use Rattle.dom_session.specs.declared.brief.Brief.TheVariants.{Dom}
 use Rattle.dom_session.specs.declared.reply.Reply.{Reply}
-use Rattle.dom_session.specs.declared.reply.Reply.TheVariants.{Dom}
+use Rattle.dom_session.specs.declared.reply.Reply.TheVariants.{Brief}
 
 -- no node of that number
 abbrev pub lacks_node : World → ℕ → Bool
@@ -42,5 +43,5 @@ kind_refusal test v n =
 
 -- the reply to a refusal of the world: the name of the exception; to want of memory there is none
 abbrev pub reply_to : Refusal → Result Reply AllocError
-reply_to (refusal.Dom e) = Ok (Dom e)
+reply_to (refusal.Dom e) = Ok (Brief (Dom e))
 reply_to refusal.Memory = Err (record {})

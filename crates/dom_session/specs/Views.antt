@@ -28,10 +28,12 @@ use Rattle.dom_session.specs.declared.command.Copying.{Copying}
 use Rattle.dom_session.specs.declared.command.Copying.TheVariants.{ImportNode, CloneNode, IsContaining, IsEqual, ComparePosition}
 use Rattle.dom_session.specs.declared.command.Contents.{Contents}
 use Rattle.dom_session.specs.declared.command.Contents.TheVariants.{RangeText, DeleteContents, ExtractContents, CloneContents, InsertNode, SurroundContents}
+use Rattle.dom_session.specs.declared.brief.Brief.{Brief}
+use Rattle.dom_session.specs.declared.brief.Brief.TheVariants.{Nothing, Number, MaybeNumber, Dom, Own}
 use Rattle.dom_session.specs.declared.reply.Answer.{Answer}
-use Rattle.dom_session.specs.declared.reply.Answer.TheVariants.{Nothing, Number, MaybeNumber, Count, Numbers, Flag, Order, Units, MaybeUnits, Names, NodeAt, Rows, Ends, StaticEnds, IteratorAt, WalkerAt, Records, Notified}
+use Rattle.dom_session.specs.declared.reply.Answer.TheVariants.{Count, Numbers, Flag, Order, Units, MaybeUnits, Names, NodeAt, Rows, Ends, StaticEnds, IteratorAt, WalkerAt, Records, Notified}
 use Rattle.dom_session.specs.declared.reply.Reply.{Reply}
-use Rattle.dom_session.specs.declared.reply.Reply.TheVariants.{Done, Dom, Own}
+use Rattle.dom_session.specs.declared.reply.Reply.TheVariants as reply
 use Rattle.dom_model.specs.Commands.Command as model_command
 use Rattle.dom_model.specs.Commands.Reply as model_reply
 
@@ -168,9 +170,6 @@ command_view (group.Contents command) = contents_view command
 
 -- a count is a number too, as large as memory allows
 abbrev pub answer_view : Answer → model_reply.Answer
-answer_view Nothing = model_reply.Nothing
-answer_view (Number n) = model_reply.Number n
-answer_view (MaybeNumber n) = model_reply.MaybeNumber n
 answer_view (Count n) = model_reply.Number n
 answer_view (Numbers ns) = model_reply.Numbers ns.items
 answer_view (Flag b) = model_reply.Flag b
@@ -187,7 +186,13 @@ answer_view (WalkerAt root current) = model_reply.WalkerAt root current
 answer_view (Records records) = model_reply.Records records.items
 answer_view (Notified told) = model_reply.Notified told.items
 
+abbrev pub brief_view : Brief → model_reply.Reply
+brief_view Nothing = model_reply.Done model_reply.Nothing
+brief_view (Number n) = model_reply.Done (model_reply.Number n)
+brief_view (MaybeNumber n) = model_reply.Done (model_reply.MaybeNumber n)
+brief_view (Dom e) = model_reply.Dom e
+brief_view (Own e) = model_reply.Own e
+
 abbrev pub reply_view : Reply → model_reply.Reply
-reply_view (Done a) = model_reply.Done (answer_view a)
-reply_view (Dom e) = model_reply.Dom e
-reply_view (Own e) = model_reply.Own e
+reply_view (reply.Brief b) = brief_view b
+reply_view (reply.Done a) = model_reply.Done (answer_view a)

@@ -39,8 +39,8 @@ pub(crate) fn answered(
     ensures left { OnErr result (IsKept world.old world.new) }
 {
     match command {
-        Command::Making(command) => Ok(make_nodes(world, numbers, alloc, command)?.reply()),
-        Command::Editing(command) => Ok(edit_tree(world, alloc, command)?.reply()),
+        Command::Making(command) => Ok(Reply::Brief(make_nodes(world, numbers, alloc, command)?)),
+        Command::Editing(command) => Ok(Reply::Brief(edit_tree(world, alloc, command)?)),
         Command::Asking(command) => ask_tree(world, alloc, command),
         Command::Ranging(command) => act_on_ranges(world, numbers, command),
         Command::Setting(command) => Ok(set_ranges(world, command)),

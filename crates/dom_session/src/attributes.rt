@@ -12,6 +12,7 @@ ghost use Rattle.dom_session.specs.Views.{attributes_view};
 ghost use Rattle.dom_session.specs.Stands.{IsStep};
 ghost use Rattle.dom_session.specs.Ending.{IsKept};
 
+use crate::brief::Brief;
 use crate::command::Attributes;
 use crate::refusing::kind_refusal;
 use crate::reply::{Answer, Reply};
@@ -38,10 +39,10 @@ pub(crate) fn set_attribute(
         return Ok(reply);
     }
     if !is_attribute_name(name.as_str()) {
-        return Ok(Reply::Dom(DomError::InvalidCharacterError));
+        return Ok(Reply::Brief(Brief::Dom(DomError::InvalidCharacterError)));
     }
     dom_data::set_attribute(world, alloc, element, name, value)?;
-    Ok(Reply::Done(Answer::Nothing))
+    Ok(Reply::Brief(Brief::Nothing))
 }
 
 // The data and the attributes of a node.
@@ -123,7 +124,7 @@ pub(crate) fn remove_attribute(
         return Ok(reply);
     }
     dom_data::remove_attribute(world, alloc, element, name)?;
-    Ok(Reply::Done(Answer::Nothing))
+    Ok(Reply::Brief(Brief::Nothing))
 }
 
 /// Adds or removes an attribute of an element, and answers whether it is there afterwards.
@@ -143,7 +144,7 @@ pub(crate) fn toggle_attribute(
         return Ok(reply);
     }
     if !is_attribute_name(name.as_str()) {
-        return Ok(Reply::Dom(DomError::InvalidCharacterError));
+        return Ok(Reply::Brief(Brief::Dom(DomError::InvalidCharacterError)));
     }
     let present = dom_data::toggle_attribute(world, alloc, element, name, force)?;
     Ok(Reply::Done(Answer::Flag(present)))

@@ -1,40 +1,24 @@
 //! Replies whose answers are small. They are handed on by value, and take no memory of their own.
 
 ghost use Rattle.std.specs.Prelude.{◌≡◌};
-ghost use Rattle.dom_session.specs.Brief.{reply_of, brief_to};
+ghost use Rattle.dom_session.specs.Brief.{brief_to};
 
-use crate::reply::{Answer, Reply};
 use dom_edit::Refusal;
 use dom_kinds::DomError;
 use dom_model::OwnError;
 use std::alloc::AllocError;
 
-/// What a session says to a command that is answered by nothing, or by the number of an object.
+/// What a session says to a command that is refused, or answered by nothing or by the number of an object.
 #[derive(Clone, Copy, Debug, PartialEq, Eq)]
 pub enum Brief {
     /// No value.
     Nothing,
-    /// The number of an object.
+    /// The number of an object, or one of the standard's constants.
     Number(u32),
     /// The number of an object, where there is one.
     MaybeNumber(Option<u32>),
     Dom(DomError),
     Own(OwnError),
-}
-
-impl Brief {
-    /// The same reply, as every command has one.
-    pub fn reply(self) -> Reply
-        ensures { result ≡ reply_of self }
-    {
-        match self {
-            Brief::Nothing => Reply::Done(Answer::Nothing),
-            Brief::Number(number) => Reply::Done(Answer::Number(number)),
-            Brief::MaybeNumber(number) => Reply::Done(Answer::MaybeNumber(number)),
-            Brief::Dom(error) => Reply::Dom(error),
-            Brief::Own(error) => Reply::Own(error),
-        }
-    }
 }
 
 /// What a command answers where its call was refused: the name of the exception. Want of memory is no answer.

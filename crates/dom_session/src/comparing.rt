@@ -12,6 +12,7 @@ ghost use Rattle.dom_edit.specs.Whole.{IsShown};
 ghost use Rattle.dom_session.specs.Views.{comparing_view};
 ghost use Rattle.dom_session.specs.Stands.{IsStep};
 
+use crate::brief::Brief;
 use crate::command::Comparing;
 use crate::reply::{Answer, Reply};
 use dom_edit::{Content, World};
@@ -66,15 +67,15 @@ pub(crate) fn compare_boundary_points(
     ensures unchanged { world.new ≡ world.old }
 {
     if !world.ranges.holds(range) || !world.ranges.holds(source) {
-        return Reply::Own(OwnError::NoSuchObject);
+        return Reply::Brief(Brief::Own(OwnError::NoSuchObject));
     }
     if how > 3 {
-        return Reply::Dom(DomError::NotSupportedError);
+        return Reply::Brief(Brief::Dom(DomError::NotSupportedError));
     }
     let (start, end) = world.ranges.ends(range);
     let (source_start, source_end) = world.ranges.ends(source);
     if !same_root(&world.tree, start.node, source_start.node) {
-        return Reply::Dom(DomError::WrongDocumentError);
+        return Reply::Brief(Brief::Dom(DomError::WrongDocumentError));
     }
     let this = if how == 0 || how == 3 { start } else { end };
     let other = if how == 0 || how == 1 {
@@ -93,12 +94,12 @@ pub(crate) fn compare_point(world: &mut World, range: RangeId, node: NodeId, off
     ensures unchanged { world.new ≡ world.old }
 {
     if !world.ranges.holds(range) || !world.tree.holds(node) {
-        return Reply::Own(OwnError::NoSuchObject);
+        return Reply::Brief(Brief::Own(OwnError::NoSuchObject));
     }
     let offset = offset as usize;
     let (start, end) = world.ranges.ends(range);
     if !same_root(&world.tree, node, start.node) {
-        return Reply::Dom(DomError::WrongDocumentError);
+        return Reply::Brief(Brief::Dom(DomError::WrongDocumentError));
     }
     match checked_point(&world.tree, node, offset) {
         Ok(()) => Reply::Done(Answer::Order(place(
@@ -107,7 +108,7 @@ pub(crate) fn compare_point(world: &mut World, range: RangeId, node: NodeId, off
             start,
             end,
         ))),
-        Err(error) => Reply::Dom(error),
+        Err(error) => Reply::Brief(Brief::Dom(error)),
     }
 }
 
@@ -124,7 +125,7 @@ pub(crate) fn is_point_in_range(
     ensures unchanged { world.new ≡ world.old }
 {
     if !world.ranges.holds(range) || !world.tree.holds(node) {
-        return Reply::Own(OwnError::NoSuchObject);
+        return Reply::Brief(Brief::Own(OwnError::NoSuchObject));
     }
     let offset = offset as usize;
     let (start, end) = world.ranges.ends(range);
@@ -138,7 +139,7 @@ pub(crate) fn is_point_in_range(
             start,
             end,
         ))),
-        Err(error) => Reply::Dom(error),
+        Err(error) => Reply::Brief(Brief::Dom(error)),
     }
 }
 
@@ -166,7 +167,7 @@ pub(crate) fn intersects_node(world: &mut World, range: RangeId, node: NodeId) -
     ensures unchanged { world.new ≡ world.old }
 {
     if !world.ranges.holds(range) || !world.tree.holds(node) {
-        return Reply::Own(OwnError::NoSuchObject);
+        return Reply::Brief(Brief::Own(OwnError::NoSuchObject));
     }
     let (start, end) = world.ranges.ends(range);
     Reply::Done(Answer::Flag(meets(&mut world.tree, node, start, end)))
@@ -178,11 +179,11 @@ pub(crate) fn common_ancestor(world: &World, range: RangeId) -> Reply
     ensures step { (b : Bounds) → IsStep world.now world.now b (CommonAncestor range) result }
 {
     if !world.ranges.holds(range) {
-        return Reply::Own(OwnError::NoSuchObject);
+        return Reply::Brief(Brief::Own(OwnError::NoSuchObject));
     }
     let (start, end) = world.ranges.ends(range);
     let node = common(&world.tree, start.node, end.node);
-    Reply::Done(Answer::Number(node.number()))
+    Reply::Brief(Brief::Number(node.number()))
 }
 
 /// Answers the questions about live ranges.

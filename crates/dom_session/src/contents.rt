@@ -9,6 +9,7 @@ ghost use Rattle.dom_session.specs.Stands.{IsStep};
 ghost use Rattle.dom_session.specs.Ending.{IsKept};
 ghost use Rattle.dom_session.specs.Limiting.{numbered};
 
+use crate::brief::Brief;
 use crate::command::Contents;
 use crate::copies::lacks_numbers;
 use crate::reply::{Answer, Reply, reply_to};
@@ -26,7 +27,7 @@ pub(crate) fn range_text(world: &World, alloc: Global, range: RangeId) -> Result
         IsStep world.now world.now b (RangeText range) reply) }
 {
     if !world.ranges.holds(range) {
-        return Ok(Reply::Own(OwnError::NoSuchObject));
+        return Ok(Reply::Brief(Brief::Own(OwnError::NoSuchObject)));
     }
     let text = dom_content::range_text(world, alloc, range)?;
     Ok(Reply::Done(Answer::Units(text)))
@@ -44,10 +45,10 @@ pub(crate) fn delete_contents(
     ensures left { OnErr result (IsKept world.old world.new) }
 {
     if !world.ranges.holds(range) {
-        return Ok(Reply::Own(OwnError::NoSuchObject));
+        return Ok(Reply::Brief(Brief::Own(OwnError::NoSuchObject)));
     }
     dom_content::delete_contents(world, alloc, range)?;
-    Ok(Reply::Done(Answer::Nothing))
+    Ok(Reply::Brief(Brief::Nothing))
 }
 
 /// Takes what lies in a live range into a new fragment, and answers that.
@@ -64,13 +65,13 @@ pub(crate) fn extract_contents(
     ensures left { OnErr result (IsKept world.old world.new) }
 {
     if !world.ranges.holds(range) {
-        return Ok(Reply::Own(OwnError::NoSuchObject));
+        return Ok(Reply::Brief(Brief::Own(OwnError::NoSuchObject)));
     }
     if lacks_numbers(world, numbers) {
-        return Ok(Reply::Own(OwnError::Limit));
+        return Ok(Reply::Brief(Brief::Own(OwnError::Limit)));
     }
     match dom_content::extract(world, alloc, range) {
-        Ok(fragment) => Ok(Reply::Done(Answer::Number(fragment.number()))),
+        Ok(fragment) => Ok(Reply::Brief(Brief::Number(fragment.number()))),
         Err(refusal) => reply_to(refusal),
     }
 }
@@ -89,13 +90,13 @@ pub(crate) fn clone_contents(
     ensures left { OnErr result (IsKept world.old world.new) }
 {
     if !world.ranges.holds(range) {
-        return Ok(Reply::Own(OwnError::NoSuchObject));
+        return Ok(Reply::Brief(Brief::Own(OwnError::NoSuchObject)));
     }
     if lacks_numbers(world, numbers) {
-        return Ok(Reply::Own(OwnError::Limit));
+        return Ok(Reply::Brief(Brief::Own(OwnError::Limit)));
     }
     match dom_content::clone_contents(world, alloc, range) {
-        Ok(fragment) => Ok(Reply::Done(Answer::Number(fragment.number()))),
+        Ok(fragment) => Ok(Reply::Brief(Brief::Number(fragment.number()))),
         Err(refusal) => reply_to(refusal),
     }
 }
@@ -115,13 +116,13 @@ pub(crate) fn insert_node(
     ensures left { OnErr result (IsKept world.old world.new) }
 {
     if !world.ranges.holds(range) || !world.tree.holds(node) {
-        return Ok(Reply::Own(OwnError::NoSuchObject));
+        return Ok(Reply::Brief(Brief::Own(OwnError::NoSuchObject)));
     }
     if numbers <= world.tree.made() {
-        return Ok(Reply::Own(OwnError::Limit));
+        return Ok(Reply::Brief(Brief::Own(OwnError::Limit)));
     }
     match dom_wrap::insert_node(world, alloc, range, node) {
-        Ok(()) => Ok(Reply::Done(Answer::Nothing)),
+        Ok(()) => Ok(Reply::Brief(Brief::Nothing)),
         Err(refusal) => reply_to(refusal),
     }
 }
@@ -141,13 +142,13 @@ pub(crate) fn surround_contents(
     ensures left { OnErr result (IsKept world.old world.new) }
 {
     if !world.ranges.holds(range) || !world.tree.holds(node) {
-        return Ok(Reply::Own(OwnError::NoSuchObject));
+        return Ok(Reply::Brief(Brief::Own(OwnError::NoSuchObject)));
     }
     if lacks_numbers(world, numbers) {
-        return Ok(Reply::Own(OwnError::Limit));
+        return Ok(Reply::Brief(Brief::Own(OwnError::Limit)));
     }
     match dom_wrap::surround(world, alloc, range, node) {
-        Ok(()) => Ok(Reply::Done(Answer::Nothing)),
+        Ok(()) => Ok(Reply::Brief(Brief::Nothing)),
         Err(refusal) => reply_to(refusal),
     }
 }

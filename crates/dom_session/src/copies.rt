@@ -11,6 +11,7 @@ ghost use Rattle.dom_session.specs.Stands.{IsStep};
 ghost use Rattle.dom_session.specs.Ending.{IsKept};
 ghost use Rattle.dom_session.specs.Limiting.{numbered};
 
+use crate::brief::Brief;
 use crate::command::Copying;
 use crate::reply::{Answer, Reply, reply_to};
 use dom_edit::World;
@@ -46,16 +47,16 @@ pub(crate) fn import_node(
     ensures left { OnErr result (IsKept world.old world.new) }
 {
     if !world.tree.holds(document) || !world.tree.holds(node) {
-        return Ok(Reply::Own(OwnError::NoSuchObject));
+        return Ok(Reply::Brief(Brief::Own(OwnError::NoSuchObject)));
     }
     if !world.tree.is_of_kind(document, Kind::Document) {
-        return Ok(Reply::Dom(DomError::TypeError));
+        return Ok(Reply::Brief(Brief::Dom(DomError::TypeError)));
     }
     if lacks_numbers(world, numbers) {
-        return Ok(Reply::Own(OwnError::Limit));
+        return Ok(Reply::Brief(Brief::Own(OwnError::Limit)));
     }
     match dom_clone::import(world, alloc, document, node, deep) {
-        Ok(copy) => Ok(Reply::Done(Answer::Number(copy.number()))),
+        Ok(copy) => Ok(Reply::Brief(Brief::Number(copy.number()))),
         Err(refusal) => reply_to(refusal),
     }
 }
@@ -75,13 +76,13 @@ pub(crate) fn clone_node(
     ensures left { OnErr result (IsKept world.old world.new) }
 {
     if !world.tree.holds(node) {
-        return Ok(Reply::Own(OwnError::NoSuchObject));
+        return Ok(Reply::Brief(Brief::Own(OwnError::NoSuchObject)));
     }
     if lacks_numbers(world, numbers) {
-        return Ok(Reply::Own(OwnError::Limit));
+        return Ok(Reply::Brief(Brief::Own(OwnError::Limit)));
     }
     let copy = dom_clone::clone_node(world, alloc, node, deep)?;
-    Ok(Reply::Done(Answer::Number(copy.number())))
+    Ok(Reply::Brief(Brief::Number(copy.number())))
 }
 
 /// Whether two nodes are equal; none is equal to no node.
@@ -90,13 +91,13 @@ pub(crate) fn is_equal(world: &World, node: NodeId, other: Option<NodeId>) -> Re
     ensures { (b : Bounds) → IsStep world.now world.now b (IsEqual node other) result }
 {
     if !world.tree.holds(node) {
-        return Reply::Own(OwnError::NoSuchObject);
+        return Reply::Brief(Brief::Own(OwnError::NoSuchObject));
     }
     let Some(other) = other else {
         return Reply::Done(Answer::Flag(false));
     };
     if !world.tree.holds(other) {
-        return Reply::Own(OwnError::NoSuchObject);
+        return Reply::Brief(Brief::Own(OwnError::NoSuchObject));
     }
     Reply::Done(Answer::Flag(dom_clone::is_equal(&world.tree, node, other)))
 }
@@ -107,13 +108,13 @@ pub(crate) fn contains(world: &World, node: NodeId, other: Option<NodeId>) -> Re
     ensures { (b : Bounds) → IsStep world.now world.now b (IsContaining node other) result }
 {
     if !world.tree.holds(node) {
-        return Reply::Own(OwnError::NoSuchObject);
+        return Reply::Brief(Brief::Own(OwnError::NoSuchObject));
     }
     let Some(other) = other else {
         return Reply::Done(Answer::Flag(false));
     };
     if !world.tree.holds(other) {
-        return Reply::Own(OwnError::NoSuchObject);
+        return Reply::Brief(Brief::Own(OwnError::NoSuchObject));
     }
     Reply::Done(Answer::Flag(dom_clone::contains(&world.tree, node, other)))
 }
@@ -140,11 +141,11 @@ pub(crate) fn compare_position(world: &mut World, node: NodeId, other: NodeId) -
     ensures unchanged { world.new ≡ world.old }
 {
     if !world.tree.holds(node) || !world.tree.holds(other) {
-        return Reply::Own(OwnError::NoSuchObject);
+        return Reply::Brief(Brief::Own(OwnError::NoSuchObject));
     }
     find_order(world, node, other);
     let position = dom_clone::position(&world.tree, node, other);
-    Reply::Done(Answer::Number(u32::from(position)))
+    Reply::Brief(Brief::Number(u32::from(position)))
 }
 
 /// Answers the commands that copy or compare nodes.

@@ -10,6 +10,7 @@ ghost use Rattle.dom_session.specs.Stands.{IsStep};
 ghost use Rattle.dom_session.specs.Ending.{IsKept};
 ghost use Rattle.dom_session.specs.Limiting.{numbered};
 
+use crate::brief::Brief;
 use crate::command::Observing;
 use crate::reply::{Answer, Reply, Told};
 use dom_edit::World;
@@ -26,10 +27,10 @@ pub(crate) fn create_observer(world: &mut World, numbers: u64) -> Result<Reply, 
     ensures left { OnErr result (IsKept world.old world.new) }
 {
     if numbers <= world.observers.made() as u64 {
-        return Ok(Reply::Own(OwnError::Limit));
+        return Ok(Reply::Brief(Brief::Own(OwnError::Limit)));
     }
     let id = world.observers.make()?;
-    Ok(Reply::Done(Answer::Number(id.number())))
+    Ok(Reply::Brief(Brief::Number(id.number())))
 }
 
 /// Lets an observer watch a node, in place of how it watched it before (`observe`).
@@ -45,14 +46,14 @@ pub(crate) fn observe(
     ensures left { OnErr result (IsKept world.old world.new) }
 {
     if !world.observers.holds(observer) || !world.tree.holds(node) {
-        return Ok(Reply::Own(OwnError::NoSuchObject));
+        return Ok(Reply::Brief(Brief::Own(OwnError::NoSuchObject)));
     }
     match settle(options) {
         Ok(options) => {
             world.observers.observe(observer, node, options)?;
-            Ok(Reply::Done(Answer::Nothing))
+            Ok(Reply::Brief(Brief::Nothing))
         }
-        Err(error) => Ok(Reply::Dom(error)),
+        Err(error) => Ok(Reply::Brief(Brief::Dom(error))),
     }
 }
 
@@ -62,10 +63,10 @@ pub(crate) fn disconnect(world: &mut World, observer: ObserverId) -> Reply
     ensures step { (b : Bounds) → IsStep world.old world.new b (Disconnect observer) result }
 {
     if !world.observers.holds(observer) {
-        return Reply::Own(OwnError::NoSuchObject);
+        return Reply::Brief(Brief::Own(OwnError::NoSuchObject));
     }
     world.observers.disconnect(observer);
-    Reply::Done(Answer::Nothing)
+    Reply::Brief(Brief::Nothing)
 }
 
 /// Lets an observer go: it watches nothing more, is pending no more, and its number is not used again.
@@ -74,10 +75,10 @@ pub(crate) fn release_observer(world: &mut World, observer: ObserverId) -> Reply
     ensures step { (b : Bounds) → IsStep world.old world.new b (ReleaseObserver observer) result }
 {
     if !world.observers.holds(observer) {
-        return Reply::Own(OwnError::NoSuchObject);
+        return Reply::Brief(Brief::Own(OwnError::NoSuchObject));
     }
     world.observers.release(observer);
-    Reply::Done(Answer::Nothing)
+    Reply::Brief(Brief::Nothing)
 }
 
 /// Takes the records that wait for an observer (`takeRecords`).
@@ -86,7 +87,7 @@ pub(crate) fn take_records(world: &mut World, observer: ObserverId) -> Reply
     ensures step { (b : Bounds) → IsStep world.old world.new b (TakeRecords observer) result }
 {
     if !world.observers.holds(observer) {
-        return Reply::Own(OwnError::NoSuchObject);
+        return Reply::Brief(Brief::Own(OwnError::NoSuchObject));
     }
     Reply::Done(Answer::Records(world.observers.take(observer)))
 }
@@ -154,7 +155,7 @@ pub(crate) fn tell_observer(world: &mut World, observer: ObserverId) -> Reply
     ensures step { (b : Bounds) → IsStep world.old world.new b (TellObserver observer) result }
 {
     if !world.observers.holds(observer) {
-        return Reply::Own(OwnError::NoSuchObject);
+        return Reply::Brief(Brief::Own(OwnError::NoSuchObject));
     }
     Reply::Done(Answer::Records(world.observers.tell(observer)))
 }

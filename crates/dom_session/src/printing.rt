@@ -9,6 +9,7 @@ ghost use Rattle.dom_session.specs.Views.{reply_view};
 ghost use Rattle.dom_session.specs.Stands.{IsStep};
 ghost use Rattle.dom_session.specs.Printing.{row_at};
 
+use crate::brief::Brief;
 use crate::reply::{Answer, Reply, TreeRow};
 use dom_clone::{Waiting, wait_for};
 use dom_edit::{Content, World};
@@ -61,7 +62,7 @@ pub(crate) fn print_tree(world: &World, alloc: Global, top: NodeId) -> Result<Re
         IsStep world.now world.now b (TreeCommand top) reply) }
 {
     if !world.tree.holds(top) {
-        return Ok(Reply::Own(OwnError::NoSuchObject));
+        return Ok(Reply::Brief(Brief::Own(OwnError::NoSuchObject)));
     }
     let rows = rows_of(&world.tree, alloc, top)?;
     Ok(Reply::Done(Answer::Rows(rows)))

@@ -9,6 +9,7 @@ ghost use Rattle.dom_session.specs.Views.{asking_view};
 ghost use Rattle.dom_session.specs.Stands.{IsStep};
 ghost use Rattle.dom_session.specs.Ending.{IsKept};
 
+use crate::brief::Brief;
 use crate::command::Asking;
 use crate::printing::print_tree;
 use crate::reply::{Answer, Description, Reply};
@@ -23,7 +24,7 @@ pub(crate) fn describe_node(world: &World, alloc: Global, node: NodeId) -> Resul
         IsStep world.now world.now b (DescribeNode node) reply) }
 {
     if !world.tree.holds(node) {
-        return Ok(Reply::Own(OwnError::NoSuchObject));
+        return Ok(Reply::Brief(Brief::Own(OwnError::NoSuchObject)));
     }
     let label = world.tree.label(node).try_clone(alloc)?;
     let description = Description {
@@ -59,7 +60,7 @@ pub(crate) fn children(world: &World, alloc: Global, node: NodeId) -> Result<Rep
         IsStep world.now world.now b (Children node) reply) }
 {
     if !world.tree.holds(node) {
-        return Ok(Reply::Own(OwnError::NoSuchObject));
+        return Ok(Reply::Brief(Brief::Own(OwnError::NoSuchObject)));
     }
     let numbers = child_numbers(&world.tree, alloc, node)?;
     Ok(Reply::Done(Answer::Numbers(numbers)))
@@ -71,7 +72,7 @@ pub(crate) fn index(world: &mut World, node: NodeId) -> Reply
     ensures unchanged { world.new ≡ world.old }
 {
     if !world.tree.holds(node) {
-        return Reply::Own(OwnError::NoSuchObject);
+        return Reply::Brief(Brief::Own(OwnError::NoSuchObject));
     }
     Reply::Done(Answer::Count(world.tree.found_index(node)))
 }
@@ -89,7 +90,7 @@ pub(crate) fn length(world: &World, node: NodeId) -> Reply
     ensures { (b : Bounds) → IsStep world.now world.now b (Length node) result }
 {
     if !world.tree.holds(node) {
-        return Reply::Own(OwnError::NoSuchObject);
+        return Reply::Brief(Brief::Own(OwnError::NoSuchObject));
     }
     Reply::Done(Answer::Count(world.tree.length(node)))
 }
@@ -99,9 +100,9 @@ pub(crate) fn root(world: &World, node: NodeId) -> Reply
     ensures { (b : Bounds) → IsStep world.now world.now b (Root node) result }
 {
     if !world.tree.holds(node) {
-        return Reply::Own(OwnError::NoSuchObject);
+        return Reply::Brief(Brief::Own(OwnError::NoSuchObject));
     }
-    Reply::Done(Answer::Number(world.tree.root(node).number()))
+    Reply::Brief(Brief::Number(world.tree.root(node).number()))
 }
 
 /// Answers the questions about nodes.

@@ -9,6 +9,7 @@ ghost use Rattle.dom_session.specs.Stands.{IsStep};
 ghost use Rattle.dom_session.specs.Ending.{IsKept};
 ghost use Rattle.dom_session.specs.Limiting.{numbered};
 
+use crate::brief::Brief;
 use crate::command::Ranging;
 use crate::reply::{Answer, Reply};
 use dom_edit::World;
@@ -32,20 +33,20 @@ pub(crate) fn create_range(
     ensures left { OnErr result (IsKept world.old world.new) }
 {
     if !world.tree.holds(document) {
-        return Ok(Reply::Own(OwnError::NoSuchObject));
+        return Ok(Reply::Brief(Brief::Own(OwnError::NoSuchObject)));
     }
     if world.tree.label(document).kind != Kind::Document {
-        return Ok(Reply::Dom(DomError::TypeError));
+        return Ok(Reply::Brief(Brief::Dom(DomError::TypeError)));
     }
     if numbers <= world.ranges.made() {
-        return Ok(Reply::Own(OwnError::Limit));
+        return Ok(Reply::Brief(Brief::Own(OwnError::Limit)));
     }
     let start = Point {
         node: document,
         offset: 0,
     };
     let id = world.ranges.make(&world.tree, start, start)?;
-    Ok(Reply::Done(Answer::Number(id.number())))
+    Ok(Reply::Brief(Brief::Number(id.number())))
 }
 
 /// Makes a live range with the ends of another.
@@ -60,14 +61,14 @@ pub(crate) fn clone_range(
     ensures left { OnErr result (IsKept world.old world.new) }
 {
     if !world.ranges.holds(range) {
-        return Ok(Reply::Own(OwnError::NoSuchObject));
+        return Ok(Reply::Brief(Brief::Own(OwnError::NoSuchObject)));
     }
     if numbers <= world.ranges.made() {
-        return Ok(Reply::Own(OwnError::Limit));
+        return Ok(Reply::Brief(Brief::Own(OwnError::Limit)));
     }
     let (start, end) = world.ranges.ends(range);
     let id = world.ranges.make(&world.tree, start, end)?;
-    Ok(Reply::Done(Answer::Number(id.number())))
+    Ok(Reply::Brief(Brief::Number(id.number())))
 }
 
 /// Tells where a live range starts and ends.
@@ -75,7 +76,7 @@ pub(crate) fn describe_range(world: &World, range: RangeId) -> Reply
     ensures step { (b : Bounds) → IsStep world.now world.now b (DescribeRange range) result }
 {
     if !world.ranges.holds(range) {
-        return Reply::Own(OwnError::NoSuchObject);
+        return Reply::Brief(Brief::Own(OwnError::NoSuchObject));
     }
     let (start, end) = world.ranges.ends(range);
     Reply::Done(Answer::Ends(start, end))
@@ -87,10 +88,10 @@ pub(crate) fn release_range(world: &mut World, range: RangeId) -> Reply
     ensures step { (b : Bounds) → IsStep world.old world.new b (ReleaseRange range) result }
 {
     if !world.ranges.holds(range) {
-        return Reply::Own(OwnError::NoSuchObject);
+        return Reply::Brief(Brief::Own(OwnError::NoSuchObject));
     }
     world.ranges.release(range);
-    Reply::Done(Answer::Nothing)
+    Reply::Brief(Brief::Nothing)
 }
 
 /// Answers the commands that make, tell and release live ranges.

@@ -5,6 +5,7 @@ ghost use Rattle.dom_model.specs.Forests.Kinds.{is_kind};
 ghost use Rattle.dom_session.specs.Views.{reply_view};
 ghost use Rattle.dom_session.specs.Refusing.{kind_refusal};
 
+use crate::brief::Brief;
 use crate::reply::Reply;
 use dom_edit::World;
 use dom_kinds::{DomError, Kind};
@@ -16,10 +17,10 @@ pub(crate) fn kind_refusal(world: &World, node: NodeId, kind: Kind) -> Option<Re
     ensures { option_map reply_view result ≡ kind_refusal (is_kind kind) world.now node }
 {
     if !world.tree.holds(node) {
-        return Some(Reply::Own(OwnError::NoSuchObject));
+        return Some(Reply::Brief(Brief::Own(OwnError::NoSuchObject)));
     }
     if !world.tree.is_of_kind(node, kind) {
-        return Some(Reply::Dom(DomError::TypeError));
+        return Some(Reply::Brief(Brief::Dom(DomError::TypeError)));
     }
     None
 }

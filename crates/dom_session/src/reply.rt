@@ -3,9 +3,9 @@
 ghost use Rattle.std.specs.Prelude.{◌≡◌};
 ghost use Rattle.dom_session.specs.Refusing.{reply_to};
 
+use crate::brief::Brief;
 use dom_edit::{Content, Refusal};
-use dom_kinds::{DomError, Label};
-use dom_model::OwnError;
+use dom_kinds::Label;
 use dom_observe::{ObserverId, Record};
 use dom_point::Point;
 use dom_tree::NodeId;
@@ -64,15 +64,9 @@ impl Model for Told {
     ghost view = { λ t. record { observer = t.observer; records = t.records.items } };
 }
 
-/// An answer, one variant for each shape.
+/// An answer that is none of a `Brief`, one variant for each shape.
 #[derive(Drop)]
 pub enum Answer {
-    /// No value.
-    Nothing,
-    /// The number of an object, or one of the standard's constants.
-    Number(u32),
-    /// The number of an object, where there is one.
-    MaybeNumber(Option<u32>),
     /// An index or a length.
     Count(usize),
     /// The numbers of objects, in order.
@@ -108,9 +102,9 @@ pub enum Answer {
 /// What a session says to a command.
 #[derive(Drop)]
 pub enum Reply {
+    /// A small answer, or a refusal.
+    Brief(Brief),
     Done(Answer),
-    Dom(DomError),
-    Own(OwnError),
 }
 
 /// What a command answers where its call was refused: the name of the exception. Want of memory is no answer.
@@ -118,7 +112,7 @@ pub(crate) fn reply_to(refusal: Refusal) -> Result<Reply, AllocError>
     ensures { result ≡ reply_to refusal }
 {
     match refusal {
-        Refusal::Dom(error) => Ok(Reply::Dom(error)),
+        Refusal::Dom(error) => Ok(Reply::Brief(Brief::Dom(error))),
         Refusal::Memory => Err(AllocError),
     }
 }

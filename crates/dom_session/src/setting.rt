@@ -9,6 +9,7 @@ ghost use Rattle.dom_edit.specs.Whole.{IsShown};
 ghost use Rattle.dom_session.specs.Views.{setting_view};
 ghost use Rattle.dom_session.specs.Stands.{IsStep, StepsAs};
 
+use crate::brief::Brief;
 use crate::command::Setting;
 use crate::questions::find_index;
 use crate::reply::{Answer, Reply};
@@ -25,15 +26,15 @@ pub(crate) fn set_start(world: &mut World, range: RangeId, node: NodeId, offset:
     ensures step { (b : Bounds) → IsStep world.old world.new b (SetStart range node offset) result }
 {
     if !world.ranges.holds(range) || !world.tree.holds(node) {
-        return Reply::Own(OwnError::NoSuchObject);
+        return Reply::Brief(Brief::Own(OwnError::NoSuchObject));
     }
     let offset = offset as usize;
     match world
         .ranges
         .set_start(&mut world.tree, range, Point { node, offset })
     {
-        Ok(()) => Reply::Done(Answer::Nothing),
-        Err(error) => Reply::Dom(error),
+        Ok(()) => Reply::Brief(Brief::Nothing),
+        Err(error) => Reply::Brief(Brief::Dom(error)),
     }
 }
 
@@ -43,15 +44,15 @@ pub(crate) fn set_end(world: &mut World, range: RangeId, node: NodeId, offset: u
     ensures step { (b : Bounds) → IsStep world.old world.new b (SetEnd range node offset) result }
 {
     if !world.ranges.holds(range) || !world.tree.holds(node) {
-        return Reply::Own(OwnError::NoSuchObject);
+        return Reply::Brief(Brief::Own(OwnError::NoSuchObject));
     }
     let offset = offset as usize;
     match world
         .ranges
         .set_end(&mut world.tree, range, Point { node, offset })
     {
-        Ok(()) => Reply::Done(Answer::Nothing),
-        Err(error) => Reply::Dom(error),
+        Ok(()) => Reply::Brief(Brief::Nothing),
+        Err(error) => Reply::Brief(Brief::Dom(error)),
     }
 }
 
@@ -62,14 +63,14 @@ fn set_start_beside(world: &mut World, range: RangeId, node: NodeId, point: Opti
     ensures step { StepsAs world.old world.new result (sets_start range node point) }
 {
     if !world.ranges.holds(range) || !world.tree.holds(node) {
-        return Reply::Own(OwnError::NoSuchObject);
+        return Reply::Brief(Brief::Own(OwnError::NoSuchObject));
     }
     let Some(point) = point else {
-        return Reply::Dom(DomError::InvalidNodeTypeError);
+        return Reply::Brief(Brief::Dom(DomError::InvalidNodeTypeError));
     };
     match world.ranges.set_start(&mut world.tree, range, point) {
-        Ok(()) => Reply::Done(Answer::Nothing),
-        Err(error) => Reply::Dom(error),
+        Ok(()) => Reply::Brief(Brief::Nothing),
+        Err(error) => Reply::Brief(Brief::Dom(error)),
     }
 }
 
@@ -80,14 +81,14 @@ fn set_end_beside(world: &mut World, range: RangeId, node: NodeId, point: Option
     ensures step { StepsAs world.old world.new result (sets_end range node point) }
 {
     if !world.ranges.holds(range) || !world.tree.holds(node) {
-        return Reply::Own(OwnError::NoSuchObject);
+        return Reply::Brief(Brief::Own(OwnError::NoSuchObject));
     }
     let Some(point) = point else {
-        return Reply::Dom(DomError::InvalidNodeTypeError);
+        return Reply::Brief(Brief::Dom(DomError::InvalidNodeTypeError));
     };
     match world.ranges.set_end(&mut world.tree, range, point) {
-        Ok(()) => Reply::Done(Answer::Nothing),
-        Err(error) => Reply::Dom(error),
+        Ok(()) => Reply::Brief(Brief::Nothing),
+        Err(error) => Reply::Brief(Brief::Dom(error)),
     }
 }
 
@@ -97,7 +98,7 @@ pub(crate) fn set_start_before(world: &mut World, range: RangeId, node: NodeId) 
     ensures step { (b : Bounds) → IsStep world.old world.new b (SetStartBefore range node) result }
 {
     if !world.tree.holds(node) {
-        return Reply::Own(OwnError::NoSuchObject);
+        return Reply::Brief(Brief::Own(OwnError::NoSuchObject));
     }
     find_index(world, node);
     let point = point_before(&world.tree, node);
@@ -110,7 +111,7 @@ pub(crate) fn set_start_after(world: &mut World, range: RangeId, node: NodeId) -
     ensures step { (b : Bounds) → IsStep world.old world.new b (SetStartAfter range node) result }
 {
     if !world.tree.holds(node) {
-        return Reply::Own(OwnError::NoSuchObject);
+        return Reply::Brief(Brief::Own(OwnError::NoSuchObject));
     }
     find_index(world, node);
     let point = point_after(&world.tree, node);
@@ -123,7 +124,7 @@ pub(crate) fn set_end_before(world: &mut World, range: RangeId, node: NodeId) ->
     ensures step { (b : Bounds) → IsStep world.old world.new b (SetEndBefore range node) result }
 {
     if !world.tree.holds(node) {
-        return Reply::Own(OwnError::NoSuchObject);
+        return Reply::Brief(Brief::Own(OwnError::NoSuchObject));
     }
     find_index(world, node);
     let point = point_before(&world.tree, node);
@@ -136,7 +137,7 @@ pub(crate) fn set_end_after(world: &mut World, range: RangeId, node: NodeId) -> 
     ensures step { (b : Bounds) → IsStep world.old world.new b (SetEndAfter range node) result }
 {
     if !world.tree.holds(node) {
-        return Reply::Own(OwnError::NoSuchObject);
+        return Reply::Brief(Brief::Own(OwnError::NoSuchObject));
     }
     find_index(world, node);
     let point = point_after(&world.tree, node);
@@ -149,10 +150,10 @@ pub(crate) fn collapse(world: &mut World, range: RangeId, to_start: bool) -> Rep
     ensures step { (b : Bounds) → IsStep world.old world.new b (Collapse range to_start) result }
 {
     if !world.ranges.holds(range) {
-        return Reply::Own(OwnError::NoSuchObject);
+        return Reply::Brief(Brief::Own(OwnError::NoSuchObject));
     }
     world.ranges.collapse(range, to_start);
-    Reply::Done(Answer::Nothing)
+    Reply::Brief(Brief::Nothing)
 }
 
 /// Sets the ends of a live range around a node.
@@ -161,12 +162,12 @@ pub(crate) fn select_node(world: &mut World, range: RangeId, node: NodeId) -> Re
     ensures step { (b : Bounds) → IsStep world.old world.new b (SelectNode range node) result }
 {
     if !world.ranges.holds(range) || !world.tree.holds(node) {
-        return Reply::Own(OwnError::NoSuchObject);
+        return Reply::Brief(Brief::Own(OwnError::NoSuchObject));
     }
     find_index(world, node);
     match world.ranges.select(&world.tree, range, node) {
-        Ok(()) => Reply::Done(Answer::Nothing),
-        Err(error) => Reply::Dom(error),
+        Ok(()) => Reply::Brief(Brief::Nothing),
+        Err(error) => Reply::Brief(Brief::Dom(error)),
     }
 }
 
@@ -177,11 +178,11 @@ pub(crate) fn select_node_contents(world: &mut World, range: RangeId, node: Node
         result }
 {
     if !world.ranges.holds(range) || !world.tree.holds(node) {
-        return Reply::Own(OwnError::NoSuchObject);
+        return Reply::Brief(Brief::Own(OwnError::NoSuchObject));
     }
     match world.ranges.select_contents(&world.tree, range, node) {
-        Ok(()) => Reply::Done(Answer::Nothing),
-        Err(error) => Reply::Dom(error),
+        Ok(()) => Reply::Brief(Brief::Nothing),
+        Err(error) => Reply::Brief(Brief::Dom(error)),
     }
 }
 

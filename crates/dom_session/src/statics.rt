@@ -9,6 +9,7 @@ ghost use Rattle.dom_session.specs.Stands.{IsStep};
 ghost use Rattle.dom_session.specs.Ending.{IsKept};
 ghost use Rattle.dom_session.specs.Limiting.{numbered};
 
+use crate::brief::Brief;
 use crate::command::StaticRanging;
 use crate::reply::{Answer, Reply};
 use dom_edit::World;
@@ -31,17 +32,17 @@ pub(crate) fn create_static_range(
     ensures left { OnErr result (IsKept world.old world.new) }
 {
     if !world.tree.holds(start.node) || !world.tree.holds(end.node) {
-        return Ok(Reply::Own(OwnError::NoSuchObject));
+        return Ok(Reply::Brief(Brief::Own(OwnError::NoSuchObject)));
     }
     if numbers <= world.statics.made() {
-        return Ok(Reply::Own(OwnError::Limit));
+        return Ok(Reply::Brief(Brief::Own(OwnError::Limit)));
     }
     match Statics::check(&world.tree, start.node, end.node) {
         Ok(()) => {
             let id = world.statics.make(start, end)?;
-            Ok(Reply::Done(Answer::Number(id.number())))
+            Ok(Reply::Brief(Brief::Number(id.number())))
         }
-        Err(error) => Ok(Reply::Dom(error)),
+        Err(error) => Ok(Reply::Brief(Brief::Dom(error))),
     }
 }
 
@@ -51,7 +52,7 @@ pub(crate) fn describe_static_range(world: &mut World, range: StaticId) -> Reply
     ensures step { (b : Bounds) → IsStep world.old world.new b (DescribeStaticRange range) result }
 {
     if !world.statics.holds(range) {
-        return Reply::Own(OwnError::NoSuchObject);
+        return Reply::Brief(Brief::Own(OwnError::NoSuchObject));
     }
     let (start, end) = world.statics.ends(range);
     let is_valid = world.statics.is_valid(&mut world.tree, range);
@@ -64,10 +65,10 @@ pub(crate) fn release_static_range(world: &mut World, range: StaticId) -> Reply
     ensures step { (b : Bounds) → IsStep world.old world.new b (ReleaseStaticRange range) result }
 {
     if !world.statics.holds(range) {
-        return Reply::Own(OwnError::NoSuchObject);
+        return Reply::Brief(Brief::Own(OwnError::NoSuchObject));
     }
     world.statics.release(range);
-    Reply::Done(Answer::Nothing)
+    Reply::Brief(Brief::Nothing)
 }
 
 /// Answers the commands on static ranges.

@@ -11,6 +11,7 @@ ghost use Rattle.dom_session.specs.Ending.{IsKept};
 ghost use Rattle.dom_session.specs.Limiting.{numbered};
 ghost use Rattle.dom_session.specs.Refusing.{kind_refusal};
 
+use crate::brief::Brief;
 use crate::command::Texts;
 use crate::refusing::kind_refusal;
 use crate::reply::{Answer, Reply, reply_to};
@@ -26,10 +27,10 @@ fn refusal(world: &World, node: NodeId) -> Option<Reply>
     ensures { option_map reply_view result ≡ kind_refusal is_character_data world.now node }
 {
     if !world.tree.holds(node) {
-        return Some(Reply::Own(OwnError::NoSuchObject));
+        return Some(Reply::Brief(Brief::Own(OwnError::NoSuchObject)));
     }
     if !world.tree.has_data(node) {
-        return Some(Reply::Dom(DomError::TypeError));
+        return Some(Reply::Brief(Brief::Dom(DomError::TypeError)));
     }
     None
 }
@@ -63,7 +64,7 @@ pub(crate) fn set_data(
         return Ok(reply);
     }
     dom_data::set_data(world, alloc, node, text)?;
-    Ok(Reply::Done(Answer::Nothing))
+    Ok(Reply::Brief(Brief::Nothing))
 }
 
 /// Puts a text in place of so many units from an offset on.
@@ -84,7 +85,7 @@ pub(crate) fn replace_data(
         return Ok(reply);
     }
     match dom_data::replace_data(world, alloc, node, offset, count, text) {
-        Ok(()) => Ok(Reply::Done(Answer::Nothing)),
+        Ok(()) => Ok(Reply::Brief(Brief::Nothing)),
         Err(refusal) => reply_to(refusal),
     }
 }
@@ -102,7 +103,7 @@ pub(crate) fn append_data(
     ensures left { OnErr result (IsKept world.old world.new) }
 {
     if !world.tree.holds(node) {
-        return Ok(Reply::Own(OwnError::NoSuchObject));
+        return Ok(Reply::Brief(Brief::Own(OwnError::NoSuchObject)));
     }
     let end = world.tree.length(node);
     replace_data(world, alloc, node, end, 0, text)
@@ -168,7 +169,7 @@ pub(crate) fn text_content(world: &World, alloc: Global, node: NodeId) -> Result
         IsStep world.now world.now b (TextContent node) reply) }
 {
     if !world.tree.holds(node) {
-        return Ok(Reply::Own(OwnError::NoSuchObject));
+        return Ok(Reply::Brief(Brief::Own(OwnError::NoSuchObject)));
     }
     let text = dom_data::text_content(world, alloc, node)?;
     Ok(Reply::Done(Answer::MaybeUnits(text)))
@@ -189,13 +190,13 @@ pub(crate) fn set_text_content(
     ensures left { OnErr result (IsKept world.old world.new) }
 {
     if !world.tree.holds(node) {
-        return Ok(Reply::Own(OwnError::NoSuchObject));
+        return Ok(Reply::Brief(Brief::Own(OwnError::NoSuchObject)));
     }
     if numbers <= world.tree.made() {
-        return Ok(Reply::Own(OwnError::Limit));
+        return Ok(Reply::Brief(Brief::Own(OwnError::Limit)));
     }
     dom_data::set_text_content(world, alloc, node, text)?;
-    Ok(Reply::Done(Answer::Nothing))
+    Ok(Reply::Brief(Brief::Nothing))
 }
 
 /// Splits a Text at an offset, and answers the new one.
@@ -216,10 +217,10 @@ pub(crate) fn split_text(
         return Ok(reply);
     }
     if numbers <= world.tree.made() {
-        return Ok(Reply::Own(OwnError::Limit));
+        return Ok(Reply::Brief(Brief::Own(OwnError::Limit)));
     }
     match dom_data::split(world, alloc, text, offset as usize) {
-        Ok(new) => Ok(Reply::Done(Answer::Number(new.number()))),
+        Ok(new) => Ok(Reply::Brief(Brief::Number(new.number()))),
         Err(refusal) => reply_to(refusal),
     }
 }
@@ -232,10 +233,10 @@ pub(crate) fn normalize(world: &mut World, alloc: Global, node: NodeId) -> Resul
     ensures left { OnErr result (IsKept world.old world.new) }
 {
     if !world.tree.holds(node) {
-        return Ok(Reply::Own(OwnError::NoSuchObject));
+        return Ok(Reply::Brief(Brief::Own(OwnError::NoSuchObject)));
     }
     dom_data::normalize(world, alloc, node)?;
-    Ok(Reply::Done(Answer::Nothing))
+    Ok(Reply::Brief(Brief::Nothing))
 }
 
 /// Answers the commands on data and text.

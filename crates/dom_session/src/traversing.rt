@@ -44,13 +44,13 @@ pub(crate) fn create_iterator(
     ensures left { OnErr result (IsKept world.old world.new) }
 {
     if !world.tree.holds(root) {
-        return Ok(Reply::Own(OwnError::NoSuchObject));
+        return Ok(Reply::Brief(Brief::Own(OwnError::NoSuchObject)));
     }
     if numbers <= world.iterators.made() {
-        return Ok(Reply::Own(OwnError::Limit));
+        return Ok(Reply::Brief(Brief::Own(OwnError::Limit)));
     }
     let id = world.iterators.make(root, filter)?;
-    Ok(Reply::Done(Answer::Number(id.number())))
+    Ok(Reply::Brief(Brief::Number(id.number())))
 }
 
 /// Makes a tree walker that stands at its root (`createTreeWalker`).
@@ -67,13 +67,13 @@ pub(crate) fn create_walker(
     ensures left { OnErr result (IsKept world.old world.new) }
 {
     if !world.tree.holds(root) {
-        return Ok(Reply::Own(OwnError::NoSuchObject));
+        return Ok(Reply::Brief(Brief::Own(OwnError::NoSuchObject)));
     }
     if numbers <= world.walkers.made() {
-        return Ok(Reply::Own(OwnError::Limit));
+        return Ok(Reply::Brief(Brief::Own(OwnError::Limit)));
     }
     let id = world.walkers.make(root, filter)?;
-    Ok(Reply::Done(Answer::Number(id.number())))
+    Ok(Reply::Brief(Brief::Number(id.number())))
 }
 
 /// Tells the root and the reference of an iterator, and whether it stands before the reference.
@@ -81,7 +81,7 @@ pub(crate) fn describe_iterator(world: &World, iterator: IteratorId) -> Reply
     ensures step { (b : Bounds) → IsStep world.now world.now b (DescribeIterator iterator) result }
 {
     if !world.iterators.holds(iterator) {
-        return Reply::Own(OwnError::NoSuchObject);
+        return Reply::Brief(Brief::Own(OwnError::NoSuchObject));
     }
     let (root, reference, before) = world.iterators.state(iterator);
     Reply::Done(Answer::IteratorAt(root, reference, before))
@@ -118,7 +118,7 @@ pub(crate) fn describe_walker(world: &World, walker: WalkerId) -> Reply
     ensures step { (b : Bounds) → IsStep world.now world.now b (DescribeWalker walker) result }
 {
     if !world.walkers.holds(walker) {
-        return Reply::Own(OwnError::NoSuchObject);
+        return Reply::Brief(Brief::Own(OwnError::NoSuchObject));
     }
     let (root, current) = world.walkers.state(walker);
     Reply::Done(Answer::WalkerAt(root, current))
@@ -130,10 +130,10 @@ pub(crate) fn set_current(world: &mut World, walker: WalkerId, node: NodeId) -> 
     ensures step { (b : Bounds) → IsStep world.old world.new b (SetCurrent walker node) result }
 {
     if !world.walkers.holds(walker) || !world.tree.holds(node) {
-        return Reply::Own(OwnError::NoSuchObject);
+        return Reply::Brief(Brief::Own(OwnError::NoSuchObject));
     }
     world.walkers.set_current(walker, node);
-    Reply::Done(Answer::Nothing)
+    Reply::Brief(Brief::Nothing)
 }
 
 /// Makes one of the seven moves of a walker, where it finds a node.
@@ -155,10 +155,10 @@ pub(crate) fn release_iterator(world: &mut World, iterator: IteratorId) -> Reply
     ensures step { (b : Bounds) → IsStep world.old world.new b (ReleaseIterator iterator) result }
 {
     if !world.iterators.holds(iterator) {
-        return Reply::Own(OwnError::NoSuchObject);
+        return Reply::Brief(Brief::Own(OwnError::NoSuchObject));
     }
     world.iterators.release(iterator);
-    Reply::Done(Answer::Nothing)
+    Reply::Brief(Brief::Nothing)
 }
 
 /// Lets a walker go: it keeps no tree from being discarded, and its number is not used again.
@@ -167,10 +167,10 @@ pub(crate) fn release_walker(world: &mut World, walker: WalkerId) -> Reply
     ensures step { (b : Bounds) → IsStep world.old world.new b (ReleaseWalker walker) result }
 {
     if !world.walkers.holds(walker) {
-        return Reply::Own(OwnError::NoSuchObject);
+        return Reply::Brief(Brief::Own(OwnError::NoSuchObject));
     }
     world.walkers.release(walker);
-    Reply::Done(Answer::Nothing)
+    Reply::Brief(Brief::Nothing)
 }
 
 /// Answers the commands on iterators and walkers.
@@ -189,11 +189,11 @@ pub(crate) fn traverse(
         Traversing::CreateIterator(root, filter) => create_iterator(world, numbers, root, filter),
         Traversing::CreateWalker(root, filter) => create_walker(world, numbers, root, filter),
         Traversing::DescribeIterator(iterator) => Ok(describe_iterator(world, iterator)),
-        Traversing::NextNode(iterator) => Ok(next_node(world, iterator).reply()),
-        Traversing::PreviousNode(iterator) => Ok(previous_node(world, iterator).reply()),
+        Traversing::NextNode(iterator) => Ok(Reply::Brief(next_node(world, iterator))),
+        Traversing::PreviousNode(iterator) => Ok(Reply::Brief(previous_node(world, iterator))),
         Traversing::DescribeWalker(walker) => Ok(describe_walker(world, walker)),
         Traversing::SetCurrent(walker, node) => Ok(set_current(world, walker, node)),
-        Traversing::Walk(walker, direction) => Ok(walk(world, walker, direction).reply()),
+        Traversing::Walk(walker, direction) => Ok(Reply::Brief(walk(world, walker, direction))),
         Traversing::ReleaseIterator(iterator) => Ok(release_iterator(world, iterator)),
         Traversing::ReleaseWalker(walker) => Ok(release_walker(world, walker)),
     }

@@ -16,7 +16,7 @@ mod texts;
 mod values;
 
 /// What lines are read for, and what is printed of it.
-pub use dom_session::{Command, Ended, Limits, OwnError, Reply, Session};
+pub use dom_session::{Brief, Command, Ended, Limits, OwnError, Reply, Session};
 pub use error::ReadError;
 pub use printing::write_reply;
 pub use reading::read_line;

@@ -4,7 +4,7 @@ ghost use Rattle.std.specs.Prelude.{◌≡◌, [], ◌∷◌, IfOk, codes};
 ghost use Rattle.json.specs.Token.{string, key};
 ghost use Rattle.dom_model.specs.Commands.Refusal.{name_of_own};
 ghost use Rattle.dom_model.specs.Commands.Printed.{reply_line, reply_json, answer_json};
-ghost use Rattle.dom_session.specs.Views.{reply_view, answer_view};
+ghost use Rattle.dom_session.specs.Views.{reply_view, brief_view, answer_view};
 ghost use Rattle.dom_wire.specs.Prints.{tokens_of, Adds};
 
 use crate::places::{
@@ -17,7 +17,7 @@ use crate::values::{
 };
 use dom_kinds::Exception;
 use dom_model::OwnError;
-use dom_session::{Answer, Reply};
+use dom_session::{Answer, Brief, Reply};
 use json::Writer;
 use std::alloc::{AllocError, Global};
 
@@ -35,14 +35,36 @@ pub fn write_reply(alloc: Global, reply: &Reply) -> Result<Vec<u8>, AllocError>
 fn write_object(alloc: Global, reply: &Reply, writer: &mut Writer) -> Result<(), AllocError>
     ensures { Adds result writer.old writer.new (tokens_of (reply_json (reply_view reply.now))) }
 {
-    writer.begin_object()?;
     match reply {
+        Reply::Brief(brief) => write_brief(*brief, writer),
         Reply::Done(answer) => {
+            writer.begin_object()?;
             writer.key("ok")?;
             write_answer(alloc, answer, writer)?;
+            writer.end_object()
         }
-        Reply::Dom(error) => write_error(error.name(), writer)?,
-        Reply::Own(error) => write_error(own_name(*error), writer)?,
+    }
+}
+
+fn write_brief(brief: Brief, writer: &mut Writer) -> Result<(), AllocError>
+    ensures { Adds result writer.old writer.new (tokens_of (reply_json (brief_view brief))) }
+{
+    writer.begin_object()?;
+    match brief {
+        Brief::Nothing => {
+            writer.key("ok")?;
+            writer.null()?;
+        }
+        Brief::Number(number) => {
+            writer.key("ok")?;
+            writer.u64(u64::from(number))?;
+        }
+        Brief::MaybeNumber(number) => {
+            writer.key("ok")?;
+            write_maybe_number(number, writer)?;
+        }
+        Brief::Dom(error) => write_error(error.name(), writer)?,
+        Brief::Own(error) => write_error(own_name(error), writer)?,
     }
     writer.end_object()
 }
@@ -73,9 +95,6 @@ fn write_answer(alloc: Global, answer: &Answer, writer: &mut Writer) -> Result<(
     ensures { Adds result writer.old writer.new (tokens_of (answer_json (answer_view answer.now))) }
 {
     match answer {
-        Answer::Nothing => writer.null(),
-        Answer::Number(number) => writer.u64(u64::from(*number)),
-        Answer::MaybeNumber(number) => write_maybe_number(*number, writer),
         Answer::Count(count) => writer.u64(*count as u64),
         Answer::Numbers(numbers) => write_numbers(numbers.as_slice(), writer),
         Answer::Flag(flag) => writer.boolean(*flag),

@@ -3,8 +3,8 @@
 use dom_attrs::Attrs;
 use dom_serve::write_reply;
 use dom_session::{
-    Answer, Content, Description, DomError, Kind, Label, NodeId, ObserverId, OwnError, Point,
-    Record, RecordType, Reply, Told, TreeRow, Units,
+    Answer, Brief, Content, Description, DomError, Kind, Label, NodeId, ObserverId, OwnError,
+    Point, Record, RecordType, Reply, Told, TreeRow, Units,
 };
 use std::alloc::{AllocError, Global};
 use std::cmp::Ordering;
@@ -35,15 +35,15 @@ fn is_line(rt: &impl Abort, alloc: Global, reply: &Reply, wanted: &[u8]) -> Resu
 }
 
 fn are_lines(rt: &impl Abort, alloc: Global) -> Result<(), AllocError> {
-    is_line(rt, alloc, &Reply::Done(Answer::Number(1)), b"{\"ok\":1}\n")?;
-    let refused = Reply::Dom(DomError::HierarchyRequestError);
+    is_line(rt, alloc, &Reply::Brief(Brief::Number(1)), b"{\"ok\":1}\n")?;
+    let refused = Reply::Brief(Brief::Dom(DomError::HierarchyRequestError));
     is_line(
         rt,
         alloc,
         &refused,
         b"{\"error\":\"HierarchyRequestError\"}\n",
     )?;
-    let refused = Reply::Own(OwnError::NoSuchObject);
+    let refused = Reply::Brief(Brief::Own(OwnError::NoSuchObject));
     is_line(rt, alloc, &refused, b"{\"error\":\"no-such-object\"}\n")
 }
 
@@ -88,28 +88,32 @@ fn printed_tree(rt: HostRuntime) -> Result<(), Fail> {
 
 // Whether the printed answer is this text in its object.
 fn prints(alloc: Global, answer: Answer, wanted: &str) -> Result<bool, AllocError> {
-    let line = write_reply(alloc, &Reply::Done(answer))?;
+    prints_reply(alloc, &Reply::Done(answer), wanted)
+}
+
+fn prints_reply(alloc: Global, reply: &Reply, wanted: &str) -> Result<bool, AllocError> {
+    let line = write_reply(alloc, reply)?;
     let whole = format!(in alloc; "{{\"ok\":{wanted}}}\n")?;
     Ok(line.as_slice() == whole.as_bytes())
 }
 
-// Answers that take no memory, by their place in a table, and how they are printed.
-fn plain(place: usize) -> (Answer, &'static str) {
+// Replies that take no memory, by their place in a table, and how their answers are printed.
+fn plain(place: usize) -> (Reply, &'static str) {
     match place {
-        0 => (Answer::Nothing, "null"),
-        1 => (Answer::MaybeNumber(None), "null"),
-        2 => (Answer::MaybeNumber(Some(3)), "3"),
-        3 => (Answer::Count(5000000000), "5000000000"),
-        4 => (Answer::Flag(false), "false"),
-        5 => (Answer::Order(Ordering::Less), "-1"),
-        _ => (Answer::Order(Ordering::Greater), "1"),
+        0 => (Reply::Brief(Brief::Nothing), "null"),
+        1 => (Reply::Brief(Brief::MaybeNumber(None)), "null"),
+        2 => (Reply::Brief(Brief::MaybeNumber(Some(3))), "3"),
+        3 => (Reply::Done(Answer::Count(5000000000)), "5000000000"),
+        4 => (Reply::Done(Answer::Flag(false)), "false"),
+        5 => (Reply::Done(Answer::Order(Ordering::Less)), "-1"),
+        _ => (Reply::Done(Answer::Order(Ordering::Greater)), "1"),
     }
 }
 
-// That the answer at a place of that table is printed so.
+// That the reply at a place of that table is printed so.
 fn prints_plain(rt: &impl Abort, alloc: Global, place: usize) -> Result<(), AllocError> {
-    let (answer, wanted) = plain(place);
-    assert!(rt; prints(alloc, answer, wanted)?, "{place}");
+    let (reply, wanted) = plain(place);
+    assert!(rt; prints_reply(alloc, &reply, wanted)?, "{place}");
     Ok(())
 }
 

@@ -1,7 +1,7 @@
 //! A session at work, with ample memory.
 
 use dom_session::{
-    Answer, Asking, Command, DomError, Editing, Filter, IteratorId, Limits, Making, NodeId,
+    Answer, Asking, Brief, Command, DomError, Editing, Filter, IteratorId, Limits, Making, NodeId,
     OwnError, Reply, Session, Traversing, Units, WalkerId,
 };
 use std::alloc::{AllocError, Global};
@@ -26,21 +26,21 @@ fn replied(session: &mut Session, command: Command) -> Result<Reply, AllocError>
 // What of a reply is asked: a number, an error of the program's own, or one of the standard's.
 fn is_number(reply: &Reply, number: u32) -> bool {
     match reply {
-        Reply::Done(Answer::Number(n)) => *n == number,
+        Reply::Brief(Brief::Number(n)) => *n == number,
         _ => false,
     }
 }
 
 fn is_own(reply: &Reply, error: OwnError) -> bool {
     match reply {
-        Reply::Own(e) => *e == error,
+        Reply::Brief(Brief::Own(e)) => *e == error,
         _ => false,
     }
 }
 
 fn is_dom(reply: &Reply, error: DomError) -> bool {
     match reply {
-        Reply::Dom(e) => *e == error,
+        Reply::Brief(Brief::Dom(e)) => *e == error,
         _ => false,
     }
 }
@@ -142,7 +142,7 @@ fn refusals_spend_no_number(rt: HostRuntime) -> Result<(), Fail> {
 // Whether a command is done, and has no other answer.
 fn does(session: &mut Session, command: Command) -> Result<bool, AllocError> {
     match replied(session, command)? {
-        Reply::Done(Answer::Nothing) => Ok(true),
+        Reply::Brief(Brief::Nothing) => Ok(true),
         _ => Ok(false),
     }
 }

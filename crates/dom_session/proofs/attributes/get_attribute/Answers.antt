@@ -1,9 +1,17 @@
-use Rattle.std.proofs.Common.{sym}
+use Rattle.std.proofs.Common.{sym, refl, []}
 use Rattle.dom_model.specs.Commands.Command.{GetAttribute}
 use Rattle.dom_session.specs.declared.reply.Answer.TheVariants.{MaybeUnits}
 use Rattle.dom_session.specs.declared.reply.Reply.TheVariants.{Done}
 use Rattle.dom_session.proofs.Stepping.{step-stays}
 use Rattle.dom_session.proofs.NodeData.{answer-get_attribute}
+use Rattle.dom_model.specs.declared.Kind.TheVariants.{Element}
+use Rattle.dom_model.specs.Forests.Kinds.{is_kind}
+use Rattle.dom_model.specs.Commands.Guards.{answers}
+use Rattle.dom_model.specs.DataAndCopies.Data.{content_in}
+use Rattle.dom_model.specs.Forests.Forest.{entry_in}
+use Rattle.dom_model.specs.Forests.Attributes.{attribute_value}
+use Rattle.dom_model.specs.Commands.Reply as model_reply
+use Rattle.dom_session.proofs.OtherKinds.{step-other_kind}
 use Rattle.dom_session.proofs.attributes.get_attribute.Goals as goal
 
 pub returns : goal.returns
@@ -11,3 +19,8 @@ returns c b =
     let v = c.args.world.now in
     step-stays b (GetAttribute c.args.element c.args.name.now) (Done (MaybeUnits c.in_ok-value.value)) v
     (λ w shown. answer-get_attribute v b w shown c.args.element c.args.name.now c.in_ok-value.value (sym c.in_default.ensures) c.in_ok-value.ensures)
+
+pub returns-in-Some : goal.returns-in-Some
+returns-in-Some c b =
+    step-other_kind c.args.world.now b (GetAttribute c.args.element c.args.name.now) (is_kind Element) c.args.element c.in-Some.reply []
+    (λ w. answers (model_reply.MaybeUnits (attribute_value c.args.name.now (content_in (entry_in w.forest c.args.element)).attributes)) w) (λ w. refl) c.in-Some.ensures

@@ -1,18 +1,27 @@
-use Rattle.std.proofs.Common.{refl, sym}
+use Rattle.std.proofs.Common.{refl, sym, []}
 use Rattle.dom_model.specs.DataAndCopies.Data.{remove_attribute}
 use Rattle.dom_model.specs.Commands.Command.{RemoveAttribute}
-use Rattle.dom_session.specs.declared.reply.Answer.TheVariants.{Nothing}
-use Rattle.dom_session.specs.declared.reply.Reply.TheVariants.{Done}
+use Rattle.dom_session.specs.declared.brief.Brief.TheVariants.{Nothing}
+use Rattle.dom_session.specs.declared.reply.Reply.TheVariants.{Brief}
 use Rattle.dom_session.proofs.Stepping.{step-follows}
 use Rattle.dom_session.proofs.NodeData.{answer-remove_attribute}
+use Rattle.dom_model.specs.declared.Kind.TheVariants.{Element}
+use Rattle.dom_model.specs.Forests.Kinds.{is_kind}
+use Rattle.dom_model.specs.Commands.Guards.{does}
+use Rattle.dom_session.proofs.OtherKinds.{step-other_kind}
 use Rattle.dom_session.proofs.attributes.remove_attribute.Goals as goal
 
 pub returns : goal.returns
 returns c =
     let v = c.args.world.now in
     record {
-      step = λ b. step-follows b (RemoveAttribute c.args.element c.args.name.now) (Done Nothing) v c.remove_attribute.new.world (remove_attribute c.args.element c.args.name.now) refl
+      step = λ b. step-follows b (RemoveAttribute c.args.element c.args.name.now) (Brief Nothing) v c.remove_attribute.new.world (remove_attribute c.args.element c.args.name.now) refl
           (λ w shown. answer-remove_attribute v b w shown c.args.element c.args.name.now (sym c.in_default.ensures))
           c.in_ok-remove_attribute.ensures.removed c.remove_attribute.ensures.whole;
       left = tt;
     }
+
+pub returns-in-Some-clause-step : goal.returns-in-Some-clause-step
+returns-in-Some-clause-step c b =
+    step-other_kind c.args.world.now b (RemoveAttribute c.args.element c.args.name.now) (is_kind Element) c.args.element c.in-Some.reply []
+    (λ w. does (remove_attribute c.args.element c.args.name.now w)) (λ w. refl) c.in-Some.ensures

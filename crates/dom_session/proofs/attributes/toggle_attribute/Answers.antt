@@ -1,11 +1,16 @@
-use Rattle.std.proofs.Common.{◌≡◌, true, refl, sym, string_bytes}
+use Rattle.std.proofs.Common.{◌≡◌, true, refl, sym, string_bytes, [], ◌∷◌}
 use Rattle.dom_model.specs.Forests.Names.{is_attribute_name}
-use Rattle.dom_model.specs.DataAndCopies.Data.{toggle_attribute}
+use Rattle.dom_model.specs.DataAndCopies.Data.{toggle_attribute, has_attribute, is_toggled_on}
 use Rattle.dom_model.specs.Commands.Command.{ToggleAttribute}
 use Rattle.dom_session.specs.declared.reply.Answer.TheVariants.{Flag}
 use Rattle.dom_session.specs.declared.reply.Reply.TheVariants.{Done}
 use Rattle.dom_session.proofs.Stepping.{step-follows}
 use Rattle.dom_session.proofs.NodeData.{answer-toggle_attribute}
+use Rattle.dom_model.specs.declared.Kind.TheVariants.{Element}
+use Rattle.dom_model.specs.Forests.Kinds.{is_kind}
+use Rattle.dom_model.specs.Commands.Guards.{bad_name}
+use Rattle.dom_model.specs.Commands.Reply as model_reply
+use Rattle.dom_session.proofs.OtherKinds.{step-other_kind}
 use Rattle.dom_session.proofs.attributes.toggle_attribute.Goals as goal
 
 pub returns : goal.returns
@@ -19,3 +24,8 @@ returns c =
           c.in_ok-present.ensures.toggled c.toggle_attribute.ensures.whole;
       left = tt;
     }
+
+pub returns-in-Some-clause-step : goal.returns-in-Some-clause-step
+returns-in-Some-clause-step c b =
+    step-other_kind c.args.world.now b (ToggleAttribute c.args.element (string_bytes c.args.name) c.args.force) (is_kind Element) c.args.element c.in-Some.reply (bad_name (is_attribute_name (string_bytes c.args.name)) ∷ [])
+    (λ w. record { reply = model_reply.Done (model_reply.Flag (is_toggled_on c.args.force (has_attribute w c.args.element (string_bytes c.args.name)))); world = toggle_attribute c.args.element (string_bytes c.args.name) c.args.force w }) (λ w. refl) c.in-Some.ensures

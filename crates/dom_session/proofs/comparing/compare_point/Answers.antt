@@ -9,7 +9,8 @@ use Rattle.dom_model.specs.Forests.Nodes.{same_root}
 use Rattle.dom_model.specs.Commands.Command.{ComparePoint}
 use Rattle.dom_ranges.specs.Tables.{range_in}
 use Rattle.dom_session.specs.declared.reply.Answer.TheVariants.{Order}
-use Rattle.dom_session.specs.declared.reply.Reply.TheVariants.{Done, Dom}
+use Rattle.dom_session.specs.declared.brief.Brief.TheVariants.{Dom}
+use Rattle.dom_session.specs.declared.reply.Reply.TheVariants.{Brief, Done}
 use Rattle.dom_session.proofs.Stepping.{step-stays}
 use Rattle.dom_session.proofs.RangeAnswers.{passed, told, answer-compare_point, refusal-compare_point}
 use Rattle.dom_session.proofs.comparing.compare_point.Goals as goal
@@ -47,7 +48,7 @@ returns-in-Err c =
     let root : same_root f n range.start.node ≡ true = subst (λ (q : Point). same_root f n q.node ≡ true) c.start.view_is (sym c.same_root.ensures ∙ c.if-not-same_root.false) in
     let check = told (check_point unit_count f p) c.in-Err.error (sym c.in-Err.is ∙ c.checked_point.ensures) in
     record {
-      step = λ b. step-stays b (ComparePoint r n c.args.offset) (Dom c.in-Err.error) v
+      step = λ b. step-stays b (ComparePoint r n c.args.offset) (Brief (Dom c.in-Err.error)) v
           (λ w shown. refusal-compare_point v b w shown r n live there c.args.offset range c.ends.ensures.ends root c.in-Err.error check);
       unchanged = refl;
     }

@@ -5,8 +5,8 @@ use Rattle.dom_model.specs.RangesAndContents.Contents.{check_extract, clone_cont
 use Rattle.dom_model.specs.Commands.Command.{CloneContents}
 use Rattle.dom_ranges.specs.Tables.{range_in}
 use Rattle.dom_edit.specs.Whole.{unwatched}
-use Rattle.dom_session.specs.declared.reply.Answer.TheVariants.{Number}
-use Rattle.dom_session.specs.declared.reply.Reply.TheVariants.{Done}
+use Rattle.dom_session.specs.declared.brief.Brief.TheVariants.{Number}
+use Rattle.dom_session.specs.declared.reply.Reply.TheVariants.{Brief}
 use Rattle.dom_session.specs.Limiting.{numbered}
 use Rattle.dom_session.proofs.Stepping.{step-follows, step-refused}
 use Rattle.dom_session.proofs.ContentsAnswers.{room-clone_contents, answer-clone_contents}
@@ -25,7 +25,7 @@ returns-in-Ok c =
     let live : is_some (range_in v.ranges c.args.range) ≡ true = cc in
     let room : nat_lt c.args.numbers (v.tree.made + (2 * size v.tree.forest + 8)) ≡ false = cc in
     record {
-      step = rw (c.number.ensures ∙ c.in-Ok.ensures.number) (step-follows (numbered c.args.numbers) (CloneContents c.args.range) (Done (Number v.tree.made)) v c.clone_contents.new.world (clone_contents c.args.range) refl
+      step = rw (c.number.ensures ∙ c.in-Ok.ensures.number) (step-follows (numbered c.args.numbers) (CloneContents c.args.range) (Brief (Number v.tree.made)) v c.clone_contents.new.world (clone_contents c.args.range) refl
           (λ w shown. answer-clone_contents v (numbered c.args.numbers) w shown c.args.range live room None c.in-Ok.ensures.allowed)
           c.in-Ok.ensures.cloned c.clone_contents.ensures.whole);
       left = tt;

@@ -3,8 +3,8 @@ use Rattle.std.specs.Prelude.{is_some}
 use Rattle.dom_model.specs.RangesAndContents.Contents.{delete_contents}
 use Rattle.dom_model.specs.Commands.Command.{DeleteContents}
 use Rattle.dom_ranges.specs.Tables.{range_in}
-use Rattle.dom_session.specs.declared.reply.Answer.TheVariants.{Nothing}
-use Rattle.dom_session.specs.declared.reply.Reply.TheVariants.{Done}
+use Rattle.dom_session.specs.declared.brief.Brief.TheVariants.{Nothing}
+use Rattle.dom_session.specs.declared.reply.Reply.TheVariants.{Brief}
 use Rattle.dom_session.proofs.Stepping.{step-follows}
 use Rattle.dom_session.proofs.ContentsAnswers.{answer-delete_contents}
 use Rattle.dom_session.proofs.contents.delete_contents.Goals as goal
@@ -14,7 +14,7 @@ returns c =
     let v = c.args.world.now in
     let live : is_some (range_in v.ranges c.args.range) ≡ true = cc in
     record {
-      step = λ b. step-follows b (DeleteContents c.args.range) (Done Nothing) v c.delete_contents.new.world (delete_contents c.args.range) refl
+      step = λ b. step-follows b (DeleteContents c.args.range) (Brief Nothing) v c.delete_contents.new.world (delete_contents c.args.range) refl
           (λ w shown. answer-delete_contents v b w shown c.args.range live)
           c.in_ok-delete_contents.ensures.deleted c.delete_contents.ensures.whole;
       left = tt;

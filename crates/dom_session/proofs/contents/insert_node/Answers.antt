@@ -7,8 +7,8 @@ use Rattle.dom_model.specs.Commands.Command.{InsertNode}
 use Rattle.dom_ranges.specs.Tables.{range_in}
 use Rattle.dom_edit.specs.Whole.{unwatched}
 use Rattle.dom_wrap.specs.Outcomes.{left_by}
-use Rattle.dom_session.specs.declared.reply.Answer.TheVariants.{Nothing}
-use Rattle.dom_session.specs.declared.reply.Reply.TheVariants.{Done}
+use Rattle.dom_session.specs.declared.brief.Brief.TheVariants.{Nothing}
+use Rattle.dom_session.specs.declared.reply.Reply.TheVariants.{Brief}
 use Rattle.dom_session.specs.Limiting.{numbered}
 use Rattle.dom_session.proofs.Stepping.{step-follows, step-refused}
 use Rattle.dom_session.proofs.ContentsAnswers.{answer-insert_node, refused-insert_node}
@@ -24,7 +24,7 @@ returns-in-Ok c =
     let held : is_some (entry_in v.tree.forest n) ≡ true = cc in
     let room : nat_lt c.args.numbers (v.tree.made + 1) ≡ false = grind (arith, nat_tests) in
     record {
-      step = step-follows (numbered c.args.numbers) (InsertNode r n) (Done Nothing) v c.insert_node.new.world (λ w. left_by (insert_node r n w) w) refl
+      step = step-follows (numbered c.args.numbers) (InsertNode r n) (Brief Nothing) v c.insert_node.new.world (λ w. left_by (insert_node r n w) w) refl
           (λ w shown. answer-insert_node v (numbered c.args.numbers) w shown r n live held room c.in-Ok.ensures.allowed)
           c.in-Ok.ensures.inserted c.insert_node.ensures.whole;
       left = tt;

@@ -6,8 +6,8 @@ use Rattle.dom_model.specs.Commands.Command.{SurroundContents}
 use Rattle.dom_ranges.specs.Tables.{range_in}
 use Rattle.dom_edit.specs.Whole.{unwatched}
 use Rattle.dom_wrap.specs.Outcomes.{left_by}
-use Rattle.dom_session.specs.declared.reply.Answer.TheVariants.{Nothing}
-use Rattle.dom_session.specs.declared.reply.Reply.TheVariants.{Done}
+use Rattle.dom_session.specs.declared.brief.Brief.TheVariants.{Nothing}
+use Rattle.dom_session.specs.declared.reply.Reply.TheVariants.{Brief}
 use Rattle.dom_session.specs.Limiting.{numbered}
 use Rattle.dom_session.proofs.Stepping.{step-follows, step-refused}
 use Rattle.dom_session.proofs.ContentsAnswers.{room-surround, answer-surround, refused-surround}
@@ -29,7 +29,7 @@ returns-in-Ok c =
     let held : is_some (entry_in v.tree.forest n) ≡ true = cc in
     let room : nat_lt c.args.numbers (v.tree.made + (2 * size v.tree.forest + 8)) ≡ false = cc in
     record {
-      step = step-follows (numbered c.args.numbers) (SurroundContents r n) (Done Nothing) v c.surround.new.world (λ w. left_by (surround r n w) w) refl
+      step = step-follows (numbered c.args.numbers) (SurroundContents r n) (Brief Nothing) v c.surround.new.world (λ w. left_by (surround r n w) w) refl
           (λ w shown. answer-surround v (numbered c.args.numbers) w shown r n live held room c.in-Ok.ensures.allowed)
           c.in-Ok.ensures.surrounded c.surround.ensures.whole;
       left = tt;

@@ -3,8 +3,8 @@ use Rattle.std.specs.Prelude.{is_some}
 use Rattle.dom_model.specs.Forests.Forest.{entry_in, size}
 use Rattle.dom_model.specs.DataAndCopies.Clones.{clone_node}
 use Rattle.dom_model.specs.Commands.Command.{CloneNode}
-use Rattle.dom_session.specs.declared.reply.Answer.TheVariants.{Number}
-use Rattle.dom_session.specs.declared.reply.Reply.TheVariants.{Done}
+use Rattle.dom_session.specs.declared.brief.Brief.TheVariants.{Number}
+use Rattle.dom_session.specs.declared.reply.Reply.TheVariants.{Brief}
 use Rattle.dom_session.specs.Limiting.{numbered}
 use Rattle.dom_session.proofs.Stepping.{step-follows}
 use Rattle.dom_session.proofs.NodeCopies.{room-copy, answer-clone_node}
@@ -23,7 +23,7 @@ returns c =
     let held : is_some (entry_in v.tree.forest c.args.node) ≡ true = cc in
     let room : nat_lt c.args.numbers (v.tree.made + (2 * size v.tree.forest + 8)) ≡ false = cc in
     record {
-      step = rw (c.number.ensures ∙ c.in_ok-copy.ensures.number) (step-follows (numbered c.args.numbers) (CloneNode c.args.node c.args.deep) (Done (Number v.tree.made)) v c.clone_node.new.world (clone_node c.args.deep c.args.node) refl
+      step = rw (c.number.ensures ∙ c.in_ok-copy.ensures.number) (step-follows (numbered c.args.numbers) (CloneNode c.args.node c.args.deep) (Brief (Number v.tree.made)) v c.clone_node.new.world (clone_node c.args.deep c.args.node) refl
           (λ w shown. answer-clone_node v c.args.numbers w shown c.args.node c.args.deep held room)
           c.in_ok-copy.ensures.cloned c.clone_node.ensures.whole);
       left = tt;

@@ -7,8 +7,8 @@ use Rattle.dom_model.specs.Forests.Nodes.{kind_passes}
 use Rattle.dom_model.specs.DataAndCopies.Clones.{import_node}
 use Rattle.dom_model.specs.Commands.Command.{ImportNode}
 use Rattle.dom_edit.specs.Refusals.{check_adopt}
-use Rattle.dom_session.specs.declared.reply.Answer.TheVariants.{Number}
-use Rattle.dom_session.specs.declared.reply.Reply.TheVariants.{Done}
+use Rattle.dom_session.specs.declared.brief.Brief.TheVariants.{Number}
+use Rattle.dom_session.specs.declared.reply.Reply.TheVariants.{Brief}
 use Rattle.dom_session.specs.Limiting.{numbered}
 use Rattle.dom_session.proofs.Stepping.{step-follows, step-refused}
 use Rattle.dom_session.proofs.NodeCopies.{room-copy, answer-import_node, refused-import_node}
@@ -30,7 +30,7 @@ returns-in-Ok c =
     let kind : kind_passes (is_kind Document) f c.args.document ≡ true = cc in
     let room : nat_lt c.args.numbers (v.tree.made + (2 * size f + 8)) ≡ false = cc in
     record {
-      step = rw (c.number.ensures ∙ c.in-Ok.ensures.number) (step-follows (numbered c.args.numbers) (ImportNode c.args.document c.args.node c.args.deep) (Done (Number v.tree.made)) v c.import.new.world (import_node c.args.document c.args.deep c.args.node) refl
+      step = rw (c.number.ensures ∙ c.in-Ok.ensures.number) (step-follows (numbered c.args.numbers) (ImportNode c.args.document c.args.node c.args.deep) (Brief (Number v.tree.made)) v c.import.new.world (import_node c.args.document c.args.deep c.args.node) refl
           (λ w shown. answer-import_node v c.args.numbers w shown c.args.document c.args.node c.args.deep document held kind room c.in-Ok.ensures.allowed)
           c.in-Ok.ensures.imported c.import.ensures.whole);
       left = tt;

@@ -1,8 +1,8 @@
 use Rattle.std.proofs.Common.{◌≡◌, true, refl}
 use Rattle.std.specs.Prelude.{is_some}
 use Rattle.dom_model.specs.Forests.Forest.{entry_in}
-use Rattle.dom_session.specs.declared.reply.Answer.TheVariants.{Number}
-use Rattle.dom_session.specs.declared.reply.Reply.TheVariants.{Done}
+use Rattle.dom_session.specs.declared.brief.Brief.TheVariants.{Number}
+use Rattle.dom_session.specs.declared.reply.Reply.TheVariants.{Brief}
 use Rattle.dom_model.specs.declared.Kind.TheVariants.{Document}
 use Rattle.dom_model.specs.Forests.Kinds.{is_kind}
 use Rattle.dom_model.specs.Commands.Command.{AdoptNode}
@@ -23,7 +23,7 @@ returns-in-Ok c =
     let hn : is_some (entry_in old.tree.forest n) ≡ true = cc in
     let kind : kind_passes (is_kind Document) old.tree.forest d ≡ true = cc in
     record {
-      step = λ b. rw c.number.ensures (step-follows b (AdoptNode d n) (Done (Number n)) old c.adopt.new.self (adopt n d) refl
+      step = λ b. rw c.number.ensures (step-follows b (AdoptNode d n) (Brief (Number n)) old c.adopt.new.self (adopt n d) refl
           (λ w shown. answer-adopt_node old b d n w shown hd hn kind c.in-Ok.ensures.allowed)
           c.in-Ok.ensures.adopted c.adopt.ensures.whole);
       left = tt;

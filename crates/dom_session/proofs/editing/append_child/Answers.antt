@@ -4,8 +4,8 @@ use Rattle.dom_model.specs.Forests.Forest.{entry_in}
 use Rattle.dom_model.specs.Commands.Command.{AppendChild}
 use Rattle.dom_model.specs.MutationAlgorithms.Checks.{check_insert}
 use Rattle.dom_model.specs.MutationAlgorithms.Editing.{append}
-use Rattle.dom_session.specs.declared.reply.Answer.TheVariants.{Number}
-use Rattle.dom_session.specs.declared.reply.Reply.TheVariants.{Done}
+use Rattle.dom_session.specs.declared.brief.Brief.TheVariants.{Number}
+use Rattle.dom_session.specs.declared.reply.Reply.TheVariants.{Brief}
 use Rattle.dom_session.proofs.Stepping.{step-follows, steps-refused-briefly}
 use Rattle.dom_session.proofs.TreeEdits.{answer-append_child}
 use Rattle.dom_session.proofs.WorldsKept.{on_err, kept_nodes}
@@ -19,7 +19,7 @@ returns-in-Ok c =
     let hp : is_some (entry_in old.tree.forest p) ≡ true = cc in
     let hn : is_some (entry_in old.tree.forest n) ≡ true = cc in
     record {
-      step = λ b. rw c.number.ensures (step-follows b (AppendChild p n) (Done (Number n)) old c.append.new.self (append n p) refl
+      step = λ b. rw c.number.ensures (step-follows b (AppendChild p n) (Brief (Number n)) old c.append.new.self (append n p) refl
           (λ w shown. answer-append_child old b p n w None shown hp hn c.in-Ok.ensures.allowed)
           c.in-Ok.ensures.appended c.append.ensures.whole);
       left = tt;

@@ -6,8 +6,8 @@ use Rattle.dom_model.specs.Commands.Command.{Discard}
 use Rattle.dom_model.specs.MutationAlgorithms.Discarding.{is_in_use, discarded}
 use Rattle.dom_edit.specs.declared.world.World.{World}
 use Rattle.dom_edit.specs.Used.{is_used}
-use Rattle.dom_session.specs.declared.reply.Answer.TheVariants.{Nothing}
-use Rattle.dom_session.specs.declared.reply.Reply.TheVariants.{Done, Own}
+use Rattle.dom_session.specs.declared.brief.Brief.TheVariants.{Nothing, Own}
+use Rattle.dom_session.specs.declared.reply.Reply.TheVariants.{Brief}
 use Rattle.dom_session.specs.Stands.{IsStep}
 use Rattle.dom_session.proofs.Stepping.{step-follows, step-stays}
 use Rattle.dom_session.proofs.TreeEdits.{not-true, not-false, answer-discard, refused-discard}
@@ -23,8 +23,8 @@ returns-then-not-can_discard c =
     let held : is_some (entry_in u.tree.forest n) ≡ true = rw c.settle.ensures (sym c.holds.ensures ∙ c.if-not-holds.false) in
     record {
       step = λ b.
-          let P : World → Type 0 = λ old. IsStep old u b (Discard n) (Own InUse) in
-          subst P c.settle.ensures (step-stays b (Discard n) (Own InUse) u
+          let P : World → Type 0 = λ old. IsStep old u b (Discard n) (Brief (Own InUse)) in
+          subst P c.settle.ensures (step-stays b (Discard n) (Brief (Own InUse)) u
           (λ w shown. refused-discard u b n w shown held (not-false (is_in_use w n) (sym (c.can_discard.ensures.shown w shown) ∙ c.if-not-can_discard.true))));
     }
 
@@ -35,8 +35,8 @@ returns c =
     let held : is_some (entry_in u.tree.forest n) ≡ true = rw c.settle.ensures (sym c.holds.ensures ∙ c.if-not-holds.false) in
     record {
       step = λ b.
-          let P : World → Type 0 = λ old. IsStep old c.discard.new.self b (Discard n) (Done Nothing) in
-          subst P c.settle.ensures (step-follows b (Discard n) (Done Nothing) u c.discard.new.self (discarded n) refl
+          let P : World → Type 0 = λ old. IsStep old c.discard.new.self b (Discard n) (Brief Nothing) in
+          subst P c.settle.ensures (step-follows b (Discard n) (Brief Nothing) u c.discard.new.self (discarded n) refl
           (λ w shown. answer-discard u b n w shown held (not-true (is_in_use w n) (sym (c.can_discard.ensures.shown w shown) ∙ c.if-not-can_discard.false)))
           c.discard.ensures.discarded c.discard.ensures.whole);
     }

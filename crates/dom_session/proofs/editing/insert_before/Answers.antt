@@ -1,8 +1,8 @@
 use Rattle.std.proofs.Common.{◌≡◌, true, not, Some, None, refl}
 use Rattle.std.specs.Prelude.{is_some}
 use Rattle.dom_model.specs.Forests.Forest.{entry_in}
-use Rattle.dom_session.specs.declared.reply.Answer.TheVariants.{Number}
-use Rattle.dom_session.specs.declared.reply.Reply.TheVariants.{Done}
+use Rattle.dom_session.specs.declared.brief.Brief.TheVariants.{Number}
+use Rattle.dom_session.specs.declared.reply.Reply.TheVariants.{Brief}
 use Rattle.dom_session.specs.Refusing.{lacks_given}
 use Rattle.dom_model.specs.Commands.Command.{InsertBefore}
 use Rattle.dom_model.specs.MutationAlgorithms.Checks.{check_insert}
@@ -23,7 +23,7 @@ returns-in-Ok c =
     let given : not (lacks_given old child) ≡ true = cc in
     let hc = not-true (lacks_given old child) given in
     record {
-      step = λ b. rw c.number.ensures (step-follows b (InsertBefore p n child) (Done (Number n)) old c.insert_before.new.self (pre_insert n p child) refl
+      step = λ b. rw c.number.ensures (step-follows b (InsertBefore p n child) (Brief (Number n)) old c.insert_before.new.self (pre_insert n p child) refl
           (λ w shown. answer-insert_before old b p n child w None shown hp hn hc c.in-Ok.ensures.allowed)
           c.in-Ok.ensures.inserted c.insert_before.ensures.whole);
       left = tt;

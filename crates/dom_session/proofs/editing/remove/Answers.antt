@@ -2,8 +2,8 @@ use Rattle.std.proofs.Common.{◌≡◌, true, false, refl, ◌∙◌, arith}
 use Rattle.std.proofs.lemmas.Grind.{common_steps}
 use Rattle.std.specs.Prelude.{is_some}
 use Rattle.dom_model.specs.Forests.Forest.{entry_in}
-use Rattle.dom_session.specs.declared.reply.Answer.TheVariants.{Nothing}
-use Rattle.dom_session.specs.declared.reply.Reply.TheVariants.{Done}
+use Rattle.dom_session.specs.declared.brief.Brief.TheVariants.{Nothing}
+use Rattle.dom_session.specs.declared.reply.Reply.TheVariants.{Brief}
 use Rattle.dom_model.specs.Commands.Command.{Remove}
 use Rattle.dom_model.specs.Commands.AnswerTree.{is_child_node}
 use Rattle.dom_model.specs.Forests.Nodes.{kind_passes}
@@ -20,7 +20,7 @@ returns c =
     let test : is_child_node c.label.result.now.kind ≡ true = cc in
     let kind : kind_passes is_child_node old.tree.forest n ≡ true = kind_passes-label is_child_node old.tree.forest n c.label.result.now hn c.label.ensures ∙ test in
     record {
-      step = λ b. step-follows b (Remove n) (Done Nothing) old c.remove.new.self (remove false n) refl
+      step = λ b. step-follows b (Remove n) (Brief Nothing) old c.remove.new.self (remove false n) refl
           (λ w shown. answer-remove old b n w shown hn kind)
           c.in_ok-remove.ensures.removed c.remove.ensures.whole;
       left = tt;

@@ -1,8 +1,8 @@
 use Rattle.std.proofs.Common.{◌≡◌, true, false, refl}
 use Rattle.std.specs.Prelude.{is_some}
 use Rattle.dom_model.specs.Forests.Forest.{entry_in}
-use Rattle.dom_session.specs.declared.reply.Answer.TheVariants.{Number}
-use Rattle.dom_session.specs.declared.reply.Reply.TheVariants.{Done}
+use Rattle.dom_session.specs.declared.brief.Brief.TheVariants.{Number}
+use Rattle.dom_session.specs.declared.reply.Reply.TheVariants.{Brief}
 use Rattle.dom_model.specs.Commands.Command.{RemoveChild}
 use Rattle.dom_model.specs.MutationAlgorithms.Editing.{remove}
 use Rattle.dom_edit.specs.Refusals.{check_remove_child}
@@ -19,7 +19,7 @@ returns-in-Ok c =
     let hp : is_some (entry_in old.tree.forest p) ≡ true = cc in
     let hc : is_some (entry_in old.tree.forest child) ≡ true = cc in
     record {
-      step = λ b. rw c.number.ensures (step-follows b (RemoveChild p child) (Done (Number child)) old c.remove_child.new.self (remove false child) refl
+      step = λ b. rw c.number.ensures (step-follows b (RemoveChild p child) (Brief (Number child)) old c.remove_child.new.self (remove false child) refl
           (λ w shown. answer-remove_child old b p child w shown hp hc c.in-Ok.ensures.allowed)
           c.in-Ok.ensures.removed c.remove_child.ensures.whole);
       left = tt;

@@ -1,8 +1,8 @@
 use Rattle.std.proofs.Common.{◌≡◌, true, Some, None, refl, tests, rules}
 use Rattle.std.specs.Prelude.{is_some}
 use Rattle.dom_model.specs.Forests.Forest.{entry_in}
-use Rattle.dom_session.specs.declared.reply.Answer.TheVariants.{Number}
-use Rattle.dom_session.specs.declared.reply.Reply.TheVariants.{Done}
+use Rattle.dom_session.specs.declared.brief.Brief.TheVariants.{Number}
+use Rattle.dom_session.specs.declared.reply.Reply.TheVariants.{Brief}
 use Rattle.dom_model.specs.Commands.Command.{ReplaceChild}
 use Rattle.dom_model.specs.MutationAlgorithms.Checks.{check_replace}
 use Rattle.dom_model.specs.MutationAlgorithms.Editing.{replace}
@@ -21,7 +21,7 @@ returns-in-Ok c =
     let hn : is_some (entry_in old.tree.forest n) ≡ true = cc in
     let hc : is_some (entry_in old.tree.forest child) ≡ true = cc in
     record {
-      step = λ b. rw c.number.ensures (step-follows b (ReplaceChild p n child) (Done (Number child)) old c.replace.new.self (replace child n p) refl
+      step = λ b. rw c.number.ensures (step-follows b (ReplaceChild p n child) (Brief (Number child)) old c.replace.new.self (replace child n p) refl
           (λ w shown. answer-replace_child old b p n child w None shown hp hn hc c.in-Ok.ensures.allowed)
           c.in-Ok.ensures.replaced c.replace.ensures.whole);
       left = tt;

@@ -1,15 +1,14 @@
 use Rattle.std.proofs.Common.{◌≡◌, true, false, not, refl, ap, sym, ◌∙◌}
 use Rattle.std.specs.Prelude.{is_some}
 use Rattle.dom_model.specs.Forests.Forest.{entry_in}
-use Rattle.dom_session.specs.declared.reply.Answer.TheVariants.{Nothing}
-use Rattle.dom_session.specs.declared.reply.Reply.TheVariants.{Done}
+use Rattle.dom_session.specs.declared.brief.Brief.TheVariants.{Nothing, Dom}
+use Rattle.dom_session.specs.declared.reply.Reply.TheVariants.{Brief}
 use Rattle.dom_session.specs.Refusing.{lacks_given}
 use Rattle.dom_model.specs.declared.DomError.TheVariants.{TypeError}
 use Rattle.dom_model.specs.Forests.Kinds.{Label, may_be_parent}
 use Rattle.dom_model.specs.Commands.Command.{ReplaceChildren}
 use Rattle.dom_model.specs.MutationAlgorithms.Editing.{replace_all}
 use Rattle.dom_edit.specs.Refusals.{check_only_child}
-use Rattle.dom_session.specs.declared.reply.Reply.TheVariants.{Dom}
 use Rattle.dom_session.proofs.Stepping.{step-follows, step-stays, steps-refused-briefly}
 use Rattle.dom_session.proofs.TreeEdits.{not-true, kind_passes-label, answer-replace_children, refused-replace_children, refused-parent}
 use Rattle.dom_session.proofs.WorldsKept.{on_err, kept_nodes}
@@ -26,7 +25,7 @@ returns-then-not-may_be_parent c =
     let test : may_be_parent c.label.result.now.kind ≡ false = cc in
     let kind = kind_passes-label may_be_parent old.tree.forest p c.label.result.now hp c.label.ensures ∙ test in
     record {
-      step = λ b. step-stays b (ReplaceChildren p n) (Dom TypeError) old (λ w shown. refused-parent old b p n w shown hp kind hn);
+      step = λ b. step-stays b (ReplaceChildren p n) (Brief (Dom TypeError)) old (λ w shown. refused-parent old b p n w shown hp kind hn);
       left = tt;
     }
 
@@ -41,7 +40,7 @@ returns-in-Ok c =
     let test : may_be_parent c.label.result.now.kind ≡ true = sym (ap (λ (l : Label). may_be_parent l.kind) c.behind-world.view_is) ∙ sym c.may_be_parent.ensures ∙ c.if-not-may_be_parent.false in
     let kind = kind_passes-label may_be_parent old.tree.forest p c.label.result.now hp c.label.ensures ∙ test in
     record {
-      step = λ b. step-follows b (ReplaceChildren p n) (Done Nothing) old c.replace_children.new.self (replace_all n p) refl
+      step = λ b. step-follows b (ReplaceChildren p n) (Brief Nothing) old c.replace_children.new.self (replace_all n p) refl
           (λ w shown. answer-replace_children old b p w shown hp kind n hn c.in-Ok.ensures.allowed)
           c.in-Ok.ensures.replaced c.replace_children.ensures.whole;
       left = tt;

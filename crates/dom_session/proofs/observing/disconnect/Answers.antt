@@ -1,8 +1,8 @@
 use Rattle.std.proofs.Common.{◌≡◌, true, refl}
 use Rattle.std.specs.Prelude.{is_some}
 use Rattle.dom_observe.specs.Watchers.{queue_in}
-use Rattle.dom_session.specs.declared.reply.Answer.TheVariants.{Nothing}
-use Rattle.dom_session.specs.declared.reply.Reply.TheVariants.{Done}
+use Rattle.dom_session.specs.declared.brief.Brief.TheVariants.{Nothing}
+use Rattle.dom_session.specs.declared.reply.Reply.TheVariants.{Brief}
 use Rattle.dom_session.proofs.ObserverSteps.{step-disconnect}
 use Rattle.dom_session.proofs.observing.disconnect.Goals as goal
 
@@ -11,5 +11,5 @@ returns c =
     let v = c.args.world.now in
     let there : is_some (queue_in v.observers c.args.observer) ≡ true = cc in
     record {
-      step = λ b. step-disconnect v c.requires.shown.shows.whole b c.args.observer c.disconnect.new.self (Done Nothing) there refl c.disconnect.ensures.ended c.disconnect.ensures.names;
+      step = λ b. step-disconnect v c.requires.shown.shows.whole b c.args.observer c.disconnect.new.self (Brief Nothing) there refl c.disconnect.ensures.ended c.disconnect.ensures.names;
     }

@@ -2,8 +2,8 @@ use Rattle.std.proofs.Common.{◌≡◌, true, refl, sym, ◌∙◌}
 use Rattle.std.specs.Prelude.{is_some}
 use Rattle.dom_model.specs.Forests.Forest.{entry_in}
 use Rattle.dom_observe.specs.Watchers.{queue_in}
-use Rattle.dom_session.specs.declared.reply.Answer.TheVariants.{Nothing}
-use Rattle.dom_session.specs.declared.reply.Reply.TheVariants.{Done, Dom}
+use Rattle.dom_session.specs.declared.brief.Brief.TheVariants.{Nothing, Dom}
+use Rattle.dom_session.specs.declared.reply.Reply.TheVariants.{Brief}
 use Rattle.dom_session.proofs.ObserverSteps.{step-observe, step-not_observed, settled-ok, settled-err}
 use Rattle.dom_session.proofs.observing.observe.Goals as goal
 
@@ -14,7 +14,7 @@ returns-in_ok-observe-in-Ok c =
     let held : is_some (entry_in v.tree.forest c.args.node) ≡ true = cc in
     let options = settled-ok c.args.options c.in-Ok.options (sym c.settle.ensures ∙ c.in-Ok.is) in
     record {
-      step = λ b. step-observe v c.requires.shown.shows.whole b c.args.observer c.args.node c.args.options c.observe.new.self (Done Nothing) there held options.0 refl
+      step = λ b. step-observe v c.requires.shown.shows.whole b c.args.observer c.args.node c.args.options c.observe.new.self (Brief Nothing) there held options.0 refl
           (rw options.1 at c.in_ok-observe-in-Ok.ensures.ok) c.observe.ensures.names;
       left = tt;
     }
@@ -25,6 +25,6 @@ returns-in-Err c =
     let there : is_some (queue_in v.observers c.args.observer) ≡ true = cc in
     let held : is_some (entry_in v.tree.forest c.args.node) ≡ true = cc in
     record {
-      step = λ b. step-not_observed v c.requires.shown.shows.whole b c.args.observer c.args.node c.args.options c.in-Err.error (Dom c.in-Err.error) there held (settled-err c.args.options c.in-Err.error (sym c.settle.ensures ∙ c.in-Err.is)) refl;
+      step = λ b. step-not_observed v c.requires.shown.shows.whole b c.args.observer c.args.node c.args.options c.in-Err.error (Brief (Dom c.in-Err.error)) there held (settled-err c.args.options c.in-Err.error (sym c.settle.ensures ∙ c.in-Err.is)) refl;
       left = tt;
     }

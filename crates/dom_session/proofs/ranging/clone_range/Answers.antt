@@ -3,8 +3,8 @@ use Rattle.std.proofs.lemmas.Grind.{common_steps}
 use Rattle.std.proofs.lemmas.Bool.Decides.{nat_tests}
 use Rattle.dom_model.specs.Worlds.World.{Range}
 use Rattle.dom_model.specs.Commands.Command.{CloneRange}
-use Rattle.dom_session.specs.declared.reply.Answer.TheVariants.{Number}
-use Rattle.dom_session.specs.declared.reply.Reply.TheVariants.{Done}
+use Rattle.dom_session.specs.declared.brief.Brief.TheVariants.{Number}
+use Rattle.dom_session.specs.declared.reply.Reply.TheVariants.{Brief}
 use Rattle.dom_session.specs.Limiting.{numbered}
 use Rattle.dom_session.proofs.Parts.{step-ranges}
 use Rattle.dom_session.proofs.RangeAnswers.{answer-clone_range}
@@ -18,7 +18,7 @@ returns c =
     let room : nat_lt c.args.numbers (n + 1) ≡ false = grind (arith, nat_tests) in
     let number : c.number.result ≡ n = c.number.ensures ∙ c.in_ok-id.ensures.number in
     record {
-      step = rw number (step-ranges (numbered c.args.numbers) (CloneRange c.args.range) (Done (Number n)) old c.make.new.self (old.ranges.ranges ++ Some range ∷ []) refl c.requires.shown c.in_ok-id.ensures.made
+      step = rw number (step-ranges (numbered c.args.numbers) (CloneRange c.args.range) (Brief (Number n)) old c.make.new.self (old.ranges.ranges ++ Some range ∷ []) refl c.requires.shown c.in_ok-id.ensures.made
           (λ w shown. answer-clone_range old (numbered c.args.numbers) w shown c.args.range range c.ends-start.ensures.ends room));
       left = tt;
     }

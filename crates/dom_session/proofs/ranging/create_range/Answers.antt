@@ -7,8 +7,8 @@ use Rattle.dom_model.specs.Forests.Forest.{entry_in}
 use Rattle.dom_model.specs.Commands.Command.{CreateRange}
 use Rattle.dom_model.specs.Forests.Nodes.{is_of_kind}
 use Rattle.dom_model.specs.RangesAndContents.Ranges.{collapsed_at}
-use Rattle.dom_session.specs.declared.reply.Answer.TheVariants.{Number}
-use Rattle.dom_session.specs.declared.reply.Reply.TheVariants.{Done}
+use Rattle.dom_session.specs.declared.brief.Brief.TheVariants.{Number}
+use Rattle.dom_session.specs.declared.reply.Reply.TheVariants.{Brief}
 use Rattle.dom_session.specs.Limiting.{numbered}
 use Rattle.dom_session.proofs.Parts.{step-ranges}
 use Rattle.dom_session.proofs.RangeFacts.{node-covered, range-in, range-of_document}
@@ -40,7 +40,7 @@ returns c =
     let room : nat_lt c.args.numbers (n + 1) ≡ false = grind (arith, nat_tests) in
     let number : c.number.result ≡ n = c.number.ensures ∙ c.in_ok-id.ensures.number in
     record {
-      step = rw number (step-ranges (numbered c.args.numbers) (CreateRange d) (Done (Number n)) old c.make.new.self (old.ranges.ranges ++ Some (collapsed_at (record { node = d; offset = 0 })) ∷ []) refl c.requires.shown c.in_ok-id.ensures.made
+      step = rw number (step-ranges (numbered c.args.numbers) (CreateRange d) (Brief (Number n)) old c.make.new.self (old.ranges.ranges ++ Some (collapsed_at (record { node = d; offset = 0 })) ∷ []) refl c.requires.shown c.in_ok-id.ensures.made
           (λ w shown. answer-create_range old (numbered c.args.numbers) w shown d there kind room));
       left = tt;
     }

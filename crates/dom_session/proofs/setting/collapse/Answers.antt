@@ -3,8 +3,8 @@ use Rattle.std.specs.Prelude.{is_some}
 use Rattle.dom_model.specs.RangesAndContents.Ranges.{collapsed}
 use Rattle.dom_model.specs.Commands.Command.{Collapse}
 use Rattle.dom_ranges.specs.Tables.{range_in}
-use Rattle.dom_session.specs.declared.reply.Answer.TheVariants.{Nothing}
-use Rattle.dom_session.specs.declared.reply.Reply.TheVariants.{Done}
+use Rattle.dom_session.specs.declared.brief.Brief.TheVariants.{Nothing}
+use Rattle.dom_session.specs.declared.reply.Reply.TheVariants.{Brief}
 use Rattle.dom_session.proofs.Parts.{step-set}
 use Rattle.dom_session.proofs.RangeAnswers.{answer-collapse}
 use Rattle.dom_session.proofs.setting.collapse.Goals as goal
@@ -15,6 +15,6 @@ returns c =
     let r = c.args.range in
     let live : is_some (range_in old.ranges r) ≡ true = cc in
     record {
-      step = λ b. step-set b (Collapse r c.args.to_start) (Done Nothing) old c.collapse.new.self r (range_in old.ranges r) (λ range. collapsed c.args.to_start range) refl c.requires.shown live c.collapse.ensures.set
+      step = λ b. step-set b (Collapse r c.args.to_start) (Brief Nothing) old c.collapse.new.self r (range_in old.ranges r) (λ range. collapsed c.args.to_start range) refl c.requires.shown live c.collapse.ensures.set
           (λ range held w shown. answer-collapse old b w shown r c.args.to_start range held);
     }

@@ -6,8 +6,8 @@ use Rattle.dom_model.specs.Commands.Command.{SelectNode}
 use Rattle.dom_model.proofs.Forests.Above.{above}
 use Rattle.dom_edit.specs.Whole.{IsShown}
 use Rattle.dom_ranges.specs.Tables.{range_in}
-use Rattle.dom_session.specs.declared.reply.Answer.TheVariants.{Nothing}
-use Rattle.dom_session.specs.declared.reply.Reply.TheVariants.{Done}
+use Rattle.dom_session.specs.declared.brief.Brief.TheVariants.{Nothing}
+use Rattle.dom_session.specs.declared.reply.Reply.TheVariants.{Brief}
 use Rattle.dom_session.proofs.Parts.{step-set}
 use Rattle.dom_session.proofs.RangeFacts.{node-covered}
 use Rattle.dom_session.proofs.RangeAnswers.{passed, around-there, answer-select_node}
@@ -31,6 +31,6 @@ returns-in-Ok c =
     let there : is_some (entry_in f n) ≡ true = rw c.find_index.ensures cc in
     let check = passed (check_parent f n) c.in-Ok.field-0 (sym c.in-Ok.is ∙ c.select.ensures.refusal) in
     record {
-      step = λ b. rw (← c.find_index.ensures) (step-set b (SelectNode r n) (Done Nothing) old c.select.new.self r (around f n) (λ ends. ends) refl shown (around-there f n check) c.in-Ok.ensures.set
+      step = λ b. rw (← c.find_index.ensures) (step-set b (SelectNode r n) (Brief Nothing) old c.select.new.self r (around f n) (λ ends. ends) refl shown (around-there f n check) c.in-Ok.ensures.set
           (λ ends is w shows. answer-select_node old b w shows r n live there ends is));
     }

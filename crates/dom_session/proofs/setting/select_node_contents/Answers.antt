@@ -5,8 +5,8 @@ use Rattle.dom_model.specs.Worlds.Lengths.{unit_count}
 use Rattle.dom_model.specs.RangesAndContents.Ranges.{contents_of, check_contents}
 use Rattle.dom_model.specs.Commands.Command.{SelectNodeContents}
 use Rattle.dom_ranges.specs.Tables.{range_in}
-use Rattle.dom_session.specs.declared.reply.Answer.TheVariants.{Nothing}
-use Rattle.dom_session.specs.declared.reply.Reply.TheVariants.{Done, Dom}
+use Rattle.dom_session.specs.declared.brief.Brief.TheVariants.{Nothing, Dom}
+use Rattle.dom_session.specs.declared.reply.Reply.TheVariants.{Brief}
 use Rattle.dom_session.proofs.Parts.{step-ranges, step-refused}
 use Rattle.dom_session.proofs.RangeFacts.{node-covered}
 use Rattle.dom_session.proofs.RangeAnswers.{passed, told, answer-select_node_contents, refusal-select_node_contents}
@@ -25,7 +25,7 @@ returns-in-Ok c =
     let there : is_some (entry_in f n) ≡ true = cc in
     let check = passed (check_contents f n) c.in-Ok.field-0 (sym c.in-Ok.is ∙ c.select_contents.ensures.refusal) in
     record {
-      step = λ b. step-ranges b (SelectNodeContents r n) (Done Nothing) old c.select_contents.new.self (slice_set old.ranges.ranges r (Some (contents_of unit_count f n))) refl c.requires.shown c.in-Ok.ensures.set
+      step = λ b. step-ranges b (SelectNodeContents r n) (Brief Nothing) old c.select_contents.new.self (slice_set old.ranges.ranges r (Some (contents_of unit_count f n))) refl c.requires.shown c.in-Ok.ensures.set
           (λ w shown. answer-select_node_contents old b w shown r n live there check);
     }
 
@@ -39,6 +39,6 @@ returns-in-Err c =
     let there : is_some (entry_in f n) ≡ true = cc in
     let check = told (check_contents f n) c.in-Err.error (sym c.in-Err.is ∙ c.select_contents.ensures.refusal) in
     record {
-      step = λ b. step-refused b (SelectNodeContents r n) (Dom c.in-Err.error) old c.select_contents.new.self c.in-Err.ensures.unchanged
+      step = λ b. step-refused b (SelectNodeContents r n) (Brief (Dom c.in-Err.error)) old c.select_contents.new.self c.in-Err.ensures.unchanged
           (λ w shown. refusal-select_node_contents old b w shown r n live there c.in-Err.error check);
     }

@@ -7,8 +7,8 @@ use Rattle.dom_model.specs.Worlds.World.{Point}
 use Rattle.dom_model.specs.RangesAndContents.Ranges.{end_set, check_point}
 use Rattle.dom_model.specs.Commands.Command.{SetEnd}
 use Rattle.dom_ranges.specs.Tables.{range_in}
-use Rattle.dom_session.specs.declared.reply.Answer.TheVariants.{Nothing}
-use Rattle.dom_session.specs.declared.reply.Reply.TheVariants.{Done, Dom}
+use Rattle.dom_session.specs.declared.brief.Brief.TheVariants.{Nothing, Dom}
+use Rattle.dom_session.specs.declared.reply.Reply.TheVariants.{Brief}
 use Rattle.dom_session.proofs.Parts.{step-set, step-refused}
 use Rattle.dom_session.proofs.RangeFacts.{node-covered}
 use Rattle.dom_session.proofs.RangeAnswers.{passed, told, answer-set_end, refusal-set_end}
@@ -27,7 +27,7 @@ returns-in-Ok c =
     let there : is_some (entry_in old.tree.forest n) ≡ true = cc in
     let check = passed (check_point unit_count old.tree.forest p) c.in-Ok.field-0 (sym c.in-Ok.is ∙ c.set_end.ensures.refusal) in
     record {
-      step = λ b. rw c.set_end.ensures.kept (step-set b (SetEnd r n c.args.offset) (Done Nothing) old c.set_end.new.self r (range_in old.ranges r) (λ range. end_set old.tree.forest p range) refl c.requires.shown live c.in-Ok.ensures.set
+      step = λ b. rw c.set_end.ensures.kept (step-set b (SetEnd r n c.args.offset) (Brief Nothing) old c.set_end.new.self r (range_in old.ranges r) (λ range. end_set old.tree.forest p range) refl c.requires.shown live c.in-Ok.ensures.set
           (λ range held w shown. answer-set_end old b w shown r n live there c.args.offset range held check));
     }
 
@@ -41,7 +41,7 @@ returns-in-Err c =
     let there : is_some (entry_in old.tree.forest n) ≡ true = cc in
     let check = told (check_point unit_count old.tree.forest p) c.in-Err.error (sym c.in-Err.is ∙ c.set_end.ensures.refusal) in
     record {
-      step = λ b. rw c.set_end.ensures.kept (step-refused b (SetEnd r n c.args.offset) (Dom c.in-Err.error) old c.set_end.new.self c.in-Err.ensures.unchanged
+      step = λ b. rw c.set_end.ensures.kept (step-refused b (SetEnd r n c.args.offset) (Brief (Dom c.in-Err.error)) old c.set_end.new.self c.in-Err.ensures.unchanged
           (λ w shown. refusal-set_end old b w shown r n live there c.args.offset c.in-Err.error check));
     }
 

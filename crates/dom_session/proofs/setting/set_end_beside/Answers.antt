@@ -5,8 +5,8 @@ use Rattle.dom_model.specs.Forests.Forest.{entry_in}
 use Rattle.dom_model.specs.Soundness.Sound.{IsBoundary}
 use Rattle.dom_model.specs.RangesAndContents.Ranges.{end_set}
 use Rattle.dom_ranges.specs.Tables.{range_in}
-use Rattle.dom_session.specs.declared.reply.Answer.TheVariants.{Nothing}
-use Rattle.dom_session.specs.declared.reply.Reply.TheVariants.{Done}
+use Rattle.dom_session.specs.declared.brief.Brief.TheVariants.{Nothing}
+use Rattle.dom_session.specs.declared.reply.Reply.TheVariants.{Brief}
 use Rattle.dom_session.proofs.Parts.{step-set}
 use Rattle.dom_session.proofs.RangeFacts.{node-covered}
 use Rattle.dom_session.proofs.RangeAnswers.{answer-sets_end}
@@ -26,7 +26,7 @@ returns-in-Ok c =
     let live : is_some (range_in old.ranges r) ≡ true = cc in
     let there : is_some (entry_in old.tree.forest n) ≡ true = cc in
     record {
-      step = λ b d e. rw c.set_end.ensures.kept (step-set b d (Done Nothing) old c.set_end.new.self r (range_in old.ranges r) (λ range. end_set old.tree.forest c.in-Some.point range) refl c.requires.shown live c.in-Ok.ensures.set
+      step = λ b d e. rw c.set_end.ensures.kept (step-set b d (Brief Nothing) old c.set_end.new.self r (range_in old.ranges r) (λ range. end_set old.tree.forest c.in-Some.point range) refl c.requires.shown live c.in-Ok.ensures.set
           (λ range held w shown. e w shown ∙ answer-sets_end old b w shown r n live there c.args.point c.in-Some.point range c.in-Some.is held));
     }
 

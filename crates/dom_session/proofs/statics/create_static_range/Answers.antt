@@ -8,8 +8,8 @@ use Rattle.dom_model.specs.RangesAndContents.StaticRanges.{check_static}
 use Rattle.dom_model.specs.Commands.Command.{CreateStaticRange}
 use Rattle.dom_ranges.specs.Tables.{refused}
 use Rattle.dom_edit.specs.Whole.{AreHeld}
-use Rattle.dom_session.specs.declared.reply.Answer.TheVariants.{Number}
-use Rattle.dom_session.specs.declared.reply.Reply.TheVariants.{Done, Dom}
+use Rattle.dom_session.specs.declared.brief.Brief.TheVariants.{Number, Dom}
+use Rattle.dom_session.specs.declared.reply.Reply.TheVariants.{Brief}
 use Rattle.dom_session.specs.Limiting.{numbered}
 use Rattle.dom_session.proofs.Stepping.{step-stays}
 use Rattle.dom_session.proofs.Parts.{step-statics}
@@ -32,7 +32,7 @@ returns-in_ok-id-in-Ok c =
     let held = All-push (λ (o : Option Range). IfSome o (AreHeld f)) old.statics (Some range) c.requires.shown.shows.whole.statics (record { start = first; end = last }) in
     let number : c.number.result ≡ n = c.number.ensures ∙ c.in_ok-id-in-Ok.ensures.number in
     record {
-      step = rw number (step-statics (numbered c.args.numbers) (CreateStaticRange start end) (Done (Number n)) old c.make.new.self (old.statics ++ Some range ∷ []) refl c.requires.shown c.in_ok-id-in-Ok.ensures.made held
+      step = rw number (step-statics (numbered c.args.numbers) (CreateStaticRange start end) (Brief (Number n)) old c.make.new.self (old.statics ++ Some range ∷ []) refl c.requires.shown c.in_ok-id-in-Ok.ensures.made held
           (λ w shown. answer-create_static_range old (numbered c.args.numbers) w shown start end first last room check));
       left = tt;
     }
@@ -49,7 +49,7 @@ returns-in-Err c =
     let same = ap (λ (q : Point). refused (check_static f q.node c.end.inside.node)) c.start.view_is ∙ ap (λ (q : Point). refused (check_static f start.node q.node)) c.end.view_is in
     let check = told (check_static f start.node end.node) c.in-Err.error (sym c.in-Err.is ∙ c.check.ensures ∙ same) in
     record {
-      step = step-stays (numbered c.args.numbers) (CreateStaticRange start end) (Dom c.in-Err.error) old
+      step = step-stays (numbered c.args.numbers) (CreateStaticRange start end) (Brief (Dom c.in-Err.error)) old
           (λ w shown. refusal-create_static_range old (numbered c.args.numbers) w shown start end first last room c.in-Err.error check);
       left = tt;
     }

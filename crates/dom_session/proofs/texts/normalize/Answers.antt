@@ -3,8 +3,8 @@ use Rattle.std.specs.Prelude.{is_some}
 use Rattle.dom_model.specs.Forests.Forest.{entry_in}
 use Rattle.dom_model.specs.DataAndCopies.Data.{normalize}
 use Rattle.dom_model.specs.Commands.Command.{Normalize}
-use Rattle.dom_session.specs.declared.reply.Answer.TheVariants.{Nothing}
-use Rattle.dom_session.specs.declared.reply.Reply.TheVariants.{Done}
+use Rattle.dom_session.specs.declared.brief.Brief.TheVariants.{Nothing}
+use Rattle.dom_session.specs.declared.reply.Reply.TheVariants.{Brief}
 use Rattle.dom_session.proofs.Stepping.{step-follows}
 use Rattle.dom_session.proofs.NodeData.{answer-normalize}
 use Rattle.dom_session.proofs.texts.normalize.Goals as goal
@@ -14,7 +14,7 @@ returns c =
     let v = c.args.world.now in
     let held : is_some (entry_in v.tree.forest c.args.node) ≡ true = cc in
     record {
-      step = λ b. step-follows b (Normalize c.args.node) (Done Nothing) v c.normalize.new.world (normalize c.args.node) refl
+      step = λ b. step-follows b (Normalize c.args.node) (Brief Nothing) v c.normalize.new.world (normalize c.args.node) refl
           (λ w shown. answer-normalize v b w shown c.args.node held)
           c.in_ok-normalize.ensures.normalized c.normalize.ensures.whole;
       left = tt;

@@ -1,19 +1,22 @@
-use Rattle.std.proofs.Common.{refl, sym, Some, None}
+use Rattle.std.proofs.Common.{refl, sym, Some, None, []}
 use Rattle.dom_model.specs.DataAndCopies.Data.{check_offset, replace_data}
 use Rattle.dom_edit.specs.Whole.{unwatched}
 use Rattle.dom_model.specs.Commands.Command.{ReplaceData}
-use Rattle.dom_session.specs.declared.reply.Answer.TheVariants.{Nothing}
-use Rattle.dom_session.specs.declared.reply.Reply.TheVariants.{Done}
+use Rattle.dom_session.specs.declared.brief.Brief.TheVariants.{Nothing}
+use Rattle.dom_session.specs.declared.reply.Reply.TheVariants.{Brief}
 use Rattle.dom_session.proofs.Stepping.{step-follows, steps-refused}
 use Rattle.dom_session.proofs.NodeData.{answer-replace_data}
 use Rattle.dom_session.proofs.WorldsKept.{on_err, kept_numbers}
+use Rattle.dom_model.specs.Forests.Kinds.{is_character_data}
+use Rattle.dom_model.specs.Commands.Guards.{does, checked}
+use Rattle.dom_session.proofs.OtherKinds.{step-other_kind}
 use Rattle.dom_session.proofs.texts.replace_data.Goals as goal
 
 pub returns-in-Ok : goal.returns-in-Ok
 returns-in-Ok c =
     let v = c.args.world.now in
     record {
-      step = λ b. step-follows b (ReplaceData c.args.node c.args.offset c.args.count c.args.text.now) (Done Nothing) v c.replace_data.new.world (replace_data c.args.node c.args.offset c.args.count c.args.text.now) refl
+      step = λ b. step-follows b (ReplaceData c.args.node c.args.offset c.args.count c.args.text.now) (Brief Nothing) v c.replace_data.new.world (replace_data c.args.node c.args.offset c.args.count c.args.text.now) refl
           (λ w shown. answer-replace_data v b w shown c.args.node c.args.offset c.args.count c.args.text.now None (sym c.in_default.ensures) c.in-Ok.ensures.allowed)
           c.in-Ok.ensures.replaced c.replace_data.ensures.whole;
       left = tt;
@@ -28,3 +31,8 @@ returns-in-Err c =
           (λ b e named w shown. answer-replace_data v b w shown n c.args.offset c.args.count c.args.text.now (Some e) (sym c.in_default.ensures) named);
       left = on_err c.reply_to.result (kept_numbers v c.replace_data.new.world c.replace_data.ensures.kept c.replace_data.ensures.whole);
     }
+
+pub returns-in-Some-clause-step : goal.returns-in-Some-clause-step
+returns-in-Some-clause-step c b =
+    step-other_kind c.args.world.now b (ReplaceData c.args.node c.args.offset c.args.count c.args.text.now) is_character_data c.args.node c.in-Some.reply []
+    (λ w. checked (check_offset w c.args.node c.args.offset) w (does (replace_data c.args.node c.args.offset c.args.count c.args.text.now w))) (λ w. refl) c.in-Some.ensures

@@ -1,8 +1,8 @@
 use Rattle.std.proofs.Common.{refl, sym}
 use Rattle.dom_model.specs.DataAndCopies.Data.{set_data}
 use Rattle.dom_model.specs.Commands.Command.{SetData}
-use Rattle.dom_session.specs.declared.reply.Answer.TheVariants.{Nothing}
-use Rattle.dom_session.specs.declared.reply.Reply.TheVariants.{Done}
+use Rattle.dom_session.specs.declared.brief.Brief.TheVariants.{Nothing}
+use Rattle.dom_session.specs.declared.reply.Reply.TheVariants.{Brief}
 use Rattle.dom_session.proofs.Stepping.{step-follows}
 use Rattle.dom_session.proofs.NodeData.{answer-set_data}
 use Rattle.dom_session.proofs.texts.set_data.Goals as goal
@@ -11,7 +11,7 @@ pub returns : goal.returns
 returns c =
     let v = c.args.world.now in
     record {
-      step = λ b. step-follows b (SetData c.args.node c.args.text.now) (Done Nothing) v c.set_data.new.world (set_data c.args.node c.args.text.now) refl
+      step = λ b. step-follows b (SetData c.args.node c.args.text.now) (Brief Nothing) v c.set_data.new.world (set_data c.args.node c.args.text.now) refl
           (λ w shown. answer-set_data v b w shown c.args.node c.args.text.now (sym c.in_default.ensures))
           c.in_ok-set_data.ensures.set c.set_data.ensures.whole;
       left = tt;

@@ -4,8 +4,8 @@ use Rattle.std.specs.Prelude.{is_some}
 use Rattle.dom_model.specs.Forests.Forest.{entry_in}
 use Rattle.dom_model.specs.DataAndCopies.Data.{set_text_content}
 use Rattle.dom_model.specs.Commands.Command.{SetTextContent}
-use Rattle.dom_session.specs.declared.reply.Answer.TheVariants.{Nothing}
-use Rattle.dom_session.specs.declared.reply.Reply.TheVariants.{Done}
+use Rattle.dom_session.specs.declared.brief.Brief.TheVariants.{Nothing}
+use Rattle.dom_session.specs.declared.reply.Reply.TheVariants.{Brief}
 use Rattle.dom_session.specs.Limiting.{numbered}
 use Rattle.dom_session.proofs.Stepping.{step-follows}
 use Rattle.dom_session.proofs.NodeData.{answer-set_text_content}
@@ -17,7 +17,7 @@ returns c =
     let held : is_some (entry_in v.tree.forest c.args.node) ≡ true = cc in
     let room : nat_lt c.args.numbers (v.tree.made + 1) ≡ false = grind (arith, nat_tests) in
     record {
-      step = step-follows (numbered c.args.numbers) (SetTextContent c.args.node c.args.text) (Done Nothing) v c.set_text_content.new.world (set_text_content c.args.node c.args.text) refl
+      step = step-follows (numbered c.args.numbers) (SetTextContent c.args.node c.args.text) (Brief Nothing) v c.set_text_content.new.world (set_text_content c.args.node c.args.text) refl
           (λ w shown. answer-set_text_content v (numbered c.args.numbers) w shown c.args.node c.args.text held room)
           c.in_ok-set_text_content.ensures.set c.set_text_content.ensures.whole;
       left = tt;

@@ -3,8 +3,8 @@ use Rattle.std.proofs.lemmas.Bool.Decides.{nat_tests}
 use Rattle.dom_model.specs.DataAndCopies.Data.{check_offset, split}
 use Rattle.dom_model.specs.Commands.Command.{SplitText}
 use Rattle.dom_edit.specs.Whole.{unwatched}
-use Rattle.dom_session.specs.declared.reply.Answer.TheVariants.{Number}
-use Rattle.dom_session.specs.declared.reply.Reply.TheVariants.{Done}
+use Rattle.dom_session.specs.declared.brief.Brief.TheVariants.{Number}
+use Rattle.dom_session.specs.declared.reply.Reply.TheVariants.{Brief}
 use Rattle.dom_session.specs.Views.{reply_view}
 use Rattle.dom_session.specs.Limiting.{numbered}
 use Rattle.dom_session.proofs.Stepping.{step-follows, step-stays, step-refused}
@@ -17,7 +17,7 @@ returns-in-Ok c =
     let v = c.args.world.now in
     let room : nat_lt c.args.numbers (v.tree.made + 1) ≡ false = grind (arith, nat_tests) in
     record {
-      step = rw (c.number.ensures ∙ c.in-Ok.ensures.number) (step-follows (numbered c.args.numbers) (SplitText c.args.text c.args.offset) (Done (Number v.tree.made)) v c.split.new.world (split c.args.text c.args.offset) refl
+      step = rw (c.number.ensures ∙ c.in-Ok.ensures.number) (step-follows (numbered c.args.numbers) (SplitText c.args.text c.args.offset) (Brief (Number v.tree.made)) v c.split.new.world (split c.args.text c.args.offset) refl
           (λ w shown. answer-split_text v (numbered c.args.numbers) w shown c.args.text c.args.offset None (sym c.in_default.ensures) room c.in-Ok.ensures.allowed)
           c.in-Ok.ensures.split c.split.ensures.whole);
       left = tt;

@@ -2,8 +2,8 @@ use Rattle.std.proofs.Common.{refl, ◌≡◌, ◌+◌, ◌∙◌, nat_lt, lengt
 use Rattle.std.specs.Prelude.{is_some}
 use Rattle.std.proofs.lemmas.Bool.Decides.{nat_tests}
 use Rattle.dom_model.specs.Forests.Forest.{entry_in}
-use Rattle.dom_session.specs.declared.reply.Answer.TheVariants.{Number}
-use Rattle.dom_session.specs.declared.reply.Reply.TheVariants.{Done}
+use Rattle.dom_session.specs.declared.brief.Brief.TheVariants.{Number}
+use Rattle.dom_session.specs.declared.reply.Reply.TheVariants.{Brief}
 use Rattle.dom_session.proofs.TraversalSteps.{step-create_iterator}
 use Rattle.dom_session.proofs.traversing.create_iterator.Goals as goal
 
@@ -13,6 +13,6 @@ returns c =
     let there : is_some (entry_in v.tree.forest c.args.root) ≡ true = cc in
     let room : nat_lt c.args.numbers (length v.iterators + 1) ≡ false = grind (arith, nat_tests) in
     record {
-      step = step-create_iterator v c.requires.shown c.args.numbers c.args.root c.number.result c.args.filter c.make.new.self (Done (Number c.number.result)) there room (c.number.ensures ∙ c.in_ok-id.ensures.number) refl c.in_ok-id.ensures.made;
+      step = step-create_iterator v c.requires.shown c.args.numbers c.args.root c.number.result c.args.filter c.make.new.self (Brief (Number c.number.result)) there room (c.number.ensures ∙ c.in_ok-id.ensures.number) refl c.in_ok-id.ensures.made;
       left = tt;
     }

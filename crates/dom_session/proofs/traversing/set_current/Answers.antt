@@ -2,8 +2,8 @@ use Rattle.std.proofs.Common.{refl, ◌≡◌, true}
 use Rattle.std.specs.Prelude.{is_some}
 use Rattle.dom_model.specs.Forests.Forest.{entry_in}
 use Rattle.dom_traverse.specs.Standing.{walker_in}
-use Rattle.dom_session.specs.declared.reply.Answer.TheVariants.{Nothing}
-use Rattle.dom_session.specs.declared.reply.Reply.TheVariants.{Done}
+use Rattle.dom_session.specs.declared.brief.Brief.TheVariants.{Nothing}
+use Rattle.dom_session.specs.declared.reply.Reply.TheVariants.{Brief}
 use Rattle.dom_session.proofs.TraversalSteps.{step-set_current}
 use Rattle.dom_session.proofs.traversing.set_current.Goals as goal
 
@@ -13,5 +13,5 @@ returns c =
     let inside : is_some (walker_in v.walkers c.args.walker) ≡ true = cc in
     let there : is_some (entry_in v.tree.forest c.args.node) ≡ true = cc in
     record {
-      step = λ b. step-set_current v c.requires.shown b c.args.walker c.args.node c.set_current.new.self (Done Nothing) inside there refl c.set_current.ensures;
+      step = λ b. step-set_current v c.requires.shown b c.args.walker c.args.node c.set_current.new.self (Brief Nothing) inside there refl c.set_current.ensures;
     }
