@@ -178,13 +178,16 @@ removed-all inside parent index p =
 pub close-fits : (parent index : ℕ) (p : Point) → p.offset < 2 ^ 64 → (after_splice parent index 1 0 p).offset < 2 ^ 64
 close-fits parent index p h = rw (removal-splice parent index p) (⊎_elim (λ (a : ((p.node == parent) && nat_lt index p.offset) ≡ true). rw a (omega arith)) (λ (a : ((p.node == parent) && nat_lt index p.offset) ≡ false). rw a h) (cases_Bool ((p.node == parent) && nat_lt index p.offset)))
 
--- the ranges, once the node has left: where no end stands inside it, where none stands in its parent either, and else
+-- the ranges, once the node has left: where no end stands inside it, where none stands in its parent either, where there is none at all, and else
 module _ (v : RangeTable) (inside : List ℕ) (parent index : ℕ) where
   pub outside-removed : list_any (λ m. among m inside) (live_nodes v) ≡ false → map_ranges (after_splice parent index 1 0) v.ranges ≡ map_ranges (after_removal inside parent index) v.ranges
   outside-removed h = sym (ranges-alike (after_removal inside parent index) (after_splice parent index 1 0) (λ m. among m inside) (removed-outside inside parent index) v.ranges h)
 
   pub still-removed : list_any (λ m. among m inside) (live_nodes v) ≡ false → among parent (live_nodes v) ≡ false → v ≡ record v { ranges = map_ranges (after_removal inside parent index) v.ranges }
   still-removed h n = ap (λ rs. record v { ranges = rs }) (sym (removal-elsewhere inside parent index v.ranges h n))
+
+  pub idle-removed : live_nodes v ≡ [] → v ≡ record v { ranges = map_ranges (after_removal inside parent index) v.ranges }
+  idle-removed none = still-removed (ap (list_any (λ m. among m inside)) none) (ap (among parent) none)
 
   pub closed-removed : (w : RangeTable) → list_any (λ m. among m inside) (live_nodes v) ≡ false → w ≡ record v { ranges = map_ranges (after_splice parent index 1 0) v.ranges } → w ≡ record v { ranges = map_ranges (after_removal inside parent index) v.ranges }
   closed-removed w h e = e ∙ ap (λ rs. record v { ranges = rs }) (outside-removed h)
@@ -194,6 +197,10 @@ module _ (v : RangeTable) (inside : List ℕ) (parent index : ℕ) where
   gathered-removed w u e f =
       f ∙ ap (λ (x : RangeTable). record x { ranges = map_ranges (moved_in inside (record { node = parent; offset = index })) x.ranges }) e
       ∙ ap (λ rs. record v { ranges = rs }) (ranges-twice (after_splice parent index 1 0) (moved_in inside (record { node = parent; offset = index })) (after_removal inside parent index) (removed-all inside parent index) v.ranges)
+
+pub if-each : (o : Option ℕ) (P : ℕ → Type 0) → ((x : ℕ) → P x) → IfSome o P
+if-each None P h = tt
+if-each (Some x) P h = h x
 
 pub if-some : (o : Option ℕ) (P : ℕ → Type 0) (x : ℕ) → o ≡ Some x → P x → IfSome o P
 if-some o P x h p = subst (λ (y : Option ℕ). IfSome y P) (sym h) p

@@ -161,6 +161,9 @@ impl Ranges {
                   (index_of tree.now.forest node)) self.old.ranges;
             }) }
     {
+        if self.is_idle() {
+            return;
+        }
         let parent = tree.parent(node).unwrap();
         let steps = self.steps(tree, node);
         let inside = self.refers_within(tree, node, steps);

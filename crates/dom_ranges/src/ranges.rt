@@ -214,7 +214,7 @@ impl Ranges {
     }
 
     // Whether no range is live.
-    fn is_idle(&self) -> bool
+    pub(crate) fn is_idle(&self) -> bool
         ensures { result ≡ true → live_nodes self.now ≡ [] }
     {
         self.numbers.is_empty()

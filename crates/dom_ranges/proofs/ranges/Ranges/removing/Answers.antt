@@ -1,10 +1,15 @@
--- The parent closes up, and what stands inside goes to where the node stood.
+-- Where no range is live nothing is done; else the parent closes up, and what stands inside goes to where the node stood.
 use Rattle.std.proofs.Common.{sym, ap, ◌∙◌}
-use Rattle.dom_model.specs.Forests.Forest.{inclusive_descendants, index_of}
+use Rattle.dom_model.specs.Forests.Forest.{inclusive_descendants, parent_of, index_of}
 use Rattle.dom_model.specs.BoundaryPoints.Points.{after_splice, map_ranges}
 use Rattle.dom_ranges.specs.Tables.{moved_in}
-use Rattle.dom_ranges.proofs.Inside.{still-removed, closed-removed, gathered-removed, if-some}
+use Rattle.dom_ranges.proofs.Inside.{still-removed, idle-removed, closed-removed, gathered-removed, if-each, if-some}
 use Rattle.dom_ranges.proofs.ranges.Ranges.removing.Goals as goal
+
+pub returns-then-is_idle : goal.returns-then-is_idle
+returns-then-is_idle g c =
+    if-each (parent_of c.args.tree.now.forest c.args.node) _
+    (λ p. idle-removed c.args.self.now (inclusive_descendants c.args.tree.now.forest c.args.node) p (index_of c.args.tree.now.forest c.args.node) (c.is_idle.ensures c.if-is_idle.true))
 
 pub returns-then-not-stands_in : goal.returns-then-not-stands_in
 returns-then-not-stands_in g c =
