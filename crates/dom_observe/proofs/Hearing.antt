@@ -14,6 +14,7 @@ use Rattle.dom_model.specs.PlainLists.Lists.{among}
 use Rattle.dom_model.specs.Worlds.World.{Registration, Mutation}
 use Rattle.dom_model.specs.MutationObservers.Records.{interests, interested, asks_old_value, record_with, record_by, record_for}
 use Rattle.dom_model.specs.PlainLists.LastOnce.{with_last, with_all_last}
+use Rattle.dom_model.proofs.PlainLists.Heads.{among-first}
 use Rattle.dom_model.proofs.PlainLists.Numbers.{Same, same_or, same, apart}
 use Rattle.dom_observe.specs.Kept.{AllThere}
 use Rattle.dom_observe.specs.Registrations.{concerns, Stands}
@@ -38,6 +39,22 @@ among-list_any n (m ∷ ns) = ap (λ b. b || list_any (nat_eq n) ns) (swapped n 
 -- a set's insertion puts a number last, where it is not there
 pub insert-last : (ns : List ℕ) (n : ℕ) → insert_key nat_eq ns n ≡ with_last ns n
 insert-last ns n = ap (λ b. if b then ns else ns ++ n ∷ []) (among-list_any n ns)
+
+-- who is found at a place is there, and does not come last again
+pub found-there : (ns : List ℕ) (i n : ℕ) → slice_get ns i ≡ Some n → among n ns ≡ true
+found-there [] zero n h = let d : ⊥ = cc h in absurd d
+found-there [] (suc i) n h = let d : ⊥ = cc h in absurd d
+found-there (m ∷ ns) zero n h =
+    let d : m ≡ n = cc h in
+    subst (λ k. among k (m ∷ ns) ≡ true) d (among-first m ns)
+found-there (m ∷ ns) (suc i) n h = go (m == n) (found-there ns i n h)
+  where
+    go : (b : Bool) → among n ns ≡ true → (if b then true else among n ns) ≡ true
+    go true there = refl
+    go false there = there
+
+pub last-stays : (ns : List ℕ) (i n : ℕ) → slice_get ns i ≡ Some n → with_last ns n ≡ ns
+last-stays ns i n h = ap (λ b. if b then ns else ns ++ n ∷ []) (found-there ns i n h)
 
 among-append : (p : ℕ) (xs ys : List ℕ) → among p xs ≡ true → among p (xs ++ ys) ≡ true
 among-append p [] ys h = absurd (true≢false (sym h))

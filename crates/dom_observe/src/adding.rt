@@ -156,6 +156,17 @@ pub(crate) fn add_transients(
     Ok(())
 }
 
+// Puts keys last; where there are none, as on most nodes, nothing is copied.
+#[inline(always)]
+fn push_all(keys: &mut Vec<usize>, more: &[usize]) -> Result<(), AllocError>
+    ensures { OnOk result (keys.new.items ≡ keys.old.items ++ more.now) }
+{
+    if more.is_empty() {
+        return Ok(());
+    }
+    keys.extend_from_slice(more)
+}
+
 // The keys of the registrations that stand on the inclusive ancestors of a node, from the node upwards.
 pub(crate) fn find_standing<X>(
     nodes: &IndexMap<u32, NodeKeys>,
@@ -171,7 +182,7 @@ pub(crate) fn find_standing<X>(
     keys.clear();
     let mut here = tree.at(node);
     loop {
-        keys.extend_from_slice(keys_on(nodes, here.number()))?;
+        push_all(keys, keys_on(nodes, here.number()))?;
         match here.parent() {
             Some(parent) => here = parent,
             None => return Ok(()),

@@ -102,6 +102,11 @@ pub(crate) fn pend(
     ensures ok { OnOk result (pending.new.keys ≡ with_last pending.old.keys observer) }
     ensures err { OnErr result (pending.new.keys ≡ pending.old.keys) }
 {
+    if let Some(last) = pending.last() {
+        if *last == observer {
+            return Ok(());
+        }
+    }
     pending.insert(observer)?;
     Ok(())
 }

@@ -37,8 +37,8 @@ loop-here-preserved g c =
     record {
       tree = c.parent.ensures.tree c.in-Some.parent c.in-Some.is ∙ inv.tree;
       there = a.there;
-      so_far = climbed (λ n. on n (listed c.args.nodes.now.entries)) c.loop-here.keys.items c.keys_on.result.now c.extend_from_slice.new.self.items _ c.loop-here.here.node (ancestors c.in-Some.parent.node c.args.tree.now.forest)
-          (ancestors c.loop-here.here.node c.args.tree.now.forest) a.path (c.keys_on.ensures ∙ ap (λ n. on n (listed c.args.nodes.now.entries)) c.number.ensures) c.in_ok-extend_from_slice.ensures.items inv.so_far;
+      so_far = climbed (λ n. on n (listed c.args.nodes.now.entries)) c.loop-here.keys.items c.keys_on.result.now c.push_all.new.keys.items _ c.loop-here.here.node (ancestors c.in-Some.parent.node c.args.tree.now.forest)
+          (ancestors c.loop-here.here.node c.args.tree.now.forest) a.path (c.keys_on.ensures ∙ ap (λ n. on n (listed c.args.nodes.now.entries)) c.number.ensures) c.in_ok-push_all.ensures inv.so_far;
     }
 
 pub returns-in-None : goal.returns-in-None
@@ -46,6 +46,6 @@ returns-in-None g c =
     let inv = c.loop-here.invariant in
     let up = parent-told c.loop-here.here c.args.tree.now inv.tree c.parent.result c.parent.ensures.node ∙ ap node_at c.in-None.is in
     let p = root-path c.args.tree.now.forest c.sound.ensures.once c.loop-here.here.node (occurs-HasNode c.args.tree.now.forest c.loop-here.here.node inv.there) up in
-    sym (append-nil c.extend_from_slice.new.self.items)
-    ∙ climbed (λ n. on n (listed c.args.nodes.now.entries)) c.loop-here.keys.items c.keys_on.result.now c.extend_from_slice.new.self.items _ c.loop-here.here.node []
-    (ancestors c.loop-here.here.node c.args.tree.now.forest) p (c.keys_on.ensures ∙ ap (λ n. on n (listed c.args.nodes.now.entries)) c.number.ensures) c.in_ok-extend_from_slice.ensures.items inv.so_far
+    sym (append-nil c.push_all.new.keys.items)
+    ∙ climbed (λ n. on n (listed c.args.nodes.now.entries)) c.loop-here.keys.items c.keys_on.result.now c.push_all.new.keys.items _ c.loop-here.here.node []
+    (ancestors c.loop-here.here.node c.args.tree.now.forest) p (c.keys_on.ensures ∙ ap (λ n. on n (listed c.args.nodes.now.entries)) c.number.ensures) c.in_ok-push_all.ensures inv.so_far
