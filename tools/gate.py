@@ -24,10 +24,11 @@ MOST_BESIDE = 2
 
 
 class Turns:
-    """Who may run: each proof at once, and of what nothing waits for as many as there are processors, one fewer beside a proof."""
+    """Who may run: each proof at once, and of what nothing waits for as many as there are processors, one fewer beside a proof: those of the most lines first, so
+    that nothing long is left for the end."""
 
     def __init__(self, processors):
-        self.processors, self.proofs, self.others = processors, 0, 0
+        self.processors, self.proofs, self.others, self.waiting = processors, 0, 0, []
         self.changed = threading.Condition()
 
     @contextlib.contextmanager
@@ -41,11 +42,17 @@ class Turns:
                 self.proofs -= 1
                 self.changed.notify_all()
 
+    def is_next(self, lines):
+        return self.others < max(1, self.processors - bool(self.proofs)) and lines == max(self.waiting)
+
     @contextlib.contextmanager
-    def other(self):
+    def other(self, lines):
         with self.changed:
-            self.changed.wait_for(lambda: self.others < max(1, self.processors - bool(self.proofs)))
+            self.waiting.append(lines)
+            self.changed.wait_for(lambda: self.is_next(lines))
+            self.waiting.remove(lines)
             self.others += 1
+            self.changed.notify_all()
         try:
             yield
         finally:
@@ -61,9 +68,9 @@ class Gate(edits.Edits):
         super().__init__(rt, top, [*names], begins=False)
         self.of, self.turns = edits.with_edits(self.names), Turns(processors)
 
-    def behind(self, call, *given):
-        with self.turns.other():
-            return super().behind(call, *given)
+    def behind(self, call, crate, *given):
+        with self.turns.other(crate.count(rb"\n")):
+            return super().behind(call, crate, *given)
 
     def lower(self):
         return self.names

@@ -8,6 +8,8 @@ import os
 import subprocess
 import sys
 import tempfile
+import threading
+import time
 import types
 import unittest
 
@@ -150,9 +152,26 @@ class Threads(unittest.TestCase):
 
     def test_fewer_beside_tests_or_edits(self):
         run = self.run_of(gate.Gate, {"long": 900})
-        with run.turns.other():
+        with run.turns.other(1):
             self.assertEqual(self.threads(run, "long"), 2)
         self.assertEqual(self.threads(run, "long"), 4)
+
+    def test_the_longest_that_waits_goes_first(self):
+        turns, began = gate.Turns(1), []
+
+        def take(lines):
+            with turns.other(lines):
+                began.append(lines)
+
+        others = [threading.Thread(target=take, args=(it,)) for it in (2, 3, 1, 3)]
+        with turns.other(0):
+            for it in others:
+                it.start()
+            while len(turns.waiting) < len(others):
+                time.sleep(0.01)
+        for it in others:
+            it.join()
+        self.assertEqual(began, [3, 3, 2, 1])
 
 
 class Rows(unittest.TestCase):
