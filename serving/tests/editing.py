@@ -12,6 +12,8 @@ import sys
 import time
 import uuid
 
+import psycopg
+
 sys.dont_write_bytecode = True
 sys.path.insert(0, os.path.dirname(os.path.abspath(__file__)))
 from lines import lines
@@ -63,18 +65,18 @@ def main() -> None:
     with connect(given.database, client=client_of(given.client), timeout=5) as client, open(given.journal, "ab", buffering=0) as journal:
         while any(done[it] < given.lines for it in given.documents):
             for it in given.documents:
-                turn(client.document(name_of(it)), it, todo[it], done, given.chunk, journal)
+                turn(client, it, todo[it], done, given.chunk, journal)
             time.sleep(given.pause)
 
 
-def turn(document, number, todo, done, chunk, journal):
-    """Sends the next few lines to a document, again and again until they are answered."""
+def turn(client, number, todo, done, chunk, journal):
+    """Sends the next few lines to a document, again and again until they are answered, also where no server is there for long."""
     part = todo[done[number] : done[number] + chunk]
     if not part:
         return
     try:
-        replies = document.send(part, request=done[number] + 1)
-    except NotAnswered:
+        replies = client.document(name_of(number)).send(part, request=done[number] + 1)
+    except (NotAnswered, psycopg.OperationalError):
         return
     journal.write(b"".join(b"%d %s\n" % (number, it) for it in replies))
     done[number] += len(replies)
