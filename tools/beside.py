@@ -6,10 +6,15 @@ What they share is built first: the library for C, the module for Python and the
 so others may read it meanwhile. Each task is begun once those that it needs have ended, never more at once than processors. What it writes is handed on in
 one piece when it has ended, under a line with its name and how long it took. The last line says how many passed and failed; --after adds what another run
 said in its last line. A test that says no such counts is one; a build counts where it fails.
+
+What passed is kept in out/passed.json, beside a sum of all that it may read: each file of the repository, the kit, and what is installed. Where nothing of
+that has changed it is not run again, and what it wrote is shown once more; builds are always run, and --anew runs all.
 """
 import argparse
 import contextlib
 import dataclasses
+import hashlib
+import json
 import os
 import re
 import signal
@@ -56,12 +61,64 @@ TASKS = (
     Task("tools", ("tools/test.py",)),
 )
 
+# What passed.
+KEPT = f"{ROOT}/out/passed.json"
+# Which packages are installed, and which kit and machine this is.
+SURROUNDINGS = (("dpkg-query", "-W"), ("rt", "version"), ("uname", "-a"), (sys.executable, "--version"))
+
+
+def told(words):
+    """Returns what a command writes, or None where it cannot."""
+    try:
+        return subprocess.run(words, cwd=ROOT, capture_output=True, check=True).stdout
+    except (OSError, subprocess.CalledProcessError):
+        return None
+
+
+def sum_of_all():
+    """Returns a sum of all that a test may read, or None where git does not list the repository's files."""
+    listed = told(("git", "ls-files", "-z", "--cached", "--others", "--exclude-standard"))
+    if listed is None:
+        return None
+    total = hashlib.sha256()
+    for words in SURROUNDINGS:
+        total.update(repr((words, told(words))).encode())
+    for name in sorted(it for it in os.environ if it.startswith("HUCKLEPORT_")):
+        total.update(f"{name}={os.environ[name]}\n".encode())
+    for file in sorted(it for it in listed.decode().split("\0") if os.path.isfile(f"{ROOT}/{it}")):
+        with open(f"{ROOT}/{file}", "rb") as it:
+            total.update(f"{file} {hashlib.sha256(it.read()).hexdigest()}\n".encode())
+    return total.hexdigest()
+
+
+class Passed:
+    """What passed, by task: how many passed and what was written, over what sum."""
+
+    def __init__(self, path, total, is_anew=False):
+        self.path, self.total, self.of = path, total, {}
+        if not is_anew:
+            with contextlib.suppress(OSError, ValueError), open(path, encoding="utf-8") as file:
+                self.of = {name: it for name, it in json.load(file).items() if it["sum"] == total}
+
+    def said(self, task):
+        """Returns what a task wrote that passed over the same sum, or None."""
+        return self.of[task.name]["said"] if task.name in self.of and not task.is_build else None
+
+    def keep(self, task, said):
+        if self.total is None or task.is_build:
+            return
+        self.of[task.name] = {"sum": self.total, "said": said}
+        os.makedirs(os.path.dirname(self.path), exist_ok=True)
+        with open(f"{self.path}.new", "w", encoding="utf-8") as file:
+            json.dump(self.of, file)
+        os.replace(f"{self.path}.new", self.path)
+
 
 class Run:
     """What has begun and ended; `passed` and `failed` are counted over all that has ended."""
 
-    def __init__(self, passed, failed):
-        self.passed, self.failed = passed, failed
+    def __init__(self, passed, failed, kept):
+        self.passed, self.failed, self.kept = passed, failed, kept
         self.left, self.ended = [*TASKS], set()
         self.changed = threading.Condition()
 
@@ -76,7 +133,7 @@ class Run:
                 self.changed.wait()
         return None
 
-    def end(self, task, status, said, seconds):
+    def end(self, task, status, said, took):
         """Counts what a task came to, and hands on what it wrote."""
         found = COUNTS.fullmatch(said.rstrip("\n").rpartition("\n")[2])
         passed, failed = map(int, found.groups()) if found else (int(status == 0 and not task.is_build), 0)
@@ -85,17 +142,23 @@ class Run:
             self.passed, self.failed = self.passed + passed, self.failed + failed
             self.ended.add(task.name)
             words = f": FAILED, status {status}" if failed else ""
-            print(f"== {task.name} ({seconds // 60}:{seconds % 60:02}){words}\n{said.rstrip()}", flush=True)
+            print(f"== {task.name} ({took}){words}\n{said.rstrip()}", flush=True)
+            if not failed:
+                self.kept.keep(task, said)
             self.changed.notify_all()
 
     def work(self):
         while task := self.next():
-            began = time.monotonic()
+            began, said = time.monotonic(), self.kept.said(task)
+            if said is not None:
+                self.end(task, 0, said, "kept")
+                continue
             with tempfile.TemporaryFile("w+", encoding="utf-8", errors="replace") as out:
                 words = [sys.executable, f"{ROOT}/{task.words[0]}", *task.words[1:]]
                 status = subprocess.run(words, stdin=subprocess.DEVNULL, stdout=out, stderr=subprocess.STDOUT, check=False).returncode
                 out.seek(0)
-                self.end(task, status, out.read(), int(time.monotonic() - began))
+                seconds = int(time.monotonic() - began)
+                self.end(task, status, out.read(), f"{seconds // 60}:{seconds % 60:02}")
 
 
 def end(number, _):
@@ -108,6 +171,7 @@ def main():
     words = argparse.ArgumentParser(description=__doc__, formatter_class=argparse.RawDescriptionHelpFormatter)
     words.add_argument("--after", metavar="LINE", default="0 passed, 0 failed", help="the last line of the tests before these")
     words.add_argument("--jobs", type=int, default=os.cpu_count() or 1, metavar="N", help="how many run side by side (all processors)")
+    words.add_argument("--anew", action="store_true", help="run also what passed over the same files")
     given = words.parse_args()
     before = COUNTS.fullmatch(given.after)
     if not before:
@@ -115,7 +179,7 @@ def main():
     for it in (signal.SIGTERM, signal.SIGHUP, signal.SIGINT):
         with contextlib.suppress(ValueError):
             signal.signal(it, end)
-    run = Run(*map(int, before.groups()))
+    run = Run(*map(int, before.groups()), Passed(KEPT, sum_of_all(), given.anew))
     workers = [threading.Thread(target=run.work) for _ in range(given.jobs)]
     for it in workers:
         it.start()

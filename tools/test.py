@@ -1,5 +1,5 @@
 #!/usr/bin/env python3
-"""Tests tools/setup, tools/gathered.py, tools/printed.py, tools/rows.py, tools/commands.py, tools/quoted.py and how many threads a proof gets, where nothing
+"""Tests tools/setup, tools/gathered.py, tools/beside.py, tools/printed.py, tools/rows.py, tools/commands.py, tools/quoted.py and how many threads a proof gets, where nothing
 is installed, built or proved: apt is a script that notes how it was called."""
 import glob
 import importlib.machinery
@@ -16,6 +16,7 @@ import unittest
 sys.dont_write_bytecode = True
 HERE = os.path.dirname(os.path.realpath(__file__))
 sys.path.insert(0, HERE)
+import beside
 import commands
 import contracts
 import gate
@@ -111,6 +112,24 @@ class Gathered(unittest.TestCase):
             "12 dialogues, 0 faults": None,
         }
         self.assertEqual({it: gathered.left_out(it) for it in forms}, forms)
+
+
+class Beside(unittest.TestCase):
+    def test_what_passed_over_the_same_files_is_not_run_again(self):
+        test, build = beside.Task("a test", ()), beside.Task("a build", (), is_build=True)
+        with tempfile.TemporaryDirectory() as room:
+            path = os.path.join(room, "out", "passed.json")
+            kept = beside.Passed(path, "the sum")
+            self.assertIsNone(kept.said(test))
+            for it in (test, build):
+                kept.keep(it, "3 passed, 0 failed\n")
+            same, other, anew = (beside.Passed(path, *given) for given in (("the sum",), ("another",), ("the sum", True)))
+            self.assertEqual(same.said(test), "3 passed, 0 failed\n")
+            self.assertEqual([it.said(test) for it in (other, anew)], [None, None])
+            self.assertIsNone(same.said(build))
+            # (where git lists no files nothing is told apart, and nothing is kept)
+            beside.Passed(path, None, True).keep(test, "1 passed, 0 failed\n")
+            self.assertEqual(beside.Passed(path, "the sum").said(test), "3 passed, 0 failed\n")
 
 
 class Pages(unittest.TestCase):

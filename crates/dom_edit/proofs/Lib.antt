@@ -26,3 +26,4 @@ pub mod CallerLemmas
 pub mod Releasing
 pub mod TailUnits
 pub mod Unheard
+pub mod AppendedLeaves

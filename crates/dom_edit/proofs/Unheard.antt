@@ -11,7 +11,7 @@ use Rattle.dom_observe.specs.Watchers.{Watches}
 use Rattle.dom_observe.proofs.Queued.{standing_on-none}
 use Rattle.dom_observe.proofs.Watching.{watches-unheard}
 use Rattle.dom_edit.specs.declared.world.World.{World}
-use Rattle.dom_edit.specs.Whole.{Keeps, Follows}
+use Rattle.dom_edit.specs.Whole.{Follows}
 
 -- what is observed stays as it was
 observing-put : (parent : ℕ) (child : Option ℕ) (ns : List ℕ) (w : model.World) → (put_all parent child ns w).observing ≡ w.observing

@@ -1,6 +1,6 @@
 -- What comes in under a parent: nodes one after another, and the live range ends that make room for them.
 -- DOM Standard, "Mutation algorithms" (insert), "Live ranges".
-use Rattle.std.specs.Prelude.{◌≡◌, if◌then◌else◌, true, false, ℕ, ◌<◌, List, [], ◌∷◌, Option, Some, None}
+use Rattle.std.specs.Prelude.{◌≡◌, ◌⊎◌, ◌==◌, if◌then◌else◌, true, false, ℕ, ◌<◌, List, [], ◌∷◌, length, Option, Some, None}
 use Rattle.dom_model.specs.PlainLists.Lists.{hits, is_number}
 use Rattle.dom_model.specs.Forests.Forest.{Forest, entry_in, occurs, children_of, next_of, ancestors, index_of, put, adopted}
 use Rattle.dom_model.specs.Worlds.World.{Content, Range}
@@ -10,6 +10,7 @@ use Rattle.dom_model.specs.Forests.Nodes.{is_of_kind}
 use Rattle.dom_model.specs.MutationAlgorithms.Editing.{document_in}
 use Rattle.dom_model.specs.MutationAlgorithms.Insertable.{ArePlaceable, IsChildOf}
 use Rattle.dom_ranges.specs.Tables.{live_nodes}
+use Rattle.dom_tree.specs.Standing.{IsLeafFor, HasManyChildren}
 use Rattle.dom_edit.specs.declared.world.World.{World}
 use Rattle.dom_edit.specs.declared.inserting.Incoming.{Incoming}
 use Rattle.dom_edit.specs.declared.inserting.Incoming.TheVariants.{Alone, Children}
@@ -60,3 +61,8 @@ brought n (Children nodes) = nodes.items
 abbrev pub brought_if_any : Option ℕ → Incoming → List ℕ
 brought_if_any None i = []
 brought_if_any (Some n) i = brought n i
+
+-- a node does not come in at once as the last child: something is observed, or it is no leaf for the parent, or the parent has many children
+abbrev pub HasMoreToAsk : World → ℕ → ℕ → Type 0
+HasMoreToAsk v parent n =
+    ((length v.observers.nodes == 0) ≡ false) ⊎ ((¬ IsLeafFor v.tree.forest parent n) ⊎ HasManyChildren v.tree.forest parent)

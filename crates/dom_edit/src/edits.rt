@@ -13,7 +13,7 @@ ghost use Rattle.dom_model.specs.Forests.Nodes.{is_of_kind, kind_passes};
 ghost use Rattle.dom_model.specs.MutationAlgorithms.Editing.{remove, insert, pre_insert, append, replace, replace_all, adopt};
 ghost use Rattle.dom_model.specs.MutationAlgorithms.Insertable.{IsInsertable};
 ghost use Rattle.dom_model.specs.TokenText.Edits.{insert_edits, pre_insert_edits, append_edits, replace_edits, remove_edits, replace_all_edits, adopt_edits};
-ghost use Rattle.dom_edit.specs.Inserting.{IsUnreferred};
+ghost use Rattle.dom_edit.specs.Inserting.{IsUnreferred, HasMoreToAsk};
 ghost use Rattle.dom_edit.specs.Whole.{IsWhole, Follows, Moves};
 ghost use Rattle.dom_edit.specs.Keeping.{KeepsNodes};
 ghost use Rattle.dom_edit.specs.Leaving.{LeavesOlder, IsFragmentOrRoot};
@@ -151,6 +151,29 @@ impl World {
         ensures whole { IsWhole self.new }
     {
         self.insert_before(alloc, parent, node, None)
+    }
+
+    /// Puts a root with no children in as the last of a parent's children, and answers whether it did. Each of the two numbers is looked up once.
+    ///
+    /// It does so where nobody observes, and nothing else is to be asked or changed, as [`Tree::put_leaf`] tells. Else nothing has changed, and [`World::append`] does it or refuses.
+    ///
+    /// [`Tree::put_leaf`]: dom_tree::Tree::put_leaf
+    #[inline(always)]
+    pub fn append_leaf(&mut self, parent: NodeId, node: NodeId) -> bool
+        requires whole { IsWhole self.old }
+        ensures parent_held { result ≡ true → HasNode self.old.tree.forest parent }
+        ensures node_held { result ≡ true → HasNode self.old.tree.forest node }
+        ensures allowed { result ≡ true → check_insert self.old.tree.forest parent node None
+            ≡ None }
+        ensures appended { result ≡ true → Follows self.old self.new (append node parent) }
+        ensures markers { result ≡ true → StandByEdits self.old self.new
+            (append_edits node parent) }
+        ensures left { result ≡ false → self.new ≡ self.old }
+        ensures not { result ≡ false → HasMoreToAsk self.old parent node }
+        ensures kept { KeepsNodes self.old self.new }
+        ensures whole { IsWhole self.new }
+    {
+        self.observers.is_idle() && self.tree.put_leaf(parent, node)
     }
 
     /// Puts a node, or the children of a fragment, in the place of a child of a parent (replace).

@@ -62,9 +62,8 @@ pub(crate) fn insert_before(
     }
 }
 
-/// Appends a node to the children of a parent.
-#[inline(always)]
-pub(crate) fn append_child(
+// Appends a node to the children of a parent, whatever it is.
+fn append_any(
     world: &mut World,
     alloc: Global,
     parent: NodeId,
@@ -82,6 +81,25 @@ pub(crate) fn append_child(
         Ok(()) => Ok(Brief::Number(node.number())),
         Err(refusal) => brief_to(refusal),
     }
+}
+
+/// Appends a node to the children of a parent. A leaf that was just made is looked up once, and so is its parent.
+#[inline(always)]
+pub(crate) fn append_child(
+    world: &mut World,
+    alloc: Global,
+    parent: NodeId,
+    node: NodeId,
+) -> Result<Brief, AllocError>
+    requires shown { IsShown world.old }
+    ensures step { IfOk result (λ reply. (b : Bounds) →
+        IsStep world.old world.new b (AppendChild parent node) (reply_of reply)) }
+    ensures left { OnErr result (IsKept world.old world.new) }
+{
+    if world.append_leaf(parent, node) {
+        return Ok(Brief::Number(node.number()));
+    }
+    append_any(world, alloc, parent, node)
 }
 
 /// Puts a node in the place of a child of a parent, and answers the child.

@@ -313,6 +313,13 @@ module _ {X : Type 0} where
   pub linked-under : (a : Arena (Kept X)) (p c : ℕ) (b : Option ℕ) → IsHeld a p → children_in (entry_at (linked a p c b) p) ≡ entered b c (children_in (entry_at a p))
   linked-under a p c b h = ap children_in (linked-at a p c b p) ∙ link-under p b c (entry_at a p) h
 
+  -- who has a child put in has a child
+  pub linked-some : (a : Arena (Kept X)) (p c : ℕ) (b : Option ℕ) → IsHeld a p → (d : Arena (Kept X)) → d ≡ linked a p c b → 0 < length (children_in (entry_at d p))
+  linked-some a p c b h d e =
+      let n = linked-under a p c b h in
+      let g : 0 < length (entered b c (children_in (entry_at a p))) = entered-some b c (children_in (entry_at a p)) in
+      rw (e, n) g
+
   pub held-linked : (a : Arena (Kept X)) (p c : ℕ) (b : Option ℕ) (k : ℕ) → IsHeld a k → IsHeld (linked a p c b) k
   held-linked a p c b k h = rw (linked-at a p c b k) (go (entry_at a k) h)
     where

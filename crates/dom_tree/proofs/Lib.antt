@@ -10,6 +10,7 @@ pub mod Freeing
 pub mod Growing
 pub mod InBlocks
 pub mod Kept
+pub mod LeavesPut
 pub mod Making
 pub mod MapTable
 pub mod Moving

@@ -15,6 +15,7 @@ use Rattle.dom_tree.specs.Blocks.{raised, counts_in, counts_but, block_put, bloc
 use Rattle.dom_tree.specs.declared.tallies.Tally.{Tally}
 use Rattle.dom_tree.specs.Tallies.{tally_in, tally_put, AreTallied}
 use Rattle.dom_tree.specs.Places.{slots_in, with_arena, Leads, IsSeated}
+use Rattle.dom_tree.specs.Placing.{IsPutAt}
 use Rattle.dom_tree.proofs.BlocksKept.{blocked-put_none, renumbered-put, blocked-cut}
 use Rattle.dom_tree.proofs.OwnedTrees.{put-tree, numbered-tree}
 use Rattle.dom_tree.proofs.Places.{slot-led, put-at, seated, same-places}
@@ -83,6 +84,33 @@ module _ {X : Type 0} {s : Placed (Kept X)} {table : List (Option Ptr)} {live : 
 
       pub put-shown_into : ◌≡◌ {A = Grove X} (record { forest = shown (nodes_alone f.arena) (slots_in f table); made = length (slots_in f table) }) (record { forest = put np nc nb w.forest; made = w.made })
       put-shown_into = same-places s f table places_f (numbered-shown tree_e shown_e f.arena blocks' renumbered_f)
+
+  -- a root that was put by places, as one step
+  module _ (np nc : ℕ) (nb : Option ℕ) {above below : Ptr} {next : Option Ptr} (la : Leads s (Some above) (slot_in (slots_in s table) np)) (lb : Leads s (Some below) (slot_in (slots_in s table) nc)) (ln : Leads s next (slot_for (slots_in s table) nb)) (hp : HasNode w.forest np) (hc : HasNode w.forest nc) (root : parent_of w.forest nc ≡ None) (cy : among nc (ancestors np w.forest) ≡ false) (under : ForSome nb (λ b. parent_of w.forest b ≡ Some np)) (may : MayStand w.forest np nc) {new : Placed (Kept X)} {blocks' : List (ℕ × List ℕ)} {tallies' : List (ℕ × Tally)} (p : IsPutAt s new blocks blocks' tallies tallies' above below next) where
+    pub put_at-seated : IsSeated new table live strays blocks' tallies'
+    put_at-seated =
+        elim (seen (block_put (entry_at s.arena) (slot_of s above) (slots_of s next))) [
+          | nothing e ↦
+              let b = rw e at p.blocked in
+              subst (λ (n : Placed (Kept X)). IsSeated n table live strays blocks' tallies') (sym b.0)
+              (subst (λ bs. IsSeated p.numbered table live strays bs tallies') (sym b.1)
+              (put-seated np nc nb la lb ln hp hc root cy under may p.linked p.is_linked p.same_places p.numbered p.is_numbered p.few tallies' p.tallied e))
+          | just block e ↦
+              let b = rw e at p.blocked in
+              put-seated_into np nc nb la lb ln hp hc root cy under may p.linked p.is_linked p.same_places p.numbered p.is_numbered block e p.few new b.0 tallies' p.tallied blocks' b.1
+        ]
+
+    pub put_at-shown : ◌≡◌ {A = Grove X} (record { forest = shown (nodes_alone new.arena) (slots_in new table); made = length (slots_in new table) }) (record { forest = put np nc nb w.forest; made = w.made })
+    put_at-shown =
+        elim (seen (block_put (entry_at s.arena) (slot_of s above) (slots_of s next))) [
+          | nothing e ↦
+              let b = rw e at p.blocked in
+              subst (λ (n : Placed (Kept X)). ◌≡◌ {A = Grove X} (record { forest = shown (nodes_alone n.arena) (slots_in n table); made = length (slots_in n table) }) (record { forest = put np nc nb w.forest; made = w.made })) (sym b.0)
+              (put-shown np nc nb la lb ln hp hc root cy under may p.linked p.is_linked p.same_places p.numbered p.is_numbered)
+          | just block e ↦
+              let b = rw e at p.blocked in
+              put-shown_into np nc nb la lb ln hp hc root cy under may p.linked p.is_linked p.same_places p.numbered p.is_numbered block e p.few new b.0 tallies' p.tallied blocks' b.1
+        ]
 
   -- the blocks once a child was cut
   pub cut-blocked : (slot : ℕ) → IsSome (parent_in (entry_at s.arena slot)) → (blocks' : List (ℕ × List ℕ)) → ((p : ℕ) → counts_in blocks' p ≡ lowered_at (entry_at s.arena) blocks slot (parent_in (entry_at s.arena slot)) p) → AreBlocked (entry_at (unlinked (numbered_cut s.arena slot) slot)) blocks'

@@ -3,7 +3,7 @@ use Rattle.std.proofs.Common.{◌≡◌, ℕ, ◌+◌, ◌-◌, ◌<◌, ◌≤�
 use Rattle.std.proofs.lemmas.Bool.{cases_lt, le-ltb, false≢true}
 use Rattle.std.proofs.lemmas.List.{length-set, length-map}
 use Rattle.std.specs.Option.{ForSome}
-use Rattle.dom_model.specs.PlainLists.Lists.{hits, among, head_of, last_of, place_in, entered}
+use Rattle.dom_model.specs.PlainLists.Lists.{hits, among, head_of, last_of, place_in}
 use Rattle.dom_model.specs.Forests.Arena.{Arena, Entry, entry_at, held, names, parent_in, children_in, list_under, siblings_in, next_in, previous_in, with_value, altered, linked, unlinked, unlinked_from, added, added_from, taken, next_slot, next_from, StandsUnder, IsHeld, IsSound}
 use Rattle.dom_model.specs.Forests.Forest.{Node, Forest, empty, node, Grove, beside, size, entry_in, HasNode, parent_of, children_of, next_of, previous_of, index_of, ancestors, cut, put, without, with_node, IsForest}
 use Rattle.dom_model.proofs.PlainLists.Numbers.{same_or, same, apart}
@@ -18,7 +18,7 @@ use Rattle.dom_tree.proofs.Making as making
 use Rattle.dom_tree.proofs.Reading as reading
 use Rattle.dom_tree.proofs.Taking.{taken-kept, taken-live}
 use Rattle.dom_tree.proofs.Nodes.{entry-nodes, parent-nodes, children-nodes, siblings-nodes, next-nodes, previous-nodes, none-nodes, held-back, sound-nodes, stands-nodes, next_slot-nodes, altered-nodes, indexed-nodes, assured-nodes, linked-nodes, unlinked-nodes, added-nodes, taken-nodes, room-altered}
-use Rattle.dom_tree.proofs.Counting.{counted-put, counted-cut, counted-added, counted-taken, counted-altered, linked-under, held-linked, entered-some, names-itself}
+use Rattle.dom_tree.proofs.Counting.{counted-put, counted-cut, counted-added, counted-taken, counted-altered, held-linked, names-itself}
 
 -- a store and a table that spell a forest, with indices that are right
 pub record Stays {X : Type 0} (a : Arena (Kept X)) (table : List (Option ℕ)) (live : ℕ) (f : Forest X) : Type 0 where
@@ -221,13 +221,7 @@ module _ {X : Type 0} {a : Arena (Kept X)} {table : List (Option ℕ)} {live : �
       ])
       (omega (arith, k.stored.room, room-unlinked (numbered_cut a s) s, room-cut a s)))
 
-  -- a child that was put in is there, and so is the one behind it
-  pub put-child : (np sp sc : ℕ) (sb : Option ℕ) → slot_in table np ≡ Some sp → (d : Arena (Kept X)) → d ≡ linked a sp sc sb → 0 < length (children_in (entry_at d sp))
-  put-child np sp sc sb ep d ed =
-      let n = linked-under a sp sc sb (held-slot np sp ep) in
-      let g : 0 < length (entered sb sc (children_in (entry_at a sp))) = entered-some sb sc (children_in (entry_at a sp)) in
-      rw (ed, n) g
-
+  -- the child behind one that was put in is there
   pub put-before : IsSound a → (nb : Option ℕ) (np sp sc : ℕ) (sb : Option ℕ) → slot_in table np ≡ Some sp → slot_for table nb ≡ sb → ForSome nb (λ b. parent_of w.forest b ≡ Some np) → (d : Arena (Kept X)) → d ≡ linked a sp sc sb → (q : ℕ) → sb ≡ Some q → IsHeld d q
   put-before l nb np sp sc sb ep eb h d ed q eq =
       let i = parent-same l nb np sp sb ep eb h q eq in

@@ -7,6 +7,7 @@ pub mod Numberings
 pub mod Outside
 pub mod Owned
 pub mod Places
+pub mod Placing
 pub mod Slots
 pub mod Spelled
 pub mod Spots

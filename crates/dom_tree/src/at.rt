@@ -17,9 +17,9 @@ use std::marker::Model;
 /// A node of a tree that is lent. Its number was looked up once: from here each step goes straight to the node beside, above or below it.
 #[derive(Drop)]
 pub struct At<'a, X> {
-    links: &'a Store<Item<X>>,
-    table: &'a Table,
-    place: Place,
+    pub(crate) links: &'a Store<Item<X>>,
+    pub(crate) table: &'a Table,
+    pub(crate) place: Place,
 }
 
 impl<'a, X> Model for At<'a, X> {
@@ -81,6 +81,15 @@ impl<'a, X> At<'a, X> {
     {
         let item = self.links.value(self.place);
         &item.label
+    }
+
+    /// The node document.
+    pub fn document(&self) -> NodeId
+        ensures { IfSome (entry_in self.now.tree.forest self.now.node) (λ e. result
+            ≡ e.value.document) }
+    {
+        let kept = self.links.value(self.place);
+        kept.document
     }
 
     /// The parent; none for a root.

@@ -9,15 +9,16 @@ ghost use Rattle.dom_links.specs.Placed.{entry_behind, IsPlaced};
 ghost use Rattle.dom_tree.specs.Bodies.{lends_item_body};
 ghost use Rattle.dom_tree.specs.Standing.{MayStand};
 
-use crate::blocking::{block_put, blocked_cut, blocked_put};
+use crate::blocking::blocked_cut;
 use crate::blocks::Blocks;
 use crate::item::Item;
 use crate::nearby::{link_to, named, place_of};
 use crate::node_id::NodeId;
+use crate::placing::put_at;
 use crate::table::Table;
 use crate::tallies::Tallies;
-use crate::tallying::{tallied_cut, tallied_put};
-use crate::upkeep::{number_cut, number_put};
+use crate::tallying::tallied_cut;
+use crate::upkeep::number_cut;
 use dom_kinds::Label;
 use dom_links::{Place, Store};
 use dom_pages::Pages;
@@ -293,13 +294,14 @@ impl<X> Tree<X> {
         let below = place_of(&self.links, &self.table, child);
         let next = link_to(&self.links, &self.table, before);
         self.links.sound();
-        let block = block_put(&self.links, above, next);
-        tallied_put(&self.links, &mut self.tallies, above, below);
-        self.links.link(above, below, next);
-        number_put(&mut self.links, above, below, next);
-        if let Some(block) = block {
-            blocked_put(&mut self.links, &mut self.blocks, above, below, block);
-        }
+        put_at(
+            &mut self.links,
+            &mut self.blocks,
+            &mut self.tallies,
+            above,
+            below,
+            next,
+        );
     }
 
     /// Takes a child from its parent: it becomes a root, with all that stands under it.

@@ -23,6 +23,8 @@ pub(crate) enum Step {
     FirstChild(Option<u32>, u32),
     // The node is put under this one, before that one or last.
     Put(u32, Option<u32>),
+    // It is put last under this one, where that is done at once.
+    PutLeaf(u32, bool),
     // It leaves its parent.
     Cut,
     // It is let go of, with all under it.
@@ -282,6 +284,7 @@ pub(crate) fn grow(
         Step::NumberChildren => Ok(number_children(tree, id)),
         Step::MakeRoom => make_room(tree, id),
         Step::Found(index) => Ok(found(tree, id, *index)),
+        Step::PutLeaf(parent, due) => Ok(tree.put_leaf(NodeId::new(*parent), id) == *due),
         Step::ComesBefore(other, due) => Ok(comes_before(tree, id, NodeId::new(*other), *due)),
         Step::Begins => begins(alloc),
         Step::Ends => Ok(ends(alloc)),
@@ -299,6 +302,45 @@ impl Act for Step {
     fn act(&self, alloc: Global, tree: &mut Tree<u32>, turn: u32) -> Result<bool, AllocError> {
         grow(alloc, tree, turn, self)
     }
+}
+
+// A root with no children comes in last where its parent takes it with nothing else to ask, and takes no memory. Else nothing changes.
+const LEAVES: &[Row] = &[
+    (0, 1, Step::Document),
+    (1, 5, Step::Element(Some(0), "")),
+    (5, 6, Step::Element(None, "")),
+    (6, 134, Step::Element(Some(0), "")),
+    (0, 1, Step::Begins),
+    (2, 4, Step::PutLeaf(1, true)),
+    (1, 2, Step::Children(&[2, 3])),
+    // It has a parent, or children, or is the parent, or is a Document.
+    (2, 3, Step::PutLeaf(4, false)),
+    (1, 2, Step::PutLeaf(4, false)),
+    (4, 5, Step::PutLeaf(4, false)),
+    (0, 1, Step::PutLeaf(4, false)),
+    // A Document is asked more, and a node of another document is adopted.
+    (4, 5, Step::PutLeaf(0, false)),
+    (5, 6, Step::PutLeaf(1, false)),
+    // There is no such node.
+    (4, 5, Step::PutLeaf(500, false)),
+    (500, 501, Step::PutLeaf(1, false)),
+    (1, 2, Step::Children(&[2, 3])),
+    (4, 5, Step::Children(&[])),
+    // A root again, it comes in elsewhere.
+    (2, 3, Step::Cut),
+    (2, 3, Step::PutLeaf(4, true)),
+    (1, 2, Step::Children(&[3])),
+    (4, 5, Step::Children(&[2])),
+    // Room for blocks may be wanted from 128 children on.
+    (6, 133, Step::PutLeaf(1, true)),
+    (133, 134, Step::PutLeaf(1, false)),
+    (0, 1, Step::Ends),
+    (132, 133, Step::Index(127)),
+];
+
+#[test]
+fn leaves_come_in_at_once(rt: HostRuntime) -> Result<(), Fail> {
+    expect(&rt, rt.alloc(), LEAVES)
 }
 
 // The element 6 comes ahead of four others, and moves them on: none of them is numbered until all are.

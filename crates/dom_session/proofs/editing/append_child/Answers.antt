@@ -1,39 +1,40 @@
-use Rattle.std.proofs.Common.{◌≡◌, true, Some, None, refl}
-use Rattle.std.specs.Prelude.{is_some}
-use Rattle.dom_model.specs.Forests.Forest.{entry_in}
+use Rattle.std.specs.Prelude.{IfOk, OnErr}
+use Rattle.std.proofs.Common.{None, refl, sym, subst}
 use Rattle.dom_model.specs.Commands.Command.{AppendChild}
-use Rattle.dom_model.specs.MutationAlgorithms.Checks.{check_insert}
+use Rattle.dom_model.specs.Commands.Guards.{Bounds}
 use Rattle.dom_model.specs.MutationAlgorithms.Editing.{append}
+use Rattle.dom_edit.specs.declared.world.World.{World}
+use Rattle.dom_edit.specs.Whole.{IsShown}
 use Rattle.dom_session.specs.declared.brief.Brief.TheVariants.{Number}
 use Rattle.dom_session.specs.declared.reply.Reply.TheVariants.{Brief}
-use Rattle.dom_session.proofs.Stepping.{step-follows, steps-refused-briefly}
+use Rattle.dom_session.specs.Brief.{reply_of}
+use Rattle.dom_session.specs.Ending.{IsKept}
+use Rattle.dom_session.specs.Stands.{IsStep}
+use Rattle.dom_session.proofs.Stepping.{step-follows}
 use Rattle.dom_session.proofs.TreeEdits.{answer-append_child}
-use Rattle.dom_session.proofs.WorldsKept.{on_err, kept_nodes}
 use Rattle.dom_session.proofs.editing.append_child.Goals as goal
 
-pub returns-in-Ok : goal.returns-in-Ok
-returns-in-Ok c =
+pub returns-then-append_leaf : goal.returns-then-append_leaf
+returns-then-append_leaf c =
     let old = c.args.world.now in
     let p = c.args.parent in
     let n = c.args.node in
-    let hp : is_some (entry_in old.tree.forest p) ≡ true = cc in
-    let hn : is_some (entry_in old.tree.forest n) ≡ true = cc in
+    let done = c.if-append_leaf.true in
     record {
-      step = λ b. rw c.number.ensures (step-follows b (AppendChild p n) (Brief (Number n)) old c.append.new.self (append n p) refl
-          (λ w shown. answer-append_child old b p n w None shown hp hn c.in-Ok.ensures.allowed)
-          c.in-Ok.ensures.appended c.append.ensures.whole);
+      step = λ b. rw c.number.ensures (step-follows b (AppendChild p n) (Brief (Number n)) old c.append_leaf.new.self (append n p) refl
+          (λ w shown. answer-append_child old b p n w None shown (c.append_leaf.ensures.parent_held done) (c.append_leaf.ensures.node_held done) (c.append_leaf.ensures.allowed done))
+          (c.append_leaf.ensures.appended done) c.append_leaf.ensures.whole);
       left = tt;
     }
 
-pub returns-in-Err : goal.returns-in-Err
-returns-in-Err c =
-    let old = c.args.world.now in
-    let p = c.args.parent in
-    let n = c.args.node in
-    let hp : is_some (entry_in old.tree.forest p) ≡ true = cc in
-    let hn : is_some (entry_in old.tree.forest n) ≡ true = cc in
+pub append_any-requires : goal.append_any-requires
+append_any-requires c = record { shown = subst IsShown (sym (c.append_leaf.ensures.left c.if-append_leaf.false)) c.requires.shown }
+
+pub returns : goal.returns
+returns c =
+    let same = c.append_leaf.ensures.left c.if-append_leaf.false in
+    let new = c.append_any.new.world in
     record {
-      step = steps-refused-briefly old c.append.new.self (AppendChild p n) c.in-Err.refusal (check_insert old.tree.forest p n None) c.brief_to.result c.brief_to.ensures c.in-Err.ensures.refused
-          (λ b e named w shown. answer-append_child old b p n w (Some e) shown hp hn named);
-      left = on_err c.brief_to.result (kept_nodes old c.append.new.self c.append.ensures.kept c.append.ensures.whole);
+      step = subst (λ (v : World). IfOk c.append_any.result (λ reply. (b : Bounds) → IsStep v new b (AppendChild c.args.parent c.args.node) (reply_of reply))) same c.append_any.ensures.step;
+      left = subst (λ (v : World). OnErr c.append_any.result (IsKept v new)) same c.append_any.ensures.left;
     }
