@@ -7,36 +7,30 @@ import json
 import os
 import re
 
+import layout
+
 COMMANDS = "docs/commands.json"
 WATCHING = "crates/dom_model/specs/Erasure/Erasing.antt"
 THEOREMS = "crates/dom_model/proofs/Erasure/ErasedDialogues.antt"
 BY_OBSERVER = ("observe", "disconnect", "takeRecords")
 
 HEADER = """\
--- Dialogues with an observer erased, or with all watchers erased: the replies that are left are the same, and they are those that stand here.
--- Written by tools/rows.py.
-use Rattle.std.specs.Prelude.{{◌≡◌, refl, codes, ℕ, ◌==◌, List, [], ◌∷◌, ◌++◌, flat_map, Some, None, true}}
-use Rattle.std.specs.Char.Utf16.{{utf16_chars}}
-use Rattle.std.specs.Fmt.{{digits}}
-use lib.Utf8.{{encode}}
-use Rattle.serde_json.proofs.OnLiterals.{{serde_json_on_literals}}
-use Rattle.dom_model.specs.Worlds.World.{{first_world}}
-use Rattle.dom_model.specs.Commands.Command.{{Command, {constructors}}}
-use Rattle.dom_model.specs.MutationObservers.GivenOptions.{{no_options}}
-use Rattle.dom_model.specs.Commands.Reply.{{Reply}}
-use Rattle.dom_model.specs.Commands.Printed.{{reply_line}}
-use Rattle.dom_model.specs.Commands.Guards.{{Bounds}}
-use Rattle.dom_model.specs.Erasure.Erasing.{{replies_to, without_observers, replies_without_observers, without_watchers, replies_without_watchers}}
-
-abbrev bounds : Bounds
-bounds = record {{ numbers = 4294967295; line = 1048576 }}
-
-abbrev printed : List Reply → List ℕ
-printed rs = flat_map reply_line rs
+-- Dialogues with an observer erased, or with all watchers erased: the replies that are left are the same, and they are those that stand here,
+-- beside the commands. Written by tools/rows.py.
+use Rattle.std.proofs.Common.{{◌≡◌, refl, codes, ℕ, ◌==◌, List, [], ◌∷◌, map, flat_map, Some, None, true}}
+use Rattle.dom_model.specs.Definitions.{{first_world, Command, {constructors}, no_options, Reply, replies_to, without_observers, replies_without_observers, without_watchers, replies_without_watchers}}
+use Rattle.dom_model.proofs.Dialogues.{{Exchanges.usual_bounds, Released.Replies.printed, Released.Replies.printed_replies}}
 
 -- what is printed without the erased commands is what is left of what is printed with them
-abbrev IsLeft : List ℕ → List ℕ → List ℕ → Type 0
-IsLeft without left bytes = (without ≡ bytes) × (left ≡ bytes)
+abbrev IsLeft : (List Command → List Command) → (List Command → List Reply → List Reply) → List Command → List ℕ → Type 0
+IsLeft without left commands bytes =
+    (printed_replies (without commands) ≡ bytes) × (printed (left commands (replies_to usual_bounds first_world commands)) ≡ bytes)
+
+abbrev IsLeftWithoutObserver : ℕ → List Command → List ℕ → Type 0
+IsLeftWithoutObserver n commands bytes = IsLeft (without_observers (λ o. o == n)) (replies_without_observers (λ o. o == n)) commands bytes
+
+abbrev IsLeftWithoutWatchers : List Command → List ℕ → Type 0
+IsLeftWithoutWatchers commands bytes = IsLeft without_watchers replies_without_watchers commands bytes
 """
 
 
@@ -107,41 +101,35 @@ class Table:
         return term
 
 
-def left_by_observer(lines, replies, erased):
-    """The replies that are left without an observer."""
-    for line, reply in zip(lines, replies):
-        if line[0] in BY_OBSERVER and line[1] == erased:
-            continue
-        if line[0] == "notify":
-            reply = {"ok": [told for told in reply["ok"] if told[0] != erased]}
-        elif line[0] == "pending":
-            reply = {"ok": [number for number in reply["ok"] if number != erased]}
-        yield reply
+def left(word, line, reply, table):
+    """What is left of the reply to a line where what a word tells is erased, or None where the line is."""
+    if word == "watchers":
+        return None if table.constructor(line) in table.watching else reply
+    erased = int(word)
+    if line[0] in BY_OBSERVER and line[1] == erased:
+        return None
+    if line[0] == "notify":
+        return {"ok": [told for told in reply["ok"] if told[0] != erased]}
+    if line[0] == "pending":
+        return {"ok": [number for number in reply["ok"] if number != erased]}
+    return reply
 
 
-def theorem(name, title, without, left, replies):
-    """That the replies without what is erased are those that are left."""
-    printed = [quoted(json.dumps(reply, separators=(",", ":"), ensure_ascii=False) + "\n") for reply in replies]
-    lines = "\n    ++ ".join(printed)
-    return (
-        f"\n{name}_{title} : IsLeft\n"
-        f"    (printed (replies_to bounds first_world ({without} {name}_commands)))\n"
-        f"    (printed ({left} {name}_commands (replies_to bounds first_world {name}_commands)))\n"
-        f"    ({lines})\n"
-        f"unfolding serde_json_on_literals digits utf16_chars encode\n{name}_{title} = (refl, refl)\n"
-    )
+def printed(reply):
+    return "[]" if reply is None else quoted(json.dumps(reply, separators=(",", ":"), ensure_ascii=False) + "\n")
 
 
 def theorems(name, erased, lines, replies, table):
-    """The theorems of one dialogue."""
-    for word in erased:
-        if word == "watchers":
-            rest = [reply for line, reply in zip(lines, replies) if table.constructor(line) not in table.watching]
-            yield theorem(name, "unwatched", "without_watchers", "replies_without_watchers", rest)
-        else:
-            rest = left_by_observer(lines, replies, int(word))
-            test = f"(λ o. o == {word})"
-            yield theorem(name, f"without_{word}", f"without_observers {test}", f"replies_without_observers {test}", rest)
+    """The commands of one dialogue, each with what is left of its reply for each that is erased, and the theorems."""
+    row = " × ".join(["Command", *("List ℕ" for _ in erased)])
+    rows = ([table.command(line), *(printed(left(word, line, reply, table)) for word in erased)] for line, reply in zip(lines, replies))
+    yield f"\nabbrev {name} : List ({row})\n{name} ={layout.listing(rows)}\n"
+    for place, word in enumerate(erased, 1):
+        title, claim = ("unwatched", "IsLeftWithoutWatchers") if word == "watchers" else (f"without_{word}", f"IsLeftWithoutObserver {word}")
+        yield (
+            f"\n{name}_{title} : {claim} (map (λ e. e.0) {name}) (flat_map (λ e. e.{place}) {name})\n"
+            f"unfolding printed\n{name}_{title} = (refl, refl)\n"
+        )
 
 
 def write(root, dialogues):
@@ -151,8 +139,6 @@ def write(root, dialogues):
         lines = [json.loads(line) for line in given.splitlines()]
         replies = [json.loads(line) for line in due.splitlines()]
         used.update(table.constructor(line) for line in lines)
-        commands = "\n    ∷ ".join([table.command(line) for line in lines] + ["[]"])
-        made.append(f"\nabbrev {name}_commands : List Command\n{name}_commands =\n    {commands}\n")
         made += theorems(name, erased, lines, replies, table)
     with open(os.path.join(root, THEOREMS), "w", encoding="utf-8") as out:
         out.write(HEADER.format(constructors=", ".join(sorted(used))) + "".join(made))

@@ -7,13 +7,14 @@ dialogues has a folder for each subject, with NAME.in, NAME.out and, where the s
 
 Theorems: for each NAME a file Subject/Name.antt in crates/dom_model/proofs/Dialogues, and its line in Subject.antt, which must stand
 there and be named in the file beside that folder. The bytes that a session reads give the bytes that it writes, and the edits of the
-token text that its commands make leave the ends, texts and worlds that the commands leave. They hold by computation.
+token text that its commands make leave the ends, texts, worlds and contents that the commands leave. They hold by computation.
 
 Tests: for each subject a file in crates/dialogues/src, with its dialogues, each text on a line; and one in crates/dialogue_cases/src with
 a test of each that serves it whole, in pieces, with refused growths, with each read, write and flush failing in turn, and cut in two at
 each of its bytes.
 """
 import argparse
+import io
 import os
 import shutil
 import subprocess
@@ -21,6 +22,7 @@ import sys
 import tempfile
 
 import erased
+import layout
 
 ROOT = os.path.dirname(os.path.dirname(os.path.abspath(__file__)))
 DIALOGUES = os.path.join(ROOT, "dialogues")
@@ -32,25 +34,6 @@ WRITTEN = (THEOREMS, f"{THEOREMS}.antt", erased.THEOREMS, TABLES, TESTS)
 READ = ("crates.txt", erased.COMMANDS, erased.WATCHING)
 
 DEFAULTS = {"numbers": "4294967295", "line": "1048576"}
-
-HEADER = """\
-use Rattle.serde_json.proofs.OnLiterals.{serde_json_on_literals}
-use Rattle.std.specs.Str.{is_utf8, chars}
-use Rattle.std.specs.Char.Utf16.{utf16_chars}
-use Rattle.std.specs.Fmt.{digits}
-use lib.Utf8.{encode}
-use Rattle.dom_model.specs.Commands.Table.{whole_table}
-use Rattle.dom_model.specs.Commands.Line.{json_of, command_of, command_within}
-use Rattle.dom_model.specs.Commands.Answer.{Bounds}
-use Rattle.dom_model.specs.Commands.Output.{whole_lines, last_piece, due, output_of}
-use Rattle.dom_model.proofs.TokenText.Agreement.{ends_missed, texts_missed, worlds_missed}
-use Rattle.dom_model.proofs.TokenText.ContentsBetween.{contents_missed}
-"""
-
-UNFOLDING = (
-    "unfolding serde_json_on_literals is_utf8 chars digits utf16_chars encode whole_table json_of command_of"
-    " command_within whole_lines last_piece due"
-)
 
 
 def literal(run):
@@ -78,18 +61,22 @@ def pieces(line):
             yield "(" + " ∷ ".join(str(byte) for byte in run) + " ∷ [])"
 
 
-def listing(data, indent):
-    """The bytes as a sum of quoted lines."""
-    lines = [piece for line in data.splitlines(keepends=True) for piece in pieces(line)]
-    if not lines:
-        return "[]"
-    return "(" + ("\n" + indent + "++ ").join(lines) + ")"
+def told(line):
+    """The bytes of a line as a sum of quoted runs."""
+    return " ++ ".join(pieces(line))
 
 
-def prelude(text):
-    """The words of the prelude that a text names."""
-    words = [word for word, mark in (("codes", "codes "), ("[]", "[]"), ("◌∷◌", " ∷ "), ("◌++◌", "++ ")) if mark in text]
-    return "use Rattle.std.specs.Prelude.{" + ", ".join(["◌≡◌", "refl", "ℕ", "List"] + words) + "}\n"
+def exchanges(given, wanted):
+    """Each line that is given with the line that is due, in a list."""
+    return layout.listing((told(line), told(reply)) for line, reply in zip(io.BytesIO(given), io.BytesIO(wanted), strict=True))
+
+
+def used(text, usual):
+    """The line that brings in what the text of a theorem names."""
+    words = [word for word, mark in (("codes", "codes "), ("[]", "[]"), ("◌∷◌", " ∷ "), ("◌++◌", " ++ ")) if mark in text]
+    own = "usual_bounds" if usual else "Bounds"
+    words = ["◌≡◌", "refl", "List", *words, own, "whole_table", "output_of", "Exchange", "bytes_given", "bytes_due", "MissesNothing", "computing"]
+    return "use Rattle.dom_model.proofs.Dialogues.Exchanges.{" + ", ".join(words) + "}\n"
 
 
 def options(path):
@@ -109,24 +96,16 @@ def dialogue(folder, name):
 
 
 def theorem(name, given, wanted, bounds):
-    title = name.replace("_", " ")
-    laws = "".join(
-        f"\npub {name}-{law} : {law}_missed whole_table bounds given ≡ []\n{UNFOLDING}\n{name}-{law} = refl\n"
-        for law in ("ends", "texts", "worlds", "contents")
-    )
+    usual = bounds == DEFAULTS
+    of = ("usual_bounds" if usual else "bounds") + " (bytes_given exchanges)"
     body = (
-        f"\nabbrev bounds : Bounds\nbounds = record {{ numbers = {bounds['numbers']}; line = {bounds['line']} }}\n"
-        + f"\nabbrev given : List ℕ\ngiven =\n    {listing(given, '    ')}\n"
-        + f"\npub {name} : output_of whole_table bounds given ≡\n    {listing(wanted, '    ')}\n"
-        + f"{UNFOLDING}\n{name} = refl\n"
-        + laws
+        ("" if usual else f"\nabbrev bounds : Bounds\nbounds = record {{ numbers = {bounds['numbers']}; line = {bounds['line']} }}\n")
+        + f"\nabbrev exchanges : List Exchange\nexchanges ={exchanges(given, wanted)}\n"
+        + f"\npub {name} : output_of whole_table {of} ≡ bytes_due exchanges\nunfolding computing\n{name} = refl\n"
+        + f"\npub {name}-misses_nothing : MissesNothing whole_table {of}\nunfolding computing\n"
+        + f"{name}-misses_nothing = record {{ ends = refl; texts = refl; worlds = refl; contents = refl }}\n"
     )
-    return (
-        f"-- A dialogue, from bytes to bytes: {title}. Of each command: the ends stand in their markers' gaps, and the edits leave its texts and world.\n"
-        + prelude(body)
-        + HEADER
-        + body
-    )
+    return f"-- A dialogue, from bytes to bytes: {name.replace('_', ' ')}.\n" + used(body, usual) + body
 
 
 def module_of(name):

@@ -1,11 +1,8 @@
 -- Attributes with distinct names: a search among them, and one more of them.
-use Rattle.std.proofs.Common.{◌≡◌, ℕ, zero, suc, ◌+◌, Bool, true, false, ◌||◌, ◌&&◌, List, [], ◌∷◌, Option, Some, None, refl, ap, sym, subst, ◌∙◌, take, slice_get, true≢false}
-use Rattle.std.specs.Prelude.{bytes_eq}
+use Rattle.std.proofs.Common.{◌≡◌, ℕ, zero, suc, ◌+◌, Bool, true, false, ◌||◌, ◌&&◌, List, [], ◌∷◌, Option, Some, None, refl, ap, sym, subst, ◌∙◌, take, slice_get, true≢false, bytes_eq}
 use Rattle.std.specs.List.{AllByRecursion, IsDistinct, list_any, list_all}
-use Rattle.std.proofs.lemmas.Slice.Eq.{bytes_eq-Decides}
-use Rattle.std.proofs.lemmas.List.Folds.{list_all_more}
-use Rattle.std.proofs.lemmas.Option.{slice_get_within, get_or_from_slice_get}
-use Rattle.dom_model.specs.Forests.Attributes.{Attribute, attribute_value, attribute_names, with_attribute, is_attribute, are_among, same_attributes}
+use Rattle.std.proofs.lemmas.{Slice.Eq.bytes_eq-Decides, List.Folds.list_all_more, Option.slice_get_within, Option.get_or_from_slice_get}
+use Rattle.dom_model.specs.Definitions.{Attribute, attribute_value, attribute_names, with_attribute, is_attribute, are_among, same_attributes}
 
 -- whether a value is there, and is that one
 abbrev pub has_value : List ℕ → Option (List ℕ) → Bool

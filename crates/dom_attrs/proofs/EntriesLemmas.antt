@@ -1,10 +1,8 @@
 -- What a map from names to values does to its entries is what the definitions do to the attributes that they are.
-use Rattle.std.proofs.Common.{◌≡◌, ℕ, Bool, true, false, cond, List, [], ◌∷◌, Option, Some, refl, ap, sym, ◌∙◌, string_bytes}
-use Rattle.std.specs.Prelude.{String, string_eq, bytes_eq}
-use Rattle.std.specs.List.{AllByRecursion, AllZip, IsDistinct, list_any}
-use Rattle.std.specs.Map.{lookup, remove_entry, keys_of}
+use Rattle.std.proofs.Common.{◌≡◌, ℕ, Bool, true, false, cond, List, [], ◌∷◌, Option, Some, refl, ap, sym, ◌∙◌, string_bytes, String, string_eq, bytes_eq}
+use Rattle.std.specs.{List.AllByRecursion, List.AllZip, List.IsDistinct, List.list_any, Map.lookup, Map.remove_entry, Map.keys_of}
 use Rattle.indexmap.specs.IndexMap.{insert_entry}
-use Rattle.dom_model.specs.Forests.Attributes.{Attribute, attribute_value, attribute_names, with_attribute, without_attribute, is_attribute}
+use Rattle.dom_model.specs.Definitions.{Attribute, attribute_value, attribute_names, with_attribute, without_attribute, is_attribute}
 use Rattle.dom_attrs.specs.Entries.{attribute_of, attributes_of}
 use Rattle.dom_attrs.proofs.AttributeLemmas.{has_value, list_any-is_attribute}
 

@@ -1,14 +1,10 @@
 -- What is read of an open handle whose session goes on; and a refusal, after which an array is as it was.
-use Rattle.std.proofs.Common.{◌≡◌, ℕ, Bool, false, List, length, refl, sym, ap, subst, ◌∙◌}
-use Rattle.std.specs.Prelude.{Option, Some, None, Result, Ok, Err}
+use Rattle.std.proofs.Common.{◌≡◌, ℕ, Bool, false, List, length, refl, sym, subst, ◌∙◌, Option, Some, None, Result, Err}
 use Rattle.dom_model.specs.declared.OwnError.{OwnError}
-use Rattle.dom_model.specs.Forests.Arena.{Entry, children_in}
-use Rattle.dom_model.specs.Forests.Forest.{Node, Forest, entry_in, children_of}
-use Rattle.dom_model.specs.Worlds.World.{Content}
+use Rattle.dom_model.specs.Definitions.{Entry, children_in, Node, Forest, entry_in, children_of, Content}
 use Rattle.dom_session.specs.Links.{read_where, count_in, laid_over}
 use Rattle.dom_session.proofs.Laying.{laid_over-absent}
-use Rattle.dom_c.specs.Nearby.{IsRead, IsReadOrEnded, ReadsKept, children_over, told_as, written}
-use Rattle.dom_c.specs.declared.kept.Kept.{Kept}
+use Rattle.dom_c.specs.{Nearby.IsRead, Nearby.IsReadOrEnded, Nearby.ReadsKept, Nearby.children_over, Nearby.told_as, Nearby.written, declared.kept.Kept.Kept}
 
 pub open-reads : {A : Type 0} (read : Forest Content → Result A OwnError) (k : Kept) (o : Option Kept) (before after : A) (status : ℕ)
     → o ≡ Some k → k.ended ≡ false → IsRead read k before after status → ReadsKept read o before after status

@@ -1,9 +1,7 @@
 -- Fewer verdicts than lengths.
-use Rattle.std.proofs.Common.{arith, ◌≡◌, ◌<◌, ℕ, zero, suc, List, [], ◌∷◌, length, drop, refl}
-use Rattle.std.specs.Prelude.{Err}
-use Rattle.dom_model.specs.Worlds.World.{FilterRule}
-use Rattle.dom_c.specs.Statuses.{bad_lengths}
-use Rattle.dom_c.specs.Lists.{rules_from}
+use Rattle.std.proofs.Common.{arith, ◌≡◌, ◌<◌, ℕ, zero, suc, List, [], ◌∷◌, length, drop, refl, Err}
+use Rattle.dom_model.specs.Definitions.{FilterRule}
+use Rattle.dom_c.specs.{Statuses.bad_lengths, Lists.rules_from}
 
 pub too_few : (rules : List FilterRule) (i : ℕ) (lengths verdicts bytes : List ℕ) → i < length lengths → length verdicts < 1 → rules_from rules (drop i lengths) verdicts bytes ≡ Err bad_lengths
 too_few rules i [] verdicts bytes inside few = absurd (omega (arith, inside))

@@ -1,12 +1,8 @@
 -- Copies that grow node by node: what waits, completed, is the copy of the whole.
 use Rattle.std.proofs.Common.{◌≡◌, ℕ, ◌+◌, ◌<◌, ◌≤◌, List, [], ◌∷◌, ◌++◌, None, refl, ap, sym, ◌∙◌, arith, append-nil}
-use Rattle.dom_model.specs.Forests.Forest.{Node, Forest, empty, node, occurs, size, beside, tree_at, without, placed_before, placed_under, put}
-use Rattle.dom_model.specs.Worlds.World.{Content}
-use Rattle.dom_model.specs.DataAndCopies.Clones.{renumbered}
+use Rattle.dom_model.specs.Definitions.{Node, Forest, empty, node, occurs, size, beside, tree_at, without, placed_before, placed_under, put, Content, renumbered}
 use Rattle.dom_model.proofs.PlainLists.Numbers.{same_or, same, apart}
-use Rattle.dom_model.proofs.Forests.Undone.{beside-assoc, placed_under-absent}
-use Rattle.dom_model.proofs.Forests.ForestsBeside.{IsBelow, put-younger, tree_at-younger, without-younger}
-use Rattle.dom_model.proofs.Forests.Totals.{beside-empty}
+use Rattle.dom_model.proofs.Forests.{Undone.beside-assoc, Undone.placed_under-absent, ForestsBeside.IsBelow, ForestsBeside.put-younger, ForestsBeside.tree_at-younger, ForestsBeside.without-younger, Totals.beside-empty}
 
 -- Trees that come in last.
 

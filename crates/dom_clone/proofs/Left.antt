@@ -1,22 +1,12 @@
 -- What copies leave as it was, copy by copy.
-use Rattle.std.proofs.Common.{◌≡◌, ℕ, ◌+◌, ◌≤◌, List, refl, ap, sym, ◌∙◌, subst, arith}
-use Rattle.std.specs.Prelude.{Result, Ok, Err, OnOk, OnErr}
-use Rattle.dom_model.specs.Forests.Kinds.{Label}
-use Rattle.dom_model.specs.Forests.EachNode.{EachNode}
-use Rattle.dom_model.specs.Forests.Forest.{Node, Forest, empty, node, beside}
-use Rattle.dom_model.specs.Worlds.World.{Content}
-use Rattle.dom_model.specs.Worlds.Making.{made_node}
-use Rattle.dom_model.proofs.Forests.EachNode.{EachNode-beside}
-use Rattle.dom_model.proofs.Forests.Totals.{beside-empty}
-use Rattle.dom_model.proofs.Forests.Undone.{beside-assoc}
+use Rattle.std.proofs.Common.{◌≡◌, ℕ, ◌+◌, ◌≤◌, List, refl, ap, sym, ◌∙◌, subst, arith, Result, Ok, Err, OnOk, OnErr}
+use Rattle.dom_model.specs.Definitions.{Label, EachNode, Node, Forest, empty, node, beside, Content, made_node}
+use Rattle.dom_model.proofs.Forests.{EachNode.EachNode-beside, Totals.beside-empty, Undone.beside-assoc}
 use Rattle.dom_model.proofs.Worlds.Owners.{EachNode-each}
-use Rattle.dom_edit.specs.declared.world.World.{World}
-use Rattle.dom_edit.specs.Whole.{CoversAhead, Follows, unwatched}
+use Rattle.dom_edit.specs.{declared.world.World.World, Whole.CoversAhead, Whole.Follows, Whole.unwatched, Leaving.LeavesAll}
 use Rattle.dom_edit.proofs.Following.{keeps-unwatched}
 use Rattle.dom_clone.specs.declared.waiting.Waiting.{Waiting}
-use Rattle.dom_edit.specs.Leaving.{LeavesAll}
-use Rattle.dom_clone.proofs.Under.{follows-same}
-use Rattle.dom_clone.proofs.Partial.{IsCopying, with_trees}
+use Rattle.dom_clone.proofs.{Under.follows-same, Partial.IsCopying, Partial.with_trees}
 
 -- the numbers of the nodes are given out later than those of a world
 abbrev IsLater : World → Node Content → Type 0

@@ -2,35 +2,16 @@
 use Rattle.std.proofs.Common.{◌≡◌, ℕ, ◌+◌, ◌*◌, ◌<◌, ◌≤◌, Bool, true, false, List, [], ◌∷◌, ◌++◌, Option, Some, None, IfSome, is_some, refl, ap, sym, ◌∙◌, subst, arith, append-nil, ⊎_elim}
 use Rattle.std.proofs.lemmas.Bool.{cases_lt, false≢true}
 use Rattle.dom_model.specs.declared.Kind.{Kind}
-use Rattle.dom_model.specs.PlainLists.Lists.{head_of, after}
-use Rattle.dom_model.specs.Forests.Arena.{Entry, parent_in, children_in, list_under}
-use Rattle.dom_model.specs.Forests.Kinds.{may_stand_in}
-use Rattle.dom_model.specs.Forests.EachNode.{EachNode}
-use Rattle.dom_model.specs.Forests.Documents.{IsInDocument}
-use Rattle.dom_model.specs.Forests.Forest.{Node, Forest, empty, node, occurs, one_at, size, tops, beside, tree_at, placed_under, entry_in, HasNode, parent_of, children_of, next_of, KindsFit}
-use Rattle.dom_model.specs.Worlds.World.{Content}
+use Rattle.dom_model.specs.Definitions.{head_of, after, Entry, parent_in, children_in, list_under, may_stand_in, EachNode, IsInDocument, Node, Forest, empty, node, occurs, one_at, size, tops, beside, tree_at, placed_under, entry_in, HasNode, parent_of, children_of, next_of, KindsFit, Content, made_node, renumbered, alone_of, original, with_copies}
 use Rattle.dom_model.specs.Worlds.World as model
-use Rattle.dom_model.specs.Worlds.Making.{made_node}
-use Rattle.dom_model.specs.DataAndCopies.Clones.{renumbered, alone_of, original, with_copies}
 use Rattle.dom_model.proofs.PlainLists.Numbers.{same_or, same, apart}
-use Rattle.dom_model.proofs.Forests.Changes.{seen, nothing, just}
-use Rattle.dom_model.proofs.Forests.Totals.{IsOnce, total-beside, total-placed_under}
-use Rattle.dom_model.proofs.Forests.Entries.{occurs-HasNode, HasNode-occurs}
-use Rattle.dom_model.proofs.Forests.EachNode.{EachNode-placed_under}
-use Rattle.dom_model.proofs.Forests.ForestsBeside.{IsFrom, absent-from, entry-younger}
-use Rattle.dom_model.proofs.Forests.KindsFitting.{KindsFit-root}
-use Rattle.dom_model.proofs.Forests.Paths.{parent-path}
-use Rattle.dom_model.proofs.Forests.Standing.{Stands, Tree, tree_of}
+use Rattle.dom_model.proofs.Forests.{Changes.seen, Changes.nothing, Changes.just, Totals.IsOnce, Totals.total-beside, Totals.total-placed_under, Entries.occurs-HasNode, Entries.HasNode-occurs, EachNode.EachNode-placed_under, ForestsBeside.IsFrom, ForestsBeside.absent-from, ForestsBeside.entry-younger, KindsFitting.KindsFit-root, Paths.parent-path, Standing.Stands, Standing.Tree, Standing.tree_of}
 use Rattle.dom_model.proofs.Worlds.Measured.{entry-beside}
 use Rattle.dom_tree.specs.Standing.{MayStand}
-use Rattle.dom_edit.specs.declared.world.World.{World}
-use Rattle.dom_edit.specs.Whole.{IsWhole, Follows, unwatched}
+use Rattle.dom_edit.specs.{declared.world.World.World, Whole.IsWhole, Whole.Follows, Whole.unwatched}
 use Rattle.dom_edit.proofs.Following.{follows-then, keeps-unwatched}
-use Rattle.dom_clone.specs.declared.waiting.Waiting.{Waiting}
-use Rattle.dom_clone.specs.Growing.{made_under}
-use Rattle.dom_clone.specs.Waits.{waiting_for}
-use Rattle.dom_clone.proofs.Under.{each-entry, follows-same}
-use Rattle.dom_clone.proofs.Grown.{Part, sizes, completed, part_if, sizes-push, sizes-wait, completed-wait, completed-step, put-grown}
+use Rattle.dom_clone.specs.{declared.waiting.Waiting.Waiting, Growing.made_under, Waits.waiting_for}
+use Rattle.dom_clone.proofs.{Under.each-entry, Under.follows-same, Grown.Part, Grown.sizes, Grown.completed, Grown.part_if, Grown.sizes-push, Grown.sizes-wait, Grown.completed-wait, Grown.completed-step, Grown.put-grown}
 
 -- trees beside those that were there
 abbrev pub with_trees : Forest Content → ℕ → model.World → model.World

@@ -1,12 +1,9 @@
 -- How two nodes stand to each other: what is not there has no ancestors, and tree order by places in it.
 use Rattle.std.proofs.Common.{◌≡◌, ℕ, ◌+◌, ◌<◌, ◌≤◌, nat_lt, false, List, [], ◌∷◌, is_some, refl, ap, sym, ◌∙◌, arith, ⊎_elim}
 use Rattle.std.proofs.lemmas.Bool.{cases_lt, false≢true, lt-ltb, le-ltb}
-use Rattle.dom_model.specs.PlainLists.Lists.{among, place_in, up_to}
-use Rattle.dom_model.specs.Forests.Forest.{Forest, occurs, entry_in}
-use Rattle.dom_model.specs.DataAndCopies.Clones.{contains}
+use Rattle.dom_model.specs.Definitions.{among, place_in, up_to, Forest, occurs, entry_in, contains}
 use Rattle.dom_model.proofs.PlainLists.Numbers.{same_or, same, apart}
-use Rattle.dom_model.proofs.Forests.Entries.{HasNode-occurs}
-use Rattle.dom_model.proofs.Forests.Climbing.{ancestors-absent}
+use Rattle.dom_model.proofs.Forests.{Entries.HasNode-occurs, Climbing.ancestors-absent}
 
 one-less : (a b : ℕ) → nat_lt a b ≡ nat_lt (1 + a) (1 + b)
 one-less a b =

@@ -1,39 +1,18 @@
 -- A root goes under a node of its node document, and the world stays whole.
 use Rattle.std.proofs.Common.{◌≡◌, ℕ, ◌<◌, Bool, true, false, if◌then◌else◌, Option, Some, None, IfSome, is_some, refl, ap, sym, ◌∙◌, subst, arith}
 use Rattle.std.proofs.lemmas.Bool.{false≢true}
-use Rattle.dom_model.specs.PlainLists.Lists.{among, or_else}
-use Rattle.dom_model.specs.Forests.Arena.{Entry}
-use Rattle.dom_model.specs.Forests.Kinds.{is_kind, may_stand_in}
-use Rattle.dom_model.specs.Forests.Documents.{HasDocument}
-use Rattle.dom_model.specs.Forests.Forest.{Node, Forest, empty, node, occurs, one_at, beside, tree_at, without, put, adopted, entry_under, entry_in, HasNode, parent_of, ancestors}
-use Rattle.dom_model.specs.Forests.EachNode.{EachNode}
+use Rattle.dom_model.specs.Definitions.{among, or_else, Entry, is_kind, may_stand_in, HasDocument, Node, Forest, empty, node, occurs, one_at, beside, tree_at, without, put, adopted, entry_under, entry_in, HasNode, parent_of, ancestors, EachNode, Content, IsSound, made_node, is_of_kind, document_in, IsOwned, may_stand_at, IsPlaceable}
 use Rattle.dom_model.specs.declared.Kind.TheVariants.{Document}
-use Rattle.dom_model.specs.Worlds.World.{Content}
 use Rattle.dom_model.specs.Worlds.World as model
-use Rattle.dom_model.specs.Soundness.Sound.{IsSound}
-use Rattle.dom_model.specs.Worlds.Making.{made_node}
-use Rattle.dom_model.specs.Forests.Nodes.{is_of_kind}
-use Rattle.dom_model.specs.MutationAlgorithms.Editing.{document_in}
-use Rattle.dom_model.specs.Soundness.Owners.{IsOwned}
-use Rattle.dom_model.specs.MutationAlgorithms.Insertable.{may_stand_at, IsPlaceable}
 use Rattle.dom_model.proofs.PlainLists.Numbers.{same_or, same, apart}
-use Rattle.dom_model.proofs.Forests.Changes.{seen, nothing, just}
-use Rattle.dom_model.proofs.Forests.Totals.{total-tree_at, total-put, tree_at-absent}
-use Rattle.dom_model.proofs.Forests.Entries.{occurs-HasNode, HasNode-occurs}
-use Rattle.dom_model.proofs.Forests.Climbing.{hits-ancestors, hits-not_among, not_among-hits}
-use Rattle.dom_model.proofs.Forests.Documents.{HasDocument-entry, HasOneDocument-put, adopted-put_same}
-use Rattle.dom_model.proofs.Forests.OneMoreRoot.{entry-more, entry-new, parent-new}
-use Rattle.dom_model.proofs.Forests.ForestsBeside.{ancestors-older}
+use Rattle.dom_model.proofs.Forests.{Changes.seen, Changes.nothing, Changes.just, Totals.total-tree_at, Totals.total-put, Totals.tree_at-absent, Entries.occurs-HasNode, Entries.HasNode-occurs, Climbing.hits-ancestors, Climbing.hits-not_among, Climbing.not_among-hits, Documents.HasDocument-entry, Documents.HasOneDocument-put, Documents.adopted-put_same, OneMoreRoot.entry-more, OneMoreRoot.entry-new, OneMoreRoot.parent-new, ForestsBeside.ancestors-older}
 use Rattle.dom_model.proofs.Worlds.Owners.{HasOwners-put}
-use Rattle.dom_model.proofs.Soundness.SoundPlacing.{sound-put_one}
-use Rattle.dom_model.proofs.Soundness.SoundWorlds.{statics-kept}
+use Rattle.dom_model.proofs.Soundness.{SoundPlacing.sound-put_one, SoundWorlds.statics-kept}
 use Rattle.dom_tree.specs.Standing.{MayStand}
 use Rattle.dom_observe.specs.Watchers.{Watches}
-use Rattle.dom_edit.specs.declared.world.World.{World}
-use Rattle.dom_edit.specs.Whole.{IsWhole, Keeps, Follows, unwatched}
-use Rattle.dom_edit.proofs.Covering.{covered-kept}
+use Rattle.dom_edit.specs.{declared.world.World.World, Whole.IsWhole, Whole.Keeps, Whole.Follows, Whole.unwatched}
+use Rattle.dom_edit.proofs.{Covering.covered-kept, Following.follows-then, Following.keeps-unwatched, Following.sound-unwatched, Following.whole-sound}
 use Rattle.dom_observe.proofs.HeldNames.{held-kept}
-use Rattle.dom_edit.proofs.Following.{follows-then, keeps-unwatched, sound-unwatched, whole-sound}
 use Rattle.dom_clone.specs.Growing.{made_under}
 
 -- what holds of each node holds of what an entry tells

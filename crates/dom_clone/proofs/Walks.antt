@@ -1,20 +1,9 @@
 -- Trees are equal where two walks in step meet like nodes in like places.
 use Rattle.std.proofs.Common.{◌≡◌, ℕ, ◌<◌, ◌≤◌, Bool, true, false, not, ◌&&◌, List, [], ◌∷◌, ◌++◌, map, drop, length, Option, Some, None, is_some, refl, ap, sym, ◌∙◌, arith, append_assoc}
-use Rattle.std.proofs.lemmas.Bool.{true≢false, false≢true}
-use Rattle.std.proofs.lemmas.List.{append-nil, map-append}
-use Rattle.dom_model.specs.PlainLists.Lists.{among, hits, head_of, after, from_first}
-use Rattle.dom_model.specs.Forests.Kinds.{is_kind}
-use Rattle.dom_model.specs.Forests.Forest.{Forest, empty, node, Grove, IsForest, ancestors, one_at, occurs, tops, numbers, tree_at, entry_in, HasNode, inclusive_descendants}
-use Rattle.dom_model.specs.Worlds.World.{Content}
-use Rattle.dom_model.specs.DataAndCopies.Clones.{agree, are_equal, is_equal}
-use Rattle.dom_model.proofs.PlainLists.Numbers.{same_or, same, apart}
-use Rattle.dom_model.proofs.PlainLists.FromFirst.{from-after, from-last}
-use Rattle.dom_model.proofs.Forests.Totals.{IsOnce, total-tree_at}
-use Rattle.dom_model.proofs.Forests.Entries.{occurs-HasNode, HasNode-occurs}
-use Rattle.dom_model.proofs.Forests.Climbing.{hits-ancestors, hits-among}
-use Rattle.dom_model.proofs.Forests.TreeOrder.Flattened.{hits-numbers}
-use Rattle.dom_model.proofs.Forests.TreeOrder.Stepping.{after-inside}
-use Rattle.dom_model.proofs.Forests.Standing.{Stands, Tree, tree_of}
+use Rattle.std.proofs.lemmas.{Bool.true≢false, Bool.false≢true, List.append-nil, List.map-append}
+use Rattle.dom_model.specs.Definitions.{among, hits, head_of, after, from_first, is_kind, Forest, empty, node, Grove, IsForest, ancestors, one_at, occurs, tops, numbers, tree_at, entry_in, HasNode, inclusive_descendants, Content, agree, are_equal, is_equal}
+use Rattle.dom_model.proofs.PlainLists.{Numbers.same_or, Numbers.same, Numbers.apart, FromFirst.from-after, FromFirst.from-last}
+use Rattle.dom_model.proofs.Forests.{Totals.IsOnce, Totals.total-tree_at, Entries.occurs-HasNode, Entries.HasNode-occurs, Climbing.hits-ancestors, Climbing.hits-among, TreeOrder.Flattened.hits-numbers, TreeOrder.Stepping.after-inside, Standing.Stands, Standing.Tree, Standing.tree_of}
 use Rattle.dom_clone.specs.Meeting.{Met, met, are_both, are_alike}
 
 abbrev pub all_alike : List Met → List Met → Bool

@@ -1,36 +1,13 @@
 -- Points of one root stand as their gaps do, and the gaps at the front of nodes rise along tree order. DOM Standard, "Boundary points".
-use Rattle.std.proofs.Common.{◌≡◌, ℕ, zero, suc, ◌<◌, ◌≤◌, true, false, List, [], ◌∷◌, length, Option, Some, refl, ap, sym, ◌∙◌, arith, ⊎_elim}
+use Rattle.std.proofs.Common.{◌≡◌, ℕ, zero, suc, ◌<◌, ◌≤◌, true, false, List, [], ◌∷◌, length, Option, Some, refl, ap, sym, ◌∙◌, arith, ⊎_elim, Equal, Greater}
 use Rattle.std.specs.Ordering.{nat_cmp}
-use Rattle.std.specs.declared.cmp.Ordering.TheVariants.{Equal, Greater}
 use Rattle.std.proofs.lemmas.Bool.{false≢true, cases_lt}
-use Rattle.dom_model.specs.PlainLists.Lists.{hits, after, from_first}
-use Rattle.dom_model.specs.Forests.Forest.{Grove, IsForest, HasNode, occurs, root_of, tree_at, inclusive_descendants}
-use Rattle.dom_model.specs.Worlds.Lengths.{node_length, unit_count}
-use Rattle.dom_model.specs.Worlds.World.{Content, Point}
-use Rattle.dom_model.specs.BoundaryPoints.Points.{order_of}
-use Rattle.dom_model.specs.RangesAndContents.Ranges.{is_less, is_before}
-use Rattle.dom_model.specs.TokenText.Gaps.{root_text, tokens_ahead, gap_order}
-use Rattle.dom_model.proofs.PlainLists.Numbers.{same_or, same, apart}
-use Rattle.dom_model.proofs.PlainLists.Members.{hits-last_of}
-use Rattle.dom_model.proofs.Forests.Changes.{seen, nothing, just}
-use Rattle.dom_model.proofs.Forests.Climbing.{hits-among}
-use Rattle.dom_model.proofs.Forests.Entries.{occurs-HasNode}
-use Rattle.dom_model.proofs.Forests.ToTheRoot.{inside-root}
-use Rattle.dom_model.proofs.Forests.TreeOrder.Preceding.{order-step}
+use Rattle.dom_model.specs.Definitions.{hits, after, from_first, Grove, IsForest, HasNode, occurs, root_of, tree_at, inclusive_descendants, node_length, unit_count, Content, Point, order_of, is_less, is_before, root_text, tokens_ahead, gap_order}
+use Rattle.dom_model.proofs.PlainLists.{Numbers.same_or, Numbers.same, Numbers.apart, Members.hits-last_of}
+use Rattle.dom_model.proofs.Forests.{Changes.seen, Changes.nothing, Changes.just, Climbing.hits-among, Entries.occurs-HasNode, ToTheRoot.inside-root, TreeOrder.Preceding.order-step, TreeOrder.InsideWalks.IsAt, TreeOrder.InsideWalks.rest-next, TreeOrder.InsideWalks.rest-end}
 use Rattle.dom_model.proofs.BoundaryPoints.PointOrder.{nat_cmp-same, nat_cmp-less, nat_cmp-greater}
-use Rattle.dom_model.proofs.TokenText.PointGaps.GapsInOrder.{gap-found, gaps-in_order}
-use Rattle.dom_model.proofs.Forests.TreeOrder.InsideWalks.{IsAt, rest-next, rest-end}
+use Rattle.dom_model.proofs.TokenText.{PointGaps.GapsInOrder.gap-found, PointGaps.GapsInOrder.gaps-in_order, Contents.RangeText.less-true, Contents.RangeText.less-false}
 use Rattle.dom_content.proofs.NodesInOrder.{ahead-after}
-
-pub less-false : (i j : ℕ) → j ≤ i → is_less (nat_cmp i j) ≡ false
-less-false i j h =
-    ⊎_elim
-    (λ (lt : j < i). rw (nat_cmp-greater i j lt) refl)
-    (λ (le : i ≤ j). let e : i ≡ j = omega arith in rw (e, nat_cmp-same j) refl)
-    (cases_lt j i)
-
-pub less-true : (i j : ℕ) → i < j → is_less (nat_cmp i j) ≡ true
-less-true i j h = rw (nat_cmp-less i j h) refl
 
 pub from-less : (i j : ℕ) → is_less (nat_cmp i j) ≡ true → i < j
 from-less i j h = ⊎_elim (λ (lt : i < j). lt) (λ (le : j ≤ i). absurd (false≢true (sym (less-false i j le) ∙ h))) (cases_lt i j)

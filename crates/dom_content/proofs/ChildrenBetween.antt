@@ -2,28 +2,16 @@
 -- from one child to another tells them. DOM Standard, "Interface Range".
 use Rattle.std.proofs.Common.{◌≡◌, ℕ, zero, suc, ◌+◌, ◌<◌, ◌≤◌, ◌==◌, Bool, true, false, List, [], ◌∷◌, ◌++◌, take, drop, filter, Option, Some, None, refl, ap, sym, ◌∙◌, subst, arith, slice_get, ⊎_elim}
 use Rattle.std.specs.Option.{option_eq}
-use Rattle.std.proofs.lemmas.Bool.{cases_lt, false≢true}
-use Rattle.std.proofs.lemmas.List.{take-append-drop}
-use Rattle.dom_model.specs.PlainLists.Lists.{hits, is_number, past}
-use Rattle.dom_model.specs.Forests.Forest.{Forest, Grove, IsForest, HasNode, occurs, parent_of, children_of, next_of}
-use Rattle.dom_model.specs.Worlds.Lengths.{unit_count}
-use Rattle.dom_model.specs.Worlds.World.{Content, Point, Range}
-use Rattle.dom_model.specs.Soundness.Sound.{IsRange}
-use Rattle.dom_model.specs.RangesAndContents.Ranges.{is_contained, common_ancestor}
-use Rattle.dom_model.specs.RangesAndContents.Contents.{path_below}
-use Rattle.dom_model.specs.Forests.Ways.{IsWay}
+use Rattle.std.proofs.lemmas.{Bool.cases_lt, Bool.false≢true, List.take-append-drop}
+use Rattle.dom_model.specs.Definitions.{hits, is_number, past, Forest, Grove, IsForest, HasNode, occurs, parent_of, children_of, next_of, unit_count, Content, Point, Range, IsRange, is_contained, common_ancestor, path_below, IsWay}
 use Rattle.dom_model.proofs.PlainLists.Numbers.{same_or, same, apart}
-use Rattle.dom_model.proofs.Forests.Changes.{seen, nothing, just}
-use Rattle.dom_model.proofs.Forests.Climbing.{hits-first}
-use Rattle.dom_model.proofs.Forests.Entries.{occurs-HasNode, HasNode-occurs}
-use Rattle.dom_model.proofs.Forests.Indices.{child-listed, child-once, child-parent, index-child}
-use Rattle.dom_model.proofs.Forests.Siblings.{hits-get, get-head, next-child}
+use Rattle.dom_model.proofs.Forests.{Changes.seen, Changes.nothing, Changes.just, Climbing.hits-first, Entries.occurs-HasNode, Entries.HasNode-occurs, Indices.child-listed, Indices.child-once, Indices.child-parent, Indices.index-child, Siblings.hits-get, Siblings.get-head, Siblings.next-child}
 use Rattle.dom_model.proofs.RangesAndContents.ContainedChildren.{up_to-place, up_to-through, ahead_in, through_in, top, forked, contained-between}
 use Rattle.dom_model.proofs.TokenText.EditsMade.EditsOfInsertions.{get-place}
 use Rattle.dom_edit.specs.Places.{IsAmong, from_optional, ahead_of}
-use Rattle.dom_edit.proofs.AmongChildren.{IsAmong-after, from_optional-head, next_of-child}
-use Rattle.dom_edit.proofs.Placing.{ahead-on, from_successor}
+use Rattle.dom_edit.proofs.{AmongChildren.IsAmong-after, AmongChildren.from_optional-head, AmongChildren.next_of-child, Placing.ahead-on, Placing.from_successor}
 use Rattle.dom_content.specs.Drawing.{index_behind, index_at}
+use Rattle.dom_model.proofs.Soundness.SoundEditing.{number_is}
 
 from-head : (ns : List ℕ) → from_optional (slice_get ns 0) ns ≡ ns
 from-head ns = ap (λ o. from_optional o ns) (sym (get-head ns)) ∙ from_optional-head ns
@@ -136,10 +124,6 @@ pub got-among : (ns : List ℕ) → ((m : ℕ) → hits m ns ≤ 1) → (k : ℕ
 got-among ns once k None e = tt
 got-among ns once k (Some n) e = let h = hits-get ns k n (sym e) in let o = once n in omega arith
 
-some-is : (o : Option ℕ) (n : ℕ) → is_number o n ≡ true → o ≡ Some n
-some-is None n h = absurd (false≢true h)
-some-is (Some m) n h = elim (same_or m n) [ same d t ↦ ap Some d | apart ne t ↦ absurd (false≢true (sym t ∙ h)) ]
-
 -- The children past one of them.
 
 module _ (g : Grove Content) (s : IsForest g) (parent child : ℕ) where
@@ -150,7 +134,7 @@ module _ (g : Grove Content) (s : IsForest g) (parent child : ℕ) where
     listed-once : hits child (children_of g.forest parent) ≡ 1
     listed-once =
         let o = kids_once child in
-        let h = child-listed g.forest s.once child parent (occurs-HasNode g.forest child held) (some-is (parent_of g.forest child) parent e) in
+        let h = child-listed g.forest s.once child parent (occurs-HasNode g.forest child held) (number_is (parent_of g.forest child) parent e) in
         omega arith
 
     pub next-among : IsAmong (next_of g.forest child) (children_of g.forest parent)

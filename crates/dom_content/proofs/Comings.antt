@@ -3,39 +3,20 @@
 use Rattle.std.proofs.Common.{◌≡◌, ℕ, ◌<◌, ◌≤◌, Bool, true, false, List, [], ◌∷◌, ◌++◌, length, None, IsSome, refl, ap, sym, ◌∙◌, subst, arith, inl, inr, ⊎_elim}
 use Rattle.std.proofs.lemmas.Bool.{cases_lt}
 use Rattle.dom_model.specs.declared.Kind.TheVariants.{Document, DocumentType, DocumentFragment}
-use Rattle.dom_model.specs.PlainLists.Lists.{hits, up_to}
-use Rattle.dom_model.specs.Forests.Kinds.{is_kind, is_character_data, may_be_parent}
-use Rattle.dom_model.specs.Forests.Forest.{Forest, HasNode, occurs, parent_of, children_of}
+use Rattle.dom_model.specs.Definitions.{hits, up_to, is_kind, is_character_data, may_be_parent, Forest, HasNode, occurs, parent_of, children_of, Content, node_document, IsInsertable, kind_passes, is_of_kind, with_data, document_of_clone, clone_node, clone_with, child_into, children_into, tail_into, head_into, doing_children}
 use Rattle.dom_model.specs.Worlds.World as model
-use Rattle.dom_model.specs.Worlds.World.{Content}
-use Rattle.dom_model.specs.MutationAlgorithms.Editing.{node_document}
-use Rattle.dom_model.specs.MutationAlgorithms.Insertable.{IsInsertable}
-use Rattle.dom_model.specs.Forests.Nodes.{kind_passes, is_of_kind}
-use Rattle.dom_model.specs.DataAndCopies.Data.{with_data}
-use Rattle.dom_model.specs.DataAndCopies.Clones.{document_of_clone, clone_node}
-use Rattle.dom_model.specs.RangesAndContents.Contents.{clone_with, child_into, children_into, tail_into, head_into}
-use Rattle.dom_model.specs.TokenText.Edits.{doing_children}
 use Rattle.dom_model.proofs.PlainLists.Numbers.{same_or, same, apart}
-use Rattle.dom_model.proofs.Forests.Climbing.{hits-append, hits-first}
-use Rattle.dom_model.proofs.Forests.Entries.{occurs-HasNode}
-use Rattle.dom_model.proofs.Forests.Indices.{child-parent}
+use Rattle.dom_model.proofs.Forests.{Climbing.hits-append, Climbing.hits-first, Entries.occurs-HasNode, Indices.child-parent}
 use Rattle.dom_model.proofs.DataAndCopies.CopiesPlaced.{kind-clone, kind-copy}
-use Rattle.dom_model.proofs.RangesAndContents.Drawing.{IsDrawing, Extends, extends-then, Draws, passes_there, passes_too, IsComing, may_come, draws-append}
+use Rattle.dom_model.proofs.RangesAndContents.{Drawing.IsDrawing, Drawing.Extends, Drawing.extends-then, Drawing.Draws, Drawing.passes_there, Drawing.IsComing, Drawing.may_come, Drawing.draws-append, DrawnPieces.is_drawn, DrawnPieces.data-drawn, DrawnPieces.IsDrawable, DrawnPieces.coming, DrawnPieces.drawn-fragment, DrawnPieces.new-greater, DrawnPieces.draws-clone, DrawnPieces.draws-clone_with, DrawnPieces.draws-children, DrawnPaths.child-drawable, DrawnPaths.draws-tail, DrawnPaths.draws-head, DrawnPaths.hits-up_to}
 use Rattle.dom_model.proofs.RangesAndContents.Drawing as model_drawing
 use Rattle.dom_model.proofs.RangesAndContents.DrawnPieces as model_pieces
-use Rattle.dom_model.proofs.RangesAndContents.DrawnPieces.{is_drawn, data-drawn, IsDrawable, coming, drawn-fragment, new-greater, draws-fragment, draws-clone, draws-clone_with, draws-units, draws-children}
 use Rattle.dom_model.proofs.RangesAndContents.DrawnPaths as paths
-use Rattle.dom_model.proofs.RangesAndContents.DrawnPaths.{child-drawable, draws-tail, draws-head, hits-past, hits-up_to, hits-drop, hits-take}
-use Rattle.dom_edit.specs.declared.world.World.{World}
-use Rattle.dom_edit.specs.Whole.{IsWhole, Keeps, Follows, unwatched}
-use Rattle.dom_edit.proofs.Following.{keeps-unwatched}
-use Rattle.dom_edit.specs.Inserting.{IsUnreferred}
-use Rattle.dom_edit.proofs.PlacedWorlds.{sound-unwatched}
-use Rattle.dom_content.specs.declared.partial.Partial.{Partial}
-use Rattle.dom_content.specs.Paths.{StillHeld, EndsStayOut, Stays, KindsStay, DataStays, opened, inner_of, entered, closed_one}
-use Rattle.dom_content.specs.Coming.{IsRising, IsHolder, may_go_in, IsOld, AreOld, IsUnfinished, AreUnfinished, IsPathTo}
-use Rattle.dom_content.proofs.KindsComing.{goes-drawn, drawn-goes, fragment-holds, fragment-document, fragment-doctype}
-use Rattle.dom_content.proofs.StaysOf.{stays-clone, stays-copied, new-unreferred}
+use Rattle.dom_edit.specs.{declared.world.World.World, Whole.IsWhole, Whole.Keeps, Whole.Follows, Whole.unwatched, Inserting.IsUnreferred}
+use Rattle.dom_edit.proofs.{Following.keeps-unwatched, PlacedWorlds.sound-unwatched}
+use Rattle.dom_content.specs.{declared.partial.Partial.Partial, Paths.StillHeld, Paths.EndsStayOut, Paths.Stays, Paths.KindsStay, Paths.DataStays, Paths.opened, Paths.inner_of, Paths.entered, Paths.closed_one, Coming.IsRising, Coming.IsHolder, Coming.may_go_in, Coming.IsOld, Coming.AreOld, Coming.IsUnfinished, Coming.AreUnfinished, Coming.IsPathTo}
+use Rattle.dom_content.proofs.{KindsComing.goes-drawn, KindsComing.drawn-goes, KindsComing.fragment-holds, KindsComing.fragment-document, KindsComing.fragment-doctype, StaysOf.stays-clone, StaysOf.stays-copied, StaysOf.new-unreferred}
+use Rattle.dom_model.proofs.Soundness.SoundForests.{passes-also}
 
 -- The same of the definitions.
 
@@ -46,10 +27,10 @@ holder : (low : ℕ) (v : World) (into : ℕ) → IsHolder low v.tree.forest int
 holder low v into k = record { fresh = k.fresh; kind = k.kind }
 
 drawable : (low : ℕ) (v : World) (n : ℕ) → IsOld low v.tree.forest n → IsDrawable low (unwatched v) n
-drawable low v n o = record { old = o.old; kind = passes_too may_go_in is_drawn true goes-drawn v.tree.forest n o.kind }
+drawable low v n o = record { old = o.old; kind = passes-also may_go_in is_drawn true goes-drawn v.tree.forest n o.kind }
 
 pub old-of : (low : ℕ) (w : model.World) (n : ℕ) → IsDrawable low w n → IsSome (parent_of w.forest n) → IsOld low w.forest n
-old-of low w n d child = record { old = d.old; kind = passes_too is_drawn may_go_in true drawn-goes w.forest n d.kind; child = child }
+old-of low w n d child = record { old = d.old; kind = passes-also is_drawn may_go_in true drawn-goes w.forest n d.kind; child = child }
 
 pub old-there : (low : ℕ) (f : Forest Content) (n : ℕ) → IsOld low f n → 0 < occurs n f
 old-there low f n o = passes_there may_go_in f n o.kind
@@ -57,7 +38,7 @@ old-there low f n o = passes_there may_go_in f n o.kind
 pub inner-holder : (low : ℕ) (f : Forest Content) (p : Partial) → IsUnfinished low f p → IsHolder low f p.inner
 inner-holder low f p u = record {
   fresh = (let a = u.copy.fresh in let b = u.order in omega arith);
-  kind = passes_too (is_kind DocumentFragment) may_be_parent true fragment-holds f p.inner u.inner;
+  kind = passes-also (is_kind DocumentFragment) may_be_parent true fragment-holds f p.inner u.inner;
 }
 
 -- From one world to another as drawing goes on.
@@ -187,8 +168,8 @@ front-of low w (n ∷ m ∷ path) p = (p.1, front-of low w (m ∷ path) p.2)
 fragment-coming : (low : ℕ) (x : model.World) (p : Partial) → is_of_kind DocumentFragment x.forest p.inner ≡ true → p.copy < p.inner → IsComing low x p.copy p.inner
 fragment-coming low x p kind order = record {
   there = passes_there (is_kind DocumentFragment) x.forest p.inner kind;
-  no_document = passes_too (is_kind DocumentFragment) (is_kind Document) false fragment-document x.forest p.inner kind;
-  no_doctype = passes_too (is_kind DocumentFragment) (is_kind DocumentType) false fragment-doctype x.forest p.inner kind;
+  no_document = passes-also (is_kind DocumentFragment) (is_kind Document) false fragment-document x.forest p.inner kind;
+  no_doctype = passes-also (is_kind DocumentFragment) (is_kind DocumentType) false fragment-doctype x.forest p.inner kind;
   place = inr order;
 }
 
@@ -200,7 +181,7 @@ module _ (v : World) (h : IsWhole v) (low : ℕ) (r : IsRising low v) where
   may-put into n k o =
       let d = drawable low v n o in
       may_come low w (drawing low v h r) into n (holder low v into k)
-      (coming low w into n d.kind (inl (d.old, passes_too is_drawn (is_kind DocumentFragment) false drawn-fragment v.tree.forest n d.kind)))
+      (coming low w into n d.kind (inl (d.old, passes-also is_drawn (is_kind DocumentFragment) false drawn-fragment v.tree.forest n d.kind)))
 
   -- the further fragment into the copy
   pub may-finish : (p : Partial) → IsUnfinished low v.tree.forest p → IsInsertable v.tree.forest p.inner p.copy None
@@ -259,7 +240,7 @@ module _ (v : World) (h : IsWhole v) (low : ℕ) (r : IsRising low v) where
         let s = sound-unwatched v h in
         let kind : kind_passes is_drawn first.forest v.tree.made ≡ true =
         kind-copy is_drawn (node_document w n) v.tree.made false (with_data units) (λ x. refl) n v.tree.forest s.forest.once (s.forest.small v.tree.made (omega arith)) (passes_there is_character_data v.tree.forest n is_data)
-        ∙ passes_too is_character_data is_drawn true data-drawn v.tree.forest n is_data in
+        ∙ passes-also is_character_data is_drawn true data-drawn v.tree.forest n is_data in
         may_come low (unwatched mid) (drawing low mid hm g.rising) into v.tree.made (holder low mid into (holder-goes low v mid g into k))
         (coming low (unwatched mid) into v.tree.made (ap (λ (t : Forest Content). kind_passes is_drawn t v.tree.made) (sym e) ∙ kind) (inr new-place))
 

@@ -1,22 +1,13 @@
 -- What stands between the ends of a range is contained but for what is above its end. DOM Standard, "Interface Range".
-use Rattle.std.proofs.Common.{◌≡◌, ℕ, ◌<◌, ◌≤◌, true, false, ◌&&◌, if◌then◌else◌, Some, refl, ap, sym, ◌∙◌, arith, ⊎_elim}
-use Rattle.std.specs.declared.cmp.Ordering.TheVariants.{Less, Equal, Greater}
+use Rattle.std.proofs.Common.{◌≡◌, ℕ, ◌<◌, ◌≤◌, true, false, ◌&&◌, if◌then◌else◌, Some, refl, ap, sym, ◌∙◌, arith, ⊎_elim, Less, Equal, Greater}
 use Rattle.std.specs.Ordering.{nat_cmp}
 use Rattle.std.proofs.lemmas.Bool.{cases_Bool, cases_lt}
-use Rattle.dom_model.specs.PlainLists.Lists.{among, is_same}
-use Rattle.dom_model.specs.Forests.Forest.{Grove, IsForest, HasNode, occurs, ancestors, root_of}
-use Rattle.dom_model.specs.Worlds.Lengths.{node_length, unit_count}
-use Rattle.dom_model.specs.Worlds.World.{Content, Point, Range}
-use Rattle.dom_model.specs.Soundness.Sound.{IsRange}
-use Rattle.dom_model.specs.RangesAndContents.Ranges.{is_less, is_before, is_contained}
+use Rattle.dom_model.specs.Definitions.{among, is_same, Grove, IsForest, HasNode, occurs, ancestors, root_of, node_length, unit_count, Content, Point, Range, IsRange, is_less, is_before, is_contained}
 use Rattle.dom_model.proofs.PlainLists.Numbers.{same_or, same, apart}
-use Rattle.dom_model.proofs.Forests.Chains.{way}
-use Rattle.dom_model.proofs.Forests.Climbing.{among-hits}
-use Rattle.dom_model.proofs.Forests.Entries.{occurs-HasNode}
+use Rattle.dom_model.proofs.Forests.{Chains.way, Climbing.among-hits, Entries.occurs-HasNode}
 use Rattle.dom_model.proofs.BoundaryPoints.PointOrder.{nat_cmp-same, nat_cmp-less}
 use Rattle.dom_model.proofs.RangesAndContents.ContainedAside.{end-not_contained}
-use Rattle.dom_content.proofs.AlongGaps.{gap, not-before, order-is}
-use Rattle.dom_content.proofs.PointsAside.{aside}
+use Rattle.dom_content.proofs.{AlongGaps.gap, AlongGaps.not-before, AlongGaps.order-is, PointsAside.aside}
 
 is_same-some : (n : ℕ) → is_same (Some n) (Some n) ≡ true
 is_same-some n = elim (same_or n n) [ same _ t ↦ t | apart ne t ↦ absurd (ne refl) ]

@@ -1,25 +1,10 @@
 -- What is left of the token text once contents are deleted or extracted, and what the fragment holds of what lay between the markers.
 use Rattle.std.proofs.Common.{◌≡◌, ◌≤◌, ℕ, List, true, false, Option, None, Some, ap, sym, ◌∙◌, subst}
-use Rattle.dom_model.specs.Forests.Forest.{Forest, entry_in}
-use Rattle.dom_model.specs.Worlds.World.{Content, Point, Range}
+use Rattle.dom_model.specs.Definitions.{Forest, entry_in, Content, Point, Range, IsSound, collapsed_at, range_at, delete_contents, check_extract, extract, clone_contents, content_in, attributes_of, Token, unmarked, texts_of, token_texts, marks_from, gap_among, text_among, root_text, before_mark, after_mark, between, same_shape, fragment_shape, label_of, opened_inside, lies_in, originals, InStep}
 use Rattle.dom_model.specs.Worlds.World as model
-use Rattle.dom_model.specs.Soundness.Sound.{IsSound}
-use Rattle.dom_model.specs.RangesAndContents.Ranges.{collapsed_at, range_at}
-use Rattle.dom_model.specs.RangesAndContents.Contents.{delete_contents, check_extract, extract, clone_contents}
-use Rattle.dom_model.specs.DataAndCopies.Data.{content_in, attributes_of}
-use Rattle.dom_model.specs.TokenText.Tokens.{Token, unmarked, texts_of, token_texts, marks_from, gap_among}
-use Rattle.dom_model.specs.TokenText.Gaps.{text_among, root_text}
-use Rattle.dom_model.specs.TokenText.Between.{before_mark, after_mark, between, same_shape, fragment_shape}
-use Rattle.dom_model.specs.TokenText.Originals.{label_of, opened_inside, lies_in, originals, InStep}
-use Rattle.dom_model.proofs.Soundness.SoundContents.{sound-extract}
-use Rattle.dom_model.proofs.Soundness.SoundDeleting.{sound-delete_contents}
-use Rattle.dom_model.proofs.TokenText.Contents.EndsTogether.{ends-together}
-use Rattle.dom_model.proofs.TokenText.Contents.DeletedLeft.{deleted-left}
-use Rattle.dom_model.proofs.TokenText.Contents.ExtractedLeft.{extracted-left}
-use Rattle.dom_model.proofs.TokenText.Fragments.FragmentsBetween.{extracted-between, cloned-between}
-use Rattle.dom_model.proofs.TokenText.Fragments.OriginsBetween.{cloned-new, cloned-labels, cloned-attributes, extracted-same, extracted-new, extracted-labels, extracted-attributes}
-use Rattle.dom_edit.specs.declared.world.World.{World}
-use Rattle.dom_edit.specs.Whole.{IsWhole, Keeps, Follows, unwatched}
+use Rattle.dom_model.proofs.Soundness.{SoundContents.sound-extract, SoundDeleting.sound-delete_contents}
+use Rattle.dom_model.proofs.TokenText.{Contents.EndsTogether.ends-together, Contents.DeletedLeft.deleted-left, Contents.ExtractedLeft.extracted-left, Fragments.FragmentsBetween.extracted-between, Fragments.FragmentsBetween.cloned-between, Fragments.OriginsBetween.cloned-new, Fragments.OriginsBetween.cloned-labels, Fragments.OriginsBetween.cloned-attributes, Fragments.OriginsBetween.extracted-same, Fragments.OriginsBetween.extracted-new, Fragments.OriginsBetween.extracted-labels, Fragments.OriginsBetween.extracted-attributes}
+use Rattle.dom_edit.specs.{declared.world.World.World, Whole.IsWhole, Whole.Keeps, Whole.Follows, Whole.unwatched}
 use Rattle.dom_edit.proofs.Following.{keeps-unwatched, sound-unwatched}
 use Rattle.dom_content.specs.Left.{IsLeftOf, HoldsBetween, MovesBetween, CopiesBetween}
 

@@ -1,23 +1,11 @@
 -- Where the markers of live ranges stand once contents are deleted, extracted or copied, and the text between two of them.
-use Rattle.std.proofs.Common.{◌≡◌, ℕ, List, Some, None, ap, ◌∙◌}
-use Rattle.std.specs.Prelude.{IfSome}
-use Rattle.dom_model.specs.Forests.Forest.{root_of}
-use Rattle.dom_model.specs.Worlds.World.{Range}
-use Rattle.dom_model.specs.RangesAndContents.Contents.{for_range, range_text, delete_contents, check_draw, check_extract, extract, clone_contents}
-use Rattle.dom_model.specs.TokenText.Tokens.{texts_of}
-use Rattle.dom_model.specs.TokenText.Edits.{delete_contents_edits, extract_edits, clone_contents_edits}
-use Rattle.dom_model.specs.TokenText.Gaps.{text_among}
-use Rattle.dom_model.specs.TokenText.Between.{text_of_range}
+use Rattle.std.proofs.Common.{◌≡◌, ℕ, List, Some, None, ap, ◌∙◌, IfSome}
+use Rattle.dom_model.specs.Definitions.{root_of, Range, for_range, range_text, delete_contents, check_draw, check_extract, extract, clone_contents, texts_of, delete_contents_edits, extract_edits, clone_contents_edits, text_among, text_of_range}
 use Rattle.dom_model.proofs.Forests.Changes.{seen, nothing, just}
-use Rattle.dom_model.proofs.TokenText.Contents.RangeText.{range_text-between}
-use Rattle.dom_model.proofs.TokenText.EditsMade.EditsOfDeletedContents.{leave-delete_contents}
-use Rattle.dom_model.proofs.TokenText.EditsMade.EditsOfDrawnContents.{leave-extract, leave-clone_contents}
+use Rattle.dom_model.proofs.TokenText.{Contents.RangeText.range_text-between, EditsMade.EditsOfDeletedContents.leave-delete_contents, EditsMade.EditsOfDrawnContents.leave-extract, EditsMade.EditsOfDrawnContents.leave-clone_contents}
 use Rattle.dom_ranges.specs.Tables.{range_in}
-use Rattle.dom_edit.specs.declared.world.World.{World}
-use Rattle.dom_edit.specs.Whole.{IsWhole, Follows, unwatched}
-use Rattle.dom_edit.specs.Markers.{StandByEdits}
-use Rattle.dom_edit.proofs.Following.{sound-unwatched}
-use Rattle.dom_edit.proofs.Marking.{stand-by_edits}
+use Rattle.dom_edit.specs.{declared.world.World.World, Whole.IsWhole, Whole.Follows, Whole.unwatched, Markers.StandByEdits}
+use Rattle.dom_edit.proofs.{Following.sound-unwatched, Marking.stand-by_edits}
 
 module _ (old new : World) (r : ℕ) (before : IsWhole old) (after : IsWhole new) where
   pub markers-deleted : Follows old new (delete_contents r) → StandByEdits old new (delete_contents_edits r)

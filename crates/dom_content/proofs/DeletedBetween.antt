@@ -1,30 +1,16 @@
 -- What lies between two nodes is deleted, step by step: what each step finds, and what they come to. DOM Standard, "Interface Range".
 use Rattle.std.proofs.Common.{◌≡◌, ℕ, ◌-◌, ◌<◌, ◌==◌, Bool, true, false, not, ◌&&◌, if◌then◌else◌, List, [], filter, Option, Some, length, is_some, refl, ap, sym, ◌∙◌, subst, arith}
 use Rattle.std.proofs.lemmas.Bool.{false≢true}
-use Rattle.dom_model.specs.PlainLists.Lists.{hits}
-use Rattle.dom_model.specs.Forests.Kinds.{is_character_data}
-use Rattle.dom_model.specs.Forests.Forest.{Forest, HasNode, entry_in, parent_of, numbers}
-use Rattle.dom_model.specs.Worlds.Lengths.{unit_count}
+use Rattle.dom_model.specs.Definitions.{hits, is_character_data, Forest, HasNode, entry_in, parent_of, numbers, unit_count, Content, Range, IsRange, IsSound, if_given, kind_passes, is_collapsed, is_contained, collapsed_at, with_range, is_in_one_data, cut_from, cut_up_to, new_place, deleted_between, delete_contents, data_of, replace_data, remove_each}
 use Rattle.dom_model.specs.Worlds.World as model
-use Rattle.dom_model.specs.Worlds.World.{Content, Range}
-use Rattle.dom_model.specs.Soundness.Sound.{IsRange, IsSound}
-use Rattle.dom_model.specs.MutationAlgorithms.Checks.{if_given}
-use Rattle.dom_model.specs.Forests.Nodes.{kind_passes}
-use Rattle.dom_model.specs.RangesAndContents.Ranges.{is_collapsed, is_contained, collapsed_at, with_range}
-use Rattle.dom_model.specs.RangesAndContents.Contents.{is_in_one_data, cut_from, cut_up_to, new_place, deleted_between, delete_contents}
-use Rattle.dom_model.specs.DataAndCopies.Data.{data_of, replace_data, remove_each}
-use Rattle.dom_model.proofs.Forests.Changes.{seen, nothing, just}
-use Rattle.dom_model.proofs.Forests.Entries.{occurs-HasNode, HasNode-occurs}
-use Rattle.dom_model.proofs.Forests.TreeOrder.Flattened.{hits-numbers}
-use Rattle.dom_model.proofs.Soundness.SoundDeleting.{one, place_left}
-use Rattle.dom_model.proofs.Soundness.SoundNormalizing.{each_kinds, filter-passed}
+use Rattle.dom_model.proofs.Forests.{Changes.seen, Changes.nothing, Changes.just, Entries.occurs-HasNode, Entries.HasNode-occurs, TreeOrder.Flattened.hits-numbers}
+use Rattle.dom_model.proofs.Soundness.{SoundDeleting.one, SoundDeleting.place_left, SoundNormalizing.each_kinds, SoundNormalizing.filter-passed}
 use Rattle.dom_model.proofs.RangesAndContents.LiveRangesKept.{KeepsLive, remove_each-live, replace_data-live}
-use Rattle.dom_edit.specs.declared.world.World.{World}
-use Rattle.dom_edit.specs.Whole.{IsWhole, Keeps, Follows, unwatched}
-use Rattle.dom_edit.proofs.Following.{follows-then, keeps-unwatched}
+use Rattle.dom_edit.specs.{declared.world.World.World, Whole.IsWhole, Whole.Keeps, Whole.Follows, Whole.unwatched}
+use Rattle.dom_edit.proofs.{Following.follows-then, Following.keeps-unwatched, InsertedNodes.follows-as}
 use Rattle.dom_data.proofs.StaysWhole.{sound-unwatched}
 use Rattle.dom_ranges.specs.Tables.{range_in}
-use Rattle.dom_content.proofs.Deleted.{follows-alike, range-deleted}
+use Rattle.dom_content.proofs.Deleted.{range-deleted}
 
 -- the contained nodes whose parent is not contained, in tree order
 abbrev is_top : Forest Content → Range → ℕ → Bool
@@ -124,7 +110,7 @@ module _ (v0 : World) (h : IsWhole v0) (r : ℕ) (range : Range) (is : IsRange v
         module _ (v4 : World) (place : model.Point) (at : place ≡ new_place v0.tree.forest range) (f4 : Follows v3 v4 (with_range r (collapsed_at place))) where
           pub follows-deleted_between : Follows v0 v4 (deleted_between r range)
           follows-deleted_between =
-              follows-alike v0 v4 (λ x. with_range r (collapsed_at place) (cut_up_to range.end.node range.end.offset (remove_each ns (cut_from range.start.node range.start.offset x)))) (deleted_between r range)
+              follows-as v0 v4 (λ x. with_range r (collapsed_at place) (cut_up_to range.end.node range.end.offset (remove_each ns (cut_from range.start.node range.start.offset x)))) (deleted_between r range)
               (λ x k.
               ap (λ (g : Forest Content). with_range r (collapsed_at (new_place g range)) (cut_up_to range.end.node range.end.offset (remove_each (tops_in g range) (cut_from range.start.node range.start.offset x)))) k.forest
               ∙ ap (λ (p : model.Point). with_range r (collapsed_at p) (cut_up_to range.end.node range.end.offset (remove_each (tops_in v0.tree.forest range) (cut_from range.start.node range.start.offset x)))) (sym at)
@@ -141,7 +127,7 @@ module _ (v : World) (r : ℕ) (range : Range) (e : range_in v.ranges r ≡ Some
 
   pub follows-between : (new : World) → is_collapsed range ≡ false → in_one v.tree.forest ≡ false → Follows v new (deleted_between r range) → Follows v new (delete_contents r)
   follows-between new c d f =
-      follows-alike v new (deleted_between r range) (delete_contents r)
+      follows-as v new (deleted_between r range) (delete_contents r)
       (λ w k.
       let d2 : is_in_one_data w range ≡ false = ap in_one k.forest ∙ d in
       range-deleted v r range e w k

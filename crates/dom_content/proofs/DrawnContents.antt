@@ -1,48 +1,23 @@
 -- A range's contents that go into a new fragment by their parts, on every world that a world of the code keeps. DOM Standard, "Interface Range".
-use Rattle.std.proofs.Common.{◌≡◌, ℕ, ◌+◌, ◌<◌, ◌≤◌, ◌==◌, Bool, true, false, ◌&&◌, ◌||◌, if◌then◌else◌, List, [], ◌∷◌, drop, length, filter, reverse, slice_index_or, Option, Some, None, refl, ap, sym, ◌∙◌, subst, arith, length-drop}
-use Rattle.std.specs.Prelude.{IsSome, is_some}
+use Rattle.std.proofs.Common.{◌≡◌, ℕ, ◌+◌, ◌<◌, ◌≤◌, ◌==◌, Bool, true, false, ◌&&◌, ◌||◌, if◌then◌else◌, List, [], ◌∷◌, drop, length, filter, reverse, slice_index_or, Option, Some, None, refl, ap, sym, ◌∙◌, subst, arith, length-drop, IsSome, is_some}
 use Rattle.std.proofs.lemmas.List.{drop_more}
-use Rattle.dom_model.specs.declared.Kind.{Kind}
-use Rattle.dom_model.specs.declared.Kind.TheVariants.{DocumentType, DocumentFragment}
-use Rattle.dom_model.specs.PlainLists.Lists.{hits, is_same, up_to}
-use Rattle.dom_model.specs.Forests.Kinds.{is_character_data}
-use Rattle.dom_model.specs.Forests.Forest.{Node, Forest, empty, node, occurs, beside, HasNode, entry_in, children_of, ancestors, root_of}
-use Rattle.dom_model.specs.Worlds.Lengths.{unit_count, node_length}
+use Rattle.dom_model.specs.declared.{Kind.Kind, Kind.TheVariants.DocumentType, Kind.TheVariants.DocumentFragment}
+use Rattle.dom_model.specs.Definitions.{hits, is_same, up_to, is_character_data, Node, Forest, empty, node, occurs, beside, HasNode, entry_in, children_of, ancestors, root_of, unit_count, node_length, Content, Point, Range, no_content, IsRange, IsSound, order_of, named, has_kind, kind_passes, is_of_kind, document_in, node_document, is_collapsed, collapsed_at, is_contained, is_less, common_ancestor, range_at, with_range, for_range, is_in_one_data, new_place, new_fragment, children_into, tail_into, head_into, path_below, parts_into, contents_drawn, check_draw, extracted, extract, clone_contents}
 use Rattle.dom_model.specs.Worlds.World as model
-use Rattle.dom_model.specs.Worlds.World.{Content, Point, Range, no_content}
-use Rattle.dom_model.specs.Soundness.Sound.{IsRange, IsSound}
-use Rattle.dom_model.specs.BoundaryPoints.Points.{order_of}
-use Rattle.dom_model.specs.Worlds.Making.{named}
-use Rattle.dom_model.specs.MutationAlgorithms.Checks.{has_kind}
-use Rattle.dom_model.specs.Forests.Nodes.{kind_passes, is_of_kind}
-use Rattle.dom_model.specs.MutationAlgorithms.Editing.{document_in, node_document}
-use Rattle.dom_model.specs.RangesAndContents.Ranges.{is_collapsed, collapsed_at, is_contained, is_less, common_ancestor, range_at, with_range}
-use Rattle.dom_model.specs.RangesAndContents.Contents.{for_range, is_in_one_data, new_place, new_fragment, children_into, tail_into, head_into, path_below, parts_into, contents_drawn, check_draw, extracted, extract, clone_contents}
 use Rattle.dom_model.proofs.PlainLists.Numbers.{same_or, same, apart}
 use Rattle.dom_model.proofs.MutationAlgorithms.ChecksKept.{or_first, or_second}
 use Rattle.dom_model.proofs.Soundness.SoundContents.{place_after}
-use Rattle.dom_model.proofs.Forests.Climbing.{hits-reverse}
-use Rattle.dom_model.proofs.Forests.Entries.{occurs-HasNode, HasNode-occurs}
-use Rattle.dom_model.proofs.Forests.Indices.{child-there}
-use Rattle.dom_model.proofs.Forests.OneMoreRoot.{more-once, entry-more, children-more, root-more, order-more}
+use Rattle.dom_model.proofs.Forests.{Climbing.hits-reverse, Entries.occurs-HasNode, Entries.HasNode-occurs, Indices.child-there, OneMoreRoot.more-once, OneMoreRoot.entry-more, OneMoreRoot.children-more, OneMoreRoot.root-more, OneMoreRoot.order-more}
 use Rattle.dom_model.proofs.BoundaryPoints.RootsKept.{hits-up_to}
-use Rattle.dom_model.proofs.Worlds.Measured.{length-beside, kind-beside}
-use Rattle.dom_model.proofs.Worlds.Parts.{ancestors-part, path-there}
-use Rattle.dom_model.proofs.RangesAndContents.DrawnPaths.{hits-filter}
-use Rattle.dom_model.proofs.RangesAndContents.PathsToEnds.{common-above}
+use Rattle.dom_model.proofs.Worlds.{Measured.length-beside, Measured.kind-beside, Parts.ancestors-part, Parts.path-there}
+use Rattle.dom_model.proofs.RangesAndContents.{DrawnPaths.hits-filter, PathsToEnds.common-above}
 use Rattle.dom_model.proofs.TokenText.EditsMade.EditsOfDrawnContents.{live-contents_drawn}
 use Rattle.dom_ranges.specs.Tables.{range_in}
-use Rattle.dom_edit.specs.declared.world.World.{World}
-use Rattle.dom_edit.specs.Inserting.{AreThere}
-use Rattle.dom_edit.specs.Whole.{IsWhole, Keeps, Follows, unwatched}
-use Rattle.dom_edit.proofs.Following.{follows-then, keeps-unwatched}
-use Rattle.dom_edit.proofs.InsertedNodes.{item-hit}
+use Rattle.dom_edit.specs.{declared.world.World.World, Inserting.AreThere, Whole.IsWhole, Whole.Keeps, Whole.Follows, Whole.unwatched}
+use Rattle.dom_edit.proofs.{Following.follows-then, Following.keeps-unwatched, InsertedNodes.item-hit, InsertedNodes.follows-as}
 use Rattle.dom_data.proofs.StaysWhole.{sound-unwatched}
-use Rattle.dom_content.specs.Paths.{HasRoom}
-use Rattle.dom_content.specs.Drawing.{AreParts, in_one_data, parts_drawn, filled}
-use Rattle.dom_content.proofs.Deleted.{follows-alike}
-use Rattle.dom_content.proofs.PieceSteps.{room-before, room-after}
-use Rattle.dom_content.proofs.DrawnNumbers.{head-rises, rest-rises, filled-rises}
+use Rattle.dom_content.specs.{Paths.HasRoom, Drawing.AreParts, Drawing.in_one_data, Drawing.parts_drawn, Drawing.filled}
+use Rattle.dom_content.proofs.{PieceSteps.room-before, PieceSteps.room-after, DrawnNumbers.head-rises, DrawnNumbers.rest-rises, DrawnNumbers.filled-rises}
 
 -- The parts that go into a fragment in turn.
 
@@ -200,7 +175,7 @@ module _ (v : World) (h : IsWhole v) (r : Range) (is : IsRange v.tree.forest r) 
           ∙ ap (λ x. all moves r w x into one_data first contained last) (ap (λ (g : Forest Content). document_in (entry_in g r.start.node)) k.forest ∙ sym document)
 
       pub follows-drawn : (x y : World) → Follows v x (new_fragment d) → Follows x y (filled moves one_data into r first contained last) → Follows v y (contents_drawn moves r)
-      follows-drawn x y e g = follows-alike v y (λ w. filled moves one_data into r first contained last (new_fragment d w)) (contents_drawn moves r) drawn-is (follows-then v x y (new_fragment d) (filled moves one_data into r first contained last) e g)
+      follows-drawn x y e g = follows-as v y (λ w. filled moves one_data into r first contained last (new_fragment d w)) (contents_drawn moves r) drawn-is (follows-then v x y (new_fragment d) (filled moves one_data into r first contained last) e g)
 
       pub room-fragment : HasRoom v (contents_drawn moves r) → HasRoom v (new_fragment d)
       room-fragment e = room-before v (contents_drawn moves r) (new_fragment d) (filled moves one_data into r first contained last) drawn-is (filled-rises moves one_data into r first contained last) e
@@ -249,12 +224,12 @@ module _ (v : World) (n : ℕ) (r : Range) (stays : Bool) (is : stays ≡ (is_co
 
   pub extracted-here : (y : World) → stays ≡ true → Follows v y (contents_drawn true r) → Follows v y (extracted n r)
   extracted-here y e f =
-      follows-alike v y (contents_drawn true r) (extracted n r)
+      follows-as v y (contents_drawn true r) (extracted n r)
       (λ w k. ap (λ b. if b then contents_drawn true r w else with_range n (collapsed_at (new_place w.forest r)) (contents_drawn true r w)) (stays-is w k ∙ e)) f
 
   pub extracted-moved : (x y : World) (place : Point) → stays ≡ false → place ≡ new_place v.tree.forest r → Follows v x (contents_drawn true r) → Follows x y (with_range n (collapsed_at place)) → Follows v y (extracted n r)
   extracted-moved x y place e d f g =
-      follows-alike v y (λ w. with_range n (collapsed_at place) (contents_drawn true r w)) (extracted n r)
+      follows-as v y (λ w. with_range n (collapsed_at place) (contents_drawn true r w)) (extracted n r)
       (λ w k.
       ap (λ b. if b then contents_drawn true r w else with_range n (collapsed_at (new_place w.forest r)) (contents_drawn true r w)) (stays-is w k ∙ e)
       ∙ ap (λ p. with_range n (collapsed_at p) (contents_drawn true r w)) (ap (λ (h : Forest Content). new_place h r) k.forest ∙ sym d))

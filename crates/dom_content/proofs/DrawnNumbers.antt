@@ -1,22 +1,8 @@
 -- What goes into a fragment takes back no number, whatever the world. DOM Standard, "Interface Range".
-use Rattle.std.proofs.Common.{ℕ, ◌+◌, ◌-◌, ◌≤◌, Bool, true, false, if◌then◌else◌, List, [], ◌∷◌, length, take, drop}
-use Rattle.dom_model.specs.Forests.Kinds.{is_character_data}
-use Rattle.dom_model.specs.Forests.Forest.{children_of}
-use Rattle.dom_model.specs.Worlds.World.{Range, World}
-use Rattle.dom_model.specs.PlainLists.Lists.{past, up_to}
-use Rattle.dom_model.specs.Forests.Nodes.{kind_passes}
-use Rattle.dom_model.specs.MutationAlgorithms.Editing.{append, node_document}
-use Rattle.dom_model.specs.RangesAndContents.Ranges.{is_collapsed}
-use Rattle.dom_model.specs.DataAndCopies.Data.{data_of}
-use Rattle.dom_model.specs.DataAndCopies.Clones.{clone_node}
-use Rattle.dom_model.specs.RangesAndContents.Contents.{new_fragment, children_into, copy_into, tail_into, head_into}
-use Rattle.dom_model.proofs.Counting.CountsKept.{grown-then, kept-same, append-kept}
-use Rattle.dom_model.proofs.Counting.CountsOfContents.{clone-grown, clone_alone-grown, units_into-grown, new_fragment-grown, children_moved-kept}
-use Rattle.dom_model.proofs.Counting.CopiesGrow.{Grows}
+use Rattle.std.proofs.Common.{ℕ, ◌-◌, ◌≤◌, Bool, true, false, List, [], ◌∷◌, length, take, drop}
+use Rattle.dom_model.specs.Definitions.{is_character_data, children_of, Range, World, past, up_to, kind_passes, append, is_collapsed, data_of, clone_node, children_into, tail_into, head_into}
+use Rattle.dom_model.proofs.Counting.{CountsKept.kept-same, CountsKept.append-kept, CountsOfContents.clone-grown, CountsOfContents.units_into-grown, CountsOfContents.children_moved-kept, CopiesGrow.Grows, CopiesGrow.grows-if, CopiesGrow.copy-grows, CopiesGrow.grows-then}
 use Rattle.dom_content.specs.Drawing.{parts_drawn, filled}
-
-grows-then : {u v w : World} → Grows u v → Grows v w → Grows u w
-grows-then g h = (g.0 + h.0, grown-then g.0 h.0 g.1 h.1)
 
 children-grow : (moves : Bool) (into : ℕ) (ns : List ℕ) (w : World) → Grows w (children_into moves into ns w)
 children-grow true into ns w = (0, children_moved-kept into ns w)
@@ -24,18 +10,6 @@ children-grow false into [] w = (0, kept-same w)
 children-grow false into (n ∷ ns) w =
     let copied = clone_node true n w in
     grows-then (grows-then (_, clone-grown true n w) (0, append-kept w.made into copied)) (children-grow false into ns (append w.made into copied))
-
-copy-grows : (into n : ℕ) (fill : ℕ → World → World) (w : World) → ((inner : ℕ) (v : World) → Grows v (fill inner v)) → Grows w (copy_into into n fill w)
-copy-grows into n fill w h =
-    let copied = clone_node false n w in
-    let held = append w.made into copied in
-    let begun = new_fragment (node_document w n) held in
-    grows-then (grows-then (grows-then (1, clone_alone-grown n w) (0, append-kept w.made into copied)) (1, new_fragment-grown (node_document w n) held))
-    (grows-then (h held.made begun) (0, append-kept held.made w.made (fill held.made begun)))
-
-grows-if : (b : Bool) (w u v : World) → Grows w u → Grows w v → Grows w (if b then u else v)
-grows-if true w u v g h = g
-grows-if false w u v g h = h
 
 tail-grows : (moves : Bool) (into offset : ℕ) (path : List ℕ) (w : World) → Grows w (tail_into moves into offset path w)
 tail-grows moves into offset [] w = (0, kept-same w)

@@ -1,15 +1,10 @@
 -- One node after another leaves its parent.
 use Rattle.std.proofs.Common.{◌≡◌, ℕ, ◌+◌, ◌<◌, ◌≤◌, false, List, [], ◌∷◌, drop, length, slice_index_or, refl, ap, sym, ◌∙◌, subst, arith, length-drop}
 use Rattle.std.proofs.lemmas.List.{drop_more}
-use Rattle.dom_model.specs.PlainLists.Lists.{hits}
-use Rattle.dom_model.specs.Forests.Forest.{HasNode}
-use Rattle.dom_model.specs.MutationAlgorithms.Editing.{remove}
-use Rattle.dom_model.specs.DataAndCopies.Data.{remove_each}
+use Rattle.dom_model.specs.Definitions.{hits, HasNode, remove, remove_each}
 use Rattle.dom_model.proofs.Forests.Entries.{occurs-HasNode, HasNode-occurs}
-use Rattle.dom_edit.specs.declared.world.World.{World}
-use Rattle.dom_edit.specs.Whole.{IsWhole, Follows}
-use Rattle.dom_edit.proofs.Following.{follows-none, follows-then}
-use Rattle.dom_edit.proofs.InsertedNodes.{item-hit, there-removed}
+use Rattle.dom_edit.specs.{declared.world.World.World, Whole.IsWhole, Whole.Follows}
+use Rattle.dom_edit.proofs.{Following.follows-none, Following.follows-then, InsertedNodes.item-hit, InsertedNodes.there-removed}
 
 -- all nodes are there, and once those still to come are out, all are
 pub record IsLeaving (initial here : World) (nodes : List ℕ) (i : ℕ) : Type 0 where

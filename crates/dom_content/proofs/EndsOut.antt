@@ -1,27 +1,13 @@
 -- Ends of live ranges stay out of trees that are made, as nodes are made, leave where they stand, and come in last. DOM Standard, "Live ranges".
 use Rattle.std.proofs.Common.{◌≡◌, ℕ, ◌+◌, ◌-◌, ◌<◌, ◌≤◌, ◌==◌, nat_lt, nat_le, Bool, true, false, ◌&&◌, if◌then◌else◌, List, [], ◌∷◌, length, Option, Some, None, All, refl, ap, sym, ◌∙◌, subst, arith, ⊎_elim}
-use Rattle.std.proofs.lemmas.Bool.{cases_lt}
-use Rattle.std.proofs.lemmas.List.Elements.{All-head, All-tail}
-use Rattle.dom_model.specs.PlainLists.Lists.{hits, among, last_of}
-use Rattle.dom_model.specs.Forests.Forest.{Forest, occurs, beside, cut, parent_of, children_of, index_of, ancestors, root_of, inclusive_descendants}
-use Rattle.dom_model.specs.Forests.Texts.{spliced}
-use Rattle.dom_model.specs.Worlds.World.{Content, Point, Range, World}
-use Rattle.dom_model.specs.Soundness.Sound.{IsRange, IsSound}
-use Rattle.dom_model.specs.BoundaryPoints.Points.{map_ranges, after_removal, after_splice}
-use Rattle.dom_model.specs.MutationAlgorithms.Editing.{tree_record_unless, taken_out, transients_made, removed_from, remove, remove_all, is_fragment, nodes_of, emptied_fragment, freed, put_in, put_all, insert_nodes, append}
-use Rattle.dom_model.specs.MutationAlgorithms.Insertable.{IsPlaceable, ArePlaceable, IsInsertable}
-use Rattle.dom_model.specs.DataAndCopies.Data.{cut_count, data_of, with_data, replace_data}
+use Rattle.std.proofs.lemmas.{Bool.cases_lt, List.Elements.All-head, List.Elements.All-tail}
+use Rattle.dom_model.specs.Definitions.{hits, among, last_of, Forest, occurs, beside, cut, parent_of, children_of, index_of, ancestors, root_of, inclusive_descendants, spliced, Content, Point, Range, World, IsRange, IsSound, map_ranges, after_removal, after_splice, tree_record_unless, taken_out, transients_made, removed_from, remove, remove_all, is_fragment, nodes_of, emptied_fragment, freed, put_in, put_all, insert_nodes, append, IsPlaceable, ArePlaceable, IsInsertable, cut_count, data_of, with_data, replace_data}
 use Rattle.dom_model.proofs.PlainLists.Numbers.{same_or, same, apart}
-use Rattle.dom_model.proofs.Forests.Climbing.{hits-first, ancestors-absent, ancestors-there}
-use Rattle.dom_model.proofs.Forests.Entries.{occurs-HasNode}
-use Rattle.dom_model.proofs.Forests.ForestsBeside.{ancestors-beside}
-use Rattle.dom_model.proofs.Forests.Indices.{child-there}
+use Rattle.dom_model.proofs.Forests.{Climbing.hits-first, Climbing.ancestors-absent, Climbing.ancestors-there, Entries.occurs-HasNode, ForestsBeside.ancestors-beside, Indices.child-there}
 use Rattle.dom_model.proofs.BoundaryPoints.RootsKept.{root-put, root-among, root-removed}
 use Rattle.dom_model.proofs.Worlds.SameShape.{IsAlike, root-alike, with_node-alike}
 use Rattle.dom_model.proofs.MutationAlgorithms.Loosened.{loosened-remove}
-use Rattle.dom_model.proofs.Soundness.SoundWorlds.{IsLive, sound-remove}
-use Rattle.dom_model.proofs.Soundness.SoundPlacing.{apart_from, renamed, occurs_placed, all_placeable, sound-put_one}
-use Rattle.dom_model.proofs.Soundness.SoundInserting.{IsReady, freed_ready}
+use Rattle.dom_model.proofs.Soundness.{SoundWorlds.IsLive, SoundWorlds.sound-remove, SoundPlacing.apart_from, SoundPlacing.renamed, SoundPlacing.occurs_placed, SoundPlacing.all_placeable, SoundPlacing.sound-put_one, SoundInserting.IsReady, SoundInserting.freed_ready}
 use Rattle.dom_model.proofs.RangesAndContents.RangesElsewhere.{ends_of}
 use Rattle.dom_content.specs.Paths.{StandsUnder}
 

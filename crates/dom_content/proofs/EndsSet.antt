@@ -1,12 +1,9 @@
 -- Both ends of a live range are set to one point. DOM Standard, "Interface Range".
 use Rattle.std.proofs.Common.{◌≡◌, ℕ, List, Option, Some, slice_set, ap, sym, ◌∙◌, subst}
-use Rattle.dom_model.specs.Worlds.World.{Point, Range}
-use Rattle.dom_model.specs.Soundness.Sound.{IsRange}
-use Rattle.dom_model.specs.RangesAndContents.Ranges.{collapsed_at, with_range}
+use Rattle.dom_model.specs.Definitions.{Point, Range, IsRange, collapsed_at, with_range}
 use Rattle.dom_model.proofs.Soundness.SoundRangeSteps.{sound-with_range}
 use Rattle.dom_ranges.specs.Tables.{RangeTable}
-use Rattle.dom_edit.specs.declared.world.World.{World}
-use Rattle.dom_edit.specs.Whole.{AreCovered, IsWhole, Follows, unwatched}
+use Rattle.dom_edit.specs.{declared.world.World.World, Whole.AreCovered, Whole.IsWhole, Whole.Follows, Whole.unwatched}
 use Rattle.dom_edit.proofs.Following.{keeps-unwatched, whole-sound}
 use Rattle.dom_data.proofs.StaysWhole.{sound-unwatched}
 

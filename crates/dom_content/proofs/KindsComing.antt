@@ -1,9 +1,8 @@
 -- Kinds of what goes into a fragment and of what takes it. DOM Standard, "Interface Range" (extract, clone the contents).
 use Rattle.std.proofs.Common.{◌≡◌, true, false, refl}
 use Rattle.std.proofs.lemmas.Bool.{false≢true}
-use Rattle.dom_model.specs.declared.Kind.{Kind}
-use Rattle.dom_model.specs.declared.Kind.TheVariants.{Element, Text, ProcessingInstruction, Comment, Document, DocumentType, DocumentFragment}
-use Rattle.dom_model.specs.Forests.Kinds.{is_kind, may_be_parent}
+use Rattle.dom_model.specs.declared.{Kind.Kind, Kind.TheVariants.Element, Kind.TheVariants.Text, Kind.TheVariants.ProcessingInstruction, Kind.TheVariants.Comment, Kind.TheVariants.Document, Kind.TheVariants.DocumentType, Kind.TheVariants.DocumentFragment}
+use Rattle.dom_model.specs.Definitions.{is_kind, may_be_parent}
 use Rattle.dom_model.proofs.RangesAndContents.DrawnPieces.{is_drawn}
 use Rattle.dom_content.specs.Coming.{may_go_in}
 

@@ -1,17 +1,10 @@
 -- Steps after which each node that was held is held, with its label.
-use Rattle.std.specs.Prelude.{IsSome}
-use Rattle.std.proofs.Common.{◌≡◌, ℕ, ap, sym, ◌∙◌, subst}
-use Rattle.dom_model.specs.Forests.Forest.{Forest, HasNode, entry_in}
-use Rattle.dom_model.specs.Worlds.World.{Content}
-use Rattle.dom_model.specs.DataAndCopies.Data.{content_in}
-use Rattle.dom_model.specs.TokenText.Originals.{label_in}
+use Rattle.std.proofs.Common.{IsSome, ◌≡◌, ℕ, ap, sym, ◌∙◌, subst}
+use Rattle.dom_model.specs.Definitions.{Forest, HasNode, entry_in, Content, content_in, label_in}
 use Rattle.dom_model.proofs.Forests.Entries.{HasNode-occurs, occurs-HasNode}
 use Rattle.dom_model.proofs.Worlds.Measured.{entry-beside}
-use Rattle.dom_edit.specs.declared.world.World.{World}
-use Rattle.dom_edit.specs.Keeping.{present, KeepsLabels}
-use Rattle.dom_edit.proofs.NodesKept.{nodes-none}
-use Rattle.dom_edit.proofs.WatchersKept.{watchers-ranged}
-use Rattle.dom_edit.specs.Leaving.{LeavesAll}
+use Rattle.dom_edit.specs.{declared.world.World.World, Keeping.present, Keeping.KeepsLabels, Leaving.LeavesAll}
+use Rattle.dom_edit.proofs.{NodesKept.nodes-none, WatchersKept.watchers-ranged}
 use Rattle.dom_content.specs.Paths.{StillHeld}
 
 -- nothing has changed

@@ -1,23 +1,12 @@
 -- The node that a walk behind a point starts at: nothing up to it comes after the point. DOM Standard, "Trees", "Boundary points".
 use Rattle.std.proofs.Common.{◌≡◌, ℕ, ◌<◌, nat_lt, true, false, Some, slice_get, refl, ap, sym, ◌∙◌, subst, arith}
 use Rattle.std.proofs.lemmas.Bool.{lt-ltb}
-use Rattle.dom_model.specs.PlainLists.Lists.{hits, last_of}
-use Rattle.dom_model.specs.Forests.Forest.{Grove, IsForest, HasNode, occurs, one_at, tree_at, children_of, index_of, ancestors, root_of, inclusive_descendants}
-use Rattle.dom_model.specs.Worlds.World.{Content, Point}
-use Rattle.dom_model.specs.RangesAndContents.Ranges.{is_less, is_before}
+use Rattle.dom_model.specs.Definitions.{hits, last_of, Grove, IsForest, HasNode, occurs, one_at, tree_at, children_of, index_of, ancestors, root_of, inclusive_descendants, Content, Point, is_less, is_before}
 use Rattle.dom_model.proofs.PlainLists.Members.{hits-last_of}
-use Rattle.dom_model.proofs.Forests.Above.{above}
-use Rattle.dom_model.proofs.Forests.Climbing.{among-hits}
-use Rattle.dom_model.proofs.Forests.Entries.{HasNode-occurs}
-use Rattle.dom_model.proofs.Forests.Indices.{child-once, child-parent, index-child, parent-there}
-use Rattle.dom_model.proofs.Forests.Totals.{total-tree_at}
-use Rattle.dom_model.proofs.Forests.ToTheRoot.{inside-among, root-above}
-use Rattle.dom_model.proofs.Forests.TreeOrder.Flattened.{hits-numbers}
-use Rattle.dom_model.proofs.Forests.WaysMeeting.{above-root}
-use Rattle.dom_model.proofs.BoundaryPoints.OrderByWays.{path-through}
-use Rattle.dom_model.proofs.BoundaryPoints.PointOrder.{order-one_node, order-above}
+use Rattle.dom_model.proofs.Forests.{Above.above, Climbing.among-hits, Entries.HasNode-occurs, Indices.child-once, Indices.child-parent, Indices.index-child, Indices.parent-there, Totals.total-tree_at, ToTheRoot.inside-among, ToTheRoot.root-above, TreeOrder.Flattened.hits-numbers, WaysMeeting.above-root}
+use Rattle.dom_model.proofs.BoundaryPoints.{OrderByWays.path-through, PointOrder.order-one_node, PointOrder.order-above}
 use Rattle.dom_model.proofs.RangesAndContents.StartsAhead.{got_place}
-use Rattle.dom_content.proofs.AlongGaps.{less-false}
+use Rattle.dom_model.proofs.TokenText.Contents.RangeText.{less-false}
 
 -- the node is there, of the point's root, and its front does not come after the point
 pub record IsAheadOf (g : Grove Content) (p : Point) (n : ℕ) : Type 0 where

@@ -1,38 +1,14 @@
 -- What comes in tree order behind the last node ahead of a point stands behind the point. DOM Standard, "Trees", "Boundary points".
-use Rattle.std.proofs.Common.{◌≡◌, ℕ, ◌+◌, ◌<◌, ◌≤◌, nat_lt, Bool, true, false, if◌then◌else◌, List, [], ◌∷◌, zero, suc, length, slice_get, Some, None, refl, ap, sym, ◌∙◌, arith, ⊎_elim}
-use Rattle.std.specs.declared.cmp.Ordering.TheVariants.{Less, Greater}
+use Rattle.std.proofs.Common.{◌≡◌, ℕ, ◌+◌, ◌<◌, ◌≤◌, nat_lt, Bool, true, false, if◌then◌else◌, List, [], ◌∷◌, zero, suc, length, slice_get, Some, None, refl, ap, sym, ◌∙◌, arith, ⊎_elim, Less, Greater}
 use Rattle.std.proofs.lemmas.Bool.{cases_Bool, cases_lt, false≢true, lt-ltb, le-ltb}
-use Rattle.dom_model.specs.PlainLists.Lists.{hits, among, after, last_of, from_first}
-use Rattle.dom_model.specs.Forests.Forest.{Grove, IsForest, HasNode, occurs, one_at, parent_of, children_of, index_of, ancestors, root_of, tree_at, inclusive_descendants}
-use Rattle.dom_model.specs.Worlds.Lengths.{node_length, unit_count}
-use Rattle.dom_model.specs.Worlds.World.{Content, Point}
-use Rattle.dom_model.specs.BoundaryPoints.Points.{order_of}
-use Rattle.dom_model.specs.RangesAndContents.Ranges.{is_less, is_before}
-use Rattle.dom_model.specs.RangesAndContents.Contents.{path_below}
-use Rattle.dom_model.specs.Forests.Ways.{IsWay}
-use Rattle.dom_model.proofs.PlainLists.Members.{hits-last_of}
-use Rattle.dom_model.proofs.PlainLists.Places.{place-there}
-use Rattle.dom_model.proofs.Forests.Above.{above}
-use Rattle.dom_model.proofs.Forests.Chains.{index-apart}
-use Rattle.dom_model.proofs.Forests.Climbing.{hits-append, hits-first, hits-among, among-hits}
-use Rattle.dom_model.proofs.Forests.Entries.{occurs-HasNode, HasNode-occurs}
-use Rattle.dom_model.proofs.Forests.Indices.{child-listed, child-once, child-parent, index-child, path-child, parent-there}
-use Rattle.dom_model.proofs.Forests.Totals.{total-tree_at}
-use Rattle.dom_model.proofs.Forests.ToTheRoot.{inside, inside-among, root-above}
-use Rattle.dom_model.proofs.Forests.TreeOrder.Flattened.{hits-numbers}
-use Rattle.dom_model.proofs.Forests.WaysMeeting.{above-root}
-use Rattle.dom_model.proofs.BoundaryPoints.OrderByWays.{path-through}
-use Rattle.dom_model.proofs.BoundaryPoints.PointOrder.{nat_cmp-less, order-one_node, order-above}
-use Rattle.dom_model.proofs.RangesAndContents.StartsAhead.{got_place}
-use Rattle.dom_model.proofs.RangesAndContents.WaysBelow.{way-below, way-above}
+use Rattle.dom_model.specs.Definitions.{hits, among, after, last_of, from_first, Grove, IsForest, HasNode, occurs, one_at, parent_of, children_of, index_of, ancestors, root_of, tree_at, inclusive_descendants, node_length, unit_count, Content, Point, order_of, is_less, is_before, path_below, IsWay}
+use Rattle.dom_model.proofs.PlainLists.{Members.hits-last_of, Places.place-there}
+use Rattle.dom_model.proofs.Forests.{Above.above, Chains.index-apart, Climbing.hits-append, Climbing.hits-first, Climbing.hits-among, Climbing.among-hits, Entries.occurs-HasNode, Entries.HasNode-occurs, Indices.child-listed, Indices.child-once, Indices.child-parent, Indices.index-child, Indices.path-child, Indices.parent-there, Totals.total-tree_at, ToTheRoot.inside, ToTheRoot.inside-among, ToTheRoot.root-above, TreeOrder.Flattened.hits-numbers, WaysMeeting.above-root, TreeOrder.InsideWalks.rest-next}
+use Rattle.dom_model.proofs.BoundaryPoints.{OrderByWays.path-through, PointOrder.nat_cmp-less, PointOrder.order-one_node, PointOrder.order-above}
+use Rattle.dom_model.proofs.RangesAndContents.{StartsAhead.got_place, WaysBelow.way-below, WaysBelow.way-above}
 use Rattle.dom_model.proofs.Soundness.SoundForests.{parent-passes}
 use Rattle.dom_model.proofs.Worlds.Measured.{length-parent}
-use Rattle.dom_model.proofs.Forests.TreeOrder.InsideWalks.{rest-next}
-use Rattle.dom_content.proofs.AlongGaps.{gap, before, order-is, from-less, there, step, later}
-use Rattle.dom_content.proofs.NodesInOrder.{ahead-after}
-use Rattle.dom_content.proofs.NodesPassed.{IsPassed, passed}
-use Rattle.dom_content.proofs.PartsBetween.{split}
-use Rattle.dom_content.proofs.PointsAside.{aside}
+use Rattle.dom_content.proofs.{AlongGaps.gap, AlongGaps.before, AlongGaps.order-is, AlongGaps.from-less, AlongGaps.there, AlongGaps.step, AlongGaps.later, NodesInOrder.ahead-after, NodesPassed.IsPassed, NodesPassed.passed, PartsBetween.split, PointsAside.aside}
 
 ahead-is : (v : Bool) → (if v then Less else Greater) ≡ Less → v ≡ true
 ahead-is true e = refl

@@ -1,25 +1,10 @@
 -- The points at the front of nodes stand in tree order. DOM Standard, "Trees", "Boundary points".
-use Rattle.std.proofs.Common.{◌≡◌, ℕ, zero, suc, ◌+◌, ◌<◌, ◌≤◌, nat_lt, true, false, [], ◌∷◌, ◌++◌, length, Some, None, refl, ap, sym, ◌∙◌, subst, arith}
-use Rattle.std.specs.declared.cmp.Ordering.TheVariants.{Less}
+use Rattle.std.proofs.Common.{◌≡◌, ℕ, zero, suc, ◌+◌, ◌<◌, ◌≤◌, nat_lt, true, false, [], ◌∷◌, ◌++◌, length, Some, None, refl, ap, sym, ◌∙◌, subst, arith, Less}
 use Rattle.std.proofs.lemmas.Bool.{false≢true, lt-ltb, le-ltb}
-use Rattle.dom_model.specs.PlainLists.Lists.{hits, head_of, after}
-use Rattle.dom_model.specs.Forests.Forest.{Grove, IsForest, one_at, occurs, parent_of, children_of, next_of, index_of, ancestors, tree_at, inclusive_descendants}
-use Rattle.dom_model.specs.BoundaryPoints.Points.{order_of}
+use Rattle.dom_model.specs.Definitions.{hits, head_of, after, Grove, IsForest, one_at, occurs, parent_of, children_of, next_of, index_of, ancestors, tree_at, inclusive_descendants, order_of}
 use Rattle.dom_model.proofs.PlainLists.Numbers.{same_or, same, apart}
-use Rattle.dom_model.proofs.Forests.Changes.{seen, nothing, just}
-use Rattle.dom_model.proofs.Forests.Totals.{total-tree_at}
-use Rattle.dom_model.proofs.Forests.PutBack.{hits-head_of}
-use Rattle.dom_model.proofs.Forests.Climbing.{hits-append, hits-self, ancestors-there}
-use Rattle.dom_model.proofs.Forests.Paths.{parent-path}
-use Rattle.dom_model.proofs.Forests.Indices.{child-parent, child-once, index-child, path-child, parent-there}
-use Rattle.dom_model.proofs.Forests.Siblings.{next-listed}
-use Rattle.dom_model.proofs.Forests.ToTheRoot.{next-root}
-use Rattle.dom_model.proofs.Forests.TreeOrder.Ordering.{past}
-use Rattle.dom_model.proofs.Forests.TreeOrder.Preceding.{place-after}
-use Rattle.dom_model.proofs.Forests.TreeOrder.Stepping.{first-after, none-after, tree-top, tree-next, tree-parent, tree-up}
-use Rattle.dom_model.proofs.BoundaryPoints.PointOrder.{order-above}
-use Rattle.dom_model.proofs.BoundaryPoints.OrderByWays.{path-through, order-beside}
-use Rattle.dom_model.proofs.BoundaryPoints.RemovalOrder.{ancestors-split}
+use Rattle.dom_model.proofs.Forests.{Changes.seen, Changes.nothing, Changes.just, Totals.total-tree_at, PutBack.hits-head_of, Climbing.hits-append, Climbing.hits-self, Climbing.ancestors-there, Paths.parent-path, Indices.child-parent, Indices.child-once, Indices.index-child, Indices.path-child, Indices.parent-there, Siblings.next-listed, ToTheRoot.next-root, TreeOrder.Ordering.past, TreeOrder.Preceding.place-after, TreeOrder.Stepping.first-after, TreeOrder.Stepping.none-after, TreeOrder.Stepping.tree-top, TreeOrder.Stepping.tree-next, TreeOrder.Stepping.tree-parent, TreeOrder.Stepping.tree-up}
+use Rattle.dom_model.proofs.BoundaryPoints.{PointOrder.order-above, OrderByWays.path-through, OrderByWays.order-beside, RemovalOrder.ancestors-split}
 
 module _ {X : Type 0} (g : Grove X) (s : IsForest g) (r n : ℕ) (hn : 0 < occurs n g.forest) where
   -- the point at the front of one node comes before that of another

@@ -1,16 +1,9 @@
 -- What comes in tree order from a node on: the node, what is inside it, and what is behind it. DOM Standard, "Trees".
-use Rattle.std.proofs.Common.{◌≡◌, ℕ, ◌+◌, ◌<◌, ◌≤◌, ◌==◌, true, List, [], ◌∷◌, ◌++◌, Some, refl, ap, sym, ◌∙◌, arith, append_assoc}
-use Rattle.dom_model.specs.PlainLists.Lists.{hits, last_of, from_first}
-use Rattle.dom_model.specs.Forests.Forest.{Forest, Grove, IsForest, HasNode, occurs, one_at, numbers, root_of, tree_at, inclusive_descendants}
-use Rattle.dom_model.specs.Worlds.World.{Content}
-use Rattle.dom_model.proofs.PlainLists.Members.{hits-last_of}
-use Rattle.dom_model.proofs.PlainLists.Numbers.{same_or, same, apart}
-use Rattle.dom_model.proofs.Forests.Climbing.{hits-append, hits-first}
-use Rattle.dom_model.proofs.Forests.Totals.{total-tree_at}
-use Rattle.dom_model.proofs.Forests.ToTheRoot.{among-here, inside, inside-root}
-use Rattle.dom_model.proofs.Forests.TreeOrder.Flattened.{hits-numbers, numbers-without}
+use Rattle.std.proofs.Common.{◌≡◌, ℕ, ◌+◌, ◌<◌, ◌≤◌, List, [], ◌∷◌, ◌++◌, Some, refl, ap, sym, ◌∙◌, arith, append_assoc}
+use Rattle.dom_model.specs.Definitions.{hits, last_of, from_first, Forest, Grove, IsForest, HasNode, occurs, one_at, numbers, root_of, tree_at, inclusive_descendants, Content}
+use Rattle.dom_model.proofs.PlainLists.{Members.hits-last_of, Numbers.same_or, Numbers.same, Numbers.apart}
+use Rattle.dom_model.proofs.Forests.{Climbing.hits-append, Climbing.hits-first, Totals.total-tree_at, ToTheRoot.among-here, ToTheRoot.inside, ToTheRoot.inside-root, TreeOrder.Flattened.hits-numbers, TreeOrder.Flattened.numbers-without, TreeOrder.InsideWalks.inside-one, TreeOrder.InsideWalks.from-top, Below.at_itself}
 use Rattle.dom_model.proofs.TokenText.AlikeTrees.TreesWithin.{tree_within}
-use Rattle.dom_model.proofs.Forests.TreeOrder.InsideWalks.{inside-one, from-top}
 use Rattle.dom_content.proofs.PartsBetween.{split}
 
 from-behind : (x : ℕ) (pre rest : List ℕ) → hits x pre ≡ 0 → from_first x (pre ++ x ∷ rest) ≡ x ∷ rest
@@ -25,9 +18,6 @@ last-split : (ns : List ℕ) (x : ℕ) → last_of ns ≡ Some x → (xs : List 
 last-split [] x e = absurd (cc e)
 last-split (n ∷ []) x e = let u : Some n ≡ Some x = e in let d : n ≡ x = cc u in ([], ap (λ m. m ∷ []) d)
 last-split (n ∷ m ∷ ns) x e = let i = last-split (m ∷ ns) x e in (n ∷ i.0, ap (λ l. n ∷ l) i.1)
-
-same_number : (n : ℕ) → (n == n) ≡ true
-same_number n = elim (same_or n n) [ same _ t ↦ t | apart ne t ↦ absurd (ne refl) ]
 
 module _ (g : Grove Content) (s : IsForest g) (root top : ℕ) where
   abbrev below : List ℕ
@@ -53,7 +43,7 @@ module _ (g : Grove Content) (s : IsForest g) (root top : ℕ) where
       let own = ap (λ (t : Forest Content). numbers t) (tree_within root top g.forest s.once ht) in
       let whole : all ≡ p.ahead ++ (below ++ p.behind) = p.holds ∙ ap (λ ns. p.ahead ++ (ns ++ p.behind)) own in
       let count : (x : ℕ) → hits x p.ahead + (hits x below + hits x p.behind) ≤ 1 = λ x. few x p.ahead p.behind whole in
-      let listed : 0 < hits top below = omega (arith, hits-numbers top (tree_at top g.forest), inside s top top (sym (among-here g.forest top top h (same_number top)))) in
+      let listed : 0 < hits top below = omega (arith, hits-numbers top (tree_at top g.forest), inside s top top (sym (among-here g.forest top top h (at_itself top)))) in
       let q = split top below listed in
       let start : below ≡ top ∷ q.rest = sym (from-top g s top h) ∙ q.from in
       let z = last-split below last l in

@@ -1,25 +1,14 @@
 -- What copying contents leaves as it was: all that is older than the fragment. DOM Standard, "Interface Range" (clone the contents).
-use Rattle.std.proofs.Common.{◌≡◌, ℕ, ◌<◌, ◌≤◌, Bool, true, false, List, [], ◌∷◌, ◌++◌, Option, Some, None, refl, ap, sym, ◌∙◌, subst, arith, inl, inr, ◌⊎◌, ⊎_elim}
+use Rattle.std.proofs.Common.{◌≡◌, ℕ, ◌<◌, ◌≤◌, Bool, true, false, List, [], ◌∷◌, ◌++◌, Some, None, refl, ap, sym, ◌∙◌, subst, arith, ◌⊎◌, ⊎_elim}
 use Rattle.std.proofs.lemmas.Bool.{cases_lt, false≢true}
-use Rattle.dom_model.specs.PlainLists.Lists.{hits}
-use Rattle.dom_model.specs.Forests.Forest.{Forest, beside, parent_of, map_nodes}
+use Rattle.dom_model.specs.Definitions.{hits, Forest, beside, parent_of, map_nodes, Content, node_document, with_data, renumbered, original, document_of_clone, clone_node, clone_with}
 use Rattle.dom_model.specs.Worlds.World as model
-use Rattle.dom_model.specs.Worlds.World.{Content}
-use Rattle.dom_model.specs.MutationAlgorithms.Editing.{node_document}
-use Rattle.dom_model.specs.DataAndCopies.Data.{with_data}
-use Rattle.dom_model.specs.DataAndCopies.Clones.{renumbered, original, document_of_clone, clone_node}
-use Rattle.dom_model.specs.RangesAndContents.Contents.{clone_with}
 use Rattle.dom_model.proofs.PlainLists.Numbers.{same_or, same, apart}
 use Rattle.dom_model.proofs.DataAndCopies.CopiesPlaced.{parent-copies}
-use Rattle.dom_model.proofs.Forests.Changes.{seen, nothing, just}
-use Rattle.dom_model.proofs.Forests.Climbing.{hits-append, hits-first}
-use Rattle.dom_model.proofs.Forests.Indices.{parent-there}
-use Rattle.dom_edit.specs.declared.world.World.{World}
-use Rattle.dom_edit.specs.Leaving.{AreNewer}
-use Rattle.dom_edit.specs.Whole.{IsWhole, Follows, unwatched}
+use Rattle.dom_model.proofs.Forests.{Changes.seen, Changes.nothing, Changes.just, Climbing.hits-append, Climbing.hits-first, Indices.parent-there}
+use Rattle.dom_edit.specs.{declared.world.World.World, Leaving.AreNewer, Whole.IsWhole, Whole.Follows, Whole.unwatched}
 use Rattle.dom_edit.proofs.Following.{keeps-unwatched}
-use Rattle.dom_content.specs.declared.partial.Partial.{Partial}
-use Rattle.dom_content.specs.Paths.{numbers_of_copies}
+use Rattle.dom_content.specs.{declared.partial.Partial.Partial, Paths.numbers_of_copies}
 
 -- contents that are copied are not moved
 pub no_moves : {A : Type 0} (moves : Bool) → moves ≡ true → moves ≡ false → A

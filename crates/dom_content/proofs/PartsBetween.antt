@@ -1,29 +1,12 @@
 -- The nodes that are contained in a range lie behind each node whose front does not come after its start, up to the first node that does
 -- not come before its end. So whatever is told of contained nodes alone is told by a walk between the two. DOM Standard, "Interface Range".
-use Rattle.std.proofs.Common.{◌≡◌, ℕ, ◌+◌, ◌<◌, Bool, true, false, ◌&&◌, List, [], ◌∷◌, ◌++◌, length, drop, flat_map, Option, Some, None, refl, ap, sym, ◌∙◌, subst, arith, append_assoc, append-nil}
-use Rattle.std.proofs.lemmas.Bool.{false≢true}
-use Rattle.std.proofs.lemmas.Grind.{flat_map-append}
-use Rattle.dom_model.specs.PlainLists.Lists.{hits, after, from_first, is_same}
-use Rattle.dom_model.specs.Forests.Forest.{Grove, IsForest, HasNode, occurs, one_at, numbers, root_of, tree_at, inclusive_descendants}
-use Rattle.dom_model.specs.Worlds.Lengths.{node_length, unit_count}
-use Rattle.dom_model.specs.Worlds.World.{Content, Point, Range}
-use Rattle.dom_model.specs.Soundness.Sound.{IsRange}
-use Rattle.dom_model.specs.RangesAndContents.Ranges.{is_less, is_before, is_contained}
-use Rattle.dom_model.specs.TokenText.Gaps.{root_text, tokens_ahead}
+use Rattle.std.proofs.Common.{◌≡◌, ℕ, ◌+◌, ◌<◌, Bool, true, false, List, [], ◌∷◌, ◌++◌, length, drop, flat_map, Option, Some, None, refl, ap, sym, ◌∙◌, subst, arith, append_assoc, append-nil}
+use Rattle.std.proofs.lemmas.{Bool.false≢true, Grind.flat_map-append, Bool.and_parts}
+use Rattle.dom_model.specs.Definitions.{hits, after, from_first, is_same, Grove, IsForest, HasNode, occurs, one_at, numbers, root_of, tree_at, inclusive_descendants, node_length, unit_count, Content, Point, Range, IsRange, is_less, is_before, is_contained, root_text, tokens_ahead}
 use Rattle.dom_model.proofs.PlainLists.Numbers.{same_or, same, apart}
-use Rattle.dom_model.proofs.Forests.Climbing.{hits-append, hits-first}
-use Rattle.dom_model.proofs.Forests.Entries.{HasNode-occurs}
-use Rattle.dom_model.proofs.Forests.Totals.{total-tree_at}
-use Rattle.dom_model.proofs.Forests.Below.{tree-there}
-use Rattle.dom_model.proofs.Forests.TreeOrder.Flattened.{hits-numbers, numbers-without}
+use Rattle.dom_model.proofs.Forests.{Climbing.hits-append, Climbing.hits-first, Entries.HasNode-occurs, Totals.total-tree_at, Below.tree-there, TreeOrder.Flattened.hits-numbers, TreeOrder.Flattened.numbers-without, TreeOrder.InsideWalks.rest-next, TreeOrder.InsideWalks.rest-end}
 use Rattle.dom_model.proofs.BoundaryPoints.PointOrder.{order-one_node}
-use Rattle.dom_model.proofs.Forests.TreeOrder.InsideWalks.{rest-next, rest-end}
 use Rattle.dom_content.proofs.AlongGaps.{from-less, from-not_less, from-offsets, place, order-is, there, step, walk-at, later}
-
-pub and-both : (a b : Bool) → (a && b) ≡ true → (a ≡ true) × (b ≡ true)
-and-both true true h = (refl, refl)
-and-both true false h = absurd (false≢true h)
-and-both false b h = absurd (false≢true h)
 
 same-some : (o : Option ℕ) (c : ℕ) → is_same o (Some c) ≡ true → o ≡ Some c
 same-some None c h = absurd (false≢true h)
@@ -91,8 +74,8 @@ module _ (g : Grove Content) (s : IsForest g) (range : Range) (is : IsRange g.fo
 
   pub inside-of : (x : ℕ) → is_contained unit_count g.forest range x ≡ true → IsInside x
   inside-of x h =
-      let a = and-both (is_same (root_of g.forest x) (root_of g.forest range.start.node)) _ h in
-      let b = and-both (is_before g.forest range.start (front x)) _ a.1 in
+      let a = and_parts (is_same (root_of g.forest x) (root_of g.forest range.start.node)) _ h in
+      let b = and_parts (is_before g.forest range.start (front x)) _ a.1 in
       record { of_root = same-some (root_of g.forest x) root (ap (is_same (root_of g.forest x)) (sym rooted) ∙ a.0); starts = b.0; ends = b.1 }
 
   not-contained : (x : ℕ) → (IsInside x → ⊥) → is_contained unit_count g.forest range x ≡ false

@@ -1,43 +1,21 @@
 -- The parts of a range may go into the fragment that was just made. DOM Standard, "Interface Range" (extract, clone the contents).
 use Rattle.std.proofs.Common.{◌≡◌, ℕ, ◌+◌, ◌<◌, ◌≤◌, ◌==◌, true, List, [], ◌∷◌, ◌++◌, length, Some, None, IsSome, refl, ap, sym, ◌∙◌, subst, arith, ⊎_elim}
-use Rattle.std.proofs.lemmas.Bool.{cases_lt}
+use Rattle.std.proofs.lemmas.Bool.{cases_lt, and_parts}
 use Rattle.dom_model.specs.declared.Kind.TheVariants.{DocumentType}
-use Rattle.dom_model.specs.PlainLists.Lists.{hits}
-use Rattle.dom_model.specs.Forests.Kinds.{is_kind, is_character_data, may_be_parent}
-use Rattle.dom_model.specs.Forests.Forest.{Forest, occurs, parent_of, children_of, ancestors, entry_in}
-use Rattle.dom_model.specs.Forests.Ways.{IsWay}
-use Rattle.dom_model.specs.Worlds.Lengths.{unit_count}
+use Rattle.dom_model.specs.Definitions.{hits, is_kind, is_character_data, may_be_parent, Forest, occurs, parent_of, children_of, ancestors, entry_in, IsWay, unit_count, Content, Range, IsRange, IsSound, kind_passes, document_in, node_document, content_in, data_of, is_contained, common_ancestor, new_fragment, path_below, common_of, check_draw, doing_fragment}
 use Rattle.dom_model.specs.Worlds.World as model
-use Rattle.dom_model.specs.Worlds.World.{Content, Range}
-use Rattle.dom_model.specs.Soundness.Sound.{IsRange, IsSound}
-use Rattle.dom_model.specs.Forests.Nodes.{kind_passes}
-use Rattle.dom_model.specs.MutationAlgorithms.Editing.{document_in, node_document}
-use Rattle.dom_model.specs.DataAndCopies.Data.{content_in, data_of}
-use Rattle.dom_model.specs.RangesAndContents.Ranges.{is_contained, common_ancestor}
-use Rattle.dom_model.specs.RangesAndContents.Contents.{new_fragment, path_below, common_of, check_draw}
-use Rattle.dom_model.specs.TokenText.Edits.{doing_fragment}
 use Rattle.dom_model.proofs.PlainLists.Numbers.{same_or, same, apart}
-use Rattle.dom_model.proofs.Forests.Entries.{occurs-HasNode}
-use Rattle.dom_model.proofs.Forests.Indices.{child-parent, parent-there}
+use Rattle.dom_model.proofs.Forests.{Entries.occurs-HasNode, Indices.child-parent, Indices.parent-there}
 use Rattle.dom_model.proofs.MutationAlgorithms.Extending.{extends-beside}
 use Rattle.dom_model.proofs.MutationAlgorithms.Extending as extending
 use Rattle.dom_model.proofs.Soundness.SoundWorlds.{child_there}
-use Rattle.dom_model.proofs.RangesAndContents.Drawing.{Draws}
-use Rattle.dom_model.proofs.RangesAndContents.DrawnPaths.{ArePath, IsWithin, hits-filter}
-use Rattle.dom_model.proofs.RangesAndContents.PathsToEnds.{common-above, path-down, path-within}
-use Rattle.dom_model.proofs.RangesAndContents.WaysBelow.{IsFork, fork}
+use Rattle.dom_model.proofs.RangesAndContents.{Drawing.Draws, DrawnPaths.ArePath, DrawnPaths.IsWithin, DrawnPaths.hits-filter, PathsToEnds.common-above, PathsToEnds.path-down, PathsToEnds.path-within, WaysBelow.IsFork, WaysBelow.fork}
 use Rattle.dom_model.proofs.TokenText.EditsMade.EditsOfDrawnContents as drawn
-use Rattle.dom_edit.specs.declared.world.World.{World}
-use Rattle.dom_edit.specs.Whole.{IsWhole, Keeps, Follows, unwatched}
+use Rattle.dom_edit.specs.{declared.world.World.World, Whole.IsWhole, Whole.Keeps, Whole.Follows, Whole.unwatched}
 use Rattle.dom_edit.proofs.Following.{keeps-unwatched}
 use Rattle.dom_data.proofs.StaysWhole.{sound-unwatched}
-use Rattle.dom_content.specs.Paths.{Stays}
-use Rattle.dom_content.specs.Coming.{AreOld, MayDraw, IsPathTo}
-use Rattle.dom_content.specs.Drawing.{AreParts, in_one_data}
-use Rattle.dom_content.proofs.PartsBetween.{and-both}
-use Rattle.dom_content.proofs.StaysOf.{ends-old}
-use Rattle.dom_content.proofs.Comings.{old-of, both-old, olds-of, way-of, front-of}
-use Rattle.dom_content.proofs.DrawnContents.{path-same, root-same}
+use Rattle.dom_content.specs.{Paths.Stays, Coming.AreOld, Coming.MayDraw, Coming.IsPathTo, Drawing.AreParts, Drawing.in_one_data}
+use Rattle.dom_content.proofs.{StaysOf.ends-old, Comings.old-of, Comings.both-old, Comings.olds-of, Comings.way-of, Comings.front-of, DrawnContents.path-same, DrawnContents.root-same}
 
 -- what may go in, and where the two ways end
 pub record MayFill (x : World) (into : ℕ) (r : Range) (first contained last : List ℕ) : Type 0 where
@@ -160,7 +138,7 @@ module _ (v : World) (h : IsWhole v) (r : Range) (is : IsRange v.tree.forest r) 
           first_way = subst (λ (g : Forest Content). IsPathTo g r.start.offset first) k.forest (way-of low r.start.offset grown first first_path first_within);
           last_way = subst (λ (g : Forest Content). IsPathTo g 0 last) k.forest (front-of low grown last last_path);
           within = λ e.
-              let b = (and-both (r.start.node == r.end.node) (kind_passes is_character_data x.tree.forest r.start.node) e).1 in
+              let b = (and_parts (r.start.node == r.end.node) (kind_passes is_character_data x.tree.forest r.start.node) e).1 in
               subst (λ (g : Forest Content). r.start.offset ≤ length (content_in (entry_in g r.start.node)).text) k.forest
               (drawn.start_within w s r is (ap (λ (g : Forest Content). kind_passes is_character_data g r.start.node) k.forest ∙ b));
         }

@@ -1,23 +1,14 @@
 -- The parts of a range as they are gathered: none of a collapsed one; and where both ends stand once the contents are gone, by the parts.
 -- DOM Standard, "Interface Range".
 use Rattle.std.proofs.Common.{◌≡◌, ℕ, ◌<◌, ◌==◌, Bool, true, false, ◌&&◌, List, [], ◌∷◌, filter, reverse, slice_get, Option, Some, None, unwrap_or, refl, ap, sym, ◌∙◌, arith}
-use Rattle.std.proofs.lemmas.Bool.{false≢true, eqb-true}
-use Rattle.dom_model.specs.PlainLists.Lists.{hits, among, head_of, up_to, from_first}
-use Rattle.dom_model.specs.Forests.Forest.{Forest, Grove, IsForest, occurs, children_of, ancestors}
-use Rattle.dom_model.specs.Forests.Ways.{IsWay}
-use Rattle.dom_model.specs.Worlds.World.{Content, Point, Range}
-use Rattle.dom_model.specs.Soundness.Sound.{IsRange}
-use Rattle.dom_model.specs.RangesAndContents.Ranges.{common_ancestor}
-use Rattle.dom_model.specs.RangesAndContents.Contents.{path_below, new_place}
+use Rattle.std.proofs.lemmas.Bool.{false≢true, eqb-true, and_parts}
+use Rattle.dom_model.specs.Definitions.{hits, among, head_of, up_to, from_first, Forest, Grove, IsForest, occurs, children_of, ancestors, IsWay, Content, Point, Range, IsRange, common_ancestor, path_below, new_place}
 use Rattle.dom_model.proofs.PlainLists.Numbers.{same_or, same, apart}
-use Rattle.dom_model.proofs.Forests.Climbing.{ancestors-there, hits-first, hits-reverse, hits-among}
-use Rattle.dom_model.proofs.Forests.Entries.{occurs-HasNode}
+use Rattle.dom_model.proofs.Forests.{Climbing.ancestors-there, Climbing.hits-first, Climbing.hits-reverse, Climbing.hits-among, Entries.occurs-HasNode}
 use Rattle.dom_model.proofs.BoundaryPoints.RootsKept.{hits-up_to}
 use Rattle.dom_edit.specs.Places.{from_optional, ahead_of}
 use Rattle.dom_content.specs.Drawing.{AreParts, index_behind}
-use Rattle.dom_content.proofs.PartsBetween.{and-both}
-use Rattle.dom_content.proofs.ChildrenBetween.{first-way, children-found}
-use Rattle.dom_content.proofs.PlacesAfter.{common-apart, place-behind}
+use Rattle.dom_content.proofs.{ChildrenBetween.first-way, ChildrenBetween.children-found, PlacesAfter.common-apart, PlacesAfter.place-behind}
 
 up_to-front : (n : ℕ) (ns : List ℕ) → up_to n (n ∷ ns) ≡ []
 up_to-front n ns = elim (same_or n n) [ same _ t ↦ rw t refl | apart ne t ↦ absurd (ne refl) ]
@@ -40,7 +31,7 @@ common-same f n h =
 -- two points are one where that was asked
 pub same-points : (p q : Point) → ((p.node == q.node) && (p.offset == q.offset)) ≡ true → p ≡ q
 same-points p q e =
-    let both = and-both (p.node == q.node) (p.offset == q.offset) e in
+    let both = and_parts (p.node == q.node) (p.offset == q.offset) e in
     ap (λ n. record { node = n; offset = p.offset }) (eqb-true p.node q.node both.0) ∙ ap (λ o. record { node = q.node; offset = o }) (eqb-true p.offset q.offset both.1)
 
 module _ (g : Grove Content) (s : IsForest g) (r : Range) (is : IsRange g.forest r) where

@@ -1,22 +1,13 @@
 -- Going down the path to the end of a range: what comes before the path goes in on the way. DOM Standard, "Interface Range" (extract, clone the contents).
 use Rattle.std.proofs.Common.{◌≡◌, ℕ, ◌≤◌, Bool, true, false, List, [], ◌∷◌, take, ap, sym, ◌∙◌, arith}
-use Rattle.dom_model.specs.PlainLists.Lists.{up_to}
-use Rattle.dom_model.specs.Forests.Kinds.{is_character_data}
-use Rattle.dom_model.specs.Forests.Forest.{Forest, children_of}
+use Rattle.std.proofs.lemmas.Bool.{cond-true, cond-false}
+use Rattle.dom_model.specs.Definitions.{up_to, is_character_data, Forest, children_of, Content, kind_passes, append, units_into, children_into, copy_into, head_into}
 use Rattle.dom_model.specs.Worlds.World as model
-use Rattle.dom_model.specs.Worlds.World.{Content}
-use Rattle.dom_model.specs.Forests.Nodes.{kind_passes}
-use Rattle.dom_model.specs.MutationAlgorithms.Editing.{append}
-use Rattle.dom_model.specs.RangesAndContents.Contents.{units_into, children_into, copy_into, head_into}
 use Rattle.dom_model.proofs.Counting.CountsOfContents.{units_into-grown}
-use Rattle.dom_edit.specs.declared.world.World.{World}
-use Rattle.dom_edit.specs.Whole.{Keeps, Follows}
-use Rattle.dom_edit.proofs.Following.{follows-then}
-use Rattle.dom_edit.proofs.InsertedNodes.{follows-as}
-use Rattle.dom_content.specs.declared.partial.Partial.{Partial}
-use Rattle.dom_content.specs.Paths.{HasRoom, opened, inner_of, entered, closed_one}
-use Rattle.dom_content.proofs.PathSteps.{if_so, if_not, append-grows, opened-grows, copy-grows, if-grows, room-within}
-use Rattle.dom_content.proofs.PieceSteps.{room-after, room-as, children-grow}
+use Rattle.dom_edit.specs.{declared.world.World.World, Whole.Keeps, Whole.Follows}
+use Rattle.dom_edit.proofs.{Following.follows-then, InsertedNodes.follows-as}
+use Rattle.dom_content.specs.{declared.partial.Partial.Partial, Paths.HasRoom, Paths.opened, Paths.inner_of, Paths.entered, Paths.closed_one}
+use Rattle.dom_content.proofs.{PathSteps.append-grows, PathSteps.opened-grows, PathSteps.copy-grows, PathSteps.if-grows, PathSteps.room-within, PieceSteps.room-after, PieceSteps.room-as, PieceSteps.children-grow}
 
 -- Numbers are never taken back.
 
@@ -78,7 +69,7 @@ head-down v moves into offset n m path p ec ei ek w k =
 module _ (v : World) (moves : Bool) (into offset n : ℕ) where
   module _ (is_data : kind_passes is_character_data v.tree.forest n ≡ true) where
     head-units : (w : model.World) → Keeps v w → head_into moves into offset (n ∷ []) w ≡ units_into moves into n 0 offset w
-    head-units w k = if_so (kind_passes is_character_data w.forest n) _ _ (ap (λ (g : Forest Content). kind_passes is_character_data g n) k.forest ∙ is_data)
+    head-units w k = cond-true (kind_passes is_character_data w.forest n) _ _ (ap (λ (g : Forest Content). kind_passes is_character_data g n) k.forest ∙ is_data)
 
     pub room-head_units : HasRoom v (head_into moves into offset (n ∷ [])) → HasRoom v (units_into moves into n 0 offset)
     room-head_units r = room-as v (head_into moves into offset (n ∷ [])) (units_into moves into n 0 offset) head-units r
@@ -92,7 +83,7 @@ module _ (v : World) (moves : Bool) (into offset n : ℕ) where
 
     head-copy : (w : model.World) → Keeps v w → head_into moves into offset (n ∷ []) w ≡ head_copied w
     head-copy w k =
-        if_not (kind_passes is_character_data w.forest n) _ _ (ap (λ (g : Forest Content). kind_passes is_character_data g n) k.forest ∙ other)
+        cond-false (kind_passes is_character_data w.forest n) _ _ (ap (λ (g : Forest Content). kind_passes is_character_data g n) k.forest ∙ other)
         ∙ ap (λ (ks : List ℕ). copy_into into n (λ inner u. children_into moves inner ks u) w) (ap (λ (g : Forest Content). take offset (children_of g n)) k.forest ∙ sym ek)
 
     pub room-head_copy : HasRoom v (head_into moves into offset (n ∷ [])) → HasRoom v head_copied

@@ -1,12 +1,8 @@
 -- Lists of nodes: parts of the children of a node, and the way up from a node.
-use Rattle.std.specs.Prelude.{◌==◌}
-use Rattle.std.proofs.Common.{◌≡◌, ℕ, ◌+◌, ◌<◌, ◌≤◌, true, false, List, [], ◌∷◌, ◌++◌, drop, length, slice_index_or, Option, Some, None, refl, ap, sym, ◌∙◌, arith, length-drop, append-nil}
-use Rattle.std.proofs.lemmas.List.{append_assoc}
-use Rattle.std.proofs.lemmas.List.{drop_more}
-use Rattle.dom_model.specs.PlainLists.Lists.{up_to}
-use Rattle.dom_model.specs.Forests.Forest.{Forest, HasNode, occurs, parent_of, ancestors}
-use Rattle.dom_model.proofs.Forests.Entries.{occurs-HasNode, HasNode-occurs}
-use Rattle.dom_model.proofs.Forests.Paths.{parent-path, root-path}
+use Rattle.std.proofs.Common.{◌==◌, ◌≡◌, ℕ, ◌+◌, ◌<◌, ◌≤◌, true, false, List, [], ◌∷◌, ◌++◌, drop, length, slice_index_or, Option, Some, None, refl, ap, sym, ◌∙◌, arith, length-drop, append-nil}
+use Rattle.std.proofs.lemmas.List.{append_assoc, drop_more}
+use Rattle.dom_model.specs.Definitions.{up_to, Forest, HasNode, occurs, parent_of, ancestors}
+use Rattle.dom_model.proofs.Forests.{Entries.occurs-HasNode, Entries.HasNode-occurs, Paths.parent-path, Paths.root-path}
 
 pub listed : (nodes : List ℕ) (i x : ℕ) → x ≡ slice_index_or nodes i x → i < length nodes → drop i nodes ≡ x ∷ drop (i + 1) nodes
 listed nodes i x is lt = drop_more nodes i x lt ∙ ap (λ y. y ∷ drop (i + 1) nodes) (sym is)

@@ -1,39 +1,18 @@
 -- Going down a path with copies that are finished on the way back. DOM Standard, "Interface Range" (extract, clone the contents).
-use Rattle.std.proofs.Common.{◌≡◌, ℕ, ◌+◌, ◌-◌, ◌<◌, ◌≤◌, Bool, true, false, if◌then◌else◌, List, [], ◌∷◌, ◌++◌, drop, length, slice_index_or, refl, ap, sym, ◌∙◌, subst, arith, Some, None, Option, is_some, length-append}
+use Rattle.std.proofs.Common.{◌≡◌, ℕ, ◌+◌, ◌-◌, ◌<◌, ◌≤◌, Bool, true, false, if◌then◌else◌, List, [], ◌∷◌, ◌++◌, drop, length, slice_index_or, refl, ap, sym, ◌∙◌, subst, arith, length-append}
+use Rattle.std.proofs.lemmas.Bool.{cond-true, cond-false}
 use Rattle.dom_model.specs.declared.Kind.TheVariants.{Document}
-use Rattle.dom_model.specs.Forests.Kinds.{is_kind, is_character_data}
-use Rattle.dom_model.specs.Forests.Arena.{Entry}
-use Rattle.dom_model.specs.Forests.Forest.{Node, Forest, occurs, children_of, entry_in, HasNode}
+use Rattle.dom_model.specs.Definitions.{is_kind, is_character_data, Forest, children_of, entry_in, HasNode, Content, past, kind_passes, is_of_kind, append, document_in, node_document, content_in, data_of, clone_node, new_fragment, units_into, children_into, copy_into, tail_into}
 use Rattle.dom_model.specs.Worlds.World as model
-use Rattle.dom_model.specs.Worlds.World.{Content}
-use Rattle.dom_model.specs.PlainLists.Lists.{past}
-use Rattle.dom_model.specs.Forests.Nodes.{kind_passes, is_of_kind, entry_has}
-use Rattle.dom_model.specs.MutationAlgorithms.Editing.{append, document_in, node_document}
-use Rattle.dom_model.specs.DataAndCopies.Data.{content_in, data_of}
-use Rattle.dom_model.specs.DataAndCopies.Clones.{clone_node}
-use Rattle.dom_model.specs.RangesAndContents.Contents.{new_fragment, units_into, children_into, copy_into, tail_into}
-use Rattle.dom_model.proofs.Forests.Entries.{occurs-HasNode, HasNode-occurs}
-use Rattle.dom_model.proofs.Counting.CountsKept.{append-kept}
-use Rattle.dom_model.proofs.Counting.CountsOfContents.{units_into-grown}
-use Rattle.dom_edit.specs.declared.world.World.{World}
-use Rattle.dom_edit.specs.Whole.{IsWhole, Keeps, Follows}
-use Rattle.dom_edit.proofs.Following.{follows-none, follows-then}
-use Rattle.dom_edit.proofs.InsertedNodes.{follows-as}
-use Rattle.dom_content.specs.declared.partial.Partial.{Partial}
-use Rattle.dom_content.specs.Paths.{HasRoom, StillHeld, Stays, KindsStay, opened, inner_of, closed_one, closed}
-use Rattle.dom_content.specs.Coming.{IsRising, IsHolder, IsOld, AreOld, MayDraw, IsUnfinished, AreUnfinished, MayClose, IsPathTo}
-use Rattle.dom_content.proofs.StaysOf.{stays-none, stays-then}
-use Rattle.dom_content.proofs.Comings.{Goes, first-old, rest-old, one-old, old-there, old-goes, all_unfinished-go, inner-holder, goes-closed}
-use Rattle.dom_content.proofs.PathLists.{listed, none-left}
-use Rattle.dom_content.proofs.PieceSteps.{room-before, room-after, room-as, children-grow}
+use Rattle.dom_model.proofs.Forests.Entries.{HasNode-occurs}
+use Rattle.dom_model.proofs.Counting.{CountsKept.append-kept, CountsOfContents.units_into-grown}
+use Rattle.dom_edit.specs.{declared.world.World.World, Whole.IsWhole, Whole.Keeps, Whole.Follows}
+use Rattle.dom_edit.proofs.{Following.follows-none, Following.follows-then, InsertedNodes.follows-as}
+use Rattle.dom_content.specs.{declared.partial.Partial.Partial, Paths.HasRoom, Paths.StillHeld, Paths.Stays, Paths.KindsStay, Paths.opened, Paths.inner_of, Paths.closed_one, Paths.closed, Coming.IsRising, Coming.IsHolder, Coming.IsOld, Coming.AreOld, Coming.MayDraw, Coming.IsUnfinished, Coming.AreUnfinished, Coming.MayClose, Coming.IsPathTo}
+use Rattle.dom_content.proofs.{StaysOf.stays-none, StaysOf.stays-then, Comings.Goes, Comings.first-old, Comings.rest-old, Comings.one-old, Comings.old-there, Comings.old-goes, Comings.all_unfinished-go, Comings.inner-holder, Comings.goes-closed, PathLists.listed, PathLists.none-left, PieceSteps.room-before, PieceSteps.room-after, PieceSteps.room-as, PieceSteps.children-grow}
+use Rattle.dom_model.proofs.Worlds.Owners.{kind-there}
 
 -- What a test picks.
-
-pub if_so : {A : Type 0} (t : Bool) (x y : A) → t ≡ true → (if t then x else y) ≡ x
-if_so t x y e = rw e refl
-
-pub if_not : {A : Type 0} (t : Bool) (x y : A) → t ≡ false → (if t then x else y) ≡ y
-if_not t x y e = rw e refl
 
 -- Numbers are never taken back.
 
@@ -95,16 +74,9 @@ room-within v whole step less r =
 
 -- A copy with a further fragment.
 
-document-there : (f : Forest Content) (d : ℕ) → is_of_kind Document f d ≡ true → 0 < occurs d f
-document-there f d k = occurs-HasNode f d (go (entry_in f d) k)
-  where
-    go : (o : Option (Entry (Node Content))) → entry_has (is_kind Document) o ≡ true → is_some o ≡ true
-    go None e = e
-    go (Some x) e = refl
-
 pub document-stays : (a b c : World) (d : ℕ) → StillHeld a b → KindsStay a b → KindsStay b c → is_of_kind Document a.tree.forest d ≡ true → is_of_kind Document c.tree.forest d ≡ true
 document-stays a b c d s i j k =
-    let h = document-there a.tree.forest d k in
+    let h = kind-there a.tree.forest d k in
     j (is_kind Document) d (s d h) ∙ i (is_kind Document) d h ∙ k
 
 module _ (v : World) (into n d copy : ℕ) (ec : copy ≡ v.tree.made) (ed : d ≡ document_in (entry_in v.tree.forest n)) where
@@ -224,7 +196,7 @@ module _ (v : World) (moves : Bool) (into offset n : ℕ) where
   module _ (is_data : kind_passes is_character_data v.tree.forest n ≡ true) (count : ℕ) (ec : count ≡ length (content_in (entry_in v.tree.forest n)).text - offset) where
     tail-units : (w : model.World) → Keeps v w → tail_into moves into offset (n ∷ []) w ≡ units_into moves into n offset count w
     tail-units w k =
-        if_so (kind_passes is_character_data w.forest n) _ _ (ap (λ (g : Forest Content). kind_passes is_character_data g n) k.forest ∙ is_data)
+        cond-true (kind_passes is_character_data w.forest n) _ _ (ap (λ (g : Forest Content). kind_passes is_character_data g n) k.forest ∙ is_data)
         ∙ ap (λ (c : ℕ). units_into moves into n offset c w) (ap (λ (g : Forest Content). length (content_in (entry_in g n)).text - offset) k.forest ∙ sym ec)
 
     pub room-tail_units : HasRoom v (tail_into moves into offset (n ∷ [])) → HasRoom v (units_into moves into n offset count)
@@ -239,7 +211,7 @@ module _ (v : World) (moves : Bool) (into offset n : ℕ) where
 
     tail-copy : (w : model.World) → Keeps v w → tail_into moves into offset (n ∷ []) w ≡ tail_copied w
     tail-copy w k =
-        if_not (kind_passes is_character_data w.forest n) _ _ (ap (λ (g : Forest Content). kind_passes is_character_data g n) k.forest ∙ other)
+        cond-false (kind_passes is_character_data w.forest n) _ _ (ap (λ (g : Forest Content). kind_passes is_character_data g n) k.forest ∙ other)
         ∙ ap (λ (ks : List ℕ). copy_into into n (λ inner u. children_into moves inner ks u) w) (ap (λ (g : Forest Content). drop offset (children_of g n)) k.forest ∙ sym ek)
 
     pub room-tail_copy : HasRoom v (tail_into moves into offset (n ∷ [])) → HasRoom v tail_copied

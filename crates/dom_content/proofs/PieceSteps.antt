@@ -1,36 +1,16 @@
 -- Pieces that go into a fragment: what is still held, and room for the numbers. DOM Standard, "Interface Range" (extract, clone the contents).
-use Rattle.std.proofs.Common.{◌≡◌, ℕ, ◌+◌, ◌-◌, ◌<◌, ◌≤◌, Bool, true, false, List, [], ◌∷◌, take, drop, length, min, slice_index_or, refl, ap, sym, ◌∙◌, subst, arith, length-drop, Some, None, IsSome, Option}
-use Rattle.std.specs.Prelude.{IfSome, OnOk, Result}
-use Rattle.dom_model.specs.Forests.Arena.{Entry}
-use Rattle.std.proofs.lemmas.List.{drop_more, take_min}
-use Rattle.std.proofs.lemmas.Result.{on_ok_weaker}
-use Rattle.dom_model.specs.Forests.Kinds.{is_character_data}
-use Rattle.dom_model.specs.Forests.Forest.{Node, Forest, empty, node, occurs, size, tree_at, map_nodes, entry_in, HasNode}
-use Rattle.dom_model.specs.Forests.Texts.{substring}
+use Rattle.std.proofs.Common.{◌≡◌, ℕ, ◌+◌, ◌-◌, ◌<◌, ◌≤◌, Bool, true, false, List, [], ◌∷◌, take, drop, length, min, slice_index_or, refl, ap, sym, ◌∙◌, subst, arith, length-drop, Some, None, IsSome, Option, IfSome, OnOk, Result}
+use Rattle.dom_model.specs.Definitions.{Entry, is_character_data, Node, Forest, empty, node, occurs, size, tree_at, map_nodes, entry_in, HasNode, substring, Content, made_node, kind_passes, entry_has, IsInsertable, append, nodes_of, document_in, node_document, content_in, data_of, with_data, alone_of, original, with_copies, clone_node, new_fragment, clone_with, cut_if, units_into, child_into, children_into}
+use Rattle.std.proofs.lemmas.{List.drop_more, List.take_min, Result.on_ok_weaker}
 use Rattle.dom_model.specs.Worlds.World as model
-use Rattle.dom_model.specs.Worlds.World.{Content, no_content}
-use Rattle.dom_model.specs.Worlds.Making.{made_node}
-use Rattle.dom_model.specs.Forests.Nodes.{kind_passes, entry_has}
-use Rattle.dom_model.specs.MutationAlgorithms.Insertable.{IsInsertable}
-use Rattle.dom_model.specs.MutationAlgorithms.Editing.{append, nodes_of, document_in, node_document}
-use Rattle.dom_model.specs.DataAndCopies.Data.{content_in, data_of, with_data}
-use Rattle.dom_model.specs.DataAndCopies.Clones.{alone_of, original, with_copies, clone_node}
-use Rattle.dom_model.specs.RangesAndContents.Contents.{new_fragment, clone_with, cut_if, units_into, child_into, children_into}
-use Rattle.dom_model.proofs.Forests.Entries.{occurs-HasNode, HasNode-occurs}
-use Rattle.dom_model.proofs.Forests.Standing.{Tree, tree_of}
+use Rattle.dom_model.proofs.Forests.{Entries.occurs-HasNode, Entries.HasNode-occurs, Standing.Tree, Standing.tree_of}
 use Rattle.dom_model.proofs.MutationAlgorithms.Extending.{Extends, extends-beside, put_by_insert}
 use Rattle.dom_model.proofs.Soundness.SoundAppending.{clone_copy, clone_with_copy, fragment_made}
-use Rattle.dom_model.proofs.Counting.CountsKept.{append-kept}
-use Rattle.dom_model.proofs.Counting.CountsOfData.{replace_data-kept}
-use Rattle.dom_edit.specs.declared.world.World.{World}
-use Rattle.dom_edit.specs.Whole.{IsWhole, Keeps, Follows, unwatched}
-use Rattle.dom_edit.proofs.Following.{follows-none, follows-then}
-use Rattle.dom_edit.proofs.InsertedNodes.{follows-as, forest-after}
-use Rattle.dom_edit.proofs.PlacedWorlds.{sound-unwatched}
-use Rattle.dom_content.specs.Paths.{HasRoom, StillHeld, Stays, KindsStay, DataStays}
-use Rattle.dom_content.specs.Coming.{AreOld, MayDraw}
-use Rattle.dom_content.proofs.StaysOf.{stays-none, stays-then}
-use Rattle.dom_content.proofs.Comings.{first-old, rest-old, one-old, old-there, holder-goes, old-goes, goes-child}
+use Rattle.dom_model.proofs.Counting.{CountsKept.append-kept, CountsOfData.replace_data-kept}
+use Rattle.dom_edit.specs.{declared.world.World.World, Whole.IsWhole, Whole.Keeps, Whole.Follows, Whole.unwatched}
+use Rattle.dom_edit.proofs.{Following.follows-none, Following.follows-then, InsertedNodes.follows-as, InsertedNodes.forest-after, PlacedWorlds.sound-unwatched}
+use Rattle.dom_content.specs.{Paths.HasRoom, Paths.StillHeld, Paths.Stays, Paths.KindsStay, Paths.DataStays, Coming.AreOld, Coming.MayDraw}
+use Rattle.dom_content.proofs.{StaysOf.stays-none, StaysOf.stays-then, Comings.first-old, Comings.rest-old, Comings.one-old, Comings.old-there, Comings.holder-goes, Comings.old-goes, Comings.goes-child}
 
 -- Room.
 

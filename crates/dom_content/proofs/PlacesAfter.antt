@@ -1,20 +1,9 @@
 -- Where both ends of a live range stand once its contents are gone. DOM Standard, "Interface Range".
 use Rattle.std.proofs.Common.{◌≡◌, ℕ, ◌+◌, ◌<◌, ◌==◌, Bool, true, false, List, [], ◌∷◌, ◌++◌, filter, find, length, Some, unwrap_or, option_and_then, option_map, refl, ap, sym, ◌∙◌, arith, length-append}
 use Rattle.std.proofs.lemmas.Bool.{false≢true}
-use Rattle.dom_model.specs.PlainLists.Lists.{hits, among, head_of}
-use Rattle.dom_model.specs.Forests.Forest.{Grove, IsForest, occurs, parent_of, index_of, ancestors}
-use Rattle.dom_model.specs.Worlds.World.{Content, Range}
-use Rattle.dom_model.specs.Soundness.Sound.{IsRange}
-use Rattle.dom_model.specs.MutationAlgorithms.Checks.{if_given}
-use Rattle.dom_model.specs.RangesAndContents.Ranges.{point_after, common_ancestor}
-use Rattle.dom_model.specs.RangesAndContents.Contents.{new_place}
-use Rattle.dom_model.proofs.PlainLists.Numbers.{same_or, same, apart}
-use Rattle.dom_model.proofs.PlainLists.Members.{hits-last_of}
-use Rattle.dom_model.proofs.Forests.Chains.{way}
-use Rattle.dom_model.proofs.Forests.Climbing.{among-hits, hits-among}
-use Rattle.dom_model.proofs.Forests.Entries.{occurs-HasNode}
-use Rattle.dom_model.proofs.Forests.Indices.{parent-there}
-use Rattle.dom_model.proofs.Forests.Paths.{parent-path}
+use Rattle.dom_model.specs.Definitions.{hits, among, head_of, Grove, IsForest, occurs, parent_of, index_of, ancestors, Content, Range, IsRange, if_given, point_after, common_ancestor, new_place}
+use Rattle.dom_model.proofs.PlainLists.{Numbers.same_or, Numbers.same, Numbers.apart, Members.hits-last_of}
+use Rattle.dom_model.proofs.Forests.{Chains.way, Climbing.among-hits, Climbing.hits-among, Entries.occurs-HasNode, Indices.parent-there, Paths.parent-path}
 use Rattle.dom_model.proofs.BoundaryPoints.RemovalOrder.{ancestors-split}
 use Rattle.dom_model.proofs.RangesAndContents.NewPlaces.{IsMeeting, meeting}
 

@@ -1,16 +1,8 @@
 -- A point at a node stands to the points at a node that is not inside it as each other point at it does. DOM Standard, "Boundary points".
-use Rattle.std.proofs.Common.{◌≡◌, ℕ, ◌+◌, ◌*◌, ◌<◌, ◌≤◌, nat_lt, Bool, false, if◌then◌else◌, List, [], ◌∷◌, ◌++◌, ap, sym, ◌∙◌}
-use Rattle.std.specs.declared.cmp.Ordering.TheVariants.{Less, Greater}
+use Rattle.std.proofs.Common.{◌≡◌, ℕ, ◌+◌, ◌*◌, ◌<◌, ◌≤◌, nat_lt, Bool, false, if◌then◌else◌, List, [], ◌∷◌, ◌++◌, ap, sym, ◌∙◌, Less, Greater}
 use Rattle.std.proofs.lemmas.Bool.{false≢true}
-use Rattle.dom_model.specs.PlainLists.Lists.{hits, among}
-use Rattle.dom_model.specs.Forests.Forest.{Forest, occurs, index_of, ancestors, root_of}
-use Rattle.dom_model.specs.Worlds.World.{Content}
-use Rattle.dom_model.specs.BoundaryPoints.Points.{path_places, order_of}
-use Rattle.dom_model.specs.RangesAndContents.Ranges.{common_ancestor}
-use Rattle.dom_model.specs.RangesAndContents.Contents.{path_below}
-use Rattle.dom_model.specs.Forests.Ways.{IsWay}
-use Rattle.dom_model.proofs.Forests.Chains.{index-apart}
-use Rattle.dom_model.proofs.Forests.Climbing.{hits-among, hits-first}
+use Rattle.dom_model.specs.Definitions.{hits, among, Forest, occurs, index_of, ancestors, root_of, Content, path_places, order_of, common_ancestor, path_below, IsWay}
+use Rattle.dom_model.proofs.Forests.{Chains.index-apart, Climbing.hits-among, Climbing.hits-first}
 use Rattle.dom_model.proofs.BoundaryPoints.OrderByWays.{path-through, order-below, order-beside}
 use Rattle.dom_model.proofs.RangesAndContents.WaysBelow.{fork, way-above}
 

@@ -2,21 +2,12 @@
 use Rattle.std.proofs.Common.{◌≡◌, ℕ, ◌-◌, ◌<◌, ◌≤◌, ◌==◌, Bool, true, false, ◌&&◌, if◌then◌else◌, List, [], ◌∷◌, ◌++◌, length, filter, flat_map, Some, refl, ap, sym, ◌∙◌, subst, append_assoc, cond, arith, ⊎_elim}
 use Rattle.std.proofs.lemmas.Bool.{false≢true, cases_lt}
 use Rattle.dom_model.specs.declared.Kind.TheVariants.{Text}
-use Rattle.dom_model.specs.Forests.Forest.{Forest, Grove, numbers, entry_in}
-use Rattle.dom_model.specs.Worlds.Lengths.{unit_count}
-use Rattle.dom_model.specs.Worlds.World.{Content, Point, Range}
-use Rattle.dom_model.specs.Soundness.Sound.{IsRange}
-use Rattle.dom_model.specs.BoundaryPoints.Points.{order_of}
-use Rattle.dom_model.specs.Forests.Nodes.{is_of_kind}
-use Rattle.dom_model.specs.RangesAndContents.Ranges.{is_contained}
-use Rattle.dom_model.specs.RangesAndContents.Contents.{contained_in, range_text, text_between}
-use Rattle.dom_model.specs.DataAndCopies.Data.{content_in, joined_data}
+use Rattle.dom_model.specs.Definitions.{Forest, Grove, numbers, entry_in, unit_count, Content, Point, Range, IsRange, order_of, is_of_kind, is_contained, contained_in, range_text, text_between, content_in, joined_data}
 use Rattle.dom_model.proofs.PlainLists.Numbers.{same_or, same, apart}
 use Rattle.dom_model.proofs.BoundaryPoints.PointOrder.{nat_cmp-greater, order-one_node}
 use Rattle.dom_model.proofs.TokenText.EditsMade.EditsOfDrawnContents.{sound-range}
 use Rattle.dom_ranges.specs.Tables.{range_in}
-use Rattle.dom_edit.specs.declared.world.World.{World}
-use Rattle.dom_edit.specs.Whole.{IsWhole, unwatched}
+use Rattle.dom_edit.specs.{declared.world.World.World, Whole.IsWhole, Whole.unwatched}
 use Rattle.dom_data.proofs.StaysWhole.{sound-unwatched}
 use Rattle.dom_content.specs.Texts.{part_of, text_within, texts_within}
 use Rattle.dom_content.proofs.PartsBetween.{TellsContained}

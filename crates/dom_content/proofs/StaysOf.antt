@@ -2,37 +2,17 @@
 -- (extract, clone the contents), "Live ranges".
 use Rattle.std.proofs.Common.{◌≡◌, ℕ, zero, suc, ◌<◌, ◌≤◌, Bool, true, false, if◌then◌else◌, List, [], ◌∷◌, length, Option, Some, None, IsSome, refl, ap, sym, ◌∙◌, subst, arith, ⊎_elim}
 use Rattle.std.proofs.lemmas.Bool.{cases_lt, false≢true}
-use Rattle.dom_model.specs.PlainLists.Lists.{hits, last_of}
-use Rattle.dom_model.specs.Forests.Forest.{Forest, occurs, beside, parent_of, children_of, ancestors, root_of}
-use Rattle.dom_model.specs.Forests.Texts.{spliced}
+use Rattle.dom_model.specs.Definitions.{hits, last_of, Forest, occurs, beside, parent_of, children_of, ancestors, root_of, spliced, Content, Range, is_fragment, nodes_of, append, IsInsertable, cut_count, data_of, with_data, replace_data, clone_node, new_fragment, clone_with}
 use Rattle.dom_model.specs.Worlds.World as model
-use Rattle.dom_model.specs.Worlds.World.{Content, Range}
-use Rattle.dom_model.specs.MutationAlgorithms.Editing.{is_fragment, nodes_of, append}
-use Rattle.dom_model.specs.MutationAlgorithms.Insertable.{IsInsertable}
-use Rattle.dom_model.specs.DataAndCopies.Data.{cut_count, data_of, with_data, replace_data}
-use Rattle.dom_model.specs.DataAndCopies.Clones.{clone_node}
-use Rattle.dom_model.specs.RangesAndContents.Contents.{new_fragment, clone_with}
-use Rattle.dom_model.proofs.PlainLists.Members.{hits-last_of}
-use Rattle.dom_model.proofs.PlainLists.Numbers.{same_or, same, apart}
-use Rattle.dom_model.proofs.Forests.Chains.{root-child, way}
-use Rattle.dom_model.proofs.Forests.Changes.{seen, nothing, just}
-use Rattle.dom_model.proofs.Forests.Entries.{HasNode-occurs}
-use Rattle.dom_model.proofs.Forests.Indices.{child-parent, parent-there}
-use Rattle.dom_model.proofs.Forests.Paths.{parent-path, root-path}
-use Rattle.dom_model.proofs.Forests.ToTheRoot.{root-top, root-parent}
-use Rattle.dom_model.proofs.Forests.Tops.{hits-tops}
-use Rattle.dom_model.proofs.Forests.WaysMeeting.{above-root}
+use Rattle.dom_model.proofs.PlainLists.{Members.hits-last_of, Numbers.same_or, Numbers.same, Numbers.apart}
+use Rattle.dom_model.proofs.Forests.{Chains.root-child, Chains.way, Changes.seen, Changes.nothing, Changes.just, Entries.HasNode-occurs, Indices.child-parent, Indices.parent-there, Paths.parent-path, Paths.root-path, ToTheRoot.root-top, ToTheRoot.root-parent, Tops.hits-tops, WaysMeeting.above-root}
 use Rattle.dom_model.proofs.Worlds.SameShape.{IsAlike, parent-alike, with_node-alike}
 use Rattle.dom_model.proofs.MutationAlgorithms.Extending.{Extends, IsPut, extends-beside, put_by_insert}
 use Rattle.dom_model.proofs.RangesAndContents.RangesElsewhere.{ends_of}
 use Rattle.dom_ranges.specs.Tables.{live_nodes}
-use Rattle.dom_edit.specs.declared.world.World.{World}
-use Rattle.dom_edit.specs.Whole.{IsWhole, Follows, unwatched}
-use Rattle.dom_edit.proofs.Following.{keeps-unwatched}
-use Rattle.dom_edit.specs.Inserting.{IsUnreferred}
-use Rattle.dom_edit.proofs.PlacedWorlds.{sound-unwatched}
-use Rattle.dom_content.specs.Paths.{EndsStayOut, Stays}
-use Rattle.dom_content.specs.Coming.{IsRising}
+use Rattle.dom_edit.specs.{declared.world.World.World, Whole.IsWhole, Whole.Follows, Whole.unwatched, Inserting.IsUnreferred}
+use Rattle.dom_edit.proofs.{Following.keeps-unwatched, PlacedWorlds.sound-unwatched}
+use Rattle.dom_content.specs.{Paths.EndsStayOut, Paths.Stays, Coming.IsRising}
 use Rattle.dom_content.proofs.EndsOut.{rooted-there, live-there, AreUnder, under-append, under-beside, under-replaced}
 
 -- One step after another.

@@ -1,21 +1,11 @@
 -- The contained nodes whose parents are not contained, gathered along the paths to the ends of a range. DOM Standard, "Interface Range".
 use Rattle.std.proofs.Common.{◌≡◌, ℕ, ◌+◌, ◌<◌, List, [], ◌∷◌, ◌++◌, take, drop, filter, length, slice_index_or, ap, sym, ◌∙◌, arith, append_assoc}
 use Rattle.std.proofs.lemmas.List.{take-append-drop}
-use Rattle.dom_model.specs.PlainLists.Lists.{hits, past, up_to}
-use Rattle.dom_model.specs.Forests.Forest.{HasNode, children_of}
-use Rattle.dom_model.specs.Worlds.Lengths.{unit_count}
+use Rattle.dom_model.specs.Definitions.{hits, past, up_to, HasNode, children_of, unit_count, Range, IsRange, is_contained, common_ancestor, path_below, contained_tops, tail_nodes, head_nodes}
 use Rattle.dom_model.specs.Worlds.World as model
-use Rattle.dom_model.specs.Worlds.World.{Range}
-use Rattle.dom_model.specs.Soundness.Sound.{IsRange}
-use Rattle.dom_model.specs.RangesAndContents.Ranges.{is_contained, common_ancestor}
-use Rattle.dom_model.specs.RangesAndContents.Contents.{path_below, contained_tops}
-use Rattle.dom_model.specs.RangesAndContents.BesidePaths.{tail_nodes, head_nodes}
-use Rattle.dom_model.proofs.Forests.Climbing.{hits-append, hits-first}
-use Rattle.dom_model.proofs.Forests.Entries.{HasNode-occurs}
+use Rattle.dom_model.proofs.Forests.{Climbing.hits-append, Climbing.hits-first, Entries.HasNode-occurs}
 use Rattle.dom_model.proofs.TokenText.Contents.TopsByParts.{tops-by_parts}
-use Rattle.dom_edit.specs.declared.world.World.{World}
-use Rattle.dom_edit.specs.Inserting.{AreThere}
-use Rattle.dom_edit.specs.Whole.{IsWhole, unwatched}
+use Rattle.dom_edit.specs.{declared.world.World.World, Inserting.AreThere, Whole.IsWhole, Whole.unwatched}
 use Rattle.dom_data.proofs.StaysWhole.{sound-unwatched}
 use Rattle.dom_content.specs.Drawing.{AreParts}
 use Rattle.dom_content.proofs.PathLists.{listed, none-left}

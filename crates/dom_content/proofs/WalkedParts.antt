@@ -2,23 +2,11 @@
 use Rattle.std.proofs.Common.{◌≡◌, ℕ, ◌<◌, ◌≤◌, ◌==◌, true, false, List, [], ◌∷◌, ◌++◌, length, flat_map, Some, None, ap, sym, ◌∙◌, subst, arith, ◌⊎◌, inl, inr, ⊎_elim}
 use Rattle.std.specs.Ordering.{nat_cmp}
 use Rattle.std.proofs.lemmas.Bool.{cases_lt, false≢true}
-use Rattle.dom_model.specs.PlainLists.Lists.{hits, after, from_first}
-use Rattle.dom_model.specs.Forests.Forest.{Grove, IsForest, HasNode, numbers, tree_at, root_of, inclusive_descendants}
-use Rattle.dom_model.specs.Worlds.Lengths.{node_length, unit_count}
-use Rattle.dom_model.specs.Worlds.World.{Content, Point, Range}
-use Rattle.dom_model.specs.Soundness.Sound.{IsRange}
-use Rattle.dom_model.specs.BoundaryPoints.Points.{order_of}
-use Rattle.dom_model.specs.RangesAndContents.Ranges.{is_less, is_before}
+use Rattle.dom_model.specs.Definitions.{hits, after, from_first, Grove, IsForest, HasNode, numbers, tree_at, root_of, inclusive_descendants, node_length, unit_count, Content, Point, Range, IsRange, order_of, is_less, is_before}
 use Rattle.dom_model.proofs.PlainLists.Numbers.{same_or, same, apart}
-use Rattle.dom_model.proofs.Forests.Changes.{seen, nothing, just}
-use Rattle.dom_model.proofs.Forests.Entries.{occurs-HasNode}
-use Rattle.dom_model.proofs.Forests.TreeOrder.Flattened.{hits-numbers}
+use Rattle.dom_model.proofs.Forests.{Changes.seen, Changes.nothing, Changes.just, Entries.occurs-HasNode, TreeOrder.Flattened.hits-numbers, TreeOrder.InsideWalks.rest-next, TreeOrder.InsideWalks.rest-end}
 use Rattle.dom_model.proofs.BoundaryPoints.PointOrder.{nat_cmp-greater}
-use Rattle.dom_model.proofs.Forests.TreeOrder.InsideWalks.{rest-next, rest-end}
-use Rattle.dom_content.proofs.AlongGaps.{gap, before, not-before, is-before, isnt-before, order-is, there, step, walk-at, later}
-use Rattle.dom_content.proofs.NodesAhead.{IsAheadOf}
-use Rattle.dom_content.proofs.NodesInOrder.{ahead-after}
-use Rattle.dom_content.proofs.PartsBetween.{IsTold, TellsContained, told-start, told-next, told-stop, told-end}
+use Rattle.dom_content.proofs.{AlongGaps.gap, AlongGaps.before, AlongGaps.not-before, AlongGaps.is-before, AlongGaps.isnt-before, AlongGaps.order-is, AlongGaps.there, AlongGaps.step, AlongGaps.walk-at, AlongGaps.later, NodesAhead.IsAheadOf, NodesInOrder.ahead-after, PartsBetween.IsTold, PartsBetween.TellsContained, PartsBetween.told-start, PartsBetween.told-next, PartsBetween.told-stop, PartsBetween.told-end}
 
 -- of two numbers of a list one comes from the other on
 one-from : (x y : ℕ) (ns : List ℕ) → 0 < hits x ns → 0 < hits y ns → (0 < hits y (from_first x ns)) ⊎ (0 < hits x (from_first y ns))

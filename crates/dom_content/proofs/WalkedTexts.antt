@@ -2,26 +2,13 @@
 use Rattle.std.proofs.Common.{◌≡◌, ℕ, ◌-◌, true, false, List, [], ◌∷◌, length, Option, Some, None, refl, ap, sym, arith, take_all, ⊎_elim}
 use Rattle.std.proofs.lemmas.Bool.{cases_Bool, false≢true}
 use Rattle.dom_model.specs.declared.Kind.TheVariants.{Text}
-use Rattle.dom_model.specs.PlainLists.Lists.{hits, among}
-use Rattle.dom_model.specs.Forests.Arena.{Entry}
-use Rattle.dom_model.specs.Forests.Kinds.{is_kind, is_character_data}
-use Rattle.dom_model.specs.Forests.Forest.{Node, Grove, IsForest, HasNode, children_of, entry_in, ancestors, root_of}
-use Rattle.dom_model.specs.Worlds.World.{Content, Range}
-use Rattle.dom_model.specs.Soundness.Sound.{IsRange}
-use Rattle.dom_model.specs.Forests.Nodes.{entry_has, is_of_kind}
-use Rattle.dom_model.specs.RangesAndContents.Ranges.{is_before}
-use Rattle.dom_model.specs.RangesAndContents.Contents.{path_below}
-use Rattle.dom_model.specs.DataAndCopies.Data.{content_in}
-use Rattle.dom_model.specs.Forests.Ways.{IsWay}
-use Rattle.dom_model.proofs.Forests.Climbing.{hits-among, hits-self, among-hits}
-use Rattle.dom_model.proofs.Forests.Entries.{occurs-HasNode}
-use Rattle.dom_model.proofs.Forests.Indices.{child-listed}
+use Rattle.dom_model.specs.Definitions.{hits, among, Entry, is_kind, is_character_data, Node, Grove, IsForest, HasNode, children_of, entry_in, ancestors, root_of, Content, Range, IsRange, entry_has, is_of_kind, is_before, path_below, content_in, IsWay}
+use Rattle.dom_model.proofs.Forests.{Climbing.hits-among, Climbing.hits-self, Climbing.among-hits, Entries.occurs-HasNode, Indices.child-listed}
 use Rattle.dom_model.proofs.RangesAndContents.WaysBelow.{way-below}
 use Rattle.dom_model.proofs.Soundness.SoundForests.{data-childless}
 use Rattle.dom_model.proofs.TokenText.Contents.TextTold.{text-kind}
 use Rattle.dom_content.specs.Texts.{part_of, text_within}
-use Rattle.dom_content.proofs.RangeTexts.{texts-contained}
-use Rattle.dom_content.proofs.ContainedBetween.{within-contained, above-not_contained}
+use Rattle.dom_content.proofs.{RangeTexts.texts-contained, ContainedBetween.within-contained, ContainedBetween.above-not_contained}
 
 -- a Text has no children, so that it is above no other node
 text-above : (g : Grove Content) → IsForest g → (n m : ℕ) → HasNode g.forest m → is_of_kind Text g.forest n ≡ true → (n ≡ m → ⊥) → among n (ancestors m g.forest) ≡ false

@@ -1,25 +1,15 @@
 -- A new Text behind the one that is split: what it is asked, and where it comes to stand.
-use Rattle.std.proofs.Common.{◌≡◌, ℕ, ◌+◌, ◌-◌, ◌<◌, ◌≤◌, true, false, List, [], length, Some, ap, sym, ◌∙◌, subst, arith}
-use Rattle.std.specs.Prelude.{IfSome}
+use Rattle.std.proofs.Common.{◌≡◌, ℕ, ◌+◌, ◌-◌, ◌<◌, ◌≤◌, true, false, List, [], length, Some, ap, sym, ◌∙◌, subst, arith, IfSome}
 use Rattle.dom_model.specs.declared.Kind.TheVariants.{Text}
-use Rattle.dom_model.specs.Forests.Forest.{Forest, empty, node, HasNode, occurs, entry_in, parent_of, children_of, next_of, index_of}
+use Rattle.dom_model.specs.Definitions.{Forest, empty, node, HasNode, occurs, entry_in, parent_of, children_of, next_of, index_of, Content, is_of_kind, document_in, insert, node_document, made_node, named, with_text, data_of, IsInsertable}
 use Rattle.dom_model.specs.Worlds.World as model
-use Rattle.dom_model.specs.Worlds.World.{Content}
-use Rattle.dom_model.specs.Forests.Nodes.{is_of_kind}
-use Rattle.dom_model.specs.MutationAlgorithms.Editing.{document_in, insert, node_document}
-use Rattle.dom_model.specs.Worlds.Making.{made_node, named, with_text}
-use Rattle.dom_model.specs.DataAndCopies.Data.{data_of}
 use Rattle.dom_model.proofs.Forests.Entries.{occurs-HasNode, HasNode-occurs}
-use Rattle.dom_model.specs.MutationAlgorithms.Insertable.{IsInsertable}
 use Rattle.dom_model.proofs.Worlds.Measured.{entry-beside, parent-beside}
 use Rattle.dom_ranges.specs.Tables.{IsCovered}
-use Rattle.dom_edit.specs.declared.world.World.{World}
-use Rattle.dom_edit.specs.Whole.{IsWhole, Keeps, Follows, unwatched}
+use Rattle.dom_edit.specs.{declared.world.World.World, Whole.IsWhole, Whole.Keeps, Whole.Follows, Whole.unwatched}
 use Rattle.dom_edit.proofs.Following.{keeps-unwatched}
 use Rattle.dom_data.specs.Tails.{IsTail, HasRoom}
-use Rattle.dom_data.proofs.StaysWhole.{sound-unwatched}
-use Rattle.dom_data.proofs.Parting.{text-held}
-use Rattle.dom_data.proofs.MovedTail.{drop-all}
+use Rattle.dom_data.proofs.{StaysWhole.sound-unwatched, Parting.text-held, MovedTail.drop-all}
 use Rattle.dom_data.proofs.SoundParting as parting
 
 -- an empty Text was made

@@ -1,17 +1,9 @@
 -- Changes of the nodes of one number that agree on the node that stands in the forest.
-use Rattle.std.proofs.Common.{◌≡◌, ℕ, List, Option, Some, None, IsSome, refl, ap, sym, ◌∙◌, subst}
-use Rattle.std.specs.Prelude.{IfSome}
+use Rattle.std.proofs.Common.{◌≡◌, ℕ, List, Option, Some, None, IsSome, refl, ap, sym, ◌∙◌, subst, IfSome}
 use Rattle.std.proofs.lemmas.Bool.{false≢true}
-use Rattle.dom_model.specs.Forests.Attributes.{Attribute}
-use Rattle.dom_model.specs.Worlds.World.{Content}
-use Rattle.dom_model.specs.DataAndCopies.Data.{content_in, with_data, with_attributes}
-use Rattle.dom_model.specs.Forests.Arena.{Entry}
-use Rattle.dom_model.specs.Forests.Forest.{Node, Forest, empty, node, entry_in, HasNode, with_node}
-use Rattle.dom_model.specs.Forests.EachNode.{EachNode}
-use Rattle.dom_model.specs.Forests.Lies.{Lies}
+use Rattle.dom_model.specs.Definitions.{Attribute, Content, content_in, with_data, with_attributes, Entry, Node, Forest, empty, node, entry_in, HasNode, with_node, EachNode, Lies}
 use Rattle.dom_model.proofs.PlainLists.Numbers.{same_or, same, apart}
-use Rattle.dom_model.proofs.Forests.Totals.{IsOnce}
-use Rattle.dom_model.proofs.Forests.Entries.{Lies-entry_in}
+use Rattle.dom_model.proofs.Forests.{Totals.IsOnce, Entries.Lies-entry_in}
 
 module _ {X : Type 0} where
   with_node-lies : (n : ℕ) (h k : Node X → Node X) (at : (ℕ → Option (Entry (Node X)))) → ((e : Entry (Node X)) → at n ≡ Some e → h e.value ≡ k e.value) → (q : Option ℕ) (f : Forest X) → Lies at q f → with_node n h f ≡ with_node n k f

@@ -1,22 +1,14 @@
 -- The Texts that follow a Text among its siblings, found one after another, and their data.
 use Rattle.std.proofs.Common.{◌≡◌, ℕ, zero, suc, ◌+◌, ◌<◌, ◌≤◌, Bool, true, false, if◌then◌else◌, List, [], ◌∷◌, ◌++◌, drop, length, slice_index_or, take_while, Option, Some, None, refl, ap, sym, ◌∙◌, subst, append_assoc, append-nil, length-drop, cond, arith}
-use Rattle.std.proofs.lemmas.List.{drop_more}
-use Rattle.std.proofs.lemmas.List.Sums.{take_while-cons}
+use Rattle.std.proofs.lemmas.{List.drop_more, List.Sums.take_while-cons}
 use Rattle.dom_model.specs.declared.Kind.TheVariants.{Text}
-use Rattle.dom_model.specs.PlainLists.Lists.{hits, after, head_of, past}
-use Rattle.dom_model.specs.Forests.Arena.{list_under, siblings_in}
-use Rattle.dom_model.specs.Forests.Forest.{Forest, Grove, IsForest, HasNode, entry_in, parent_of, next_of}
-use Rattle.dom_model.specs.Worlds.World.{Content}
-use Rattle.dom_model.specs.Forests.Nodes.{is_of_kind}
-use Rattle.dom_model.specs.DataAndCopies.Data.{content_in}
+use Rattle.dom_model.specs.Definitions.{hits, after, head_of, past, list_under, siblings_in, Forest, Grove, IsForest, HasNode, entry_in, parent_of, next_of, Content, is_of_kind, content_in}
 use Rattle.dom_model.proofs.PlainLists.Numbers.{same_or, same, apart}
-use Rattle.dom_model.proofs.Forests.Climbing.{hits-append, hits-first}
-use Rattle.dom_model.proofs.Forests.Indices.{child-once}
-use Rattle.dom_model.proofs.Forests.PutBack.{hits-after, hits-head_of}
-use Rattle.dom_model.proofs.Forests.Listed.{front}
+use Rattle.dom_model.proofs.Forests.{Climbing.hits-append, Climbing.hits-first, Indices.child-once, PutBack.hits-after, PutBack.hits-head_of, Listed.front}
 use Rattle.dom_tree.proofs.Beside.{forward-step}
 use Rattle.dom_data.specs.Joining.{if_text, next_text, texts_behind, data_among}
 use Rattle.dom_data.proofs.Parting.{text-held}
+use Rattle.dom_model.proofs.Traversal.IteratorSteps.{past-end}
 
 -- What is past a number in a list.
 
@@ -45,18 +37,6 @@ past-after n m (x ∷ xs) o e =
     first (z ∷ zs) h =
         let d : z ≡ m = cc h in
         elim (same_or z m) [ same _ t ↦ rw t (ap (λ k. k ∷ zs) d) | apart ne t ↦ absurd (ne d) ]
-
-past-last : (n : ℕ) (l : List ℕ) → after n l ≡ None → past n l ≡ []
-past-last n [] e = refl
-past-last n (x ∷ xs) e =
-    elim (same_or x n) [
-      | same d t ↦ (let k = rw t at e in rw t (none xs k))
-      | apart ne t ↦ (let k = rw t at e in rw t (past-last n xs k))
-    ]
-  where
-    none : (ys : List ℕ) → head_of ys ≡ None → ys ≡ []
-    none [] z = refl
-    none (y ∷ ys) z = absurd (cc z)
 
 -- What a step finds.
 
@@ -90,7 +70,7 @@ none-while f n all once e = go (after n all) refl e
     test d false t k = t
 
     go : (o : Option ℕ) → after n all ≡ o → if_text f o ≡ None → take_while (is_of_kind Text f) (past n all) ≡ []
-    go None a k = ap (take_while (is_of_kind Text f)) (past-last n all a)
+    go None a k = ap (take_while (is_of_kind Text f)) (past-end n all a)
     go (Some d) a k =
         ap (take_while (is_of_kind Text f)) (past-after n d all (once d) a)
         ∙ take_while-cons (is_of_kind Text f) d (past d all)

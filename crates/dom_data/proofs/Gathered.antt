@@ -1,21 +1,12 @@
 -- The data of the Texts below a node, gathered along tree order.
-use Rattle.std.proofs.Common.{◌≡◌, ℕ, ◌<◌, Bool, true, false, if◌then◌else◌, List, [], ◌∷◌, ◌++◌, drop, length, filter, Option, Some, None, refl, ap, sym, ◌∙◌, subst, append_assoc, append-nil, cond, arith}
-use Rattle.std.specs.Prelude.{IfSome, IsSome}
+use Rattle.std.proofs.Common.{◌≡◌, ℕ, ◌<◌, Bool, true, false, if◌then◌else◌, List, [], ◌∷◌, ◌++◌, drop, length, filter, Option, Some, None, refl, ap, sym, ◌∙◌, subst, append_assoc, append-nil, cond, arith, IfSome, IsSome}
 use Rattle.std.proofs.lemmas.Bool.{false≢true}
-use Rattle.dom_model.specs.declared.Kind.{Kind}
-use Rattle.dom_model.specs.Forests.Arena.{Entry}
-use Rattle.dom_model.specs.declared.Kind.TheVariants.{Element, Text, ProcessingInstruction, Comment, Document, DocumentType, DocumentFragment}
-use Rattle.dom_model.specs.PlainLists.Lists.{hits, after, from_first}
-use Rattle.dom_model.specs.Forests.Forest.{Node, Forest, Grove, IsForest, HasNode, entry_in, inclusive_descendants}
-use Rattle.dom_model.specs.Worlds.World.{Content}
-use Rattle.dom_model.specs.Forests.Nodes.{is_of_kind}
-use Rattle.dom_model.specs.DataAndCopies.Data.{content_in, joined_data, descendant_text, text_content, text_content_by, by_kind}
+use Rattle.dom_model.specs.declared.{Kind.Kind, Kind.TheVariants.Element, Kind.TheVariants.Text, Kind.TheVariants.ProcessingInstruction, Kind.TheVariants.Comment, Kind.TheVariants.Document, Kind.TheVariants.DocumentType, Kind.TheVariants.DocumentFragment}
+use Rattle.dom_model.specs.Definitions.{Entry, hits, after, from_first, Node, Forest, Grove, IsForest, HasNode, entry_in, inclusive_descendants, Content, is_of_kind, content_in, joined_data, descendant_text, text_content, text_content_by, by_kind}
 use Rattle.dom_model.proofs.Forests.TreeOrder.InsideWalks.{IsAt, from-top, at-top, at-next, here-inside, rest-next, rest-end}
 use Rattle.dom_model.proofs.PlainLists.Numbers.{same_or, same, apart}
-use Rattle.dom_edit.specs.declared.world.World.{World}
-use Rattle.dom_edit.specs.Whole.{unwatched}
-use Rattle.dom_data.specs.Gathering.{text_at, gathered}
-use Rattle.dom_data.specs.TextContent.{may_hold_text}
+use Rattle.dom_edit.specs.{declared.world.World.World, Whole.unwatched}
+use Rattle.dom_data.specs.{Gathering.text_at, Gathering.gathered, TextContent.may_hold_text}
 
 -- the walk has come to a node, and the text is what was gathered up to it
 pub record IsGathering (g : Grove Content) (top here : ℕ) (text : List ℕ) : Type 0 where

@@ -1,10 +1,6 @@
 -- The Texts that follow a Text may be joined to it one after another: each leaves once the ends in it have moved.
 use Rattle.std.proofs.Common.{◌≡◌, ℕ, ◌+◌, false, List, [], ◌∷◌, length, Option, Some, None, refl, ap, sym, ◌∙◌}
-use Rattle.dom_model.specs.Forests.Forest.{parent_of}
-use Rattle.dom_model.specs.Worlds.World.{Observing, World}
-use Rattle.dom_model.specs.MutationAlgorithms.Editing.{removed_from, remove}
-use Rattle.dom_model.specs.DataAndCopies.Data.{data_of, merged_ends, merge_ends, remove_each}
-use Rattle.dom_model.specs.DataAndCopies.Joinable.{AreJoinable}
+use Rattle.dom_model.specs.Definitions.{parent_of, Observing, World, removed_from, remove, data_of, merged_ends, merge_ends, remove_each, AreJoinable}
 use Rattle.dom_model.proofs.Soundness.SoundJoining.{merged_is, in_either_order, joinable_left, left}
 use Rattle.dom_data.specs.Joining.{taken_in, each_taken_in}
 

@@ -2,22 +2,14 @@
 use Rattle.std.proofs.Common.{◌≡◌, ℕ, true, List, [], length, Some, None, refl, ap, sym, ◌∙◌, subst, arith}
 use Rattle.std.proofs.lemmas.Bool.Decides.{nat_tests}
 use Rattle.dom_model.specs.declared.Kind.TheVariants.{Text}
-use Rattle.dom_model.specs.Forests.Forest.{Forest, entry_in, parent_of}
+use Rattle.dom_model.specs.Definitions.{Forest, entry_in, parent_of, Content, is_of_kind, content_in, data_of, cut_count, data_record, replace_units, replace_data, following_texts, joined_data, join_following, AreJoinable}
 use Rattle.dom_model.specs.Worlds.World as model
-use Rattle.dom_model.specs.Worlds.World.{Content}
-use Rattle.dom_model.specs.Forests.Nodes.{is_of_kind}
-use Rattle.dom_model.specs.DataAndCopies.Data.{content_in, data_of, cut_count, data_record, replace_units, replace_data, following_texts, joined_data, join_following}
-use Rattle.dom_model.specs.DataAndCopies.Joinable.{AreJoinable}
 use Rattle.dom_model.proofs.Forests.Entries.{occurs-HasNode}
 use Rattle.dom_model.proofs.Soundness.SoundNormalizing.{joinable}
-use Rattle.dom_edit.specs.declared.world.World.{World}
-use Rattle.dom_edit.specs.Whole.{IsWhole, Keeps, Follows, unwatched}
+use Rattle.dom_edit.specs.{declared.world.World.World, Whole.IsWhole, Whole.Keeps, Whole.Follows, Whole.unwatched}
 use Rattle.dom_edit.proofs.Following.{follows-then, keeps-unwatched}
 use Rattle.dom_data.specs.Joining.{texts_behind, data_among, each_taken_in}
-use Rattle.dom_data.proofs.Parting.{text-held}
-use Rattle.dom_data.proofs.StaysWhole.{sound-unwatched, follows-alike}
-use Rattle.dom_data.proofs.JoinedInTurn.{joined_at_once, watched_by, in_turn}
-use Rattle.dom_data.proofs.TakenIn.{joinable-kept}
+use Rattle.dom_data.proofs.{Parting.text-held, StaysWhole.sound-unwatched, StaysWhole.follows-alike, JoinedInTurn.joined_at_once, JoinedInTurn.watched_by, JoinedInTurn.in_turn, TakenIn.joinable-kept}
 
 -- Units behind the last one.
 

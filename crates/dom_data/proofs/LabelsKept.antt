@@ -1,19 +1,12 @@
 -- Steps after which each node that was held is held, with its label and its attributes.
 use Rattle.std.proofs.Common.{◌≡◌, ℕ, ◌==◌, Bool, true, false, if◌then◌else◌, List, Option, Some, None, refl, ap, ◌∙◌}
-use Rattle.dom_model.specs.Forests.Arena.{Entry}
-use Rattle.dom_model.specs.Forests.Forest.{Node, Forest, Grove, entry_in, with_node}
-use Rattle.dom_model.specs.Worlds.World.{Content, Point}
-use Rattle.dom_model.specs.BoundaryPoints.Points.{map_ranges}
-use Rattle.dom_model.specs.DataAndCopies.Data.{with_data}
+use Rattle.dom_model.specs.Definitions.{Entry, Node, Forest, Grove, entry_in, with_node, Content, Point, map_ranges, with_data}
 use Rattle.dom_model.proofs.Forests.Changes.{change_at}
 use Rattle.dom_model.proofs.MutationAlgorithms.Extending.{tag_in, tag_at}
 use Rattle.dom_model.proofs.Worlds.Measured.{entry-with_node}
 use Rattle.dom_ranges.specs.Tables.{RangeTable}
-use Rattle.dom_edit.specs.declared.world.World.{World}
-use Rattle.dom_edit.specs.Keeping.{present, KeepsWatchers, KeepsNodes}
-use Rattle.dom_edit.proofs.LabelsKept.{labelled-there}
-use Rattle.dom_edit.proofs.NodesKept.{labels-then, nodes-then, nodes-same, nodes-none, nodes-ranged}
-use Rattle.dom_edit.proofs.WatchersKept.{present-moved}
+use Rattle.dom_edit.specs.{declared.world.World.World, Keeping.present, Keeping.KeepsWatchers, Keeping.KeepsNodes}
+use Rattle.dom_edit.proofs.{LabelsKept.labelled-there, NodesKept.labels-then, NodesKept.nodes-then, NodesKept.nodes-same, NodesKept.nodes-none, NodesKept.nodes-ranged, WatchersKept.present-moved}
 use Rattle.dom_data.specs.Keeping.{KeepsNumbers}
 
 pub numbers-kept : (a b : World) → KeepsNodes a b → KeepsNumbers a b

@@ -1,23 +1,12 @@
 -- The edits of data put each marker where the end of its live range then stands.
 use Rattle.std.proofs.Common.{◌≡◌, ℕ, ◌≤◌, true, List, length, arith}
 use Rattle.dom_model.specs.declared.Kind.TheVariants.{Text}
-use Rattle.dom_model.specs.Forests.Kinds.{is_character_data}
-use Rattle.dom_model.specs.Forests.Forest.{HasNode}
+use Rattle.dom_model.specs.Definitions.{is_character_data, HasNode, IsSound, kind_passes, is_of_kind, data_of, replace_data, set_data, split, normalize, set_text_content, replace_data_edits, set_data_edits, split_edits, normalize_edits, set_text_content_edits}
 use Rattle.dom_model.specs.Worlds.World as model
-use Rattle.dom_model.specs.Soundness.Sound.{IsSound}
-use Rattle.dom_model.specs.Forests.Nodes.{kind_passes, is_of_kind}
-use Rattle.dom_model.specs.DataAndCopies.Data.{data_of, replace_data, set_data, split, normalize, set_text_content}
-use Rattle.dom_model.specs.TokenText.Edits.{replace_data_edits, set_data_edits, split_edits, normalize_edits, set_text_content_edits}
 use Rattle.dom_model.proofs.Forests.Entries.{occurs-HasNode}
-use Rattle.dom_model.proofs.TokenText.EditsMade.EditsOfSteps.{leave-replace_data}
-use Rattle.dom_model.proofs.TokenText.EditsMade.EditsOfSplitting.{leave-split}
-use Rattle.dom_model.proofs.TokenText.EditsMade.EditsOfNormalizing.{leave-normalize}
-use Rattle.dom_model.proofs.TokenText.EditsMade.EditsOfTextContent.{leave-set_text_content}
-use Rattle.dom_edit.specs.declared.world.World.{World}
-use Rattle.dom_edit.specs.Whole.{IsWhole, Follows, unwatched}
-use Rattle.dom_edit.specs.Markers.{StandByEdits}
-use Rattle.dom_edit.proofs.Following.{sound-unwatched}
-use Rattle.dom_edit.proofs.Marking.{stand-by_edits}
+use Rattle.dom_model.proofs.TokenText.{EditsMade.EditsOfSteps.leave-replace_data, EditsMade.EditsOfSplitting.leave-split, EditsMade.EditsOfNormalizing.leave-normalize, EditsMade.EditsOfTextContent.leave-set_text_content}
+use Rattle.dom_edit.specs.{declared.world.World.World, Whole.IsWhole, Whole.Follows, Whole.unwatched, Markers.StandByEdits}
+use Rattle.dom_edit.proofs.{Following.sound-unwatched, Marking.stand-by_edits}
 use Rattle.dom_data.proofs.Parting.{text-held}
 
 module _ (old new : World) (before : IsWhole old) (after : IsWhole new) where

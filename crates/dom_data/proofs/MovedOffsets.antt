@@ -1,16 +1,7 @@
 -- Offsets that move fit a number of the machine where the lengths of the nodes do.
-use Rattle.std.proofs.Common.{◌≡◌, Bool, ℕ, ◌+◌, ◌-◌, ◌^◌, ◌<◌, ◌≤◌, nat_lt, nat_le, true, false, if◌then◌else◌, List, length, Option, Some, None, All, refl, subst, arith}
-use Rattle.std.specs.Prelude.{IfSome}
-use Rattle.std.proofs.lemmas.Bool.Decides.{nat_tests}
-use Rattle.std.proofs.lemmas.List.Elements.{All-weaker}
-use Rattle.dom_model.specs.Forests.Kinds.{is_character_data}
-use Rattle.dom_model.specs.Forests.Forest.{Forest, entry_in}
-use Rattle.dom_model.specs.Worlds.Lengths.{unit_count, node_length}
-use Rattle.dom_model.specs.Worlds.World.{Content, Point, Range}
-use Rattle.dom_model.specs.Soundness.Sound.{IsBoundary, IsRange}
-use Rattle.dom_model.specs.BoundaryPoints.Points.{after_splice}
-use Rattle.dom_model.specs.Forests.Nodes.{kind_passes}
-use Rattle.dom_model.specs.DataAndCopies.Data.{content_in}
+use Rattle.std.proofs.Common.{◌≡◌, Bool, ℕ, ◌+◌, ◌-◌, ◌^◌, ◌<◌, ◌≤◌, nat_lt, nat_le, true, false, if◌then◌else◌, List, length, Option, Some, None, All, refl, subst, arith, IfSome}
+use Rattle.std.proofs.lemmas.{Bool.Decides.nat_tests, List.Elements.All-weaker}
+use Rattle.dom_model.specs.Definitions.{is_character_data, Forest, entry_in, unit_count, node_length, Content, Point, Range, IsBoundary, IsRange, after_splice, kind_passes, content_in}
 use Rattle.dom_model.proofs.PlainLists.Numbers.{same_or, same, apart}
 use Rattle.dom_model.proofs.Soundness.SoundData.{length-data}
 use Rattle.dom_ranges.specs.Tables.{FitsMoved, OffsetsFit}

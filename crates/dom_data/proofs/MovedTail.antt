@@ -1,18 +1,11 @@
 -- What is beyond an offset of a node's data, moved into another node.
-use Rattle.std.proofs.Common.{◌≡◌, ℕ, ◌+◌, ◌-◌, ◌≤◌, List, [], ◌∷◌, ◌++◌, take, drop, length, Option, Some, refl, ap, sym, ◌∙◌, subst, arith, length-drop}
-use Rattle.std.specs.Prelude.{IfSome}
+use Rattle.std.proofs.Common.{◌≡◌, ℕ, ◌+◌, ◌-◌, ◌≤◌, List, [], ◌∷◌, ◌++◌, take, drop, length, Option, Some, refl, ap, sym, ◌∙◌, subst, arith, length-drop, IfSome}
 use Rattle.std.proofs.lemmas.List.{append-nil}
-use Rattle.dom_model.specs.Forests.Arena.{Entry}
-use Rattle.dom_model.specs.Forests.Forest.{Node, Forest, HasNode, entry_in, with_node}
-use Rattle.dom_model.specs.Forests.Texts.{spliced}
-use Rattle.dom_model.specs.Worlds.World.{Content}
-use Rattle.dom_model.specs.Worlds.Making.{with_text}
-use Rattle.dom_model.specs.DataAndCopies.Data.{content_in, with_data}
+use Rattle.dom_model.specs.Definitions.{Entry, Node, Forest, HasNode, entry_in, with_node, spliced, Content, with_text, content_in, with_data}
 use Rattle.dom_model.proofs.Forests.Totals.{IsOnce}
 use Rattle.dom_model.proofs.Worlds.SameShape.{with_node-alike, occurs-alike}
 use Rattle.dom_data.specs.Tails.{tail_in}
-use Rattle.dom_data.proofs.ChangedBodies.{with_node-agree, data-written, content-read}
-use Rattle.dom_data.proofs.LabelsKept.{tag-with_data}
+use Rattle.dom_data.proofs.{ChangedBodies.with_node-agree, ChangedBodies.data-written, ChangedBodies.content-read, LabelsKept.tag-with_data}
 
 drop-past : (count : ℕ) (units : List ℕ) → length units ≤ count → drop count units ≡ []
 drop-past count units h = empty (drop count units) (let l = length-drop count units in omega arith)

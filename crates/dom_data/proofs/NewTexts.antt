@@ -1,23 +1,13 @@
 -- A new Text, a root behind all others.
 use Rattle.std.proofs.Common.{◌≡◌, Bool, ℕ, true, false, List, [], ◌∷◌, Some, None, refl, ap, sym, ◌∙◌, subst}
-use Rattle.dom_model.specs.declared.Kind.{Kind}
-use Rattle.dom_model.specs.declared.Kind.TheVariants.{Document, Text}
-use Rattle.dom_model.specs.Forests.Forest.{empty, node, HasNode, entry_in}
-use Rattle.dom_model.specs.Forests.Kinds.{is_kind, may_be_parent}
+use Rattle.dom_model.specs.declared.{Kind.Kind, Kind.TheVariants.Document, Kind.TheVariants.Text}
+use Rattle.dom_model.specs.Definitions.{empty, node, HasNode, entry_in, is_kind, may_be_parent, check_insert, kind_passes, is_of_kind, document_in, node_document, replace_all, made_node, named, with_text, string_replace_all, IsInsertable}
 use Rattle.dom_model.specs.Worlds.World as model
-use Rattle.dom_model.specs.MutationAlgorithms.Checks.{check_insert}
-use Rattle.dom_model.specs.Forests.Nodes.{kind_passes, is_of_kind}
-use Rattle.dom_model.specs.MutationAlgorithms.Editing.{document_in, node_document, replace_all}
-use Rattle.dom_model.specs.Worlds.Making.{made_node, named, with_text}
-use Rattle.dom_model.specs.DataAndCopies.Data.{string_replace_all}
 use Rattle.dom_model.proofs.Forests.Entries.{occurs-HasNode, HasNode-occurs}
 use Rattle.dom_model.proofs.Worlds.Measured.{kind-beside}
 use Rattle.dom_model.proofs.Soundness.SoundTextContent.{made-there, made-old, made-insertable}
-use Rattle.dom_model.specs.MutationAlgorithms.Insertable.{IsInsertable}
-use Rattle.dom_edit.specs.declared.world.World.{World}
-use Rattle.dom_edit.specs.Whole.{IsWhole, Follows, unwatched}
-use Rattle.dom_edit.proofs.Following.{follows-then, keeps-unwatched}
-use Rattle.dom_edit.proofs.Unrefused.{unrefused}
+use Rattle.dom_edit.specs.{declared.world.World.World, Whole.IsWhole, Whole.Follows, Whole.unwatched}
+use Rattle.dom_edit.proofs.{Following.follows-then, Following.keeps-unwatched, Unrefused.unrefused}
 use Rattle.dom_data.proofs.StaysWhole.{sound-unwatched, follows-alike}
 
 -- The world with the new Text.

@@ -1,13 +1,8 @@
 -- Texts that are there.
-use Rattle.std.proofs.Common.{◌≡◌, ℕ, ◌-◌, true, Option, Some, None, refl}
+use Rattle.std.proofs.Common.{◌≡◌, ℕ, ◌-◌, true, Option, Some, None, refl, IsSome}
 use Rattle.dom_model.specs.declared.Kind.TheVariants.{Text}
-use Rattle.dom_model.specs.Forests.Kinds.{is_kind}
-use Rattle.dom_model.specs.Forests.Arena.{Entry}
-use Rattle.std.specs.Prelude.{IsSome}
+use Rattle.dom_model.specs.Definitions.{is_kind, Entry, Node, Forest, HasNode, entry_in, Content, entry_has, is_of_kind}
 use Rattle.std.proofs.lemmas.Bool.{false≢true}
-use Rattle.dom_model.specs.Forests.Forest.{Node, Forest, HasNode, entry_in}
-use Rattle.dom_model.specs.Worlds.World.{Content}
-use Rattle.dom_model.specs.Forests.Nodes.{entry_has, is_of_kind}
 
 -- a Text is there
 pub text-held : (f : Forest Content) (n : ℕ) → is_of_kind Text f n ≡ true → HasNode f n

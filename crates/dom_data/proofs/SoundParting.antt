@@ -2,18 +2,10 @@
 use Rattle.std.proofs.Common.{◌≡◌, ℕ, ◌+◌, ◌<◌, ◌≤◌, true, false, not, ◌&&◌, [], ◌∷◌, length, Option, Some, None, IfSome, is_some, ap, sym, ◌∙◌, subst, arith}
 use Rattle.std.proofs.lemmas.Bool.{false≢true}
 use Rattle.dom_model.specs.declared.Kind.TheVariants.{Text, Document, DocumentType, DocumentFragment}
-use Rattle.dom_model.specs.Forests.Kinds.{is_kind}
-use Rattle.dom_model.specs.Forests.Forest.{Forest, occurs, entry_in, parent_of, children_of, next_of, index_of}
-use Rattle.dom_model.specs.Worlds.World.{Content, World}
-use Rattle.dom_model.specs.Forests.Nodes.{entry_has, is_of_kind}
-use Rattle.dom_model.specs.MutationAlgorithms.Editing.{tree_record, previous_to, insert}
-use Rattle.dom_model.specs.DataAndCopies.Data.{data_of}
-use Rattle.dom_model.specs.Soundness.Sound.{IsSound}
+use Rattle.dom_model.specs.Definitions.{is_kind, Forest, occurs, entry_in, parent_of, children_of, next_of, index_of, Content, World, entry_has, is_of_kind, tree_record, previous_to, insert, data_of, IsSound, IsChildOf, IsInsertable}
 use Rattle.dom_model.proofs.PlainLists.Places.{place-there}
 use Rattle.dom_model.proofs.Forests.Indices.{child-listed, index-child}
-use Rattle.dom_model.proofs.Soundness.SoundForests.{parent-passes}
-use Rattle.dom_model.specs.MutationAlgorithms.Insertable.{IsChildOf, IsInsertable}
-use Rattle.dom_model.proofs.Soundness.SoundSplitting.{insert-root, new_text}
+use Rattle.dom_model.proofs.Soundness.{SoundForests.parent-passes, SoundSplitting.insert-root, SoundSplitting.new_text}
 use Rattle.dom_model.proofs.Soundness.SoundSplitting as split
 use Rattle.dom_edit.specs.declared.world.World as code
 use Rattle.dom_edit.specs.Whole.{Keeps, Follows}

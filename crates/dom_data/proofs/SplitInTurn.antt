@@ -1,30 +1,15 @@
 -- A split in the order of the code comes to a split.
 use Rattle.std.proofs.Common.{◌≡◌, ℕ, ◌+◌, ◌<◌, ◌≤◌, ◌==◌, Bool, true, false, if◌then◌else◌, List, [], ◌∷◌, length, Option, Some, None, refl, ap, sym, ◌∙◌, arith, length-drop}
 use Rattle.std.proofs.lemmas.Bool.{le-ltb}
-use Rattle.dom_model.specs.declared.Kind.TheVariants.{Text, DocumentFragment}
-use Rattle.dom_model.specs.declared.RecordType.TheVariants.{ChildList, CharacterData}
-use Rattle.dom_model.specs.PlainLists.Lists.{is_number, after, before, last_of}
-use Rattle.dom_model.specs.Forests.Kinds.{is_kind}
-use Rattle.dom_model.specs.Forests.Arena.{Entry, list_under, siblings_in}
-use Rattle.dom_model.specs.Forests.Texts.{spliced}
-use Rattle.dom_model.specs.Forests.Forest.{Node, Forest, empty, node, HasNode, IsForest, occurs, beside, tree_at, without, placed_before, placed_under, put, map_nodes, with_node, in_document, adopted, entry_in, parent_of, next_of, index_of}
-use Rattle.dom_model.specs.Worlds.World.{Content, Mutation, World}
-use Rattle.dom_model.specs.BoundaryPoints.Points.{map_ranges, after_gap, after_splice, after_split}
-use Rattle.dom_model.specs.MutationObservers.Observing.{noted, standing_on}
-use Rattle.dom_model.specs.MutationAlgorithms.Editing.{queued, tree_record, is_fragment, document_in, node_document, put_in, gap_before, previous_to, insert}
-use Rattle.dom_model.specs.Worlds.Making.{made_node, named, with_text}
-use Rattle.dom_model.specs.DataAndCopies.Data.{content_in, data_of, with_data, cut_count, data_record, replace_units, replace_data, tail_of, split_off, split}
+use Rattle.dom_model.specs.declared.{Kind.TheVariants.Text, Kind.TheVariants.DocumentFragment, RecordType.TheVariants.ChildList, RecordType.TheVariants.CharacterData}
+use Rattle.dom_model.specs.Definitions.{is_number, after, before, last_of, is_kind, Entry, list_under, siblings_in, spliced, Node, Forest, empty, node, HasNode, IsForest, occurs, beside, tree_at, without, placed_before, placed_under, put, map_nodes, with_node, in_document, adopted, entry_in, parent_of, next_of, index_of, Content, Mutation, World, map_ranges, after_gap, after_splice, after_split, noted, standing_on, queued, tree_record, is_fragment, document_in, node_document, put_in, gap_before, previous_to, insert, made_node, named, with_text, content_in, data_of, with_data, cut_count, data_record, replace_units, replace_data, tail_of, split_off, split}
 use Rattle.dom_model.proofs.PlainLists.Numbers.{Same, same_or, same, apart}
-use Rattle.dom_model.proofs.Forests.Changes.{link_at, change_at}
-use Rattle.dom_model.proofs.Forests.Entries.{occurs-HasNode, entry-put}
-use Rattle.dom_model.proofs.Forests.Paths.{parent-path}
-use Rattle.dom_model.proofs.Forests.OneMoreRoot.{more-once, more-there, new-there, entry-more, parent-new, root-kind}
-use Rattle.dom_model.proofs.Forests.ForestsBeside.{tree_at-younger}
-use Rattle.dom_model.proofs.Worlds.SameShape.{IsAlike, with_node-alike, ancestors-alike, parent-alike, children-alike, kind-alike, index-alike}
-use Rattle.dom_model.proofs.Worlds.Measured.{entry-with_node, unplaced, unplaced_entry, entry-unplaced, adopted-unplaced}
+use Rattle.dom_model.proofs.Forests.{Changes.link_at, Changes.change_at, Entries.occurs-HasNode, Entries.entry-put, Paths.parent-path, OneMoreRoot.more-once, OneMoreRoot.more-there, OneMoreRoot.new-there, OneMoreRoot.entry-more, OneMoreRoot.parent-new, OneMoreRoot.root-kind, ForestsBeside.tree_at-younger}
+use Rattle.dom_model.proofs.Worlds.{SameShape.IsAlike, SameShape.with_node-alike, SameShape.ancestors-alike, SameShape.parent-alike, SameShape.children-alike, SameShape.kind-alike, SameShape.index-alike, Measured.entry-with_node, Measured.unplaced, Measured.unplaced_entry, Measured.entry-unplaced, Measured.adopted-unplaced}
 use Rattle.dom_model.proofs.Soundness.SoundSplitting.{insert-root}
 use Rattle.dom_model.proofs.TokenText.Marked.MarkedSplice.{with_node-absent}
 use Rattle.dom_data.specs.Turns.{put_behind, tail_moved, split_in_turn}
+use Rattle.dom_model.proofs.MutationAlgorithms.Extending.{gap-forest}
 
 -- A change of the nodes of one number, beside the steps on forests.
 module _ (m : ℕ) (tail : List ℕ) where
@@ -217,10 +202,6 @@ module _ (m : ℕ) (tail : List ℕ) where
 -- The data of a node, where another node comes in.
 abbrev text_of : Option (Entry (Node Content)) → List ℕ
 text_of o = (content_in o).text
-
-gap-forest : (p : ℕ) (b : Option ℕ) (count : ℕ) (w : World) → (gap_before p b count w).forest ≡ w.forest
-gap-forest p None count w = refl
-gap-forest p (Some c) count w = refl
 
 text-adopted : (c d : ℕ) (f : Forest Content) (n : ℕ) → text_of (entry_in (adopted c d f) n) ≡ text_of (entry_in f n)
 text-adopted c d f n = sym (plain (adopted c d f)) ∙ ap (λ g. text_of (entry_in g n)) (adopted-unplaced c d f) ∙ plain f

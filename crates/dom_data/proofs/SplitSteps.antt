@@ -1,41 +1,18 @@
 -- A Text is split: what the steps of the code come to.
-use Rattle.std.proofs.Common.{◌≡◌, ℕ, ◌+◌, ◌-◌, ◌≤◌, ◌==◌, true, false, List, [], drop, length, Option, Some, None, refl, ap, sym, ◌∙◌, subst, arith, length-drop}
-use Rattle.std.specs.Prelude.{IfSome}
+use Rattle.std.proofs.Common.{◌≡◌, ℕ, ◌+◌, ◌-◌, ◌≤◌, ◌==◌, true, false, List, [], drop, length, Option, Some, None, refl, ap, sym, ◌∙◌, subst, arith, length-drop, IfSome}
 use Rattle.dom_model.specs.declared.Kind.TheVariants.{Text}
-use Rattle.dom_model.specs.Forests.Arena.{parent_in}
-use Rattle.dom_model.specs.Forests.Documents.{HasOneDocument}
-use Rattle.dom_model.specs.Forests.Forest.{Forest, Grove, empty, node, HasNode, IsForest, entry_in, parent_of, children_of, index_of, with_node}
-use Rattle.dom_model.specs.Forests.Texts.{spliced}
+use Rattle.dom_model.specs.Definitions.{parent_in, HasOneDocument, Forest, Grove, empty, node, HasNode, IsForest, entry_in, parent_of, children_of, index_of, with_node, spliced, Content, Point, map_ranges, after_splice, after_split, HasOwners, is_of_kind, document_in, node_document, made_node, named, with_text, content_in, data_of, tail_of, with_data, data_record, split}
 use Rattle.dom_model.specs.Worlds.World as model
-use Rattle.dom_model.specs.Worlds.World.{Content, Point}
-use Rattle.dom_model.specs.BoundaryPoints.Points.{map_ranges, after_splice, after_split}
-use Rattle.dom_model.specs.Soundness.Owners.{HasOwners}
-use Rattle.dom_model.specs.Forests.Nodes.{is_of_kind}
-use Rattle.dom_model.specs.MutationAlgorithms.Editing.{document_in, node_document}
-use Rattle.dom_model.specs.Worlds.Making.{made_node, named, with_text}
-use Rattle.dom_model.specs.DataAndCopies.Data.{content_in, data_of, tail_of, with_data, data_record, split}
 use Rattle.dom_model.proofs.Forests.Entries.{occurs-HasNode}
-use Rattle.dom_model.proofs.Worlds.Measured.{entry-beside}
-use Rattle.dom_model.proofs.Worlds.SameShape.{IsAlike, with_node-alike, occurs-alike, parent-alike, children-alike, index-alike}
+use Rattle.dom_model.proofs.Worlds.{Measured.entry-beside, SameShape.IsAlike, SameShape.with_node-alike, SameShape.occurs-alike, SameShape.parent-alike, SameShape.children-alike, SameShape.index-alike}
 use Rattle.dom_model.proofs.RangesAndContents.RangesSpliced.{there-alike}
-use Rattle.dom_model.proofs.Soundness.SoundSplitting.{sound-split}
-use Rattle.dom_model.proofs.Soundness.SoundTextContent.{entry-made}
-use Rattle.dom_model.proofs.Soundness.SoundWorlds.{statics-kept}
+use Rattle.dom_model.proofs.Soundness.{SoundSplitting.sound-split, SoundTextContent.entry-made, SoundWorlds.statics-kept}
 use Rattle.dom_ranges.specs.Tables.{RangeTable}
 use Rattle.dom_observe.proofs.HeldNames.{held-kept}
-use Rattle.dom_edit.specs.declared.world.World.{World}
-use Rattle.dom_edit.specs.Keeping.{present, KeepsLabels, KeepsNodes, attributes_at}
-use Rattle.dom_edit.specs.Whole.{AreCovered, IsWhole, Keeps, Follows, unwatched}
-use Rattle.dom_edit.proofs.Covering.{covered-kept}
-use Rattle.dom_edit.proofs.Following.{follows-then, keeps-unwatched, whole-sound}
-use Rattle.dom_edit.proofs.WatchersKept.{present-moved, watchers-ranged}
-use Rattle.dom_data.specs.Tails.{HasRoom, tail_in}
-use Rattle.dom_data.specs.Turns.{put_behind, ends_behind, tail_moved, split_in_turn}
-use Rattle.dom_data.proofs.LabelsKept.{numbers-replaced, numbers-then}
-use Rattle.dom_data.proofs.NewTexts.{made_is, new-there, old-there}
-use Rattle.dom_data.proofs.Parting.{text-held}
-use Rattle.dom_data.proofs.SplitInTurn.{split-in-turn}
-use Rattle.dom_data.proofs.StaysWhole.{documents-with_node, owners-with_node, sound-unwatched, follows-alike}
+use Rattle.dom_edit.specs.{declared.world.World.World, Keeping.present, Keeping.KeepsLabels, Keeping.KeepsNodes, Keeping.attributes_at, Whole.AreCovered, Whole.IsWhole, Whole.Keeps, Whole.Follows, Whole.unwatched}
+use Rattle.dom_edit.proofs.{Covering.covered-kept, Following.follows-then, Following.keeps-unwatched, Following.whole-sound, WatchersKept.present-moved, WatchersKept.watchers-ranged}
+use Rattle.dom_data.specs.{Tails.HasRoom, Tails.tail_in, Turns.put_behind, Turns.ends_behind, Turns.tail_moved, Turns.split_in_turn}
+use Rattle.dom_data.proofs.{LabelsKept.numbers-replaced, LabelsKept.numbers-then, NewTexts.made_is, NewTexts.new-there, NewTexts.old-there, Parting.text-held, SplitInTurn.split-in-turn, StaysWhole.documents-with_node, StaysWhole.owners-with_node, StaysWhole.sound-unwatched, StaysWhole.follows-alike}
 
 -- where no end stands in the parent, the index matters to none
 pub split-apart : (n offset new parent i j : ℕ) (q : Point) → (q.node == parent) ≡ false → after_split n offset new parent i q ≡ after_split n offset new parent j q

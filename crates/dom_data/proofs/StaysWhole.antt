@@ -1,33 +1,20 @@
 -- What is whole after steps that keep numbers, labels and node documents.
 use Rattle.std.proofs.Common.{◌≡◌, ℕ, ◌+◌, ◌-◌, ◌≤◌, min, true, List, length, refl, ap, sym, ◌∙◌, subst, arith}
 use Rattle.dom_model.specs.declared.Kind.TheVariants.{Document}
-use Rattle.dom_model.specs.Forests.Kinds.{is_kind, is_character_data}
-use Rattle.dom_model.specs.Forests.Forest.{Node, Forest, Grove, empty, node, occurs, entry_in, with_node}
-use Rattle.dom_model.specs.Forests.Documents.{HasOneDocument, IsInDocument}
+use Rattle.dom_model.specs.Definitions.{is_kind, is_character_data, Node, Forest, Grove, empty, node, occurs, entry_in, with_node, HasOneDocument, IsInDocument, Content, IsSound, spliced, map_ranges, after_splice, kind_passes, is_of_kind, content_in, data_of, with_data, replace_units, cut_count, data_record, replace_data, set_data, attributes_of, with_attributes, set_attribute, has_attribute, remove_attribute_if, Attribute, with_attribute, without_attribute, HasOwners, IsOwned}
 use Rattle.dom_model.specs.Worlds.World as model
-use Rattle.dom_model.specs.Worlds.World.{Content, Range}
-use Rattle.dom_model.specs.Soundness.Sound.{IsSound}
-use Rattle.dom_model.specs.Forests.Texts.{spliced}
-use Rattle.dom_model.specs.BoundaryPoints.Points.{map_ranges, after_splice}
-use Rattle.dom_model.specs.Forests.Nodes.{kind_passes, is_of_kind}
-use Rattle.dom_model.specs.DataAndCopies.Data.{content_in, data_of, with_data, replace_units, cut_count, data_record, replace_data, set_data, attributes_of, with_attributes, set_attribute, has_attribute, remove_attribute_if}
-use Rattle.dom_model.specs.Forests.Attributes.{Attribute, with_attribute, without_attribute}
-use Rattle.dom_model.specs.Soundness.Owners.{HasOwners, IsOwned}
-use Rattle.dom_model.proofs.Soundness.SoundData.{sound-replace_units, sound-set_attribute, sound-remove_attribute}
-use Rattle.dom_model.proofs.Soundness.SoundWorlds.{statics-kept}
+use Rattle.dom_model.proofs.Soundness.{SoundData.sound-replace_units, SoundData.sound-set_attribute, SoundData.sound-remove_attribute, SoundWorlds.statics-kept}
 use Rattle.dom_ranges.specs.Tables.{RangeTable}
 use Rattle.dom_model.proofs.PlainLists.Numbers.{same_or, same, apart}
 use Rattle.dom_model.proofs.Worlds.SameShape.{bare_node, with_node-alike, kind-alike, occurs-alike}
 use Rattle.dom_model.proofs.RangesAndContents.RangesSpliced.{there-alike}
-use Rattle.dom_edit.specs.declared.world.World.{World}
-use Rattle.dom_edit.specs.Whole.{AreCovered, IsWhole, Keeps, Follows, unwatched}
+use Rattle.dom_edit.specs.{declared.world.World.World, Whole.AreCovered, Whole.IsWhole, Whole.Keeps, Whole.Follows, Whole.unwatched}
 use Rattle.dom_observe.specs.Watchers.{Watches}
 use Rattle.dom_observe.proofs.HeldNames.{held-kept}
 use Rattle.std.proofs.lemmas.Bool.Decides.{nat_tests}
-pub use Rattle.dom_edit.proofs.Following.{sound-unwatched}
-use Rattle.dom_edit.proofs.Following.{whole-sound}
-use Rattle.dom_edit.proofs.Covering.{covered-kept}
+use Rattle.dom_edit.proofs.{Following.whole-sound, Covering.covered-kept}
 use Rattle.dom_data.proofs.ChangedBodies.{EachNode-with_node}
+pub use Rattle.dom_edit.proofs.Following.{sound-unwatched}
 
 module _ (n : ℕ) (change : Node Content → Node Content) (keeps : (x : Node Content) → bare_node (change x) ≡ bare_node x) (stays : (x : Node Content) → (change x).document ≡ x.document) where
   pub documents-with_node : (f : Forest Content) → HasOneDocument f → HasOneDocument (with_node n change f)

@@ -1,45 +1,18 @@
 -- As long as Texts leave, what is below a node is told by its having a parent.
-use Rattle.std.proofs.Common.{◌≡◌, ℕ, ◌<◌, ◌≤◌, ◌==◌, Bool, true, false, if◌then◌else◌, List, [], ◌∷◌, ◌++◌, drop, length, Option, Some, None, is_some, refl, ap, sym, ◌∙◌, subst, arith, ⊎_elim}
+use Rattle.std.proofs.Common.{◌≡◌, ℕ, ◌<◌, ◌≤◌, ◌==◌, Bool, true, false, if◌then◌else◌, List, [], ◌∷◌, drop, length, Option, Some, None, is_some, refl, ap, sym, ◌∙◌, subst, arith, ⊎_elim}
 use Rattle.std.proofs.lemmas.Bool.{cases_lt, false≢true}
 use Rattle.dom_model.specs.declared.Kind.TheVariants.{Text}
-use Rattle.dom_model.specs.PlainLists.Lists.{hits, among, head_of}
-use Rattle.dom_model.specs.Forests.Kinds.{is_kind}
-use Rattle.dom_model.specs.Forests.Forest.{Forest, empty, node, occurs, one_at, tops, numbers, parent_of, ancestors, tree_at, cut, inclusive_descendants}
-use Rattle.dom_model.specs.Forests.Texts.{spliced}
-use Rattle.dom_model.specs.Worlds.World.{Content, World}
-use Rattle.dom_model.specs.Forests.Nodes.{kind_passes, is_of_kind}
-use Rattle.dom_model.specs.MutationAlgorithms.Editing.{removed_from, remove}
-use Rattle.dom_model.specs.DataAndCopies.Data.{data_of, with_data, cut_count, replace_data, following_texts, joined_data, merge_ends, remove_each, join_following, normalize_text, is_descendant}
-use Rattle.dom_model.specs.Soundness.Sound.{IsSound}
+use Rattle.dom_model.specs.Definitions.{hits, among, is_kind, Forest, occurs, one_at, numbers, parent_of, ancestors, tree_at, cut, inclusive_descendants, spliced, Content, World, kind_passes, is_of_kind, removed_from, remove, data_of, with_data, cut_count, replace_data, following_texts, joined_data, merge_ends, remove_each, join_following, normalize_text, is_descendant, IsSound, AreJoinable}
 use Rattle.dom_model.proofs.PlainLists.Numbers.{same_or, same, apart}
-use Rattle.dom_model.proofs.Forests.Changes.{seen, nothing, just}
-use Rattle.dom_model.proofs.Forests.Totals.{IsOnce-cut, total-tree_at, tree_at-absent}
-use Rattle.dom_model.proofs.Forests.Tops.{tops-tree_at}
-use Rattle.dom_model.proofs.Forests.Climbing.{hits-append, hits-first, hits-not_among, hits-ancestors}
-use Rattle.dom_model.proofs.Forests.TreeOrder.Flattened.{hits-numbers}
-use Rattle.dom_model.proofs.Forests.Listed.{hits-itself}
-use Rattle.dom_model.proofs.Forests.Entries.{parent-cut, occurs-HasNode}
-use Rattle.dom_model.proofs.Forests.Paths.{up_with, ancestors-cut}
+use Rattle.dom_model.proofs.Forests.{Changes.seen, Changes.nothing, Changes.just, Totals.IsOnce-cut, Totals.total-tree_at, Totals.tree_at-absent, Tops.tops-tree_at, Climbing.hits-append, Climbing.hits-first, Climbing.hits-not_among, Climbing.hits-ancestors, TreeOrder.Flattened.hits-numbers, Listed.hits-itself, Entries.parent-cut, Entries.occurs-HasNode, Paths.up_with, Paths.ancestors-cut}
 use Rattle.dom_model.proofs.BoundaryPoints.SplitOrder.{inside-childless}
-use Rattle.dom_model.proofs.Worlds.SameShape.{IsAlike, inside-alike, parent-alike, kind-alike, with_node-alike}
-use Rattle.dom_model.proofs.Worlds.Measured.{kind-cut}
-use Rattle.dom_model.proofs.Soundness.SoundForests.{IsWood, data-childless, IsWood-alike, IsWood-cut}
-use Rattle.dom_model.proofs.Soundness.SoundSplitting.{text_has_data}
-use Rattle.dom_model.proofs.Soundness.SoundNormalizing.{SameKinds, joinable, below_parent}
-use Rattle.dom_model.specs.DataAndCopies.Joinable.{AreJoinable}
+use Rattle.dom_model.proofs.Worlds.{SameShape.IsAlike, SameShape.inside-alike, SameShape.parent-alike, SameShape.kind-alike, SameShape.with_node-alike, Measured.kind-cut}
+use Rattle.dom_model.proofs.Soundness.{SoundForests.IsWood, SoundForests.data-childless, SoundForests.IsWood-alike, SoundForests.IsWood-cut, SoundSplitting.text_has_data, SoundNormalizing.SameKinds, SoundNormalizing.joinable, SoundNormalizing.below_parent, SoundNormalizing.numbers-first}
 use Rattle.dom_traverse.proofs.Descendants.{among-inside}
 use Rattle.dom_data.specs.Joining.{is_told_by_parent}
-use Rattle.dom_data.proofs.Parting.{text-held}
-use Rattle.dom_data.proofs.JoinedInTurn.{without_ranges, merges-bare}
+use Rattle.dom_data.proofs.{Parting.text-held, JoinedInTurn.without_ranges, JoinedInTurn.merges-bare}
 
 -- A node below another.
-
-numbers-first : (n : ℕ) (g : Forest Content) → tops g ≡ n ∷ [] → numbers g ≡ n ∷ drop 1 (numbers g)
-numbers-first n empty e = absurd (cc e)
-numbers-first n (node x kids rest) e = ap (λ m. m ∷ (numbers kids ++ numbers rest)) (same_top e)
-  where
-    same_top : x.number ∷ tops rest ≡ n ∷ [] → x.number ≡ n
-    same_top e = let k : Some x.number ≡ Some n = ap head_of e in cc k
 
 module _ (f : Forest Content) (o : (m : ℕ) → occurs m f ≤ 1) (n above : ℕ) where
   abbrev all : List ℕ
@@ -77,7 +50,7 @@ module _ (f : Forest Content) (o : (m : ℕ) → occurs m f ≤ 1) (n above : �
 
 -- One Text leaves.
 
-up_with-clear : (c : ℕ) (xs : List ℕ) → hits c xs ≡ 0 → up_with c xs ≡ xs
+pub up_with-clear : (c : ℕ) (xs : List ℕ) → hits c xs ≡ 0 → up_with c xs ≡ xs
 up_with-clear c [] h = refl
 up_with-clear c (x ∷ xs) h =
     elim (same_or x c) [

@@ -1,33 +1,17 @@
 -- A Text that follows another is taken in: what the steps of the code come to, and what is whole after them.
-use Rattle.std.proofs.Common.{◌≡◌, ℕ, ◌+◌, ◌^◌, ◌<◌, ◌≤◌, ◌==◌, ◌&&◌, Bool, true, false, if◌then◌else◌, List, [], ◌∷◌, drop, length, slice_index_or, Option, Some, All, refl, ap, sym, ◌∙◌, subst, length-append, length-drop, arith}
-use Rattle.std.specs.Prelude.{IfSome}
+use Rattle.std.proofs.Common.{◌≡◌, ℕ, ◌+◌, ◌^◌, ◌<◌, ◌≤◌, ◌==◌, ◌&&◌, Bool, true, false, if◌then◌else◌, List, [], ◌∷◌, drop, length, slice_index_or, Option, Some, All, refl, ap, sym, ◌∙◌, subst, length-append, length-drop, arith, IfSome}
 use Rattle.std.proofs.lemmas.List.{drop_more}
 use Rattle.dom_model.specs.declared.Kind.TheVariants.{Text}
-use Rattle.dom_model.specs.PlainLists.Lists.{among}
-use Rattle.dom_model.specs.Forests.Kinds.{is_character_data}
-use Rattle.dom_model.specs.Forests.Forest.{Forest, HasNode, entry_in, parent_of, children_of, index_of}
-use Rattle.dom_model.specs.Worlds.Lengths.{unit_count, node_length}
+use Rattle.dom_model.specs.Definitions.{among, is_character_data, Forest, HasNode, entry_in, parent_of, children_of, index_of, unit_count, node_length, Content, Point, Range, IsBoundary, IsRange, after_merge, map_ranges, kind_passes, is_of_kind, remove, content_in, data_of, joined_data, merged_ends, Lives, AreUpTo, AreJoinable}
 use Rattle.dom_model.specs.Worlds.World as model
-use Rattle.dom_model.specs.Worlds.World.{Content, Point, Range}
-use Rattle.dom_model.specs.Soundness.Sound.{IsBoundary, IsRange}
-use Rattle.dom_model.specs.BoundaryPoints.Points.{after_merge, map_ranges}
-use Rattle.dom_model.specs.Forests.Nodes.{kind_passes, is_of_kind}
-use Rattle.dom_model.specs.MutationAlgorithms.Editing.{remove}
-use Rattle.dom_model.specs.DataAndCopies.Data.{content_in, data_of, joined_data, merged_ends}
-use Rattle.dom_model.specs.DataAndCopies.Joinable.{Lives, AreUpTo, AreJoinable}
 use Rattle.dom_model.proofs.PlainLists.Numbers.{same_or, same, apart}
 use Rattle.dom_model.proofs.Forests.Entries.{HasNode-occurs}
-use Rattle.dom_model.proofs.Soundness.SoundData.{length-data}
-use Rattle.dom_model.proofs.Soundness.SoundSplitting.{text_has_data}
-use Rattle.dom_model.proofs.Soundness.SoundJoining.{is_child, is_there, first_in, text_first, merged_is, moved, sound-merged_ranges, left, joinable_left}
+use Rattle.dom_model.proofs.Soundness.{SoundData.length-data, SoundSplitting.text_has_data, SoundJoining.is_child, SoundJoining.is_there, SoundJoining.first_in, SoundJoining.text_first, SoundJoining.merged_is, SoundJoining.moved, SoundJoining.sound-merged_ranges, SoundJoining.left, SoundJoining.joinable_left}
 use Rattle.dom_ranges.specs.Tables.{RangeTable, OffsetsFit, live_nodes}
-use Rattle.dom_edit.specs.declared.world.World.{World}
-use Rattle.dom_edit.specs.Whole.{AreCovered, IsWhole, Keeps, Follows, unwatched}
+use Rattle.dom_edit.specs.{declared.world.World.World, Whole.AreCovered, Whole.IsWhole, Whole.Keeps, Whole.Follows, Whole.unwatched}
 use Rattle.dom_edit.proofs.Following.{follows-none, follows-then, keeps-unwatched, whole-sound}
 use Rattle.dom_data.specs.Joining.{data_among, taken_in, each_taken_in}
-use Rattle.dom_data.proofs.StaysWhole.{sound-unwatched, follows-alike}
-use Rattle.dom_data.proofs.MovedOffsets.{offsets-fit}
-use Rattle.dom_data.proofs.UnfeltIndex.{unfelt}
+use Rattle.dom_data.proofs.{StaysWhole.sound-unwatched, StaysWhole.follows-alike, MovedOffsets.offsets-fit, UnfeltIndex.unfelt}
 
 -- Texts that can be joined in a world can be in what the code keeps of it
 pub joinable-kept : (v : World) (w : model.World) (t p base : ℕ) (ts : List ℕ) → Keeps v w → IsWhole v → AreJoinable w t p base ts → AreJoinable (unwatched v) t p base ts

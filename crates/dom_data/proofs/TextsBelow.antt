@@ -1,10 +1,7 @@
 -- The Texts below a node, in tree order.
 use Rattle.std.proofs.Common.{◌≡◌, ℕ, ◌<◌, Bool, true, false, if◌then◌else◌, List, [], ◌∷◌, ◌++◌, drop, length, filter, Some, None, refl, ap, sym, ◌∙◌, append_assoc, append-nil, cond, arith}
 use Rattle.dom_model.specs.declared.Kind.TheVariants.{Text}
-use Rattle.dom_model.specs.PlainLists.Lists.{hits, after, from_first}
-use Rattle.dom_model.specs.Forests.Forest.{Forest, Grove, IsForest, HasNode, inclusive_descendants}
-use Rattle.dom_model.specs.Worlds.World.{Content}
-use Rattle.dom_model.specs.Forests.Nodes.{is_of_kind}
+use Rattle.dom_model.specs.Definitions.{hits, after, from_first, Forest, Grove, IsForest, HasNode, inclusive_descendants, Content, is_of_kind}
 use Rattle.dom_model.proofs.Forests.TreeOrder.InsideWalks.{IsAt, from-top, at-top, at-next, here-inside, rest-next, rest-end}
 use Rattle.dom_model.proofs.PlainLists.Numbers.{same_or, same, apart}
 use Rattle.dom_data.specs.TextsAlone.{alone, texts_among}

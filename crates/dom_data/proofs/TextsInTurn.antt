@@ -2,21 +2,13 @@
 use Rattle.std.proofs.Common.{◌≡◌, ℕ, ◌+◌, ◌<◌, ◌≤◌, ◌==◌, true, false, if◌then◌else◌, List, [], ◌∷◌, drop, length, slice_index_or, is_some, refl, ap, sym, ◌∙◌, subst, arith, length-drop}
 use Rattle.std.proofs.lemmas.List.{drop_more}
 use Rattle.dom_model.specs.declared.Kind.TheVariants.{Text}
-use Rattle.dom_model.specs.PlainLists.Lists.{hits, among}
-use Rattle.dom_model.specs.Forests.Kinds.{is_kind}
-use Rattle.dom_model.specs.Forests.Forest.{Forest, parent_of, entry_in, inclusive_descendants}
+use Rattle.dom_model.specs.Definitions.{hits, among, is_kind, Forest, parent_of, entry_in, inclusive_descendants, Content, is_of_kind, remove, content_in, following_texts, join_following, is_descendant, normalize_text, normalize_each, normalize, text_descendants}
 use Rattle.dom_model.specs.Worlds.World as model
-use Rattle.dom_model.specs.Worlds.World.{Content}
-use Rattle.dom_model.specs.Forests.Nodes.{is_of_kind}
-use Rattle.dom_model.specs.MutationAlgorithms.Editing.{remove}
-use Rattle.dom_model.specs.DataAndCopies.Data.{content_in, following_texts, join_following, is_descendant, normalize_text, normalize_each, normalize, text_descendants}
 use Rattle.dom_model.proofs.Forests.Climbing.{hits-append, hits-first}
-use Rattle.dom_edit.specs.declared.world.World.{World}
-use Rattle.dom_edit.specs.Whole.{IsWhole, Keeps, Follows, unwatched}
+use Rattle.dom_edit.specs.{declared.world.World.World, Whole.IsWhole, Whole.Keeps, Whole.Follows, Whole.unwatched}
 use Rattle.dom_edit.proofs.Following.{follows-none, follows-then, keeps-unwatched}
 use Rattle.dom_data.specs.Joining.{is_told_by_parent}
-use Rattle.dom_data.proofs.StaysWhole.{sound-unwatched, follows-alike}
-use Rattle.dom_data.proofs.StillBelow.{left-one}
+use Rattle.dom_data.proofs.{StaysWhole.sound-unwatched, StaysWhole.follows-alike, StillBelow.left-one}
 
 -- Steps that a test picks.
 

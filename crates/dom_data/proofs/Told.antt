@@ -1,16 +1,10 @@
 -- A change that observers were told of, as a step of the world.
-use Rattle.std.specs.Borrow.{Bor}
-use Rattle.std.specs.Option.{option_copied}
+use Rattle.std.specs.{Borrow.Bor, Option.option_copied}
 use Rattle.std.proofs.Common.{◌≡◌, ℕ, List, Option, Some, None, refl, ap, sym, ◌∙◌, subst}
 use Rattle.dom_model.specs.declared.RecordType.{RecordType}
-use Rattle.dom_model.specs.Forests.Forest.{Forest, ancestors}
-use Rattle.dom_model.specs.Worlds.World.{Content}
-use Rattle.dom_model.specs.MutationAlgorithms.Editing.{queued}
-use Rattle.dom_model.specs.MutationObservers.Observing.{noted, standing_on}
-use Rattle.dom_observe.specs.Names.{text_of}
-use Rattle.dom_observe.specs.Watchers.{Watches}
-use Rattle.dom_edit.specs.declared.world.World.{World}
-use Rattle.dom_edit.specs.Whole.{Follows}
+use Rattle.dom_model.specs.Definitions.{Forest, ancestors, Content, queued, noted, standing_on}
+use Rattle.dom_observe.specs.{Names.text_of, Watchers.Watches}
+use Rattle.dom_edit.specs.{declared.world.World.World, Whole.Follows}
 use Rattle.dom_data.specs.Changes.{change_of, Tells}
 
 -- a queued change as a step

@@ -1,8 +1,6 @@
 -- An index of a child that no live range asks for, since none stands in the child's parent.
 use Rattle.std.proofs.Common.{◌≡◌, ℕ, ◌==◌, Bool, true, false, refl, ap, sym, ◌∙◌}
-use Rattle.dom_model.specs.PlainLists.Lists.{among}
-use Rattle.dom_model.specs.Worlds.World.{Point}
-use Rattle.dom_model.specs.BoundaryPoints.Points.{map_ranges}
+use Rattle.dom_model.specs.Definitions.{among, Point, map_ranges}
 use Rattle.dom_ranges.specs.Tables.{RangeTable, live_nodes}
 use Rattle.dom_ranges.proofs.Inside.{ranges-alike}
 use Rattle.dom_model.proofs.RangesAndContents.RangesElsewhere.{among-any}

@@ -1,29 +1,17 @@
 -- A node is adopted: what follows, and that the world stays whole.
 use Rattle.std.proofs.Common.{◌≡◌, ℕ, Bool, true, false, None, IfSome, refl, ap, sym, ◌∙◌, subst, arith}
 use Rattle.dom_model.specs.declared.Kind.TheVariants.{Document}
-use Rattle.dom_model.specs.Forests.Kinds.{is_kind}
-use Rattle.dom_model.specs.Forests.Forest.{HasNode, occurs, entry_in, parent_of, cut, adopted, in_document}
-use Rattle.dom_model.specs.Forests.Documents.{HasOneDocument, HasDocument}
-use Rattle.dom_model.specs.Forests.Nodes.{is_of_kind}
-use Rattle.dom_model.specs.MutationAlgorithms.Editing.{remove, adopt}
-use Rattle.dom_model.specs.Soundness.Owners.{HasOwners}
+use Rattle.dom_model.specs.Definitions.{is_kind, HasNode, occurs, entry_in, parent_of, cut, adopted, in_document, HasOneDocument, HasDocument, is_of_kind, remove, adopt, HasOwners}
 use Rattle.dom_model.proofs.PlainLists.Numbers.{same_or, same, apart}
-use Rattle.dom_model.proofs.Forests.Entries.{occurs-HasNode, parent-cut}
-use Rattle.dom_model.proofs.Forests.Documents.{HasDocument-entry, HasOneDocument-adopted, adopted-same}
-use Rattle.dom_model.proofs.Worlds.SameShape.{with_tree-alike, occurs-alike}
-use Rattle.dom_model.proofs.Worlds.Measured.{kind-cut}
-use Rattle.dom_model.proofs.Worlds.Owners.{HasOwners-adopted}
+use Rattle.dom_model.proofs.Forests.{Entries.occurs-HasNode, Entries.parent-cut, Documents.HasDocument-entry, Documents.HasOneDocument-adopted, Documents.adopted-same}
+use Rattle.dom_model.proofs.Worlds.{SameShape.with_tree-alike, SameShape.occurs-alike, Measured.kind-cut, Owners.HasOwners-adopted}
 use Rattle.dom_model.proofs.RangesAndContents.RangesSpliced.{there-alike}
-use Rattle.dom_model.proofs.Soundness.SoundWorlds.{there_after_cut, statics-kept}
-use Rattle.dom_model.proofs.Soundness.SoundEditing.{sound-adopted}
+use Rattle.dom_model.proofs.Soundness.{SoundWorlds.there_after_cut, SoundWorlds.statics-kept, SoundEditing.sound-adopted}
 use Rattle.dom_model.proofs.MutationAlgorithms.Loosened.{forest-remove}
 use Rattle.dom_observe.specs.Held.{NamesHeld}
 use Rattle.dom_observe.proofs.HeldNames.{held-kept}
-use Rattle.dom_edit.specs.declared.world.World.{World}
-use Rattle.dom_edit.specs.Whole.{IsWhole, Keeps, Follows, unwatched}
-use Rattle.dom_edit.proofs.Following.{keeps-unwatched, whole-sound}
-use Rattle.dom_edit.proofs.Covering.{covered-kept}
-use Rattle.dom_edit.proofs.Leaving.{sound-unwatched}
+use Rattle.dom_edit.specs.{declared.world.World.World, Whole.IsWhole, Whole.Keeps, Whole.Follows, Whole.unwatched}
+use Rattle.dom_edit.proofs.{Following.keeps-unwatched, Following.whole-sound, Covering.covered-kept, Leaving.sound-unwatched}
 
 -- what a removal leaves of the trees
 module _ (v new : World) (suppressed : Bool) (n : ℕ) (h : IsWhole v) (held : HasNode v.tree.forest n) (f : Follows v new (remove suppressed n)) where

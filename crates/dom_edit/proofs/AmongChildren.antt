@@ -1,22 +1,13 @@
 -- Going along the children of a node: what is left of the list from a child on.
-use Rattle.std.specs.Prelude.{◌==◌, if◌then◌else◌, not, ◌||◌, nat_eq, MatchOption}
+use Rattle.std.proofs.Common.{◌==◌, if◌then◌else◌, not, ◌||◌, nat_eq, MatchOption, ◌≡◌, ℕ, ◌+◌, ◌<◌, ◌≤◌, Bool, true, false, List, [], ◌∷◌, length, Option, Some, None, refl, ap, subst, arith}
 use Rattle.std.specs.Option.{ForSome}
-use Rattle.std.proofs.Common.{◌≡◌, ℕ, ◌+◌, ◌<◌, ◌≤◌, Bool, true, false, List, [], ◌∷◌, length, Option, Some, None, refl, ap, subst, arith}
 use Rattle.std.proofs.lemmas.Bool.Decides.{nat_tests}
 use Rattle.dom_model.specs.declared.Kind.{Kind}
-use Rattle.dom_model.specs.PlainLists.Lists.{hits, head_of, after, from_first}
-use Rattle.dom_model.specs.Forests.Arena.{list_under}
-use Rattle.dom_model.specs.Forests.Forest.{Forest, Grove, IsForest, entry_in, HasNode, parent_of, children_of, next_of}
-use Rattle.dom_model.specs.MutationAlgorithms.Checks.{count_kind, has_kind}
-use Rattle.dom_model.specs.Forests.Nodes.{is_of_kind}
-use Rattle.dom_model.proofs.PlainLists.Numbers.{same_or, same, apart}
-use Rattle.dom_model.proofs.Forests.Changes.{seen, nothing, just}
-use Rattle.dom_model.proofs.Forests.Climbing.{hits-first}
-use Rattle.dom_model.proofs.Forests.PutBack.{hits-after}
-use Rattle.dom_model.proofs.Forests.Entries.{HasNode-occurs}
-use Rattle.dom_model.proofs.Forests.Indices.{child-parent, child-there}
-use Rattle.dom_model.proofs.PlainLists.FromFirst.{from-last, from-after}
+use Rattle.dom_model.specs.Definitions.{hits, head_of, after, from_first, list_under, Forest, Grove, IsForest, entry_in, HasNode, parent_of, children_of, next_of, count_kind, has_kind, is_of_kind}
+use Rattle.dom_model.proofs.PlainLists.{FromFirst.from-last, FromFirst.from-after}
+use Rattle.dom_model.proofs.Forests.{Changes.seen, Changes.nothing, Changes.just, Climbing.hits-first, PutBack.hits-after, Entries.HasNode-occurs, Indices.child-parent, Indices.child-there}
 use Rattle.dom_edit.specs.Places.{from_optional, IsAmong}
+use Rattle.dom_ranges.proofs.Inside.{from-fewer}
 
 -- from the head on there is the whole list
 pub from_optional-head : (xs : List ℕ) → from_optional (head_of xs) xs ≡ xs
@@ -43,18 +34,13 @@ from_first-after n xs once one =
       | just m e ↦ rw e (from-after n m xs (once m) e)
     ]
 
-hits-from_first : (n m : ℕ) (xs : List ℕ) → hits m (from_first n xs) ≤ hits m xs
-hits-from_first n m [] = omega arith
-hits-from_first n m (x ∷ xs) =
-    elim (same_or x n) [ same _ t ↦ rw t (omega arith) | apart _ t ↦ rw t (omega (arith, hits-from_first n m xs)) ]
-
 -- each number of a list stands in the other
 abbrev pub AreAmong : List ℕ → List ℕ → Type 0
 AreAmong ns xs = (m : ℕ) → 0 < hits m ns → 0 < hits m xs
 
 pub from-among : (o : Option ℕ) (xs : List ℕ) → AreAmong (from_optional o xs) xs
 from-among None xs m h = absurd (omega arith)
-from-among (Some n) xs m h = omega (arith, hits-from_first n m xs)
+from-among (Some n) xs m h = omega (arith, from-fewer n m xs)
 
 -- so does the first of them
 pub first-among : (n : ℕ) (ns xs : List ℕ) → AreAmong (n ∷ ns) xs → 0 < hits n xs

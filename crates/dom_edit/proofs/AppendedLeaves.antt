@@ -1,39 +1,15 @@
 -- A leaf that came in last under a parent, where nobody observes. DOM Standard, "Mutation algorithms": append.
-use Rattle.std.specs.Prelude.{IfSome, IsSome}
-use Rattle.std.proofs.Common.{◌≡◌, ℕ, Bool, true, false, not, ◌&&◌, [], ◌∷◌, Option, Some, None, refl, ap, sym, ◌∙◌, subst}
+use Rattle.std.proofs.Common.{IsSome, ◌≡◌, ℕ, Bool, true, false, not, ◌&&◌, [], ◌∷◌, Option, Some, None, refl, ap, sym, ◌∙◌, subst}
 use Rattle.std.proofs.lemmas.Bool.{false≢true}
-use Rattle.dom_model.specs.declared.Kind.{Kind}
-use Rattle.dom_model.specs.declared.Kind.TheVariants.{Element, Text, ProcessingInstruction, Comment, Document, DocumentType, DocumentFragment}
-use Rattle.dom_model.specs.Forests.Kinds.{is_kind, may_be_parent}
-use Rattle.dom_model.specs.Forests.Arena.{Entry}
-use Rattle.dom_model.specs.Forests.Forest.{Node, Forest, Grove, entry_in, parent_of, ancestors, put}
-use Rattle.dom_model.specs.Forests.Nodes.{entry_has, is_of_kind, kind_passes}
-use Rattle.dom_model.specs.Worlds.World.{Content, Observing}
-use Rattle.dom_model.specs.MutationAlgorithms.Checks.{check_insert}
-use Rattle.dom_model.specs.MutationAlgorithms.Editing.{document_in, remove, removed_from, freed, append}
-use Rattle.dom_model.specs.MutationAlgorithms.Insertable.{IsInsertable}
-use Rattle.dom_model.specs.TokenText.Edits.{append_edits}
-use Rattle.dom_model.proofs.Forests.Climbing.{not_among-hits}
-use Rattle.dom_model.proofs.Forests.Entries.{occurs-HasNode}
+use Rattle.dom_model.specs.declared.{Kind.Kind, Kind.TheVariants.Element, Kind.TheVariants.Text, Kind.TheVariants.ProcessingInstruction, Kind.TheVariants.Comment, Kind.TheVariants.Document, Kind.TheVariants.DocumentType, Kind.TheVariants.DocumentFragment}
+use Rattle.dom_model.specs.Definitions.{is_kind, may_be_parent, Entry, Node, Forest, Grove, entry_in, parent_of, ancestors, put, entry_has, is_of_kind, kind_passes, Content, Observing, check_insert, document_in, remove, removed_from, freed, append, IsInsertable, append_edits}
+use Rattle.dom_model.proofs.Forests.{Climbing.not_among-hits, Entries.occurs-HasNode}
 use Rattle.dom_observe.specs.Watchers.{Watches}
-use Rattle.dom_tree.specs.Owned.{document_at}
-use Rattle.dom_tree.specs.Standing.{takes_leaf, IsLeafFor}
+use Rattle.dom_tree.specs.{Owned.document_at, Standing.takes_leaf, Standing.IsLeafFor}
 use Rattle.dom_tree.proofs.LeavesPut.{leaf-outside}
-use Rattle.dom_edit.specs.declared.world.World.{World}
-use Rattle.dom_edit.specs.Inserting.{placed_in, IsOpen}
-use Rattle.dom_edit.specs.Keeping.{KeepsNodes}
-use Rattle.dom_edit.specs.Markers.{StandByEdits}
-use Rattle.dom_edit.specs.Whole.{IsWhole, Follows}
-use Rattle.dom_edit.proofs.Following.{follows-none}
-use Rattle.dom_edit.proofs.InsertedNodes.{follows-as, alone-entering, follows-freed_alone, open-freed, follows-insert, nodes-placed}
-use Rattle.dom_edit.proofs.Marking.{stand-by_pre_insert}
-use Rattle.dom_edit.proofs.NodesKept.{nodes-none}
-use Rattle.dom_edit.proofs.PlacedRoots.{placed-same}
-use Rattle.dom_edit.proofs.PlacedWorlds.{with_placed, placing, follows-placing, whole-placed}
-use Rattle.dom_edit.proofs.ReplacedNodes.{follows-pre_insert}
-use Rattle.dom_edit.proofs.Unheard.{follows-unheard}
-use Rattle.dom_edit.proofs.Unrefused.{unrefused}
-use Rattle.dom_edit.proofs.WatchersKept.{watchers-ranged}
+use Rattle.dom_edit.specs.{declared.world.World.World, Inserting.placed_in, Inserting.IsOpen, Keeping.KeepsNodes, Markers.StandByEdits, Whole.IsWhole, Whole.Follows}
+use Rattle.dom_edit.proofs.{Following.follows-none, InsertedNodes.follows-as, InsertedNodes.alone-entering, InsertedNodes.follows-freed_alone, InsertedNodes.open-freed, InsertedNodes.follows-insert, InsertedNodes.nodes-placed, Marking.stand-by_pre_insert, NodesKept.nodes-none, PlacedRoots.placed-same, PlacedWorlds.with_placed, PlacedWorlds.placing, PlacedWorlds.follows-placing, PlacedWorlds.whole-placed, ReplacedNodes.follows-pre_insert, Unheard.follows-unheard, Unrefused.unrefused, WatchersKept.watchers-ranged}
+use Rattle.dom_model.proofs.MutationAlgorithms.OwnersKept.{told}
 
 -- what the kinds of a parent and of a leaf that it takes are, and are not
 record LeafKinds (f : Forest Content) (parent leaf : ℕ) : Type 0 where
@@ -76,11 +52,6 @@ leaf-kinds f parent leaf h =
     go (Some a) None e = absurd (false≢true e)
     go (Some a) (Some b) e = of_kinds a.value.label.kind b.value.label.kind e
 
--- one node document, as it is read
-document-read : (o : Option (Entry (Node Content))) → IfSome o (λ e. document_in o ≡ e.value.document)
-document-read None = tt
-document-read (Some e) = refl
-
 same-documents : (p l : Option (Entry (Node Content))) → IsSome p → IsSome l → document_at p ≡ document_at l → document_in l ≡ document_in p
 same-documents None l h k e = absurd (false≢true h)
 same-documents (Some a) None h k e = absurd (false≢true k)
@@ -119,7 +90,7 @@ module _ (v : World) (h : IsWhole v) (parent n : ℕ) (i : IsLeafFor v.tree.fore
 
   unadopted : placed_in parent None n trees ≡ put parent n None trees
   unadopted =
-      placed-same trees h.forest.once h.documents parent n (document_in (entry_in trees parent)) (document_in (entry_in trees n)) None i.parent_there (document-read (entry_in trees parent)) (document-read (entry_in trees n))
+      placed-same trees h.forest.once h.documents parent n (document_in (entry_in trees parent)) (document_in (entry_in trees n)) None i.parent_there (told (entry_in trees parent)) (told (entry_in trees n))
       (same-documents (entry_in trees parent) (entry_in trees n) i.parent_there i.leaf_there i.one_document)
 
   module _ (t : Grove Content) (e : t ≡ record v.tree { forest = put parent n None trees }) where

@@ -1,20 +1,11 @@
 -- The first world: one Document in a world with nothing else.
 use Rattle.std.proofs.Common.{◌≡◌, ℕ, ◌<◌, ◌≤◌, List, [], Option, None, is_some, IfSome, unwrap_or, refl, ap, sym, ◌∙◌, subst, arith}
-use Rattle.std.proofs.lemmas.List.{get_or_past}
-use Rattle.std.proofs.lemmas.List.Elements.{All-nil}
-use Rattle.dom_model.specs.Forests.Kinds.{Label}
-use Rattle.dom_model.specs.Forests.Forest.{empty, IsForest}
+use Rattle.std.proofs.lemmas.{List.get_or_past, List.Elements.All-nil}
+use Rattle.dom_model.specs.Definitions.{Label, empty, IsForest, Content, Range, Iterator, Walker, document_label, no_content, first_world, made_node, Record, taken_up_to, records_past, IsRange, IsIterator, IsWalker}
 use Rattle.dom_model.specs.Worlds.World as model
-use Rattle.dom_model.specs.Worlds.World.{Content, Range, Iterator, Walker, document_label, no_content, first_world}
-use Rattle.dom_model.specs.Worlds.Making.{made_node}
-use Rattle.dom_model.specs.MutationObservers.Record.{Record}
-use Rattle.dom_model.specs.MutationObservers.Records.{taken_up_to, records_past}
-use Rattle.dom_model.specs.Soundness.Sound.{IsRange, IsIterator, IsWalker}
 use Rattle.dom_model.proofs.Soundness.SoundAnswers.{sound-first}
-use Rattle.dom_observe.specs.Held.{NamesHeld}
-use Rattle.dom_observe.specs.Watchers.{Watchers, queue_at, Watches}
-use Rattle.dom_edit.specs.declared.world.World.{World}
-use Rattle.dom_edit.specs.Whole.{AreHeld, AreCovered, IsWhole, Keeps, Shows, Follows}
+use Rattle.dom_observe.specs.{Held.NamesHeld, Watchers.Watchers, Watchers.queue_at, Watchers.Watches}
+use Rattle.dom_edit.specs.{declared.world.World.World, Whole.AreHeld, Whole.AreCovered, Whole.IsWhole, Whole.Keeps, Whole.Shows, Whole.Follows}
 
 abbrev bare : model.World
 bare = record first_world { forest = empty; made = 0 }

@@ -1,24 +1,12 @@
 -- What callers cite of a world before and after a call: held nodes stay held, kinds, data and parents stay, and what a new node has.
 use Rattle.std.proofs.Common.{◌≡◌, ℕ, Bool, false, List, [], ◌∷◌, None, ap, sym, ◌∙◌, subst}
 use Rattle.dom_model.specs.declared.Kind.{Kind}
-use Rattle.dom_model.specs.PlainLists.Lists.{hits}
-use Rattle.dom_model.specs.Forests.Kinds.{Label}
-use Rattle.dom_model.specs.Forests.Forest.{Forest, HasNode, entry_in, parent_of}
-use Rattle.dom_model.specs.Worlds.World.{Content}
-use Rattle.dom_model.specs.Worlds.Making.{made_node}
-use Rattle.dom_model.specs.Forests.Nodes.{entry_has, kind_passes}
-use Rattle.dom_model.specs.MutationAlgorithms.Checks.{check_insert}
-use Rattle.dom_model.specs.MutationAlgorithms.Editing.{append, nodes_of, remove}
-use Rattle.dom_model.specs.DataAndCopies.Data.{content_in}
+use Rattle.dom_model.specs.Definitions.{hits, Label, Forest, HasNode, entry_in, parent_of, Content, made_node, entry_has, kind_passes, check_insert, append, nodes_of, remove, content_in}
 use Rattle.dom_model.proofs.Forests.Entries.{occurs-HasNode, HasNode-occurs}
 use Rattle.dom_model.proofs.MutationAlgorithms.Extending.{Extends, extends-beside, extends-remove, put_by_insert}
-use Rattle.dom_model.proofs.Soundness.SoundEditing.{may_come_in}
-use Rattle.dom_model.proofs.Soundness.SoundTextContent.{entry-made, made-there}
-use Rattle.dom_edit.specs.declared.world.World.{World}
-use Rattle.dom_edit.specs.Whole.{IsWhole, Follows, unwatched}
-use Rattle.dom_edit.specs.Keeping.{KeepsWatchers, KeepsLabels}
-use Rattle.dom_edit.proofs.Following.{sound-unwatched}
-use Rattle.dom_edit.proofs.InsertedNodes.{forest-after, statics-after, walkers-after}
+use Rattle.dom_model.proofs.Soundness.{SoundEditing.may_come_in, SoundTextContent.entry-made, SoundTextContent.made-there}
+use Rattle.dom_edit.specs.{declared.world.World.World, Whole.IsWhole, Whole.Follows, Whole.unwatched, Keeping.KeepsWatchers, Keeping.KeepsLabels}
+use Rattle.dom_edit.proofs.{Following.sound-unwatched, InsertedNodes.forest-after, InsertedNodes.statics-after, InsertedNodes.walkers-after}
 
 -- The forest after a call extends the one before it, but for the parents of the nodes that move.
 

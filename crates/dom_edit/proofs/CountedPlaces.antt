@@ -1,21 +1,11 @@
 -- What the counts of a Document's children tell of a place among them.
-use Rattle.std.specs.Prelude.{if◌then◌else◌, not, ◌||◌, nat_eq, is_some}
-use Rattle.std.proofs.Common.{◌≡◌, ℕ, ◌+◌, ◌<◌, Bool, true, false, List, [], ◌∷◌, Option, Some, None, refl, ap, sym, ◌∙◌, arith}
+use Rattle.std.proofs.Common.{if◌then◌else◌, not, ◌||◌, nat_eq, is_some, ◌≡◌, ℕ, ◌+◌, ◌<◌, Bool, true, false, List, [], ◌∷◌, Option, Some, None, refl, ap, sym, ◌∙◌, arith}
 use Rattle.std.proofs.lemmas.Bool.Decides.{nat_tests}
-use Rattle.dom_model.specs.declared.Kind.{Kind}
-use Rattle.dom_model.specs.declared.Kind.TheVariants.{Element, DocumentType}
-use Rattle.dom_model.specs.PlainLists.Lists.{hits, past, up_to}
-use Rattle.dom_model.specs.Forests.Forest.{Forest, children_of, parent_of}
-use Rattle.dom_model.specs.MutationAlgorithms.Checks.{has_kind, count_kind}
-use Rattle.dom_model.specs.Forests.Nodes.{is_of_kind}
+use Rattle.dom_model.specs.declared.{Kind.Kind, Kind.TheVariants.Element, Kind.TheVariants.DocumentType}
+use Rattle.dom_model.specs.Definitions.{hits, past, up_to, Forest, children_of, parent_of, has_kind, count_kind, is_of_kind}
 use Rattle.dom_model.proofs.PlainLists.Numbers.{same_or, same, apart}
-use Rattle.dom_edit.specs.declared.surroundings.Place.{Place}
-use Rattle.dom_edit.specs.declared.surroundings.Place.TheVariants.{Before, Instead}
-use Rattle.dom_edit.specs.declared.surroundings.Found.{Found}
-use Rattle.dom_edit.specs.declared.surroundings.Around.{Around}
-use Rattle.dom_edit.specs.Places.{child_of, staying, IsUnder, refuses, ahead_of, past_of, count_around, IsAround}
-use Rattle.dom_edit.proofs.AmongChildren.{count_kind-cons, has_kind-count}
-use Rattle.dom_edit.proofs.Placing.{element-refused, doctype-refused}
+use Rattle.dom_edit.specs.{declared.surroundings.Place.Place, declared.surroundings.Place.TheVariants.Before, declared.surroundings.Place.TheVariants.Instead, declared.surroundings.Found.Found, declared.surroundings.Around.Around, Places.child_of, Places.staying, Places.IsUnder, Places.refuses, Places.ahead_of, Places.past_of, Places.count_around, Places.IsAround}
+use Rattle.dom_edit.proofs.{AmongChildren.count_kind-cons, AmongChildren.has_kind-count, Placing.element-refused, Placing.doctype-refused}
 
 module _ {X : Type 0} (k : Kind) (f : Forest X) where
   -- a count of a list, around one number of it

@@ -1,11 +1,9 @@
 -- The nodes that are held stay covered.
 use Rattle.std.proofs.Common.{◌≡◌, ℕ, ◌+◌, ◌≤◌, ◌<◌, Bool, true, false, List, [], ◌∷◌, length, set, refl, sym, ap, ◌∙◌, ⊎_elim, arith, length-set, get_or-set_other}
 use Rattle.std.proofs.lemmas.Bool.{cases_lt, cases_eq}
-use Rattle.dom_model.specs.PlainLists.Lists.{hits}
-use Rattle.dom_model.specs.Forests.Forest.{Grove, HasNode, occurs, IsForest}
-use Rattle.dom_model.specs.Worlds.World.{Content}
-use Rattle.dom_model.proofs.PlainLists.Heads.{hits-first, hits-rest}
-use Rattle.dom_model.proofs.Forests.Entries.{occurs-HasNode, HasNode-occurs}
+use Rattle.dom_model.specs.Definitions.{hits, Grove, HasNode, occurs, IsForest, Content}
+use Rattle.dom_model.proofs.PlainLists.Heads.{hits-rest}
+use Rattle.dom_model.proofs.Forests.{Entries.occurs-HasNode, Entries.HasNode-occurs, Listed.hits-itself}
 use Rattle.dom_ranges.specs.Chained.{covers, covered_to, uncovered}
 use Rattle.dom_ranges.proofs.Covers.{covers-to, covers-new, covered_to-length}
 use Rattle.dom_edit.specs.Whole.{AreCovered}
@@ -53,7 +51,7 @@ covered-made g h covered made old none count next k = record {
 pub uncovered-other : (ns : List ℕ) (covered : List Bool) (n : ℕ) → hits n ns ≡ 0 → covers (uncovered ns covered) n ≡ covers covered n
 uncovered-other [] covered n h = refl
 uncovered-other (m ∷ ns) covered n h =
-    ⊎_elim (λ (q : n ≡ m). let a : 1 + hits n ns ≡ 0 = sym (hits-first n ns) ∙ ap (λ y. hits n (y ∷ ns)) q ∙ h in absurd (omega arith))
+    ⊎_elim (λ (q : n ≡ m). let a : 1 + hits n ns ≡ 0 = sym (hits-itself n ns) ∙ ap (λ y. hits n (y ∷ ns)) q ∙ h in absurd (omega arith))
     (λ (d : n ≡ m → ⊥). uncovered-other ns (set covered m false) n (sym (hits-rest n m ns d) ∙ h) ∙ get_or-set_other covered m n false false d) (cases_eq n m)
 
 pub uncovered-length : (ns : List ℕ) (covered : List Bool) → length (uncovered ns covered) ≡ length covered

@@ -1,15 +1,10 @@
 -- Steps of the definitions that follow one another, and what a world of the code shows after one.
 use Rattle.std.proofs.Common.{◌≡◌, Option, IfSome, All, refl, sym, subst}
 use Rattle.std.proofs.lemmas.List.Elements.{All-nil}
-use Rattle.dom_model.specs.Forests.Forest.{IsForest}
-use Rattle.dom_model.specs.Forests.Documents.{HasOneDocument}
-use Rattle.dom_model.specs.Worlds.World.{Range}
+use Rattle.dom_model.specs.Definitions.{IsForest, HasOneDocument, Range, IsRegistration, IsSound, HasOwners}
 use Rattle.dom_model.specs.Worlds.World as model
-use Rattle.dom_model.specs.Soundness.Sound.{IsRegistration, IsSound}
-use Rattle.dom_model.specs.Soundness.Owners.{HasOwners}
 use Rattle.dom_observe.specs.Held.{NamesHeld}
-use Rattle.dom_edit.specs.declared.world.World.{World}
-use Rattle.dom_edit.specs.Whole.{AreHeld, AreCovered, IsWhole, Keeps, Shows, Follows, unwatched}
+use Rattle.dom_edit.specs.{declared.world.World.World, Whole.AreHeld, Whole.AreCovered, Whole.IsWhole, Whole.Keeps, Whole.Shows, Whole.Follows, Whole.unwatched}
 
 -- no step
 pub follows-none : (v : World) → Follows v v (λ w. w)

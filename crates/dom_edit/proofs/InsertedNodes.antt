@@ -1,29 +1,15 @@
 -- Steps of an insertion, and what is known of the world between them. DOM Standard, "Mutation algorithms": insert.
 use Rattle.std.proofs.Common.{◌≡◌, ℕ, zero, suc, ◌<◌, ◌==◌, Bool, true, false, if◌then◌else◌, List, [], ◌∷◌, ◌++◌, length, get_or, Option, Some, None, refl, ap, sym, ◌∙◌, subst, arith}
-use Rattle.std.proofs.lemmas.Bool.{eqb-true}
+use Rattle.std.proofs.lemmas.Bool.{eqb-true, cond-true, cond-false}
 use Rattle.dom_model.specs.declared.Kind.TheVariants.{DocumentFragment}
-use Rattle.dom_model.specs.PlainLists.Lists.{hits}
-use Rattle.dom_model.specs.Forests.Forest.{Forest, occurs, children_of}
-use Rattle.dom_model.specs.Worlds.World.{Content}
+use Rattle.dom_model.specs.Definitions.{hits, Forest, occurs, children_of, Content, is_of_kind, remove, remove_all, nodes_of, is_fragment, emptied_fragment, tree_record, freed, previous_to, insert_all, insert_nodes, insert, IsInsertable}
 use Rattle.dom_model.specs.Worlds.World as model
-use Rattle.dom_model.specs.Forests.Nodes.{is_of_kind}
-use Rattle.dom_model.specs.MutationAlgorithms.Editing.{remove, remove_all, nodes_of, is_fragment, emptied_fragment, tree_record, freed, previous_to, insert_all, insert_nodes, insert}
-use Rattle.dom_model.specs.MutationAlgorithms.Insertable.{IsInsertable}
-use Rattle.dom_model.proofs.Forests.Climbing.{hits-first}
-use Rattle.dom_model.proofs.Forests.Indices.{child-there}
+use Rattle.dom_model.proofs.Forests.{Climbing.hits-first, Indices.child-there}
 use Rattle.dom_model.proofs.MutationAlgorithms.Loosened.{loosened-remove, loosened-remove_all}
 use Rattle.dom_model.proofs.Soundness.SoundInserting.{IsReady, freed_ready}
 use Rattle.dom_observe.specs.Watchers.{Watches}
-use Rattle.dom_edit.specs.declared.world.World.{World}
-use Rattle.dom_edit.specs.Whole.{IsWhole, Keeps, Follows, unwatched}
-use Rattle.dom_edit.specs.declared.inserting.Incoming.{Incoming}
-use Rattle.dom_edit.specs.declared.inserting.Incoming.TheVariants.{Alone, Children}
-use Rattle.dom_edit.specs.Inserting.{ComesIn, brought, AreThere, IsOpen}
-use Rattle.dom_edit.specs.Keeping.{KeepsWatchers, KeepsNodes}
-use Rattle.dom_edit.proofs.Following.{keeps-unwatched, follows-none, follows-then}
-use Rattle.dom_edit.proofs.PlacedRoots.{placed-world}
-use Rattle.dom_edit.proofs.PlacedWorlds.{sound-unwatched, placing}
-use Rattle.dom_edit.proofs.LabelsKept.{told_of, kept-told, told-all_placed}
+use Rattle.dom_edit.specs.{declared.world.World.World, Whole.IsWhole, Whole.Keeps, Whole.Follows, Whole.unwatched, declared.inserting.Incoming.Incoming, declared.inserting.Incoming.TheVariants.Alone, declared.inserting.Incoming.TheVariants.Children, Inserting.ComesIn, Inserting.brought, Inserting.AreThere, Inserting.IsOpen, Keeping.KeepsWatchers, Keeping.KeepsNodes}
+use Rattle.dom_edit.proofs.{Following.keeps-unwatched, Following.follows-none, Following.follows-then, PlacedRoots.placed-world, PlacedWorlds.sound-unwatched, PlacedWorlds.placing, LabelsKept.told_of, LabelsKept.kept-told, LabelsKept.told-all_placed}
 
 -- a step that is another one, on all worlds with these parts
 pub follows-as : (a c : World) (s t : model.World → model.World) → ((w : model.World) → Keeps a w → t w ≡ s w) → Follows a c s → Follows a c t
@@ -81,18 +67,12 @@ entering_if_any f (Some n) = entering f n
 pub nodes-entering : (a : World) (n : ℕ) (w : model.World) → Keeps a w → nodes_of w n ≡ entering a.tree.forest n
 nodes-entering a n w k = ap (λ (f : Forest Content). entering f n) k.forest
 
-if_so : {A : Type 0} (t : Bool) (x y : A) → t ≡ true → (if t then x else y) ≡ x
-if_so t x y e = rw e refl
-
-pub if_not : {A : Type 0} (t : Bool) (x y : A) → t ≡ false → (if t then x else y) ≡ y
-if_not t x y e = rw e refl
-
 -- a node that is no fragment, or a fragment's children
 pub alone-entering : (f : Forest Content) (n : ℕ) → is_of_kind DocumentFragment f n ≡ false → n ∷ [] ≡ entering f n
-alone-entering f n e = sym (if_not (is_of_kind DocumentFragment f n) (children_of f n) (n ∷ []) e)
+alone-entering f n e = sym (cond-false (is_of_kind DocumentFragment f n) (children_of f n) (n ∷ []) e)
 
 pub children-entering : (f : Forest Content) (n : ℕ) (ns : List ℕ) → is_of_kind DocumentFragment f n ≡ true → ns ≡ children_of f n → ns ≡ entering f n
-children-entering f n ns e d = d ∙ sym (if_so (is_of_kind DocumentFragment f n) (children_of f n) (n ∷ []) e)
+children-entering f n ns e d = d ∙ sym (cond-true (is_of_kind DocumentFragment f n) (children_of f n) (n ∷ []) e)
 
 pub brought-entering : (f : Forest Content) (n : ℕ) (i : Incoming) → ComesIn f n i → brought n i ≡ entering f n
 brought-entering f n Alone e = alone-entering f n e
@@ -101,19 +81,19 @@ brought-entering f n (Children nodes) e = children-entering f n nodes.items e.0 
 -- a fragment's children are there
 pub entering-there : (a : World) (n : ℕ) → IsWhole a → is_of_kind DocumentFragment a.tree.forest n ≡ true → (ns : List ℕ) → ns ≡ entering a.tree.forest n → AreThere a.tree.forest ns
 entering-there a n h k ns e m i =
-    let d = e ∙ if_so (is_of_kind DocumentFragment a.tree.forest n) (children_of a.tree.forest n) (n ∷ []) k in
+    let d = e ∙ cond-true (is_of_kind DocumentFragment a.tree.forest n) (children_of a.tree.forest n) (n ∷ []) k in
     child-there a.tree.forest h.forest.once m n (subst (λ (xs : List ℕ). 0 < hits m xs) d i)
 
 -- either leaves where it stands
 pub follows-freed_alone : (a b : World) (n : ℕ) (ns : List ℕ) → is_of_kind DocumentFragment a.tree.forest n ≡ false → Follows a b (remove false n) → Follows a b (freed n ns)
 follows-freed_alone a b n ns e =
     follows-as a b (remove false n) (freed n ns)
-    (λ w k. if_not (is_fragment w n) (emptied_fragment n ns w) (remove false n w) (ap (λ (f : Forest Content). is_of_kind DocumentFragment f n) k.forest ∙ e))
+    (λ w k. cond-false (is_fragment w n) (emptied_fragment n ns w) (remove false n w) (ap (λ (f : Forest Content). is_of_kind DocumentFragment f n) k.forest ∙ e))
 
 pub follows-freed_children : (a b c : World) (n : ℕ) (ns : List ℕ) → is_of_kind DocumentFragment a.tree.forest n ≡ true → Follows a b (remove_all ns) → Follows b c (tree_record n [] ns None None) → Follows a c (freed n ns)
 follows-freed_children a b c n ns e f r =
     follows-as a c (emptied_fragment n ns) (freed n ns)
-    (λ w k. if_so (is_fragment w n) (emptied_fragment n ns w) (remove false n w) (ap (λ (f : Forest Content). is_of_kind DocumentFragment f n) k.forest ∙ e))
+    (λ w k. cond-true (is_fragment w n) (emptied_fragment n ns w) (remove false n w) (ap (λ (f : Forest Content). is_of_kind DocumentFragment f n) k.forest ∙ e))
     (follows-then a b c (remove_all ns) (tree_record n [] ns None None) f r)
 
 -- once the nodes have left where they stood they may be put

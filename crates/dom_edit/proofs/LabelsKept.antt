@@ -1,20 +1,10 @@
 -- The label and the contents of each node stay as trees are cut and put, and as nodes get other documents.
-use Rattle.std.specs.Prelude.{IsSome}
-use Rattle.std.proofs.Common.{◌≡◌, ℕ, ◌≤◌, List, [], ◌∷◌, Option, Some, None, refl, ap, sym, ◌∙◌}
-use Rattle.dom_model.specs.Forests.Kinds.{Label}
-use Rattle.dom_model.specs.Forests.Arena.{Entry}
-use Rattle.dom_model.specs.Forests.Forest.{Node, Forest, Grove, IsForest, occurs, entry_in, cut, put, adopted, map_nodes}
-use Rattle.dom_model.specs.Worlds.World.{Content}
-use Rattle.dom_model.specs.DataAndCopies.Data.{content_in}
-use Rattle.dom_model.specs.MutationAlgorithms.Editing.{document_in}
-use Rattle.dom_model.specs.TokenText.Originals.{label_in}
-use Rattle.dom_model.proofs.Forests.Changes.{cut_at, link_at}
-use Rattle.dom_model.proofs.Forests.Entries.{entry-cut, entry-put}
+use Rattle.std.proofs.Common.{IsSome, ◌≡◌, ℕ, ◌≤◌, List, [], ◌∷◌, Option, Some, None, refl, ap, sym, ◌∙◌}
+use Rattle.dom_model.specs.Definitions.{Label, Entry, Node, Forest, Grove, IsForest, occurs, entry_in, cut, put, adopted, map_nodes, Content, content_in, document_in, label_in}
+use Rattle.dom_model.proofs.Forests.{Changes.cut_at, Changes.link_at, Entries.entry-cut, Entries.entry-put}
 use Rattle.dom_model.proofs.Worlds.Measured.{unplaced, unplaced_entry, entry-unplaced, adopted-unplaced}
 use Rattle.dom_model.proofs.Soundness.SoundPlacing.{apart_from}
-use Rattle.dom_edit.specs.declared.world.World.{World}
-use Rattle.dom_edit.specs.Inserting.{placed_in, all_placed, IsOpen}
-use Rattle.dom_edit.specs.Keeping.{KeepsWatchers, KeepsNodes}
+use Rattle.dom_edit.specs.{declared.world.World.World, Inserting.placed_in, Inserting.all_placed, Inserting.IsOpen, Keeping.KeepsWatchers, Keeping.KeepsNodes}
 use Rattle.dom_edit.proofs.PlacedRoots.{bare, sound-bare, forest-next, open-next}
 
 -- what is told of a node beside its place and its node document

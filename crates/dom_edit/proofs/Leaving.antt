@@ -1,37 +1,17 @@
 -- A node leaves its parent: what follows, and that the world stays whole.
-use Rattle.std.proofs.Common.{◌≡◌, ℕ, ◌<◌, ◌≤◌, Bool, true, false, List, [], ◌∷◌, Option, Some, None, IfSome, refl, ap, sym, ◌∙◌, subst, ⊎_elim, arith}
+use Rattle.std.proofs.Common.{◌≡◌, ℕ, ◌<◌, ◌≤◌, Bool, true, false, [], ◌∷◌, Option, Some, None, IfSome, refl, ap, sym, ◌∙◌, subst, ⊎_elim, arith}
 use Rattle.std.proofs.lemmas.Bool.{cases_lt}
-use Rattle.dom_model.specs.PlainLists.Lists.{hits, among}
-use Rattle.dom_model.specs.Forests.Forest.{HasNode, one_at, occurs, parent_of, previous_of, next_of, index_of, inclusive_descendants, ancestors, cut}
-use Rattle.dom_model.specs.Forests.Documents.{HasOneDocument}
+use Rattle.dom_model.specs.Definitions.{hits, among, HasNode, one_at, occurs, parent_of, previous_of, next_of, index_of, inclusive_descendants, ancestors, cut, HasOneDocument, Observing, IsSound, map_ranges, after_removal, pre_removed_all, taken_out, transients_made, tree_record_unless, removed_from, remove, standing_on, HasOwners, IsOwnedWell}
 use Rattle.dom_model.specs.Worlds.World as model
-use Rattle.dom_model.specs.Worlds.World.{Observing}
-use Rattle.dom_model.specs.Soundness.Sound.{IsSound}
-use Rattle.dom_model.specs.BoundaryPoints.Points.{map_ranges, after_removal}
-use Rattle.dom_model.specs.MutationAlgorithms.PreRemoval.{pre_removed_all}
-use Rattle.dom_model.specs.MutationAlgorithms.Editing.{taken_out, transients_made, tree_record_unless, removed_from, remove}
-use Rattle.dom_model.specs.MutationObservers.Observing.{standing_on}
-use Rattle.dom_model.specs.Soundness.Owners.{HasOwners, IsOwnedWell}
-use Rattle.dom_model.proofs.Forests.Climbing.{hits-not_among}
-use Rattle.dom_model.proofs.Forests.Entries.{HasNode-occurs}
-use Rattle.dom_model.proofs.Forests.Indices.{parent-there}
-use Rattle.dom_model.proofs.Forests.Paths.{parent-path, outside-cut}
-use Rattle.dom_model.proofs.Forests.Totals.{total-cut}
-use Rattle.dom_model.proofs.Forests.WaysMeeting.{above-higher, depth-child}
+use Rattle.dom_model.proofs.Forests.{Climbing.hits-not_among, Entries.HasNode-occurs, Indices.parent-there, Paths.parent-path, Paths.outside-cut, Totals.total-cut, WaysMeeting.above-higher, WaysMeeting.depth-child}
 use Rattle.dom_model.proofs.Soundness.SoundWorlds.{there_after_cut, statics-kept, sound-remove}
 use Rattle.dom_model.proofs.MutationAlgorithms.OwnersKept.{owned-cut}
 use Rattle.dom_ranges.specs.Tables.{RangeTable, IsCovered}
-use Rattle.dom_observe.specs.Held.{NamesHeld}
-use Rattle.dom_observe.specs.Watchers.{Watches}
-use Rattle.dom_observe.proofs.HeldNames.{held-kept}
-use Rattle.dom_observe.proofs.Watching.{watches-unstood}
-use Rattle.dom_edit.specs.declared.world.World.{World}
-use Rattle.dom_edit.specs.Removed.{removal_noted}
-use Rattle.dom_edit.specs.Whole.{AreCovered, IsWhole, Keeps, Follows, unwatched}
+use Rattle.dom_observe.specs.{Held.NamesHeld, Watchers.Watches}
+use Rattle.dom_observe.proofs.{HeldNames.held-kept, Watching.watches-unstood, Queued.standing_on-none}
+use Rattle.dom_edit.specs.{declared.world.World.World, Removed.removal_noted, Whole.AreCovered, Whole.IsWhole, Whole.Keeps, Whole.Follows, Whole.unwatched}
+use Rattle.dom_edit.proofs.{Following.keeps-unwatched, Following.whole-sound, Covering.covered-kept, Queuing.tree_mutation}
 pub use Rattle.dom_edit.proofs.Following.{sound-unwatched}
-use Rattle.dom_edit.proofs.Following.{keeps-unwatched, whole-sound}
-use Rattle.dom_edit.proofs.Covering.{covered-kept}
-use Rattle.dom_edit.proofs.Queuing.{tree_mutation}
 
 -- what holds of what is there
 pub if_some : {A : Type 0} (P : A → Type 0) (o : Option A) → ((a : A) → o ≡ Some a → P a) → IfSome o P
@@ -111,17 +91,13 @@ left-apart v new n p h e f =
 
 -- Transient registrations.
 
-none-standing : (ns : List ℕ) → standing_on ns [] ≡ []
-none-standing [] = refl
-none-standing (n ∷ ns) = none-standing ns
-
 -- where nothing is observed no registration is left behind
 pub follows-idle : (v : World) (n p : ℕ) → ((x : Observing) → Watches v.observers x → x.registrations ≡ []) → Follows v v (transients_made n p)
 follows-idle v n p idle = record {
   keeps = λ w k. record { forest = k.forest; made = k.made; ranges = k.ranges; static_ranges = k.static_ranges; iterators = k.iterators; walkers = k.walkers };
   watches = λ w k o.
       let above = ancestors p w.forest in
-      watches-unstood v.observers w.observing o (tree_mutation p [] [] None None w) n above (ap (standing_on above) (idle w.observing o) ∙ none-standing above);
+      watches-unstood v.observers w.observing o (tree_mutation p [] [] None None w) n above (ap (standing_on above) (idle w.observing o) ∙ standing_on-none above);
 }
 
 -- The whole step.

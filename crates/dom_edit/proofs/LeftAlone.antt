@@ -1,32 +1,11 @@
 -- What steps on newer nodes leave: the forest that was there, with newer trees beside it, and all that names its nodes.
-use Rattle.std.proofs.Common.{◌≡◌, ℕ, ◌<◌, ◌≤◌, ◌==◌, Bool, true, false, not, ◌&&◌, if◌then◌else◌, List, [], ◌∷◌, Option, Some, None, IfSome, refl, ap, sym, ◌∙◌, subst, arith, ⊎_elim}
-use Rattle.std.specs.Prelude.{All}
-use Rattle.std.proofs.lemmas.Bool.{cases_lt}
-use Rattle.std.proofs.lemmas.List.Elements.{All-head, All-tail}
-use Rattle.dom_model.specs.PlainLists.Lists.{hits, among}
-use Rattle.dom_model.specs.Forests.Arena.{parent_in}
-use Rattle.dom_model.specs.Forests.EachNode.{EachNode}
-use Rattle.dom_model.specs.Forests.Forest.{Forest, HasNode, empty, occurs, one_at, beside, tree_at, cut, put, adopted, in_document, entry_in, parent_of, children_of, ancestors, inclusive_descendants}
-use Rattle.dom_model.specs.Worlds.World.{Content, Iterator}
-use Rattle.dom_model.specs.Soundness.Sound.{IsIterator}
-use Rattle.dom_model.specs.MutationAlgorithms.Editing.{document_in}
-use Rattle.dom_model.specs.MutationAlgorithms.PreRemoval.{stepped_off, pre_removed, pre_removed_all}
+use Rattle.std.proofs.Common.{◌≡◌, ℕ, ◌<◌, ◌≤◌, ◌==◌, Bool, true, false, not, ◌&&◌, if◌then◌else◌, List, [], ◌∷◌, Option, Some, None, IfSome, refl, ap, sym, ◌∙◌, subst, arith, ⊎_elim, All}
+use Rattle.std.proofs.lemmas.{Bool.cases_lt, List.Elements.All-head, List.Elements.All-tail}
+use Rattle.dom_model.specs.Definitions.{hits, among, parent_in, EachNode, Forest, HasNode, empty, occurs, one_at, beside, tree_at, cut, put, adopted, in_document, entry_in, parent_of, children_of, ancestors, inclusive_descendants, Content, Iterator, IsIterator, document_in, stepped_off, pre_removed, pre_removed_all}
 use Rattle.dom_model.proofs.PlainLists.Numbers.{same_or, same, apart}
-use Rattle.dom_model.proofs.Forests.Below.{occurs-tree}
-use Rattle.dom_model.proofs.Forests.Climbing.{hits-first, hits-not_among, hits-ancestors}
-use Rattle.dom_model.proofs.Forests.EachNode.{EachNode-cut, EachNode-put, EachNode-with_tree}
-use Rattle.dom_model.proofs.Forests.Entries.{occurs-HasNode}
-use Rattle.dom_model.proofs.Forests.ForestsBeside.{IsFrom, IsBelow, absent-from, entry-older, tree_at-older, tree_at-younger, cut-younger, put-younger, adopted-younger}
-use Rattle.dom_model.proofs.Forests.Indices.{child-parent, parent-there}
-use Rattle.dom_model.proofs.Forests.Paths.{parent-path}
-use Rattle.dom_model.proofs.Forests.Totals.{IsOnce, total-beside}
-use Rattle.dom_model.proofs.Forests.TreeOrder.Flattened.{hits-numbers}
-use Rattle.dom_observe.specs.Held.{named, NamesNoneOf}
-use Rattle.dom_observe.specs.Watchers.{Watchers}
-use Rattle.dom_edit.specs.declared.world.World.{World}
-use Rattle.dom_edit.specs.Inserting.{placed_in, all_placed}
-use Rattle.dom_edit.specs.Leaving.{LeavesAll, AreNewer}
-use Rattle.dom_edit.specs.Whole.{IsWhole}
+use Rattle.dom_model.proofs.Forests.{Below.occurs-tree, Climbing.hits-first, Climbing.hits-not_among, Climbing.hits-ancestors, EachNode.EachNode-cut, EachNode.EachNode-put, EachNode.EachNode-with_tree, Entries.occurs-HasNode, ForestsBeside.IsFrom, ForestsBeside.IsBelow, ForestsBeside.absent-from, ForestsBeside.entry-older, ForestsBeside.tree_at-older, ForestsBeside.tree_at-younger, ForestsBeside.cut-younger, ForestsBeside.put-younger, ForestsBeside.adopted-younger, Indices.child-parent, Indices.parent-there, Paths.parent-path, Totals.IsOnce, Totals.total-beside, TreeOrder.Flattened.hits-numbers}
+use Rattle.dom_observe.specs.{Held.named, Held.NamesNoneOf, Watchers.Watchers}
+use Rattle.dom_edit.specs.{declared.world.World.World, Inserting.placed_in, Inserting.all_placed, Leaving.LeavesAll, Leaving.AreNewer, Whole.IsWhole}
 use Rattle.dom_edit.proofs.PlacedWorlds.{with_placed}
 
 module _ (a : World) (h : IsWhole a) where

@@ -1,34 +1,18 @@
 -- A node is made: what follows, and that the world stays whole.
-use Rattle.std.specs.Prelude.{unwrap_or, IsSome, []}
+use Rattle.std.proofs.Common.{unwrap_or, IsSome, [], ◌≡◌, ◌+◌, ◌==◌, ℕ, true, false, Option, Some, None, refl, ap, sym, ◌∙◌, subst, arith}
 use Rattle.std.specs.Option.{ForSome}
-use Rattle.std.proofs.Common.{◌≡◌, ◌+◌, ◌==◌, ℕ, true, false, Option, Some, None, refl, ap, sym, ◌∙◌, subst, arith}
 use Rattle.std.proofs.lemmas.Bool.{ne_eqb}
 use Rattle.dom_model.specs.declared.Kind.TheVariants.{Document}
-use Rattle.dom_model.specs.PlainLists.Lists.{or_else}
-use Rattle.dom_model.specs.Forests.Kinds.{Label, is_kind}
-use Rattle.dom_model.specs.Forests.Forest.{Forest, Node, empty, node, one_at, occurs, beside, entry_under, HasNode}
-use Rattle.dom_model.specs.Forests.Documents.{HasOneDocument}
-use Rattle.dom_model.specs.Worlds.World.{Content}
-use Rattle.dom_model.specs.Worlds.Making.{made_node}
-use Rattle.dom_model.specs.Forests.Nodes.{entry_has, is_of_kind}
-use Rattle.dom_model.specs.Soundness.Owners.{IsOwned, HasOwners}
+use Rattle.dom_model.specs.Definitions.{or_else, Label, is_kind, Forest, Node, empty, node, one_at, occurs, beside, entry_under, HasNode, HasOneDocument, Content, made_node, entry_has, is_of_kind, IsOwned, HasOwners}
 use Rattle.dom_model.proofs.PlainLists.Numbers.{same_or, same, apart}
-use Rattle.dom_model.proofs.Forests.Entries.{entry_under-absent, occurs-HasNode}
-use Rattle.dom_model.proofs.Forests.Totals.{total-beside}
-use Rattle.dom_model.proofs.Forests.Documents.{HasOneDocument-new_root}
-use Rattle.dom_model.proofs.Worlds.Measured.{entry-joined, entry-beside, kind-beside}
-use Rattle.dom_model.proofs.Worlds.Owners.{HasOwners-new_root, kind-there}
-use Rattle.dom_model.proofs.Soundness.SoundMaking.{sound-made_node}
-use Rattle.dom_model.proofs.Soundness.SoundWorlds.{statics-kept}
+use Rattle.dom_model.proofs.Forests.{Entries.entry_under-absent, Entries.occurs-HasNode, Totals.total-beside, Documents.HasOneDocument-new_root}
+use Rattle.dom_model.proofs.Worlds.{Measured.entry-joined, Measured.entry-beside, Measured.kind-beside, Owners.HasOwners-new_root, Owners.kind-there}
+use Rattle.dom_model.proofs.Soundness.{SoundMaking.sound-made_node, SoundWorlds.statics-kept}
 use Rattle.dom_ranges.specs.Chained.{covered_to}
-use Rattle.dom_observe.specs.Held.{NamesHeld}
-use Rattle.dom_observe.specs.Watchers.{Watches}
+use Rattle.dom_observe.specs.{Held.NamesHeld, Watchers.Watches}
 use Rattle.dom_observe.proofs.HeldNames.{held-kept}
-use Rattle.dom_edit.specs.declared.world.World.{World}
-use Rattle.dom_edit.specs.Whole.{AreCovered, IsWhole, Follows, unwatched}
-use Rattle.dom_edit.proofs.Following.{keeps-unwatched, whole-sound}
-use Rattle.dom_edit.proofs.Covering.{covered-more, covered-made}
-use Rattle.dom_edit.proofs.Leaving.{sound-unwatched}
+use Rattle.dom_edit.specs.{declared.world.World.World, Whole.AreCovered, Whole.IsWhole, Whole.Follows, Whole.unwatched}
+use Rattle.dom_edit.proofs.{Following.keeps-unwatched, Following.whole-sound, Covering.covered-more, Covering.covered-made, Leaving.sound-unwatched}
 
 abbrev pub new_node : ℕ → Option ℕ → Label → Content → Node Content
 new_node made document label body = record { number = made; document = unwrap_or document made; label = label; body = body }

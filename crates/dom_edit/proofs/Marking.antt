@@ -1,30 +1,12 @@
 -- The edits of the token text put each marker where the end of its live range then stands, in the worlds of the code.
 use Rattle.std.proofs.Common.{◌≡◌, ℕ, false, List, Option, Some, None, refl, ap, sym, ◌∙◌}
 use Rattle.std.specs.Option.{ForSome}
-use Rattle.dom_model.specs.Forests.Forest.{HasNode}
+use Rattle.dom_model.specs.Definitions.{HasNode, IsSound, check_insert, check_replace, remove, insert, pre_insert, replace, replace_all, IsInsertable, Token, Edit, texts_of, all_on_texts, all_on_world, insert_edits, pre_insert_edits, replace_edits, remove_edits, replace_all_edits, adopt_edits}
 use Rattle.dom_model.specs.Worlds.World as model
-use Rattle.dom_model.specs.Soundness.Sound.{IsSound}
-use Rattle.dom_model.specs.MutationAlgorithms.Checks.{check_insert, check_replace}
-use Rattle.dom_model.specs.MutationAlgorithms.Editing.{remove, insert, pre_insert, replace, replace_all}
-use Rattle.dom_model.specs.MutationAlgorithms.Insertable.{IsInsertable}
-use Rattle.dom_model.specs.TokenText.Tokens.{Token, Edit, texts_of, all_on_texts}
-use Rattle.dom_model.specs.TokenText.Edits.{all_on_world, insert_edits, pre_insert_edits, replace_edits, remove_edits, replace_all_edits, adopt_edits}
 use Rattle.dom_model.proofs.Forests.Entries.{occurs-HasNode}
 use Rattle.dom_model.proofs.Soundness.SoundEditing.{MayComeIn, may_come_in}
-use Rattle.dom_model.proofs.TokenText.AlikeTrees.TreesAlike.{bared}
-use Rattle.dom_model.proofs.TokenText.Marked.MarkedTexts.{Marked}
-use Rattle.dom_model.proofs.TokenText.Marked.MarkedFirst.{marked-kept}
-use Rattle.dom_model.proofs.TokenText.Marked.MarkedEdits.{marked-edits, end-found}
-use Rattle.dom_model.proofs.TokenText.Pieces.NodeTokens.{tokens-same}
-use Rattle.dom_model.proofs.TokenText.EditsMade.FittingEdits.{ready-sound}
-use Rattle.dom_model.proofs.TokenText.EditsMade.EditsLeave.{laid, Leave}
-use Rattle.dom_model.proofs.TokenText.EditsMade.EditsOfSteps.{leave-remove}
-use Rattle.dom_model.proofs.TokenText.EditsMade.EditsOfTrees.{leave-insert, leave-pre_insert, leave-replace, leave-replace_all}
-use Rattle.dom_model.proofs.TokenText.EditsMade.MarkersKept.{marked-own}
-use Rattle.dom_edit.specs.declared.world.World.{World}
-use Rattle.dom_edit.specs.Whole.{IsWhole, Follows, unwatched}
-use Rattle.dom_edit.specs.Markers.{StandByEdits}
-use Rattle.dom_edit.specs.Refusals.{check_only_child}
+use Rattle.dom_model.proofs.TokenText.{AlikeTrees.TreesAlike.bared, Marked.MarkedTexts.Marked, Marked.MarkedFirst.marked-kept, Marked.MarkedEdits.marked-edits, Marked.MarkedEdits.end-found, Pieces.NodeTokens.tokens-same, EditsMade.FittingEdits.ready-sound, EditsMade.EditsLeave.laid, EditsMade.EditsLeave.Leave, EditsMade.EditsOfSteps.leave-remove, EditsMade.EditsOfTrees.leave-insert, EditsMade.EditsOfTrees.leave-pre_insert, EditsMade.EditsOfTrees.leave-replace, EditsMade.EditsOfTrees.leave-replace_all, EditsMade.MarkersKept.marked-own}
+use Rattle.dom_edit.specs.{declared.world.World.World, Whole.IsWhole, Whole.Follows, Whole.unwatched, Markers.StandByEdits, Refusals.check_only_child}
 use Rattle.dom_edit.proofs.Following.{keeps-unwatched, sound-unwatched}
 
 -- the edits leave a world that is the new one but for node documents, attributes and what watches

@@ -2,19 +2,12 @@
 use Rattle.std.specs.Option.{ForSome}
 use Rattle.std.proofs.Common.{◌≡◌, ℕ, ◌<◌, ◌≤◌, List, [], ◌∷◌, ◌++◌, Option, Some, None, refl, ⊎_elim, arith}
 use Rattle.std.proofs.lemmas.Bool.{cases_lt}
-use Rattle.dom_model.specs.PlainLists.Lists.{hits}
-use Rattle.dom_model.specs.Forests.Forest.{Forest, HasNode}
-use Rattle.dom_model.specs.Worlds.World.{Content}
-use Rattle.dom_model.specs.MutationAlgorithms.Discarding.{if_any}
-use Rattle.dom_model.proofs.Forests.Climbing.{among-hits, hits-append}
-use Rattle.dom_model.proofs.Forests.Entries.{HasNode-occurs}
+use Rattle.dom_model.specs.Definitions.{hits, Forest, HasNode, Content, if_any}
+use Rattle.dom_model.proofs.Forests.{Climbing.among-hits, Climbing.hits-append, Entries.HasNode-occurs}
 use Rattle.dom_observe.specs.Held.{NamesOnly}
 use Rattle.dom_observe.proofs.HeldNames.{held-after}
-use Rattle.dom_edit.specs.declared.world.World.{World}
-use Rattle.dom_edit.specs.Whole.{IsWhole}
-use Rattle.dom_edit.specs.Inserting.{AreThere}
-use Rattle.dom_edit.proofs.Following.{whole-observed}
-use Rattle.dom_edit.proofs.NodesKept.{none-there, one-there}
+use Rattle.dom_edit.specs.{declared.world.World.World, Whole.IsWhole, Inserting.AreThere}
+use Rattle.dom_edit.proofs.{Following.whole-observed, NodesKept.none-there, NodesKept.one-there}
 
 -- Lists of nodes that are there.
 

@@ -1,43 +1,20 @@
 -- What names the nodes of a tree, part by part, and a tree that nothing names.
-use Rattle.std.specs.Prelude.{◌==◌, ◌||◌, is_some, map}
+use Rattle.std.proofs.Common.{◌==◌, ◌||◌, map, ◌≡◌, ℕ, suc, Bool, true, false, List, [], ◌∷◌, ◌++◌, Option, None, IfSome, All, refl, ap, sym, ◌∙◌, subst, arith}
 use Rattle.std.specs.List.{list_any, flat_map}
-use Rattle.std.proofs.Common.{◌≡◌, ℕ, suc, Bool, true, false, List, [], ◌∷◌, ◌++◌, Option, Some, None, IfSome, All, refl, ap, sym, ◌∙◌, subst, arith}
-use Rattle.std.proofs.lemmas.Bool.{false≢true, or_parts}
-use Rattle.std.proofs.lemmas.List.Folds.{list_any-append}
-use Rattle.dom_model.specs.declared.Kind.{Kind}
-use Rattle.dom_model.specs.declared.Kind.TheVariants.{Element, Text, ProcessingInstruction, Comment, Document, DocumentType, DocumentFragment}
-use Rattle.dom_model.specs.PlainLists.Lists.{among}
-use Rattle.dom_model.specs.Forests.Kinds.{is_kind, may_stand_in}
-use Rattle.dom_model.specs.Forests.Forest.{Row, Forest, empty, node, occurs, HasNode, IsForest, one_at, rows, tree_at, parent_of, ancestors, without, inclusive_descendants}
-use Rattle.dom_model.specs.Forests.Documents.{HasOneDocument}
-use Rattle.dom_model.specs.Forests.EachNode.{EachNode}
+use Rattle.std.proofs.lemmas.{Bool.false≢true, Bool.or_parts, List.Folds.list_any-append}
+use Rattle.dom_model.specs.declared.{Kind.Kind, Kind.TheVariants.Element, Kind.TheVariants.Text, Kind.TheVariants.ProcessingInstruction, Kind.TheVariants.Comment, Kind.TheVariants.Document, Kind.TheVariants.DocumentType, Kind.TheVariants.DocumentFragment}
+use Rattle.dom_model.specs.Definitions.{among, is_kind, may_stand_in, Forest, empty, node, occurs, HasNode, IsForest, one_at, rows, tree_at, parent_of, ancestors, without, inclusive_descendants, HasOneDocument, EachNode, Content, Range, is_of_kind, nodes_of_range, nodes_of_iterator, nodes_of_walker, nodes_unless_released, observed_nodes, named_nodes, is_held_outside, is_in_use, discarded, IsOwned, HasOwners}
+use Rattle.dom_model.specs.Forests.Forest.{Row}
 use Rattle.dom_model.specs.Worlds.World as model
-use Rattle.dom_model.specs.Worlds.World.{Content, Range}
-use Rattle.dom_model.specs.Forests.Nodes.{is_of_kind}
-use Rattle.dom_model.specs.MutationAlgorithms.Discarding.{nodes_of_range, nodes_of_iterator, nodes_of_walker, nodes_unless_released, observed_nodes, named_nodes, is_held_outside, is_in_use, discarded}
-use Rattle.dom_model.specs.Soundness.Owners.{IsOwned, HasOwners}
 use Rattle.dom_model.proofs.PlainLists.Numbers.{same_or, same, apart}
-use Rattle.dom_model.proofs.Forests.Changes.{seen, nothing, just}
-use Rattle.dom_model.proofs.Forests.Totals.{total-tree_at}
-use Rattle.dom_model.proofs.Forests.Climbing.{hits-ancestors, hits-not_among, not_among-hits}
-use Rattle.dom_model.proofs.Forests.Entries.{HasNode-occurs, occurs-HasNode}
-use Rattle.dom_model.proofs.Forests.EachNode.{EachNode-without}
-use Rattle.dom_model.proofs.Forests.Documents.{HasOneDocument-without}
-use Rattle.dom_model.proofs.Forests.Paths.{parent-path}
-use Rattle.dom_model.proofs.Forests.ToTheRoot.{among-top}
-use Rattle.dom_model.proofs.Forests.TreeOrder.Flattened.{hits-numbers}
+use Rattle.dom_model.proofs.Forests.{Changes.seen, Changes.nothing, Changes.just, Totals.total-tree_at, Climbing.hits-ancestors, Climbing.hits-not_among, Climbing.not_among-hits, Entries.HasNode-occurs, Entries.occurs-HasNode, EachNode.EachNode-without, Documents.HasOneDocument-without, Paths.parent-path, ToTheRoot.among-top, TreeOrder.Flattened.hits-numbers}
 use Rattle.dom_model.proofs.Worlds.Owners.{EachNode-each, HasOwners-discarded, kind-there}
-use Rattle.dom_model.proofs.Soundness.SoundForests.{entry_there, child-fits}
-use Rattle.dom_model.proofs.Soundness.SoundDiscarding.{sound-without}
-use Rattle.dom_ranges.specs.Chained.{uncovered}
-use Rattle.dom_ranges.specs.Tables.{live_nodes}
+use Rattle.dom_model.proofs.Soundness.{SoundForests.entry_there, SoundForests.child-fits, SoundDiscarding.sound-without}
+use Rattle.dom_ranges.specs.{Chained.uncovered, Tables.live_nodes}
 use Rattle.dom_observe.specs.Held.{named}
 use Rattle.dom_observe.proofs.HeldNames.{held-freed}
-use Rattle.dom_edit.specs.declared.world.World.{World}
-use Rattle.dom_edit.specs.Whole.{AreHeld, AreCovered, IsWhole, Keeps, unwatched}
-use Rattle.dom_edit.specs.Used.{named_in, is_used}
-use Rattle.dom_edit.proofs.Following.{keeps-unwatched, whole-sound, sound-unwatched}
-use Rattle.dom_edit.proofs.Covering.{covered-left}
+use Rattle.dom_edit.specs.{declared.world.World.World, Whole.AreHeld, Whole.AreCovered, Whole.IsWhole, Whole.Keeps, Whole.unwatched, Used.named_in, Used.is_used}
+use Rattle.dom_edit.proofs.{Following.keeps-unwatched, Following.whole-sound, Following.sound-unwatched, Covering.covered-left}
 
 five : (a b c d e : Bool) → ((((a || b) || c) || d) || e) ≡ (a || (b || (c || (d || e))))
 five true b c d e = refl
@@ -127,10 +104,6 @@ none-passes test depth (node x kids rest) h =
           | true ↦ λ t. t
           | false ↦ λ t. both xs ys t k
         ] h
-
-pub no_parent : (o : Option ℕ) → is_some o ≡ false → o ≡ None
-no_parent None h = refl
-no_parent (Some p) h = absurd (false≢true (sym h))
 
 -- nothing outside holds a root that is no Document
 pub root-not_held : (v : World) → IsWhole v → (n : ℕ) → parent_of v.tree.forest n ≡ None → is_of_kind Document v.tree.forest n ≡ false → is_held_outside v.tree.forest n ≡ false

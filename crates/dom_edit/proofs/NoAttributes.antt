@@ -1,9 +1,8 @@
 -- What is so where there is no attribute.
-use Rattle.std.proofs.Common.{◌≡◌, ℕ, suc, false, List, [], ◌∷◌, length, nat_eq, ap, sym, subst, arith}
+use Rattle.std.proofs.Common.{◌≡◌, ℕ, suc, false, List, [], ◌∷◌, length, nat_eq, ap, sym, subst, arith, bytes_eq}
 use Rattle.std.proofs.lemmas.Bool.Decides.{nat_tests}
-use Rattle.std.specs.Prelude.{bytes_eq}
 use Rattle.std.specs.List.{IsDistinct}
-use Rattle.dom_model.specs.Forests.Attributes.{Attribute, attribute_names, same_attributes}
+use Rattle.dom_model.specs.Definitions.{Attribute, attribute_names, same_attributes}
 
 pub distinct-none : (xs : List Attribute) → xs ≡ [] → IsDistinct bytes_eq (attribute_names xs)
 unfolding IsDistinct

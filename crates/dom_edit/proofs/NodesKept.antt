@@ -1,29 +1,17 @@
 -- Nodes that are there before a step and after it, as the record of the step names them.
 use Rattle.std.specs.Option.{ForSome}
 use Rattle.std.proofs.Common.{◌≡◌, ℕ, ◌<◌, Bool, true, false, if◌then◌else◌, List, [], ◌∷◌, Option, Some, None, refl, ap, sym, ◌∙◌, subst, arith}
+use Rattle.std.proofs.lemmas.Bool.{cond-false}
 use Rattle.dom_model.specs.declared.Kind.TheVariants.{DocumentFragment}
-use Rattle.dom_model.specs.PlainLists.Lists.{is_number}
-use Rattle.dom_model.specs.Forests.Forest.{Forest, Grove, HasNode, occurs, children_of, previous_of, next_of, cut, adopted}
-use Rattle.dom_model.specs.Worlds.World.{Content}
-use Rattle.dom_model.specs.Forests.Nodes.{is_of_kind}
-use Rattle.dom_model.specs.MutationAlgorithms.Editing.{previous_to}
-use Rattle.dom_model.specs.MutationAlgorithms.Insertable.{IsChildOf, ArePlaceable}
-use Rattle.dom_model.proofs.PlainLists.Numbers.{same_or, same, apart}
-use Rattle.dom_model.proofs.PlainLists.Members.{hits-last_of}
-use Rattle.dom_model.proofs.Forests.Entries.{HasNode-occurs, occurs-HasNode}
-use Rattle.dom_model.proofs.Forests.Indices.{child-there}
-use Rattle.dom_model.proofs.Forests.Siblings.{index-step}
+use Rattle.dom_model.specs.Definitions.{is_number, Forest, Grove, HasNode, occurs, children_of, previous_of, next_of, cut, adopted, Content, is_of_kind, previous_to, IsChildOf, ArePlaceable}
+use Rattle.dom_model.proofs.PlainLists.{Numbers.same_or, Numbers.same, Numbers.apart, Members.hits-last_of}
+use Rattle.dom_model.proofs.Forests.{Entries.HasNode-occurs, Entries.occurs-HasNode, Indices.child-there, Siblings.index-step}
 use Rattle.dom_model.proofs.Soundness.SoundWorlds.{child_there}
 use Rattle.dom_tree.proofs.Beside.{forward-step}
-use Rattle.dom_edit.specs.declared.world.World.{World}
-use Rattle.dom_edit.specs.Whole.{IsWhole}
-use Rattle.dom_edit.specs.Inserting.{reference_in, AreThere}
+use Rattle.dom_edit.specs.{declared.world.World.World, Whole.IsWhole, Inserting.reference_in, Inserting.AreThere, Keeping.present, Keeping.KeepsWatchers, Keeping.KeepsLabels, Keeping.KeepsNodes}
 use Rattle.dom_ranges.specs.Tables.{RangeTable}
 use Rattle.dom_observe.specs.Held.{SameObservers}
-use Rattle.dom_edit.specs.Keeping.{present, KeepsWatchers, KeepsLabels, KeepsNodes}
-use Rattle.dom_edit.proofs.WatchersKept.{watchers-then, watchers-none, watchers-observed, watchers-ranged}
-use Rattle.dom_edit.proofs.LabelsKept.{told_of, kept-told, told-cut, told-adopted}
-use Rattle.dom_edit.proofs.InsertedNodes.{if_not, entering, entering_if_any, entering-there}
+use Rattle.dom_edit.proofs.{WatchersKept.watchers-then, WatchersKept.watchers-none, WatchersKept.watchers-observed, WatchersKept.watchers-ranged, LabelsKept.told_of, LabelsKept.kept-told, LabelsKept.told-cut, LabelsKept.told-adopted, InsertedNodes.entering, InsertedNodes.entering_if_any, InsertedNodes.entering-there}
 
 -- Steps that keep all nodes.
 
@@ -121,7 +109,7 @@ module _ (v : World) (h : IsWhole v) where
     where
       go : (t : Bool) → is_of_kind DocumentFragment v.tree.forest n ≡ t → AreThere v.tree.forest ns
       go true k = entering-there v n h k ns e
-      go false k = subst (AreThere v.tree.forest) (sym (e ∙ if_not (is_of_kind DocumentFragment v.tree.forest n) (children_of v.tree.forest n) (n ∷ []) k)) (one-there v.tree.forest n held)
+      go false k = subst (AreThere v.tree.forest) (sym (e ∙ cond-false (is_of_kind DocumentFragment v.tree.forest n) (children_of v.tree.forest n) (n ∷ []) k)) (one-there v.tree.forest n held)
 
   pub entering_if_any-held : (node : Option ℕ) → ForSome node (λ n. HasNode v.tree.forest n) → (ns : List ℕ) → ns ≡ entering_if_any v.tree.forest node → AreThere v.tree.forest ns
   entering_if_any-held None held ns e = subst (AreThere v.tree.forest) (sym e) (none-there v.tree.forest)

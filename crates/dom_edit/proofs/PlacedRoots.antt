@@ -1,34 +1,13 @@
 -- Roots that are put under a parent one after another: what is left for those that follow, and what is kept of the forest.
-use Rattle.std.specs.Prelude.{IfSome, IsSome}
-use Rattle.std.proofs.Common.{◌≡◌, ℕ, zero, suc, ◌+◌, ◌<◌, ◌≤◌, ◌^◌, nat_lt, true, false, if◌then◌else◌, List, [], ◌∷◌, ◌++◌, length, All, Option, Some, None, refl, ap, sym, ◌∙◌, subst, arith, length-append}
+use Rattle.std.proofs.Common.{IfSome, IsSome, ◌≡◌, ℕ, zero, suc, ◌+◌, ◌<◌, ◌≤◌, ◌^◌, nat_lt, true, false, if◌then◌else◌, List, [], ◌∷◌, ◌++◌, length, All, Option, Some, None, refl, ap, sym, ◌∙◌, subst, arith, length-append}
 use Rattle.std.proofs.lemmas.List.Elements.{All-nil, All-weaker}
-use Rattle.dom_model.specs.PlainLists.Lists.{hits, among}
-use Rattle.dom_model.specs.Forests.Arena.{Entry}
-use Rattle.dom_model.specs.Forests.Documents.{HasOneDocument}
-use Rattle.dom_model.specs.Forests.Forest.{Node, Forest, empty, node, Grove, IsForest, HasNode, occurs, size, numbers, entry_in, children_of, index_of, put}
-use Rattle.dom_model.specs.Worlds.World.{Content, Point, Range, Iterator, Walker, World}
-use Rattle.dom_model.specs.Soundness.Sound.{IsBoundary, IsRange, IsIterator, IsWalker, IsRegistration, AreHeld, IsSound}
-use Rattle.dom_model.specs.BoundaryPoints.Points.{after_gap}
-use Rattle.dom_model.specs.MutationAlgorithms.Editing.{document_in, put_in, put_all, gap_before}
+use Rattle.dom_model.specs.Definitions.{hits, among, Entry, HasOneDocument, Node, Forest, empty, node, Grove, IsForest, HasNode, occurs, size, numbers, entry_in, children_of, index_of, put, Content, Point, Range, Iterator, Walker, World, IsBoundary, IsRange, IsIterator, IsWalker, IsRegistration, AreHeld, IsSound, after_gap, document_in, put_in, put_all, gap_before, may_be_parent, unit_count, node_length, kind_passes, IsPlaceable, ArePlaceable, IsOwnedWell}
 use Rattle.dom_model.proofs.PlainLists.Numbers.{same_or, same, apart}
-use Rattle.dom_model.proofs.Forests.Climbing.{hits-append}
-use Rattle.dom_model.proofs.Forests.Documents.{HasDocument-entry, adopted-put_same}
-use Rattle.dom_model.proofs.Forests.Entries.{HasNode-occurs}
-use Rattle.dom_model.proofs.Forests.Indices.{child-parent, child-once, child-there}
-use Rattle.dom_model.proofs.Forests.TreeOrder.Flattened.{hits-numbers}
-use Rattle.dom_model.proofs.RangesAndContents.PlacesLeft.{length_within}
-use Rattle.dom_model.specs.Forests.Kinds.{may_be_parent}
-use Rattle.dom_model.specs.Worlds.Lengths.{unit_count, node_length}
-use Rattle.dom_model.specs.Forests.Nodes.{kind_passes}
-use Rattle.dom_model.specs.MutationAlgorithms.Insertable.{IsPlaceable, ArePlaceable}
-use Rattle.dom_model.specs.Soundness.Owners.{IsOwnedWell}
+use Rattle.dom_model.proofs.Forests.{Climbing.hits-append, Documents.HasDocument-entry, Documents.adopted-put_same, Entries.HasNode-occurs, Indices.child-parent, Indices.child-once, Indices.child-there, TreeOrder.Flattened.hits-numbers}
+use Rattle.dom_model.proofs.RangesAndContents.{PlacesLeft.length_within, RangesElsewhere.ends_of, RangesElsewhere.gap-elsewhere}
 use Rattle.dom_model.proofs.Worlds.Measured.{length-parent}
-use Rattle.dom_model.proofs.Soundness.SoundForests.{parent-passes}
-use Rattle.dom_model.proofs.Soundness.SoundWorlds.{child_there}
-use Rattle.dom_model.proofs.Soundness.SoundPlacing.{total_put, occurs_placed, all_placeable, child_placed, sound-put_one}
-use Rattle.dom_model.proofs.MutationAlgorithms.OwnersKept.{owned-put_in}
-use Rattle.dom_model.proofs.MutationAlgorithms.PutsAllowed.{MayBePut, may_be_put}
-use Rattle.dom_model.proofs.RangesAndContents.RangesElsewhere.{ends_of, gap-elsewhere}
+use Rattle.dom_model.proofs.Soundness.{SoundForests.parent-passes, SoundWorlds.child_there, SoundPlacing.total_put, SoundPlacing.occurs_placed, SoundPlacing.all_placeable, SoundPlacing.child_placed, SoundPlacing.sound-put_one}
+use Rattle.dom_model.proofs.MutationAlgorithms.{OwnersKept.owned-put_in, PutsAllowed.MayBePut, PutsAllowed.may_be_put}
 use Rattle.dom_ranges.specs.Tables.{FitsMoved, OffsetsFit}
 use Rattle.dom_edit.specs.Inserting.{placed_in, all_placed, with_room, IsOpen}
 

@@ -1,21 +1,14 @@
 -- The world of the code once roots have come in under a parent.
 use Rattle.std.proofs.Common.{◌≡◌, ℕ, ◌<◌, List, length, Option, refl, ap, sym, ◌∙◌, subst, arith}
-use Rattle.dom_model.specs.Forests.Forest.{Forest, Grove, HasNode}
-use Rattle.dom_model.specs.Worlds.World.{Content}
+use Rattle.dom_model.specs.Definitions.{Forest, Grove, HasNode, Content, put_all, gap_before}
 use Rattle.dom_model.specs.Worlds.World as model
-use Rattle.dom_model.specs.MutationAlgorithms.Editing.{put_all, gap_before}
 use Rattle.dom_model.proofs.Forests.Entries.{HasNode-occurs, occurs-HasNode}
-use Rattle.dom_model.proofs.Soundness.SoundPlacing.{sound-put_all}
-use Rattle.dom_model.proofs.Soundness.SoundWorlds.{statics-kept}
+use Rattle.dom_model.proofs.Soundness.{SoundPlacing.sound-put_all, SoundWorlds.statics-kept}
 use Rattle.dom_observe.specs.Watchers.{Watches}
 use Rattle.dom_observe.proofs.HeldNames.{held-kept}
-use Rattle.dom_edit.specs.declared.world.World.{World}
-use Rattle.dom_edit.specs.Whole.{IsWhole, Keeps, Follows, unwatched}
-use Rattle.dom_edit.specs.Inserting.{all_placed, with_room, IsOpen}
+use Rattle.dom_edit.specs.{declared.world.World.World, Whole.IsWhole, Whole.Keeps, Whole.Follows, Whole.unwatched, Inserting.all_placed, Inserting.with_room, Inserting.IsOpen}
+use Rattle.dom_edit.proofs.{Following.keeps-unwatched, Following.whole-sound, Covering.covered-kept, PlacedRoots.placed-world, PlacedRoots.placed-all}
 pub use Rattle.dom_edit.proofs.Following.{sound-unwatched}
-use Rattle.dom_edit.proofs.Following.{keeps-unwatched, whole-sound}
-use Rattle.dom_edit.proofs.Covering.{covered-kept}
-use Rattle.dom_edit.proofs.PlacedRoots.{placed-world, placed-all}
 
 -- the world with room made, and the roots in
 abbrev pub with_placed : ℕ → Option ℕ → List ℕ → World → World

@@ -1,27 +1,17 @@
 -- What stands around a place among children, and the tests that are read off it.
-use Rattle.std.specs.Prelude.{filter, ◌==◌, nat_lt, if◌then◌else◌, not, ◌||◌}
+use Rattle.std.proofs.Common.{filter, ◌==◌, nat_lt, if◌then◌else◌, not, ◌||◌, ◌≡◌, ℕ, ◌≤◌, Bool, true, false, List, [], ◌∷◌, ◌++◌, Option, Some, None, refl, ap, sym, ◌∙◌, subst, arith}
 use Rattle.std.specs.List.{list_any}
-use Rattle.std.proofs.Common.{◌≡◌, ℕ, ◌≤◌, Bool, true, false, List, [], ◌∷◌, ◌++◌, Option, Some, None, refl, ap, sym, ◌∙◌, subst, arith}
 use Rattle.dom_model.specs.declared.Kind.TheVariants.{Element, Text, DocumentType, DocumentFragment}
-use Rattle.dom_model.specs.PlainLists.Lists.{hits, after, is_number, from_first, past, up_to, first_refusal}
-use Rattle.dom_model.specs.Forests.Forest.{Forest, Grove, IsForest, children_of, parent_of}
-use Rattle.dom_model.specs.MutationAlgorithms.Checks.{has_kind, count_kind}
-use Rattle.dom_model.specs.Forests.Nodes.{is_of_kind}
+use Rattle.dom_model.specs.Definitions.{hits, after, is_number, from_first, past, up_to, first_refusal, Forest, Grove, IsForest, children_of, parent_of, has_kind, count_kind, is_of_kind}
 use Rattle.dom_model.proofs.Forests.Indices.{child-listed, child-once, parent-there}
 use Rattle.dom_model.proofs.PlainLists.Numbers.{same_or, same, apart}
-use Rattle.dom_edit.specs.declared.surroundings.Place.{Place}
-use Rattle.dom_edit.specs.declared.surroundings.Place.TheVariants.{Before, Instead}
-use Rattle.dom_edit.specs.declared.surroundings.Around.{Around}
-use Rattle.dom_edit.specs.Places.{child_of, keeps_child, staying, IsUnder, refuses, ahead_of, from_optional, IsAround}
+use Rattle.dom_edit.specs.{declared.surroundings.Place.Place, declared.surroundings.Place.TheVariants.Before, declared.surroundings.Place.TheVariants.Instead, declared.surroundings.Around.Around, Places.child_of, Places.keeps_child, Places.staying, Places.IsUnder, Places.refuses, Places.ahead_of, Places.from_optional, Places.IsAround}
 use Rattle.dom_edit.proofs.AmongChildren.{from_first-after}
+use Rattle.dom_observe.proofs.{Sifting.or_false, NamedRecords.or-grouped}
 
 or_assoc : (a b c : Bool) → ((a || b) || c) ≡ (a || (b || c))
 or_assoc true b c = refl
 or_assoc false b c = refl
-
-or_false : (a : Bool) → (a || false) ≡ a
-or_false true = refl
-or_false false = refl
 
 -- a question asked of a list, around one number of it
 any-around : (test : ℕ → Bool) (c : ℕ) (xs : List ℕ) → hits c xs ≡ 1 → list_any test xs ≡ (list_any test (up_to c xs) || (test c || list_any test (past c xs)))
@@ -74,10 +64,6 @@ four true b c d = refl
 four false true c d = refl
 four false false c d = refl
 
-three : (a c e : Bool) → (a || (c || e)) ≡ ((a || c) || e)
-three true c e = refl
-three false c e = refl
-
 module _ {X : Type 0} (f : Forest X) (p : ℕ) where
   -- a Document refuses an element where there is another, or a doctype does not come first
   pub element-refused : (place : Place) (a : Around) → IsUnder f p place → IsAround f p place a → ((c : ℕ) → parent_of f c ≡ Some p → hits c (children_of f p) ≡ 1) → (n : ℕ) → (a.ahead.element || (a.at.element || (a.past.element || (a.at.doctype || a.past.doctype)))) ≡ refuses place Element f p n
@@ -89,7 +75,7 @@ module _ {X : Type 0} (f : Forest X) (p : ℕ) where
       (five (has_kind Element f (up_to c kids)) (is_of_kind Element f c) (has_kind Element f (past c kids)) (is_of_kind DocumentType f c) (has_kind DocumentType f (past c kids)))
   element-refused (Instead c) a u i once n =
       rw (i.ahead.element, i.at.element, i.past.element, i.at.doctype, i.past.doctype, any-others (is_of_kind Element f) c (children_of f p) (once c u))
-      (three (has_kind Element f (up_to c (children_of f p))) (has_kind Element f (past c (children_of f p))) (has_kind DocumentType f (past c (children_of f p))))
+      (or-grouped (has_kind Element f (up_to c (children_of f p))) (has_kind Element f (past c (children_of f p))) (has_kind DocumentType f (past c (children_of f p))))
 
   -- and a doctype where there is another, or an element comes first
   pub doctype-refused : (place : Place) (a : Around) → IsUnder f p place → IsAround f p place a → ((c : ℕ) → parent_of f c ≡ Some p → hits c (children_of f p) ≡ 1) → (n : ℕ) → (a.ahead.doctype || (a.at.doctype || (a.past.doctype || a.ahead.element))) ≡ refuses place DocumentType f p n
@@ -100,7 +86,7 @@ module _ {X : Type 0} (f : Forest X) (p : ℕ) where
       (four (has_kind DocumentType f (up_to c (children_of f p))) (is_of_kind DocumentType f c) (has_kind DocumentType f (past c (children_of f p))) (has_kind Element f (up_to c (children_of f p))))
   doctype-refused (Instead c) a u i once n =
       rw (i.ahead.element, i.ahead.doctype, i.at.doctype, i.past.doctype, any-others (is_of_kind DocumentType f) c (children_of f p) (once c u))
-      (three (has_kind DocumentType f (up_to c (children_of f p))) (has_kind DocumentType f (past c (children_of f p))) (has_kind Element f (up_to c (children_of f p))))
+      (or-grouped (has_kind DocumentType f (up_to c (children_of f p))) (has_kind DocumentType f (past c (children_of f p))) (has_kind Element f (up_to c (children_of f p))))
 
 -- a test more at the end of an ordered list
 pub refused-before : {E : Type 0} (cs rest : List (Bool × E)) (e : E) → first_refusal cs ≡ Some e → first_refusal (cs ++ rest) ≡ Some e

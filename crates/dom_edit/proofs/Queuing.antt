@@ -1,10 +1,8 @@
 -- What is noted of children that came or went.
 use Rattle.std.proofs.Common.{ℕ, List, Option, None}
 use Rattle.dom_model.specs.declared.RecordType.TheVariants.{ChildList}
-use Rattle.dom_model.specs.Forests.Forest.{ancestors}
+use Rattle.dom_model.specs.Definitions.{ancestors, Mutation, standing_on}
 use Rattle.dom_model.specs.Worlds.World as model
-use Rattle.dom_model.specs.Worlds.World.{Mutation}
-use Rattle.dom_model.specs.MutationObservers.Observing.{standing_on}
 
 -- what is noted of children that came or went
 abbrev pub tree_mutation : ℕ → List ℕ → List ℕ → Option ℕ → Option ℕ → model.World → Mutation

@@ -1,21 +1,11 @@
 -- What callers cite where an iterator, a walker, a static range or an observer is released: what follows, that the world stays whole, and what it shows.
-use Rattle.std.specs.Prelude.{slice_set}
-use Rattle.std.proofs.Common.{ℕ, ◌==◌, not, List, [], Option, None, IfSome, All, refl, ap}
+use Rattle.std.proofs.Common.{slice_set, ℕ, ◌==◌, not, List, [], Option, None, IfSome, All, refl, ap}
 use Rattle.std.proofs.lemmas.List.Elements.{All-set, All-filter}
 use Rattle.dom_model.specs.Worlds.World as model
-use Rattle.dom_model.specs.Worlds.World.{Range, Iterator, Walker, Registration, Observing}
-use Rattle.dom_model.specs.MutationObservers.Records.{released_observer}
-use Rattle.dom_model.specs.RangesAndContents.StaticRanges.{released_static}
-use Rattle.dom_model.specs.Commands.AnswerTraversal.{released_iterator, released_walker}
-use Rattle.dom_model.specs.Commands.AnswerObserving.{with_observing}
-use Rattle.dom_model.specs.Soundness.Sound.{IsIterator, IsWalker, IsRegistration}
-use Rattle.dom_observe.specs.Held.{NamesOnly}
-use Rattle.dom_observe.specs.Watchers.{Watchers, Watches}
-use Rattle.dom_edit.specs.declared.world.World.{World}
-use Rattle.dom_edit.specs.Whole.{AreHeld, IsWhole, Shows, Follows}
-use Rattle.dom_edit.proofs.Following.{shows-next}
-use Rattle.dom_edit.proofs.NodesKept.{none-there}
-use Rattle.dom_edit.proofs.Named.{whole-named}
+use Rattle.dom_model.specs.Definitions.{Range, Iterator, Walker, Registration, Observing, released_observer, released_static, released_iterator, released_walker, with_observing, IsIterator, IsWalker, IsRegistration}
+use Rattle.dom_observe.specs.{Held.NamesOnly, Watchers.Watchers, Watchers.Watches}
+use Rattle.dom_edit.specs.{declared.world.World.World, Whole.AreHeld, Whole.IsWhole, Whole.Shows, Whole.Follows}
+use Rattle.dom_edit.proofs.{Following.shows-next, NodesKept.none-there, Named.whole-named}
 
 -- what each has that was not released, each has of those that are left
 left-of : {A : Type 0} (P : A → Type 0) (xs : List (Option A)) (i : ℕ) → All (λ (x : Option A). IfSome x P) xs → All (λ (x : Option A). IfSome x P) (slice_set xs i None)

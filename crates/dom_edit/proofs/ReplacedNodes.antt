@@ -1,34 +1,15 @@
 -- Steps of a replacement, and what is known of the world between them. DOM Standard, "Mutation algorithms": pre-insert, replace, replace all.
 use Rattle.std.specs.Option.{ForSome}
 use Rattle.std.proofs.Common.{◌≡◌, ℕ, zero, suc, ◌<◌, ◌≤◌, ◌==◌, Bool, true, false, List, [], ◌∷◌, length, Option, Some, None, refl, ap, sym, ◌∙◌, subst, arith}
-use Rattle.dom_model.specs.declared.Kind.TheVariants.{DocumentFragment}
-use Rattle.dom_model.specs.declared.DomError.TheVariants.{HierarchyRequestError}
-use Rattle.dom_model.specs.PlainLists.Lists.{hits}
-use Rattle.dom_model.specs.Forests.Kinds.{is_kind}
-use Rattle.dom_model.specs.Forests.Forest.{Forest, HasNode, occurs, parent_of, children_of, next_of, previous_of, ancestors}
-use Rattle.dom_model.specs.Worlds.World.{Content}
+use Rattle.dom_model.specs.declared.{Kind.TheVariants.DocumentFragment, DomError.TheVariants.HierarchyRequestError}
+use Rattle.dom_model.specs.Definitions.{hits, is_kind, Forest, HasNode, occurs, parent_of, children_of, next_of, previous_of, ancestors, Content, kind_refuses, document_refuses_instead, check_insert, check_replace, is_of_kind, remove, remove_all, tree_record, insert, pre_insert, replace, added_by, insert_if_any, replaced_record, replace_all, IsInsertable}
 use Rattle.dom_model.specs.Worlds.World as model
-use Rattle.dom_model.specs.MutationAlgorithms.Checks.{kind_refuses, document_refuses_instead, check_insert, check_replace}
-use Rattle.dom_model.specs.Forests.Nodes.{is_of_kind}
-use Rattle.dom_model.specs.MutationAlgorithms.Editing.{remove, remove_all, tree_record, insert, pre_insert, replace, added_by, insert_if_any, replaced_record, replace_all}
-use Rattle.dom_model.specs.MutationAlgorithms.Insertable.{IsInsertable}
-use Rattle.dom_model.proofs.Forests.Climbing.{ancestors-there, hits-first}
-use Rattle.dom_model.proofs.Forests.Entries.{HasNode-occurs, occurs-HasNode}
-use Rattle.dom_model.proofs.Forests.Indices.{child-parent, child-there}
-use Rattle.dom_model.proofs.Forests.Lying.{left_out-absent}
-use Rattle.dom_model.proofs.MutationAlgorithms.Emptied.{all_left_out, children-remove, children-remove_all}
-use Rattle.dom_model.proofs.MutationAlgorithms.Loosened.{IsLoosened, loosened-remove, loosened-remove_all}
-use Rattle.dom_model.proofs.Soundness.SoundWorlds.{child_there}
-use Rattle.dom_model.proofs.Soundness.SoundEditing.{IsChecked, checks, checks_insert, may_come_before, may_come_instead, insertable-loosened}
-use Rattle.dom_edit.specs.declared.world.World.{World}
-use Rattle.dom_edit.specs.Whole.{IsWhole, Keeps, Follows, unwatched}
-use Rattle.dom_edit.specs.Refusals.{check_only_child}
-use Rattle.dom_edit.specs.declared.inserting.Incoming.{Incoming}
-use Rattle.dom_edit.specs.declared.inserting.Incoming.TheVariants.{Alone, Children}
-use Rattle.dom_edit.specs.Inserting.{reference_in, ComesIn, brought_if_any, AreThere}
-use Rattle.dom_edit.proofs.Following.{follows-then}
-use Rattle.dom_edit.proofs.PlacedWorlds.{sound-unwatched}
-use Rattle.dom_edit.proofs.InsertedNodes.{follows-as, forest-after, entering, entering_if_any, nodes-entering, brought-entering}
+use Rattle.dom_model.proofs.Forests.{Climbing.ancestors-there, Climbing.hits-first, Entries.HasNode-occurs, Entries.occurs-HasNode, Indices.child-parent, Indices.child-there, Lying.left_out-absent}
+use Rattle.dom_model.proofs.MutationAlgorithms.{Emptied.children-remove, Emptied.children-remove_all, Loosened.IsLoosened, Loosened.loosened-remove, Loosened.loosened-remove_all}
+use Rattle.dom_model.proofs.Soundness.{SoundWorlds.child_there, SoundEditing.IsChecked, SoundEditing.checks, SoundEditing.checks_insert, SoundEditing.may_come_before, SoundEditing.may_come_instead, SoundEditing.insertable-loosened}
+use Rattle.dom_edit.specs.{declared.world.World.World, Whole.IsWhole, Whole.Keeps, Whole.Follows, Whole.unwatched, Refusals.check_only_child, declared.inserting.Incoming.Incoming, declared.inserting.Incoming.TheVariants.Alone, declared.inserting.Incoming.TheVariants.Children, Inserting.reference_in, Inserting.ComesIn, Inserting.brought_if_any, Inserting.AreThere}
+use Rattle.dom_edit.proofs.{Following.follows-then, PlacedWorlds.sound-unwatched, InsertedNodes.follows-as, InsertedNodes.forest-after, InsertedNodes.entering, InsertedNodes.entering_if_any, InsertedNodes.nodes-entering, InsertedNodes.brought-entering}
+use Rattle.dom_model.proofs.TokenText.Fragments.AppendedChildren.{all_left_out-absent}
 
 -- Records of what replaced all children.
 
@@ -64,12 +45,6 @@ parent-other f parent n there outside e =
     let l = subst (λ m. 0 < hits m (parent ∷ a.0)) e (hits-first parent a.0) in
     omega arith
 
-all-apart : (ns xs : List ℕ) → ((m : ℕ) → 0 < hits m ns → hits m xs ≡ 0) → all_left_out ns xs ≡ xs
-all-apart [] xs h = refl
-all-apart (n ∷ ns) xs h =
-    let e = left_out-absent n xs (h n (hits-first n ns)) in
-    ap (all_left_out ns) e ∙ all-apart ns xs (λ m k. h m (omega arith))
-
 -- it is told by a kind and by the children
 come-same : (f g : Forest Content) (n : ℕ) (i : Incoming) → is_of_kind DocumentFragment g n ≡ is_of_kind DocumentFragment f n → children_of g n ≡ children_of f n → ComesIn f n i → ComesIn g n i
 come-same f g n Alone e d c = e ∙ c
@@ -96,7 +71,7 @@ module _ (a b : World) (h : IsWhole a) (parent n : ℕ) (there : 0 < occurs pare
       λ m i. apart-children a.tree.forest h.forest.once m n parent (child-parent a.tree.forest h.forest.once m parent i) (parent-other a.tree.forest parent n there outside) in
       subst (λ (g : Forest Content). ComesIn g n i) (sym (forest-after a b (remove_all ns) f))
       (come-same a.tree.forest (remove_all ns (unwatched a)).forest n i (l.kinds (is_kind DocumentFragment) n)
-      (children-remove_all ns (unwatched a) s held n ∙ all-apart ns (children_of a.tree.forest n) z) told)
+      (children-remove_all ns (unwatched a) s held n ∙ all_left_out-absent ns (children_of a.tree.forest n) z) told)
 
 -- Pre-insert.
 

@@ -1,6 +1,6 @@
 -- Units behind those that are passed over.
-use Rattle.std.proofs.Common.{◌≡◌, ℕ, zero, suc, ◌+◌, ◌-◌, ◌≤◌, List, [], ◌∷◌, drop, length, refl, ap, sym, ◌∙◌, arith, length-drop}
-use Rattle.dom_model.specs.Forests.Texts.{spliced}
+use Rattle.std.proofs.Common.{◌≡◌, ℕ, zero, suc, ◌+◌, ◌-◌, ◌≤◌, List, [], ◌∷◌, drop, length, ap, arith, length-drop}
+use Rattle.dom_model.specs.Definitions.{spliced}
 
 -- what is put in behind them leaves them as they are
 pub drop-spliced : (passed at count : ℕ) (added units : List ℕ) → passed ≤ length units → drop passed (spliced (passed + at) count added units) ≡ spliced at count added (drop passed units)

@@ -1,17 +1,11 @@
 -- What comes in where nobody hears of it.
 use Rattle.std.proofs.Common.{◌≡◌, ℕ, Bool, true, false, List, [], ◌∷◌, filter, length, Option, None, Some, refl, ap, ◌∙◌}
-use Rattle.dom_model.specs.Forests.Forest.{ancestors}
-use Rattle.dom_model.specs.Worlds.World as model
-use Rattle.dom_model.specs.Worlds.World.{Mutation, Observing, Registration}
+use Rattle.dom_model.specs.Definitions.{ancestors, Mutation, Observing, Registration, put_in, put_all, gap_before, previous_to, insert_all, standing_on, interests}
 use Rattle.dom_model.specs.declared.RecordType.TheVariants.{ChildList}
-use Rattle.dom_model.specs.MutationAlgorithms.Editing.{put_in, put_all, gap_before, previous_to, insert_all}
-use Rattle.dom_model.specs.MutationObservers.Observing.{standing_on}
-use Rattle.dom_model.specs.MutationObservers.Records.{interests}
+use Rattle.dom_model.specs.Worlds.World as model
 use Rattle.dom_observe.specs.Watchers.{Watches}
-use Rattle.dom_observe.proofs.Queued.{standing_on-none}
-use Rattle.dom_observe.proofs.Watching.{watches-unheard}
-use Rattle.dom_edit.specs.declared.world.World.{World}
-use Rattle.dom_edit.specs.Whole.{Follows}
+use Rattle.dom_observe.proofs.{Queued.standing_on-none, Watching.watches-unheard}
+use Rattle.dom_edit.specs.{declared.world.World.World, Whole.Follows}
 
 -- what is observed stays as it was
 observing-put : (parent : ℕ) (child : Option ℕ) (ns : List ℕ) (w : model.World) → (put_all parent child ns w).observing ≡ w.observing

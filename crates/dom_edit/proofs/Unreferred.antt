@@ -2,25 +2,14 @@
 use Rattle.std.proofs.Common.{◌≡◌, ℕ, ◌<◌, ◌≤◌, Bool, true, false, List, [], ◌∷◌, Option, Some, refl, ap, sym, ◌∙◌, subst, arith, ⊎_elim}
 use Rattle.std.proofs.lemmas.Bool.{cases_lt}
 use Rattle.std.specs.List.{list_any}
-use Rattle.dom_model.specs.PlainLists.Lists.{hits, among}
-use Rattle.dom_model.specs.Forests.Forest.{Forest, occurs, parent_of, index_of, ancestors, inclusive_descendants}
-use Rattle.dom_model.specs.Worlds.World.{Content, Range}
-use Rattle.dom_model.specs.BoundaryPoints.Points.{map_ranges, after_removal}
-use Rattle.dom_model.specs.MutationAlgorithms.Editing.{remove}
+use Rattle.dom_model.specs.Definitions.{hits, among, Forest, occurs, parent_of, index_of, ancestors, inclusive_descendants, Content, Range, map_ranges, after_removal, remove}
 use Rattle.dom_model.proofs.PlainLists.Numbers.{same_or, same, apart}
-use Rattle.dom_model.proofs.Forests.Climbing.{hits-first, hits-not_among, ancestors-absent}
-use Rattle.dom_model.proofs.Forests.Indices.{parent-there}
-use Rattle.dom_model.proofs.Forests.Paths.{parent-path}
-use Rattle.dom_model.proofs.Forests.ToTheRoot.{inside-same}
-use Rattle.dom_model.proofs.Forests.WaysMeeting.{above-itself, above-child}
+use Rattle.dom_model.proofs.Forests.{Climbing.hits-first, Climbing.hits-not_among, Climbing.ancestors-absent, Indices.parent-there, Paths.parent-path, ToTheRoot.inside-same, WaysMeeting.above-itself, WaysMeeting.above-child}
 use Rattle.dom_model.proofs.MutationAlgorithms.Loosened.{loosened-remove, parent-remove}
 use Rattle.dom_model.proofs.RangesAndContents.RangesElsewhere.{removal-elsewhere}
 use Rattle.dom_ranges.specs.Tables.{RangeTable, live_nodes}
-use Rattle.dom_edit.specs.declared.world.World.{World}
-use Rattle.dom_edit.specs.Whole.{IsWhole, Follows, unwatched}
-use Rattle.dom_edit.specs.Inserting.{IsUnreferred}
-use Rattle.dom_edit.proofs.Following.{sound-unwatched}
-use Rattle.dom_edit.proofs.InsertedNodes.{forest-after}
+use Rattle.dom_edit.specs.{declared.world.World.World, Whole.IsWhole, Whole.Follows, Whole.unwatched, Inserting.IsUnreferred}
+use Rattle.dom_edit.proofs.{Following.sound-unwatched, InsertedNodes.forest-after}
 
 -- a test that no number of a list passes
 none-passes : (test : ℕ → Bool) (xs : List ℕ) → ((m : ℕ) → 0 < hits m xs → test m ≡ false) → list_any test xs ≡ false

@@ -1,15 +1,10 @@
 -- What may be inserted under a parent that is no Document is not refused. DOM Standard, "Mutation algorithms": ensure pre-insertion validity.
 use Rattle.std.proofs.Common.{◌≡◌, ℕ, Bool, true, false, not, ◌&&◌, ◌||◌, Option, Some, None, refl, ap, ◌∙◌}
 use Rattle.dom_model.specs.declared.Kind.TheVariants.{Text, Document, DocumentType}
-use Rattle.dom_model.specs.PlainLists.Lists.{is_number}
-use Rattle.dom_model.specs.Forests.Forest.{Forest, parent_of, ancestors}
-use Rattle.dom_model.specs.Worlds.World.{Content}
-use Rattle.dom_model.specs.MutationAlgorithms.Checks.{if_given, document_refuses, check_insert}
-use Rattle.dom_model.specs.Forests.Nodes.{kind_passes, is_of_kind}
+use Rattle.dom_model.specs.Definitions.{is_number, Forest, parent_of, ancestors, Content, if_given, document_refuses, check_insert, kind_passes, is_of_kind, IsChildOf, IsInsertable}
 use Rattle.dom_model.proofs.PlainLists.Numbers.{same_or, same, apart}
 use Rattle.dom_model.proofs.Forests.Climbing.{hits-not_among}
 use Rattle.dom_model.proofs.MutationAlgorithms.ChecksKept.{allowed}
-use Rattle.dom_model.specs.MutationAlgorithms.Insertable.{IsChildOf, IsInsertable}
 
 pub unrefused : (f : Forest Content) (n parent : ℕ) (child : Option ℕ) → IsInsertable f n parent child → is_of_kind Document f parent ≡ false → check_insert f parent n child ≡ None
 unrefused f n parent child k plain =

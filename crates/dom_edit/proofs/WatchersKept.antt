@@ -1,17 +1,9 @@
 -- What watches a tree is there still as nodes come and go, and as ends of live ranges move.
-use Rattle.std.specs.Prelude.{IsSome, map, is_some, option_map, slice_index_or, slice_set}
-use Rattle.std.proofs.Common.{◌≡◌, ℕ, zero, suc, Bool, true, false, not, ◌&&◌, ◌==◌, if◌then◌else◌, List, [], ◌∷◌, Option, Some, None, refl, ap, sym, ◌∙◌}
-use Rattle.dom_model.specs.PlainLists.Lists.{among, head_of, before}
-use Rattle.dom_model.specs.Forests.Forest.{Forest, inclusive_descendants}
-use Rattle.dom_model.specs.Worlds.World.{Content, Point, Range, Iterator}
-use Rattle.dom_model.specs.BoundaryPoints.Points.{map_ranges, moved_range}
-use Rattle.dom_model.specs.MutationAlgorithms.PreRemoval.{following_outside, moved_on, moved_back, stepped_off, pre_removed_among, pre_removed_all}
-use Rattle.dom_observe.specs.Held.{SameObservers}
-use Rattle.dom_observe.specs.Watchers.{Watchers}
+use Rattle.std.proofs.Common.{IsSome, map, is_some, option_map, slice_index_or, slice_set, ◌≡◌, ℕ, zero, suc, Bool, true, false, not, ◌&&◌, ◌==◌, if◌then◌else◌, List, [], ◌∷◌, Option, Some, None, refl, ap, sym, ◌∙◌}
+use Rattle.dom_model.specs.Definitions.{among, head_of, before, Forest, inclusive_descendants, Content, Point, Range, Iterator, map_ranges, moved_range, following_outside, moved_on, moved_back, stepped_off, pre_removed_among, pre_removed_all}
+use Rattle.dom_observe.specs.{Held.SameObservers, Watchers.Watchers}
 use Rattle.dom_observe.proofs.Holding.{same-queues}
-use Rattle.dom_edit.specs.declared.world.World.{World}
-use Rattle.dom_edit.specs.Inserting.{with_room}
-use Rattle.dom_edit.specs.Keeping.{present, scope_of, scopes, KeepsWatchers}
+use Rattle.dom_edit.specs.{declared.world.World.World, Inserting.with_room, Keeping.present, Keeping.scope_of, Keeping.scopes, Keeping.KeepsWatchers}
 
 -- Observers.
 

@@ -1,6 +1,6 @@
 //! What a node holds besides its label and its place.
 
-ghost use Rattle.std.specs.Prelude.{◌≡◌, ◌-◌, ◌≤◌, [], take, drop, length, slice_get, option_map, option_copied, unwrap_or, string_bytes, bytes_eq, IfOk, OnOk, OnErr};
+ghost use Rattle.std.specs.Prelude.{◌≡◌, ◌-◌, ◌<◌, ◌≤◌, [], Some, take, drop, length, slice_get, option_map, option_copied, unwrap_or, string_bytes, bytes_eq, IfOk, OnOk, OnErr};
 ghost use Rattle.std.specs.List.{IsDistinct};
 ghost use Rattle.dom_model.specs.Forests.Attributes.{attribute_value, attribute_names, with_attribute, without_attribute, same_attributes};
 ghost use Rattle.dom_model.specs.Forests.Texts.{spliced};
@@ -231,6 +231,14 @@ impl Content {
             None => None,
             Some(attrs) => attrs.at(index),
         }
+    }
+
+    /// The attribute at an index that is below their number.
+    pub fn pair_at(&self, index: usize) -> (&str, &Units)
+        requires { index < length self.now.attributes }
+        ensures { slice_get self.now.attributes index ≡ Some (attribute_at result) }
+    {
+        self.attribute_at(index).unwrap()
     }
 
     /// Whether both have the same attributes, in whatever order.

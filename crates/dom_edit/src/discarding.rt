@@ -15,12 +15,12 @@ use dom_tree::NodeId;
 
 impl World {
     /// Sorts what names nodes, where that was put off, so that [`World::can_discard`] asks the less of it. Its answer is the same without.
-    pub fn settle(&mut self)
+    pub fn catch_up(&mut self)
         ensures { self.new ≡ self.old }
     {
-        self.iterators.settle();
-        self.walkers.settle();
-        self.observers.settle();
+        self.iterators.catch_up();
+        self.walkers.catch_up();
+        self.observers.catch_up();
     }
 
     /// Whether nothing outside of a node and its descendants names one of them: no parent, no node of which one is the node document, no

@@ -5,8 +5,7 @@
 --     unlike, look_newest, look_older      a place that is not in use differs from one that is;  after a cell was put in at such a place, that cell, and another
 --     look_put, look_past_put, put_length      a cell that was written, another one, and how many there are
 --     look_past_without, without_length        likewise where one is gone
-use Rattle.std.proofs.Common.{◌≡◌, ◌+◌, true, false, ◌&&◌, ◌==◌, cond, List, [], ◌∷◌, length, suc, refl, sym, ap, ◌∙◌, subst, eqb→eq, T, arith}
-use Rattle.std.specs.Prelude.{Option, Some, None, IsSome, is_some}
+use Rattle.std.proofs.Common.{◌≡◌, ◌+◌, true, false, ◌&&◌, ◌==◌, cond, List, [], ◌∷◌, length, suc, refl, sym, ap, ◌∙◌, subst, eqb→eq, T, arith, Option, Some, None, IsSome, is_some}
 use lib.Dec.{eqb_refl}
 use mathlib.Core.Bool.{Bool}
 use denote.RawPtr.{Ptr, block_ptr, null_ptr}

@@ -1,12 +1,10 @@
 -- The memory after a change of links or of a value.
-use Rattle.std.proofs.Common.{◌≡◌, ℕ, ◌<◌, Bool, true, false, cond, eqb, List, Option, Some, None, refl, sym, ap, ◌∙◌, subst, ⊎_elim, arith}
-use Rattle.std.specs.Prelude.{IsSome, option_map}
+use Rattle.std.proofs.Common.{◌≡◌, ℕ, ◌<◌, Bool, true, false, cond, eqb, List, Option, Some, None, refl, sym, ap, ◌∙◌, subst, ⊎_elim, arith, IsSome, option_map}
 use Rattle.std.proofs.lemmas.Bool.{cases_eq, eqb-true, eqb-false, eq-eqb, ne_eqb, false≢true}
-use Rattle.dom_model.specs.PlainLists.Lists.{hits, last_of, after, before, entered, left_out}
-use Rattle.dom_model.specs.Forests.Arena.{Entry, Arena, names, entry_at, parent_in, children_in, list_under, next_in, previous_in, with_parent, with_children, altered, linked, unlinked, unlinked_from, IsLinked}
-use Rattle.dom_links.proofs.Neighbours.{left_out-none, hits-left_out_same, hits-left_out_other, left_out-entered, hits-entered, after-entered, after-entered_last, before_from-entered, before_from-entered_last, last_of-last_from}
-use Rattle.dom_links.proofs.Cutting.{IsCut, names-same, names-other, next_is, previous_is}
-use Rattle.dom_links.proofs.Closing.{entry_at-altered}
+use Rattle.dom_model.specs.Definitions.{hits, last_of, after, before, entered, left_out, Entry, Arena, names, entry_at, parent_in, children_in, list_under, next_in, previous_in, with_parent, with_children, altered, linked, unlinked, unlinked_from, IsLinked}
+use Rattle.dom_links.proofs.{Neighbours.hits-left_out_other, Neighbours.left_out-entered, Neighbours.hits-entered, Neighbours.after-entered, Neighbours.after-entered_last, Neighbours.before_from-entered, Neighbours.before_from-entered_last, Neighbours.last_of-last_from, Cutting.IsCut, Cutting.names-same, Cutting.names-other, Cutting.next_is, Cutting.previous_is, Closing.entry_at-altered}
+use Rattle.dom_model.proofs.MutationAlgorithms.Emptied.{none-left_out}
+use Rattle.dom_model.proofs.Forests.Lying.{left_out-absent}
 
 module _ {T : Type 0} where
   -- the entries of an arena with a parent and a list of children changed
@@ -33,7 +31,7 @@ module _ {T : Type 0} where
   pub IsLinked-cut : (at1 at0 : ℕ → Option (Entry T)) (c p : ℕ) → IsCut at1 at0 c p → IsLinked at0
   IsLinked-cut at1 at0 c p k n m =
       ap (hits m) (k.children n) ∙ (⊎_elim (λ (e : c ≡ m). subst (λ j. hits j (left_out c (children_in (at1 n))) ≡ names (parent_in (at0 j)) n) e
-      (hits-left_out_same c (children_in (at1 n)) ∙ sym (ap (λ o. names o n) (let g : parent_in (at0 c) ≡ None = k.parents c ∙ rw (eq-eqb c c refl) in g))))
+      (none-left_out c (children_in (at1 n)) ∙ sym (ap (λ o. names o n) (let g : parent_in (at0 c) ≡ None = k.parents c ∙ rw (eq-eqb c c refl) in g))))
       (λ (d : c ≡ m → ⊥). hits-left_out_other m c (children_in (at1 n)) d ∙ (k.linked n m ∙ ap (λ o. names o n) (let g : parent_in (at1 m) ≡ parent_in (at0 m) = sym (k.parents m ∙ rw (ne_eqb c m d)) in g))) (cases_eq c m))
 
   parent_map : (b : Bool) (o : Option ℕ) (f : List ℕ → List ℕ) (x : Bool) (z : Option (Entry T)) → IsSome z → parent_in (option_map (λ (e : Entry T). record { value = e.value; parent = cond b o e.parent; children = cond x (f e.children) e.children }) z) ≡ cond b o (parent_in z)
@@ -52,7 +50,7 @@ module _ {T : Type 0} where
   children_left : (b : Bool) (o : Option ℕ) (c : ℕ) (x : Bool) (z : Option (Entry T)) → (x ≡ false → hits c (children_in z) ≡ 0) → children_in (option_map (λ (e : Entry T). record { value = e.value; parent = cond b o e.parent; children = cond x (left_out c e.children) e.children }) z) ≡ left_out c (children_in z)
   children_left b o c x None h = refl
   children_left b o c true (Some e) h = refl
-  children_left b o c false (Some e) h = sym (left_out-none c e.children (h refl))
+  children_left b o c false (Some e) h = sym (left_out-absent c e.children (h refl))
 
   nowhere_else : (at : ℕ → Option (Entry T)) → IsLinked at → (c p : ℕ) → parent_in (at c) ≡ Some p → (n : ℕ) → eqb p n ≡ false → hits c (children_in (at n)) ≡ 0
   nowhere_else at l c p u n h = l n c ∙ (ap (λ o. names o n) u ∙ names-other p n (eqb-false p n h))
@@ -126,7 +124,7 @@ module _ {T : Type 0} where
       linked = IsLinked-linked;
       under = parents c ∙ rw (eq-eqb c c refl);
       parents = λ n. rw (parents n) (⊎_elim (λ (e : c ≡ n). rw (eq-eqb c n e) (rw (← e) root)) (λ (e : c ≡ n → ⊥). rw (ne_eqb c n e)) (cases_eq c n));
-      children = λ n. let xs = children_in (entry_at a n) in rw (kids n) (⊎_elim (λ (e : p ≡ n). rw (eq-eqb p n e) (sym (left_out-entered b c xs (out n)))) (λ (e : p ≡ n → ⊥). rw (ne_eqb p n e) (sym (left_out-none c xs (out n)))) (cases_eq p n));
+      children = λ n. let xs = children_in (entry_at a n) in rw (kids n) (⊎_elim (λ (e : p ≡ n). rw (eq-eqb p n e) (sym (left_out-entered b c xs (out n)))) (λ (e : p ≡ n → ⊥). rw (ne_eqb p n e) (sym (left_out-absent c xs (out n)))) (cases_eq p n));
     }
 
     kids_p : children_in (entry_at (linked a p c b) p) ≡ entered b c (children_in (entry_at a p))

@@ -1,17 +1,10 @@
 -- When the memory, changed, stands for the changed arena.
-use Rattle.std.proofs.Common.{◌≡◌, ℕ, ◌≤◌, ◌<◌, false, cond, eqb, List, [], length, Option, Some, None, refl, sym, ap, ◌∙◌, subst, inl, inr, ⊎_elim, ◌⊎◌, arith}
-use Rattle.std.specs.Prelude.{reverse, IsSome, is_some, option_map}
-use Rattle.std.proofs.lemmas.Bool.{cases_eq, cases_lt, eq-eqb, ne_eqb, le-ltb}
-use Rattle.std.proofs.lemmas.List.{get_or-set_same, get_or-set_other, get_or_past, set_past, length-set}
+use Rattle.std.proofs.Common.{◌≡◌, ℕ, ◌≤◌, ◌<◌, false, cond, eqb, List, [], length, Option, Some, None, refl, sym, ap, ◌∙◌, subst, inl, inr, ⊎_elim, ◌⊎◌, arith, reverse, IsSome, is_some, option_map}
+use Rattle.std.proofs.lemmas.{Bool.cases_eq, Bool.cases_lt, Bool.eq-eqb, Bool.ne_eqb, Bool.le-ltb, List.get_or-set_same, List.get_or-set_other, List.get_or_past, List.set_past, List.length-set}
 use denote.RawPtr.{Ptr}
-use Rattle.dom_model.specs.PlainLists.Lists.{is_number}
-use Rattle.dom_model.specs.Forests.Arena.{Entry, Arena, held, entry_at, altered, no_slots, IsLinked}
-use Rattle.dom_links.specs.Cells.{same_ptr, look}
-use Rattle.dom_links.specs.declared.node.Node.{Node}
-use Rattle.dom_links.specs.Standing.{pointer_in, link_in, node_behind, arena_of, wired, Stands}
-use Rattle.dom_links.specs.Wiring.{leads_to, link_unless}
-use Rattle.dom_links.proofs.Cells.{same_ptr_refl, differs}
-use Rattle.dom_links.proofs.Standing.{Known, arena_read, node_of, place_held, held_entry}
+use Rattle.dom_model.specs.Definitions.{is_number, Entry, Arena, held, entry_at, altered, no_slots, IsLinked}
+use Rattle.dom_links.specs.{Cells.same_ptr, Cells.look, declared.node.Node.Node, Standing.pointer_in, Standing.link_in, Standing.node_behind, Standing.arena_of, Standing.wired, Standing.Stands, Wiring.leads_to, Wiring.link_unless}
+use Rattle.dom_links.proofs.{Cells.same_ptr_refl, Cells.differs, Standing.Known, Standing.arena_read, Standing.node_of, Standing.place_held, Standing.held_entry}
 
 module _ {T : Type 0} where
   pub free_read : (ps : List (Option Ptr)) (cs : List (Ptr × Node T)) (free : List ℕ) {a : Arena T} → arena_of ps cs free ≡ a → a.free ≡ reverse free

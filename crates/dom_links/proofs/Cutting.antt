@@ -1,10 +1,11 @@
 -- The links of an arena and those of the same arena with one child taken out of its parent's children.
 use Rattle.std.proofs.Common.{◌≡◌, ℕ, ◌+◌, ◌-◌, ◌≤◌, true, false, cond, eqb, List, [], length, Option, Some, None, refl, sym, ap, ◌∙◌, subst, inl, inr, ⊎_elim, ◌⊎◌, arith}
 use Rattle.std.proofs.lemmas.Bool.{cases_Bool, cases_eq, eq-eqb, ne_eqb}
-use Rattle.dom_model.specs.PlainLists.Lists.{hits, is_number, head_of, last_of, after, before, left_out}
-use Rattle.dom_model.specs.Forests.Arena.{Entry, names, parent_in, children_in, list_under, siblings_in, next_in, previous_in, IsLinked}
+use Rattle.dom_model.specs.Definitions.{hits, is_number, head_of, last_of, after, before, left_out, Entry, names, parent_in, children_in, list_under, siblings_in, next_in, previous_in, IsLinked}
 use Rattle.dom_links.specs.Wiring.{link_unless}
-use Rattle.dom_links.proofs.Neighbours.{head_of-none, after-none, before_from-none, last_from-none, last_of-last_from, left_out-none, length-left_out, head_of-left_out, after-left_out, before_from-left_out, last_of-left_out, meets, first_of, final_of, turned}
+use Rattle.dom_links.proofs.Neighbours.{head_of-none, after-none, before_from-none, last_from-none, last_of-last_from, head_of-left_out, after-left_out, before_from-left_out, last_of-left_out, meets, first_of, final_of, turned}
+use Rattle.dom_model.proofs.Forests.Lying.{left_out-absent}
+use Rattle.dom_model.proofs.Worlds.Measured.{length-left_out}
 
 pub names-le : (o : Option ℕ) (n : ℕ) → names o n ≤ 1
 names-le None n = omega arith
@@ -148,7 +149,7 @@ module _ {T : Type 0} where
     pub length-cut : (i : ℕ) → length (children_in (at0 i)) ≡ cond (eqb p i) (length (children_in (at1 p)) - 1) (length (children_in (at1 i)))
     length-cut i =
         ⊎_elim (λ (e : p ≡ i). rw (eq-eqb p i e) (let s : length (children_in (at0 i)) ≡ length (left_out c kids) = rw (← e) (ap length (k.children p)) in omega (arith, length-left_out c kids, once)))
-        (λ (n : p ≡ i → ⊥). rw (ne_eqb p i n) (ap length (k.children i ∙ left_out-none c (children_in (at1 i)) (nowhere i n)))) (cases_eq p i)
+        (λ (n : p ≡ i → ⊥). rw (ne_eqb p i n) (ap length (k.children i ∙ left_out-absent c (children_in (at1 i)) (nowhere i n)))) (cases_eq p i)
 
     -- the other way round
     pub next-join : (i : ℕ) → next_in at1 i ≡ cond (eqb c i) (next_in at1 c) (cond (is_number (previous_in at1 c) i) (Some c) (next_in at0 i))
@@ -168,4 +169,4 @@ module _ {T : Type 0} where
     pub length-join : (i : ℕ) → length (children_in (at1 i)) ≡ cond (eqb p i) (length (children_in (at0 p)) + 1) (length (children_in (at0 i)))
     length-join i =
         ⊎_elim (λ (e : p ≡ i). rw (eq-eqb p i e) (let s : length (children_in (at1 i)) ≡ length kids = rw (← e) refl in omega (arith, length-left_out c kids, once, ap length (k.children p))))
-        (λ (n : p ≡ i → ⊥). rw (ne_eqb p i n) (sym (ap length (k.children i ∙ left_out-none c (children_in (at1 i)) (nowhere i n))))) (cases_eq p i)
+        (λ (n : p ≡ i → ⊥). rw (ne_eqb p i n) (sym (ap length (k.children i ∙ left_out-absent c (children_in (at1 i)) (nowhere i n))))) (cases_eq p i)

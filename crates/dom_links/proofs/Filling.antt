@@ -1,21 +1,11 @@
 -- The memory once a slot is filled, and once it is emptied.
-use Rattle.std.proofs.Common.{◌≡◌, ℕ, ◌+◌, ◌≤◌, ◌<◌, true, false, cond, eqb, ltb, List, [], ◌∷◌, ◌++◌, length, Option, Some, None, refl, sym, ap, ◌∙◌, subst, zero, suc, inl, inr, ⊎_elim, arith}
-use Rattle.std.specs.Prelude.{reverse, IsSome, is_some, option_map, slice_index_or, slice_set, count_by}
-use Rattle.std.proofs.lemmas.Bool.{cases_eq, cases_lt, eq-eqb, ne_eqb, lt-ltb, le-ltb, true≢false, false≢true}
-use Rattle.std.proofs.lemmas.List.{get_or-set_same, get_or-set_other, get_or_past, length-set, length_push, set_at, length-reverse, reverse-append}
-use Rattle.std.proofs.lemmas.List.Sums.{sum_by-set, sum_by_push}
+use Rattle.std.proofs.Common.{◌≡◌, ℕ, ◌+◌, ◌≤◌, ◌<◌, true, false, cond, eqb, ltb, List, [], ◌∷◌, ◌++◌, length, Option, Some, None, refl, sym, ap, ◌∙◌, subst, zero, suc, inl, inr, ⊎_elim, arith, reverse, IsSome, is_some, option_map, slice_index_or, slice_set, count_by}
+use Rattle.std.proofs.lemmas.{Bool.cases_eq, Bool.cases_lt, Bool.eq-eqb, Bool.ne_eqb, Bool.lt-ltb, Bool.le-ltb, Bool.true≢false, Bool.false≢true, List.get_or-set_same, List.get_or-set_other, List.get_or_past, List.length-set, List.length_push, List.set_at, List.length-reverse, List.reverse-append, List.Sums.sum_by-set, List.Sums.sum_by_push}
 use denote.RawPtr.{Ptr}
-use Rattle.dom_model.specs.PlainLists.Lists.{hits, head_of, last_of, after, before}
-use Rattle.dom_model.specs.Forests.Arena.{Entry, Arena, names, held, alone, entry_at, parent_in, children_in, list_under, siblings_in, next_in, previous_in, next_from, next_slot, added, added_from, taken, IsLinked, IsSound}
-use Rattle.dom_links.specs.Cells.{same_ptr, look, without}
-use Rattle.dom_links.specs.declared.node.Node.{Node}
-use Rattle.dom_links.specs.Standing.{pointer_in, link_in, node_behind, node_in, wired, Stands}
-use Rattle.dom_links.specs.Wiring.{alone_node, GivesSlot}
-use Rattle.dom_links.proofs.Cells.{same_ptr_symm, differs, look_head, look_tail, look_past_without, without_length}
-use Rattle.dom_links.proofs.Counting.{length-le_from_once}
-use Rattle.dom_links.proofs.Standing.{Known, node_of, known_parent, known_next, known_previous, known_first, known_last}
-use Rattle.dom_links.proofs.Closing.{Closes, closes, one_slot}
-use Rattle.dom_links.proofs.Relinking.{same_node, Lies}
+use Rattle.dom_model.specs.Definitions.{hits, head_of, last_of, after, before, Entry, Arena, names, held, alone, entry_at, parent_in, children_in, list_under, siblings_in, next_in, previous_in, next_from, next_slot, added, added_from, taken, IsLinked}
+use Rattle.dom_model.specs.Forests.Arena.{IsSound}
+use Rattle.dom_links.specs.{Cells.same_ptr, Cells.look, Cells.without, declared.node.Node.Node, Standing.pointer_in, Standing.link_in, Standing.node_behind, Standing.node_in, Standing.wired, Standing.Stands, Wiring.alone_node, Wiring.GivesSlot}
+use Rattle.dom_links.proofs.{Cells.same_ptr_symm, Cells.differs, Cells.look_head, Cells.look_tail, Cells.look_past_without, Cells.without_length, Counting.length-le_from_once, Standing.Known, Standing.node_of, Standing.known_parent, Standing.known_next, Standing.known_previous, Standing.known_first, Standing.known_last, Closing.Closes, Closing.closes, Closing.one_slot, Relinking.same_node, Relinking.Lies}
 
 pub index-set : {A : Type 0} (xs : List (Option A)) (n : ℕ) (y : Option A) (i : ℕ) → n < length xs → slice_index_or (slice_set xs n y) i None ≡ cond (eqb n i) y (slice_index_or xs i None)
 index-set xs n y i h =

@@ -1,6 +1,5 @@
 -- The cells of a pool, cut at the one that a pointer names.
-use Rattle.std.proofs.Common.{◌≡◌, true, false, cond, List, [], ◌∷◌, ◌++◌, refl, ◌∙◌, subst}
-use Rattle.std.specs.Prelude.{Some, IsSome}
+use Rattle.std.proofs.Common.{◌≡◌, true, false, cond, List, [], ◌∷◌, ◌++◌, refl, ◌∙◌, subst, Some, IsSome}
 use denote.RawPtr.{Ptr}
 use Rattle.dom_links.specs.Cells.{same_ptr, look, put, without}
 use Rattle.dom_links.proofs.Cells.{same_ptr_eq}

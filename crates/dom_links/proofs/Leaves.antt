@@ -1,8 +1,7 @@
 -- Nothing stands under a slot with no child but that slot.
 use Rattle.std.proofs.Common.{◌≡◌, ℕ, [], length, Option, Some, refl, ap, ◌∙◌, arith}
 use Rattle.std.proofs.lemmas.List.{nil_from_length}
-use Rattle.dom_model.specs.PlainLists.Lists.{hits}
-use Rattle.dom_model.specs.Forests.Arena.{Entry, names, parent_in, children_in, IsLinked, StandsUnder}
+use Rattle.dom_model.specs.Definitions.{hits, Entry, names, parent_in, children_in, IsLinked, StandsUnder}
 use Rattle.dom_model.specs.Forests.Arena.StandsUnder.{itself, below}
 use Rattle.dom_links.proofs.Cutting.{names-same}
 

@@ -1,13 +1,8 @@
 -- The nodes that are left while a store is dropped.
-use Rattle.std.proofs.Common.{◌≡◌, ℕ, ◌+◌, ◌≤◌, ◌<◌, cond, false, List, [], ◌∷◌, ◌++◌, length, Option, Some, None, refl, sym, ap, ◌∙◌, subst, ⊎_elim, arith}
-use Rattle.std.specs.Prelude.{is_some, count_by}
-use Rattle.std.proofs.lemmas.Bool.{cases_lt}
-use Rattle.std.proofs.lemmas.List.{get_or_append_left, get_or_push, get_or_past}
-use Rattle.std.proofs.lemmas.List.Sums.{sum_by_push}
+use Rattle.std.proofs.Common.{◌≡◌, ℕ, ◌+◌, ◌≤◌, ◌<◌, cond, false, List, [], ◌∷◌, ◌++◌, length, Option, Some, None, refl, sym, ap, ◌∙◌, subst, ⊎_elim, arith, is_some, count_by}
+use Rattle.std.proofs.lemmas.{Bool.cases_lt, List.get_or_append_left, List.get_or_push, List.get_or_past, List.Sums.sum_by_push}
 use denote.RawPtr.{Ptr}
-use Rattle.dom_links.specs.Cells.{same_ptr, look, without}
-use Rattle.dom_links.specs.Standing.{pointer_in, Left}
-use Rattle.dom_links.specs.declared.node.Node.{Node}
+use Rattle.dom_links.specs.{Cells.same_ptr, Cells.look, Cells.without, Standing.pointer_in, Standing.Left, declared.node.Node.Node}
 use Rattle.dom_links.proofs.Cells.{same_ptr_symm, differs, look_past_without, without_length}
 
 within : (ps : List (Option Ptr)) (n : ℕ) (p : Ptr) → pointer_in ps n ≡ Some p → n < length ps

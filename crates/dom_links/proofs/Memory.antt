@@ -40,10 +40,9 @@ use Rattle.core.proofs.alloc.Calls.{Al}
 use Rattle.std.specs.contracts.alloc.Global as heap-type
 use Rattle.std.proofs.alloc.Global.TheLaws as heap-laws
 use Rattle.std.specs.contracts.impls.GlobalAllocator.TheImpl.{ghosts}
-use Rattle.std.specs.Prelude.{cond, Some, None}
+use Rattle.std.proofs.Common.{cond, Some, None}
 use Rattle.std_alloc.proofs.RcSteps.{Good, word}
-use Rattle.dom_links.specs.Cells.{same_ptr, look}
-use Rattle.dom_links.specs.Ownership.{cell_owns, cells_own, cells_lent}
+use Rattle.dom_links.specs.{Cells.same_ptr, Cells.look, Ownership.cell_owns, Ownership.cells_own, Ownership.cells_lent}
 use Rattle.dom_links.specs.contracts.pool.Pool as P-type
 use Rattle.dom_links.specs.contracts.pool.NodePtr as N-type
 use Rattle.dom_links.proofs.Cells.{same_ptr_eq}

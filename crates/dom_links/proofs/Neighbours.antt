@@ -1,8 +1,10 @@
 -- The numbers beside a number of a list, once a number is left out or entered.
-use Rattle.std.proofs.Common.{◌≡◌, ℕ, ◌+◌, ◌≤◌, ◌<◌, true, false, cond, eqb, List, [], ◌∷◌, length, Option, Some, None, refl, sym, ap, ◌∙◌, ⊎_elim, arith}
-use Rattle.std.proofs.lemmas.Bool.{cases_Bool, eqb-true, eqb-false, eq-eqb, ne_eqb, false≢true}
-use Rattle.dom_model.specs.PlainLists.Lists.{hits, is_number, head_of, last_of, after, before_from, before, entered, left_out}
+use Rattle.std.proofs.Common.{◌≡◌, ℕ, ◌+◌, ◌≤◌, ◌<◌, true, false, cond, eqb, List, [], ◌∷◌, Option, Some, None, refl, sym, ap, ◌∙◌, ⊎_elim, arith}
+use Rattle.std.proofs.lemmas.Bool.{cases_Bool, eqb-true, eqb-false, eq-eqb, ne_eqb}
+use Rattle.dom_model.specs.Definitions.{hits, is_number, head_of, last_of, after, before_from, before, entered, left_out}
 use Rattle.dom_links.specs.Wiring.{link_unless}
+use Rattle.dom_model.proofs.Forests.{Lying.left_out-absent}
+use Rattle.dom_model.proofs.Soundness.SoundEditing.{number_is}
 
 -- the last of a list that comes after o
 abbrev pub last_from : Option ℕ → List ℕ → Option ℕ
@@ -27,10 +29,6 @@ hits_first c x xs e h = let k : cond true 1 0 + hits c xs ≤ 1 = rw e at h in o
 
 hits_later : (c x : ℕ) (xs : List ℕ) → eqb x c ≡ false → hits c (x ∷ xs) ≡ hits c xs
 hits_later c x xs e = rw e (omega arith)
-
-pub is_number-true : (o : Option ℕ) (n : ℕ) → is_number o n ≡ true → o ≡ Some n
-is_number-true None n h = absurd (false≢true h)
-is_number-true (Some m) n h = ap Some (eqb-true m n h)
 
 pub is_number-other : (m n : ℕ) → (m ≡ n → ⊥) → is_number (Some m) n ≡ false
 is_number-other m n h = ne_eqb m n h
@@ -60,34 +58,16 @@ pub after_absent : (i : ℕ) (xs : List ℕ) → hits i xs ≡ 0 → after i xs 
 after_absent i [] h = refl
 after_absent i (x ∷ xs) h = let k = hits_out i x xs h in rw k.0 (after_absent i xs k.1)
 
-pub before_absent : (o : Option ℕ) (i : ℕ) (xs : List ℕ) → hits i xs ≡ 0 → before_from o i xs ≡ None
-before_absent o i [] h = refl
-before_absent o i (x ∷ xs) h = let k = hits_out i x xs h in rw k.0 (before_absent (Some x) i xs k.1)
-
-pub left_out-none : (c : ℕ) (xs : List ℕ) → hits c xs ≡ 0 → left_out c xs ≡ xs
-left_out-none c [] h = refl
-left_out-none c (x ∷ xs) h = let k = hits_out c x xs h in rw k.0 (ap (λ ys. x ∷ ys) (left_out-none c xs k.1))
-
-pub hits-left_out_same : (c : ℕ) (xs : List ℕ) → hits c (left_out c xs) ≡ 0
-hits-left_out_same c [] = refl
-hits-left_out_same c (x ∷ xs) =
-    ⊎_elim (λ (e : eqb x c ≡ true). rw e (hits-left_out_same c xs)) (λ (e : eqb x c ≡ false). rw (e, e) (omega (arith, hits-left_out_same c xs))) (cases_Bool (eqb x c))
-
 pub hits-left_out_other : (n c : ℕ) (xs : List ℕ) → (c ≡ n → ⊥) → hits n (left_out c xs) ≡ hits n xs
 hits-left_out_other n c [] h = refl
 hits-left_out_other n c (x ∷ xs) h =
     ⊎_elim (λ (e : eqb x c ≡ true). let f : eqb x n ≡ false = ne_eqb x n (λ g. h (sym (eqb-true x c e) ∙ g)) in rw (e, f) (omega (arith, hits-left_out_other n c xs h)))
     (λ (e : eqb x c ≡ false). rw e (ap (λ k. cond (eqb x n) 1 0 + k) (hits-left_out_other n c xs h))) (cases_Bool (eqb x c))
 
-pub length-left_out : (c : ℕ) (xs : List ℕ) → length (left_out c xs) + hits c xs ≡ length xs
-length-left_out c [] = refl
-length-left_out c (x ∷ xs) =
-    ⊎_elim (λ (e : eqb x c ≡ true). rw e (omega (arith, length-left_out c xs))) (λ (e : eqb x c ≡ false). rw e (omega (arith, length-left_out c xs))) (cases_Bool (eqb x c))
-
 pub head_of-left_out : (c : ℕ) (xs : List ℕ) → hits c xs ≤ 1 → head_of (left_out c xs) ≡ cond (is_number (head_of xs) c) (after c xs) (head_of xs)
 head_of-left_out c [] h = refl
 head_of-left_out c (x ∷ xs) h =
-    ⊎_elim (λ (e : eqb x c ≡ true). rw e (ap head_of (left_out-none c xs (hits_first c x xs e h)))) (λ (e : eqb x c ≡ false). rw e) (cases_Bool (eqb x c))
+    ⊎_elim (λ (e : eqb x c ≡ true). rw e (ap head_of (left_out-absent c xs (hits_first c x xs e h)))) (λ (e : eqb x c ≡ false). rw e) (cases_Bool (eqb x c))
 
 pub after-left_out : (i c : ℕ) (xs : List ℕ) → (i ≡ c → ⊥) → hits c xs ≤ 1 → after i (left_out c xs) ≡ cond (is_number (after i xs) c) (after c xs) (after i xs)
 after-left_out i c [] n h = refl
@@ -95,7 +75,7 @@ after-left_out i c (x ∷ xs) n h =
     ⊎_elim (λ (e : eqb x c ≡ true).
     let out = hits_first c x xs e h in
     let f : eqb x i ≡ false = ne_eqb x i (λ g. n (sym g ∙ eqb-true x c e)) in
-    rw (e, f, after-none i c xs out) (ap (after i) (left_out-none c xs out)))
+    rw (e, f, after-none i c xs out) (ap (after i) (left_out-absent c xs out)))
     (λ (e : eqb x c ≡ false).
     ⊎_elim (λ (f : eqb x i ≡ true). rw (e, f) (head_of-left_out c xs (hits_rest c x xs h)))
     (λ (f : eqb x i ≡ false). rw (e, f) (after-left_out i c xs n (hits_rest c x xs h))) (cases_Bool (eqb x i))) (cases_Bool (eqb x c))
@@ -106,7 +86,7 @@ before_from-left_out o i c (x ∷ xs) n h t =
     ⊎_elim (λ (e : eqb x c ≡ true).
     let out = hits_first c x xs e h in
     let f : eqb x i ≡ false = ne_eqb x i (λ g. n (sym g ∙ eqb-true x c e)) in
-    rw (e, f) (ap (before_from o i) (left_out-none c xs out) ∙ past o x xs out e t))
+    rw (e, f) (ap (before_from o i) (left_out-absent c xs out) ∙ past o x xs out e t))
     (λ (e : eqb x c ≡ false).
     ⊎_elim (λ (f : eqb x i ≡ true). rw (e, f, t))
     (λ (f : eqb x i ≡ false). rw (e, f) (before_from-left_out (Some x) i c xs n (hits_rest c x xs h) e)) (cases_Bool (eqb x i))) (cases_Bool (eqb x c))
@@ -120,7 +100,7 @@ before_from-left_out o i c (x ∷ xs) n h t =
 pub last_from-left_out : (o : Option ℕ) (c : ℕ) (xs : List ℕ) → hits c xs ≤ 1 → is_number o c ≡ false → last_from o (left_out c xs) ≡ cond (is_number (last_from o xs) c) (before_from o c xs) (last_from o xs)
 last_from-left_out o c [] h t = rw t
 last_from-left_out o c (x ∷ xs) h t =
-    ⊎_elim (λ (e : eqb x c ≡ true). let out = hits_first c x xs e h in rw e (ap (last_from o) (left_out-none c xs out) ∙ past o x xs out e t))
+    ⊎_elim (λ (e : eqb x c ≡ true). let out = hits_first c x xs e h in rw e (ap (last_from o) (left_out-absent c xs out) ∙ past o x xs out e t))
     (λ (e : eqb x c ≡ false). rw e (last_from-left_out (Some x) c xs (hits_rest c x xs h) e)) (cases_Bool (eqb x c))
   where
     past : (o : Option ℕ) (x : ℕ) (xs : List ℕ) → hits c xs ≡ 0 → eqb x c ≡ true → is_number o c ≡ false → last_from o xs ≡ cond (is_number (last_from (Some x) xs) c) o (last_from (Some x) xs)
@@ -173,7 +153,7 @@ pub left_out-entered : (b : Option ℕ) (c : ℕ) (xs : List ℕ) → hits c xs 
 left_out-entered b c [] h = rw (eq-eqb c c refl)
 left_out-entered b c (x ∷ xs) h =
     let k = hits_out c x xs h in
-    ⊎_elim (λ (e : is_number b x ≡ true). rw (e, eq-eqb c c refl, k.0) (ap (λ ys. x ∷ ys) (left_out-none c xs k.1)))
+    ⊎_elim (λ (e : is_number b x ≡ true). rw (e, eq-eqb c c refl, k.0) (ap (λ ys. x ∷ ys) (left_out-absent c xs k.1)))
     (λ (e : is_number b x ≡ false). rw (e, k.0) (ap (λ ys. x ∷ ys) (left_out-entered b c xs k.1))) (cases_Bool (is_number b x))
 
 pub hits-entered : (b : Option ℕ) (n c : ℕ) (xs : List ℕ) → hits n (entered b c xs) ≡ hits n xs + cond (eqb c n) 1 0
@@ -181,11 +161,6 @@ hits-entered b n c [] = omega arith
 hits-entered b n c (x ∷ xs) =
     ⊎_elim (λ (e : is_number b x ≡ true). rw e (omega arith))
     (λ (e : is_number b x ≡ false). rw e (omega (arith, hits-entered b n c xs))) (cases_Bool (is_number b x))
-
-pub length-entered : (b : Option ℕ) (c : ℕ) (xs : List ℕ) → length (entered b c xs) ≡ length xs + 1
-length-entered b c [] = refl
-length-entered b c (x ∷ xs) =
-    ⊎_elim (λ (e : is_number b x ≡ true). rw e (omega arith)) (λ (e : is_number b x ≡ false). rw e (omega (arith, length-entered b c xs))) (cases_Bool (is_number b x))
 
 pub after-entered_last : (c : ℕ) (xs : List ℕ) → hits c xs ≡ 0 → after c (entered None c xs) ≡ None
 after-entered_last c [] h = rw (eq-eqb c c refl)
@@ -216,4 +191,4 @@ before_from-entered o b c (x ∷ xs) h t =
 -- an equation of numbers beside, turned round
 pub turned : (c : ℕ) (o o' m : Option ℕ) → o' ≡ cond (is_number o c) m o → o ≡ cond (is_number o c) (Some c) o'
 turned c o o' m h =
-    ⊎_elim (λ (e : is_number o c ≡ true). rw e (is_number-true o c e)) (λ (e : is_number o c ≡ false). let k : o' ≡ o = rw e at h in rw e (sym k)) (cases_Bool (is_number o c))
+    ⊎_elim (λ (e : is_number o c ≡ true). rw e (number_is o c e)) (λ (e : is_number o c ≡ false). let k : o' ≡ o = rw e at h in rw e (sym k)) (cases_Bool (is_number o c))

@@ -1,6 +1,5 @@
 -- A step over the nodes of a pool, seen at each place.
-use Rattle.std.proofs.Common.{◌≡◌, List, Option, Some, None, refl, sym, ap, ◌∙◌, inl, inr, ⊎_elim, ◌⊎◌, false, true}
-use Rattle.std.specs.Prelude.{option_map}
+use Rattle.std.proofs.Common.{◌≡◌, List, Option, Some, None, refl, sym, ap, ◌∙◌, inl, inr, ⊎_elim, ◌⊎◌, false, true, option_map}
 use Rattle.std.proofs.lemmas.Bool.{cases_Bool}
 use denote.RawPtr.{Ptr}
 use Rattle.dom_links.specs.Cells.{same_ptr, look, put}

@@ -1,22 +1,10 @@
 -- Places, the slots for which they stand, and what the nodes there tell.
-use Rattle.std.proofs.Common.{◌≡◌, ℕ, ◌≤◌, ◌<◌, zero, suc, Bool, true, false, cond, eqb, List, [], ◌∷◌, length, Option, Some, None, refl, sym, ap, ◌∙◌, subst, ⊎_elim}
-use Rattle.std.specs.Prelude.{IsSome, is_some, IfSome, option_map}
-use Rattle.std.proofs.lemmas.Bool.{cases_Bool, cases_lt, true≢false, false≢true}
-use Rattle.std.proofs.lemmas.List.{get_or_past}
+use Rattle.std.proofs.Common.{◌≡◌, ℕ, ◌≤◌, ◌<◌, zero, suc, Bool, true, false, cond, eqb, List, [], ◌∷◌, length, Option, Some, None, refl, sym, ap, ◌∙◌, subst, ⊎_elim, IsSome, is_some, IfSome, option_map}
+use Rattle.std.proofs.lemmas.{Bool.cases_Bool, Bool.cases_lt, Bool.true≢false, Bool.false≢true, List.get_or_past}
 use denote.RawPtr.{Ptr}
-use Rattle.dom_model.specs.PlainLists.Lists.{head_of, last_of}
-use Rattle.dom_model.specs.Forests.Arena.{Entry, Arena, entry_at, parent_in, children_in, next_in, previous_in, with_value}
-use Rattle.dom_links.specs.Cells.{look}
-use Rattle.dom_links.specs.declared.node.Node.{Node}
-use Rattle.dom_links.specs.Placed.{Placed, index_of, slot_of, slots_of, IsPlaced, StaysPlaced, KeepsPlaces}
-use Rattle.dom_links.specs.Standing.{pointer_in, link_in, node_behind, node_in, Stands}
-use Rattle.dom_links.specs.Wiring.{leads_to}
-use Rattle.dom_links.proofs.Cells.{same_ptr_refl, same_ptr_eq}
-use Rattle.dom_links.proofs.Standing.{Known, known_parent, known_first, known_last, known_next, known_previous, place_held, node_held}
-use Rattle.dom_links.specs.Lends.{revalued_at}
-use Rattle.dom_links.proofs.Closing.{one_slot, entry_at-altered}
-use Rattle.dom_links.proofs.Reading.{parent_link, first_link, last_link, next_link, previous_link, count_read, value_read}
-use Rattle.dom_links.proofs.Relinking.{Lies, lies_at}
+use Rattle.dom_model.specs.Definitions.{head_of, last_of, Entry, Arena, entry_at, parent_in, children_in, next_in, previous_in, with_value}
+use Rattle.dom_links.specs.{Cells.look, declared.node.Node.Node, Placed.Placed, Placed.index_of, Placed.slot_of, Placed.slots_of, Placed.IsPlaced, Placed.StaysPlaced, Placed.KeepsPlaces, Standing.pointer_in, Standing.link_in, Standing.node_behind, Standing.node_in, Standing.Stands, Wiring.leads_to, Lends.revalued_at}
+use Rattle.dom_links.proofs.{Cells.same_ptr_refl, Cells.same_ptr_eq, Standing.Known, Standing.known_parent, Standing.known_first, Standing.known_last, Standing.known_next, Standing.known_previous, Standing.place_held, Standing.node_held, Closing.one_slot, Closing.entry_at-altered, Reading.parent_link, Reading.first_link, Reading.last_link, Reading.next_link, Reading.previous_link, Reading.count_read, Reading.value_read, Relinking.Lies, Relinking.lies_at}
 
 leads : (o : Option Ptr) (p : Ptr) → leads_to o p ≡ true → o ≡ Some p
 leads None p e = absurd (false≢true e)

@@ -1,12 +1,8 @@
 -- What the node of a held slot tells, and where its links lead.
-use Rattle.std.proofs.Common.{◌≡◌, ℕ, List, length, Option, Some, sym, ap, ◌∙◌, subst}
-use Rattle.std.specs.Prelude.{IsSome, IfSome}
+use Rattle.std.proofs.Common.{◌≡◌, ℕ, List, length, Option, Some, sym, ap, ◌∙◌, subst, IsSome, IfSome}
 use denote.RawPtr.{Ptr}
-use Rattle.dom_model.specs.PlainLists.Lists.{head_of, last_of}
-use Rattle.dom_model.specs.Forests.Arena.{Entry, Arena, entry_at, parent_in, children_in, next_in, previous_in}
-use Rattle.dom_links.specs.Cells.{look}
-use Rattle.dom_links.specs.declared.node.Node.{Node}
-use Rattle.dom_links.specs.Standing.{node_in, link_in, wired, Stands}
+use Rattle.dom_model.specs.Definitions.{head_of, last_of, Entry, Arena, entry_at, parent_in, children_in, next_in, previous_in}
+use Rattle.dom_links.specs.{Cells.look, declared.node.Node.Node, Standing.node_in, Standing.link_in, Standing.wired, Standing.Stands}
 use Rattle.dom_links.proofs.Standing.{held_entry, found_in, node_of, known_next, known_previous}
 
 module _ {T : Type 0} where

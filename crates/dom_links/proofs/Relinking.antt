@@ -1,21 +1,10 @@
 -- The memory after `link`, `unlink` and a value written.
-use Rattle.std.proofs.Common.{◌≡◌, ℕ, ◌+◌, ◌-◌, ◌≤◌, Bool, true, false, cond, eqb, List, [], ◌∷◌, length, Option, Some, None, refl, sym, ap, ◌∙◌, subst, ⊎_elim, arith}
-use Rattle.std.specs.Prelude.{reverse, IsSome, IfSome, option_map}
-use Rattle.std.proofs.lemmas.Bool.{cases_Bool, cases_eq, eq-eqb, ne_eqb, false≢true}
-use Rattle.std.proofs.lemmas.List.{get_or_past}
-use Rattle.dom_links.proofs.Counting.{length-le_from_once}
+use Rattle.std.proofs.Common.{◌≡◌, ℕ, ◌+◌, ◌-◌, ◌≤◌, Bool, true, false, cond, eqb, List, [], ◌∷◌, length, Option, Some, None, refl, sym, ap, ◌∙◌, subst, ⊎_elim, arith, reverse, IsSome, IfSome, option_map}
+use Rattle.std.proofs.lemmas.{Bool.cases_Bool, Bool.cases_eq, Bool.eq-eqb, Bool.ne_eqb, Bool.false≢true, List.get_or_past}
+use Rattle.dom_links.proofs.{Counting.length-le_from_once, Cutting.hits-le, Cutting.next-cut, Cutting.previous-cut, Cutting.first-cut, Cutting.last-cut, Cutting.length-cut, Cutting.once, Cutting.next-join, Cutting.previous-join, Cutting.first-join, Cutting.last-join, Cutting.length-join, Standing.Known, Standing.known_child, Standing.held-parent, Standing.known_parent, Standing.known_next, Standing.known_previous, Standing.known_last, Standing.found_in, Standing.held_entry, Standing.node_of, Standing.place_held, Reading.Reads, Reading.reads, Reading.count_read, Reading.parent_link, Reading.previous_link, Reading.next_link, Reading.last_link, Changing.rewired, Changing.IsLinked-cut, Changing.entries-unlinked, Changing.cut-unlinked, Changing.unlinked_is, Changing.IsLinked-linked, Changing.entries-linked, Changing.cut-linked, Changing.next-linked, Changing.previous-linked, Changing.new_previous, Closing.Closes, Closing.closes, Closing.length-altered, Closing.leads_to-link_in, Closing.leads_to-link_unless, Closing.restands}
 use denote.RawPtr.{Ptr}
-use Rattle.dom_model.specs.PlainLists.Lists.{hits, is_number, head_of, last_of, entered, left_out}
-use Rattle.dom_model.specs.Forests.Arena.{Entry, Arena, names, entry_at, parent_in, children_in, next_in, previous_in, with_parent, with_children, altered, linked, unlinked, unlinked_from, IsLinked}
-use Rattle.dom_links.specs.Cells.{same_ptr, look}
-use Rattle.dom_links.specs.declared.node.Node.{Node}
-use Rattle.dom_links.specs.Standing.{pointer_in, link_in, node_behind, node_in, wired, Stands}
-use Rattle.dom_links.specs.Wiring.{link_or, leads_to, link_unless, link_ahead, with_next, with_previous, recounted, settled}
-use Rattle.dom_links.proofs.Cutting.{hits-le, next-cut, previous-cut, first-cut, last-cut, length-cut, once, next-join, previous-join, first-join, last-join, length-join}
-use Rattle.dom_links.proofs.Standing.{Known, known_child, held-parent, known_parent, known_next, known_previous, known_last, found_in, held_entry, node_of, place_held}
-use Rattle.dom_links.proofs.Reading.{Reads, reads, count_read, parent_link, previous_link, next_link, last_link}
-use Rattle.dom_links.proofs.Changing.{rewired, IsLinked-cut, entries-unlinked, cut-unlinked, unlinked_is, IsLinked-linked, entries-linked, cut-linked, next-linked, previous-linked, new_previous}
-use Rattle.dom_links.proofs.Closing.{Closes, closes, length-altered, leads_to-link_in, leads_to-link_unless, restands}
+use Rattle.dom_model.specs.Definitions.{hits, is_number, head_of, last_of, entered, left_out, Entry, Arena, names, entry_at, parent_in, children_in, next_in, previous_in, with_parent, with_children, altered, linked, unlinked, unlinked_from, IsLinked}
+use Rattle.dom_links.specs.{Cells.same_ptr, Cells.look, declared.node.Node.Node, Standing.pointer_in, Standing.link_in, Standing.node_behind, Standing.node_in, Standing.wired, Standing.Stands, Wiring.link_or, Wiring.leads_to, Wiring.link_unless, Wiring.link_ahead, Wiring.with_next, Wiring.with_previous, Wiring.recounted, Wiring.with_links}
 
 link_in-cond : (ps : List (Option Ptr)) (b : Bool) (x y : Option ℕ) → link_in ps (cond b x y) ≡ cond b (link_in ps x) (link_in ps y)
 link_in-cond ps true x y = refl
@@ -29,7 +18,7 @@ length-cond : (b : Bool) (x y : List ℕ) → length (cond b x y) ≡ cond b (le
 length-cond true x y = refl
 length-cond false x y = refl
 
-hits-le-length : (n : ℕ) (xs : List ℕ) → hits n xs ≤ length xs
+pub hits-le-length : (n : ℕ) (xs : List ℕ) → hits n xs ≤ length xs
 hits-le-length n [] = omega arith
 hits-le-length n (x ∷ xs) = ⊎_elim (λ (e : eqb x n ≡ true). rw e (omega (arith, hits-le-length n xs))) (λ (e : eqb x n ≡ false). rw e (omega (arith, hits-le-length n xs))) (cases_Bool (eqb x n))
 
@@ -64,7 +53,7 @@ module _ {T : Type 0} where
   -- the four writes, as one step
   abbrev pub rewrite_node : Ptr → Ptr → ℕ → Option Ptr → Option Ptr → Option Ptr → Option Ptr → Option Ptr → Option Ptr → Option Ptr → Ptr → Node T → Node T
   rewrite_node ptr top count prev next after_prev before_next new_parent new_prev new_next q m =
-      settled ptr new_parent new_prev new_next q (recounted top count q (with_previous top next before_next q (with_next top prev after_prev q m)))
+      with_links ptr new_parent new_prev new_next q (recounted top count q (with_previous top next before_next q (with_next top prev after_prev q m)))
 
   pub known_one : (at : ℕ → Option (Entry T)) (k : ℕ) → IsSome (at k) → Known at (Some k)
   known_one at k h n e = let f : k ≡ n = cc in subst (λ m. IsSome (at m)) f h
@@ -234,7 +223,7 @@ module _ {T : Type 0} where
       }
 
       pub unlink_closes : (c : ℕ) (ptr top : Ptr) (n t : Node T) (count : ℕ) → IsChild c ptr n → n.parent ≡ Some top → look top cs ≡ Some t → count ≡ t.count - 1
-          → Writes (with_next top n.prev n.next) cs cs1 → Writes (with_previous top n.next n.prev) cs1 cs2 → Writes (recounted top count) cs2 cs3 → Writes (settled ptr None None None) cs3 cs4 → Closes ps cs4 free (unlinked v c)
+          → Writes (with_next top n.prev n.next) cs cs1 → Writes (with_previous top n.next n.prev) cs1 cs2 → Writes (recounted top count) cs2 cs3 → Writes (with_links ptr None None None) cs3 cs4 → Closes ps cs4 free (unlinked v c)
       unlink_closes c ptr top n t count k up found less w1 w2 w3 w4 =
           let at = entry_at v in
           let s = k.child.reads.stands in
@@ -246,7 +235,7 @@ module _ {T : Type 0} where
           let prev_is = previous_link k.child.reads in
           let next_is = next_link k.child.reads in
           let count_is : count ≡ length (children_in (at p)) - 1 = less ∙ ap (λ m. m - 1) (parent_count c ptr top n t k up found) in
-          let w = composed (with_next top n.prev n.next) (with_previous top n.next n.prev) (recounted top count) (settled ptr None None None) w1 w2 w3 w4 in
+          let w = composed (with_next top n.prev n.next) (with_previous top n.next n.prev) (recounted top count) (with_links ptr None None None) w1 w2 w3 w4 in
           let same = rewritten ps cs v s c p ptr top k.child.held top_lies.held k.child.at top_lies.at (previous_in at c) (next_in at c) (known_previous at l c) (known_next at l c) n.prev n.next prev_is next_is
           (entry_at a') None None None (next_in at c) (previous_in at c) count (left_out c) (entries-unlinked v c p l k.under)
           (next-cut at (entry_at a') c p cut) (previous-cut at (entry_at a') c p cut) (first-cut at (entry_at a') c p cut) (last-cut at (entry_at a') c p cut)
@@ -259,7 +248,7 @@ module _ {T : Type 0} where
 
       pub link_closes : (p c : ℕ) (b : Option ℕ) (top ptr : Ptr) (t : Node T) (above below prev next : Option Ptr) (count : ℕ) → Lies p top t → IsSome (entry_at v c) → pointer_in ps c ≡ Some ptr → parent_in (entry_at v c) ≡ None
           → ((m : ℕ) → b ≡ Some m → parent_in (entry_at v m) ≡ Some p) → above ≡ pointer_in ps p → below ≡ pointer_in ps c → prev ≡ link_in ps (new_previous (entry_at v) p b) → next ≡ link_in ps b → count ≡ t.count + 1
-          → Writes (with_next top prev below) cs cs1 → Writes (with_previous top next below) cs1 cs2 → Writes (recounted top count) cs2 cs3 → Writes (settled ptr above prev next) cs3 cs4 → Closes ps cs4 free (linked v p c b)
+          → Writes (with_next top prev below) cs cs1 → Writes (with_previous top next below) cs1 cs2 → Writes (recounted top count) cs2 cs3 → Writes (with_links ptr above prev next) cs3 cs4 → Closes ps cs4 free (linked v p c b)
       link_closes p c b top ptr t above below prev next count lies held_c at_c root under above_is below_is prev_is next_is more w1 w2 w3 w4 =
           let at = entry_at v in
           let s = lies.reads.stands in
@@ -273,7 +262,7 @@ module _ {T : Type 0} where
           let prev' : previous_in at' c ≡ P = previous-linked v p c b l root held_c lies.held under in
           let count_is : length (children_in (at p)) + 1 ≡ count = sym (more ∙ ap (λ m. m + 1) (count_read lies.reads)) in
           let entries = entries-linked v p c b l root held_c lies.held under in
-          let w = composed (with_next top prev below) (with_previous top next below) (recounted top count) (settled ptr above prev next) w1 w2 w3 w4 in
+          let w = composed (with_next top prev below) (with_previous top next below) (recounted top count) (with_links ptr above prev next) w1 w2 w3 w4 in
           let same = rewritten ps cs v s c p ptr top held_c lies.held at_c lies.at P b (known_new p b l) known_b prev next prev_is next_is
           at' (Some p) P b (Some c) (Some c) count (entered b c) entries
           (λ i. next-join at' at c p cut i ∙ (ap (λ o. cond (eqb c i) o (cond (is_number (previous_in at' c) i) (Some c) (next_in at i))) next' ∙ ap (λ o. cond (eqb c i) b (cond (is_number o i) (Some c) (next_in at i))) prev'))

@@ -1,17 +1,9 @@
 -- The memory once a value is written.
-use Rattle.std.proofs.Common.{◌≡◌, ℕ, Bool, true, false, cond, eqb, List, length, Option, Some, None, refl, sym, ap, ◌∙◌}
-use Rattle.std.specs.Prelude.{reverse, option_map}
+use Rattle.std.proofs.Common.{◌≡◌, ℕ, Bool, true, false, cond, eqb, List, length, Option, Some, None, refl, sym, ap, ◌∙◌, reverse, option_map}
 use denote.RawPtr.{Ptr}
-use Rattle.dom_model.specs.PlainLists.Lists.{hits, head_of, last_of, after, before}
-use Rattle.dom_model.specs.Forests.Arena.{Entry, Arena, names, entry_at, parent_in, children_in, list_under, siblings_in, with_value, altered, IsLinked}
-use Rattle.dom_links.specs.Cells.{same_ptr, put}
-use Rattle.dom_links.specs.declared.node.Node.{Node}
-use Rattle.dom_links.specs.Standing.{pointer_in, link_in, wired}
-use Rattle.dom_links.specs.Wiring.{leads_to}
-use Rattle.dom_links.proofs.Cells.{same_ptr_refl, put_length}
-use Rattle.dom_links.proofs.Places.{look-step}
-use Rattle.dom_links.proofs.Closing.{Closes, closes, entry_at-altered, length-altered, leads_to-link_in, restands}
-use Rattle.dom_links.proofs.Relinking.{Lies, same_node, known_one}
+use Rattle.dom_model.specs.Definitions.{hits, head_of, last_of, after, before, Entry, Arena, names, entry_at, parent_in, children_in, list_under, siblings_in, with_value, altered, IsLinked}
+use Rattle.dom_links.specs.{Cells.same_ptr, Cells.put, declared.node.Node.Node, Standing.pointer_in, Standing.link_in, Standing.wired, Wiring.leads_to}
+use Rattle.dom_links.proofs.{Cells.same_ptr_refl, Cells.put_length, Places.look-step, Closing.Closes, Closing.closes, Closing.entry_at-altered, Closing.length-altered, Closing.leads_to-link_in, Closing.restands, Relinking.Lies, Relinking.same_node, Relinking.known_one}
 
 module _ {T : Type 0} where
   abbrev revalued : T → ℕ → ℕ → Entry T → Entry T

@@ -1,23 +1,11 @@
 -- What stands in memory for an arena reads back as that arena.
-use Rattle.std.proofs.Common.{◌≡◌, ℕ, ◌+◌, ◌<◌, true, false, cond, eqb, List, [], ◌∷◌, ◌++◌, length, map, Option, Some, None, refl, sym, ap, ◌∙◌, subst, ⊎_elim, arith, append_assoc}
-use Rattle.std.specs.Prelude.{reverse, IsSome, option_map}
-use Rattle.std.proofs.lemmas.Bool.{cases_Bool, cases_eq, eq-eqb, true≢false}
-use Rattle.std.proofs.lemmas.List.{ext_get_or, length-map, get_or-map}
+use Rattle.std.proofs.Common.{◌≡◌, ℕ, ◌+◌, ◌<◌, false, List, [], ◌∷◌, ◌++◌, length, map, Option, Some, None, refl, sym, ap, ◌∙◌, subst, ⊎_elim, arith, append_assoc, reverse, IsSome, option_map}
+use Rattle.std.proofs.lemmas.{Bool.cases_eq, Bool.eq-eqb, Bool.true≢false, List.ext_get_or, List.length-map, List.get_or-map}
 use denote.RawPtr.{Ptr}
-use Rattle.dom_model.specs.PlainLists.Lists.{hits, is_number, head_of, last_of, after, before}
-use Rattle.dom_model.specs.Forests.Arena.{Entry, Arena, names, entry_at, parent_in, children_in, list_under, siblings_in, next_in, previous_in, IsLinked}
-use Rattle.dom_model.proofs.Forests.Climbing.{hits-append}
-use Rattle.dom_links.specs.Cells.{look}
-use Rattle.dom_links.specs.declared.node.Node.{Node}
-use Rattle.dom_links.specs.Standing.{pointer_in, link_in, node_behind, node_in, slot_behind, slots_from, slots_along, entry_from, arena_of, wired, Stands}
-use Rattle.dom_links.proofs.Neighbours.{after-none, before_from-none, head_of-none, last_from-none, last_of-last_from}
-use Rattle.dom_links.proofs.Cutting.{names-same, names-other, hits-le}
-
-after-append : (n : ℕ) (us xs : List ℕ) → hits n us ≡ 0 → after n (us ++ n ∷ xs) ≡ head_of xs
-after-append n [] xs h = rw (eq-eqb n n refl)
-after-append n (u ∷ us) xs h =
-    ⊎_elim (λ (e : eqb u n ≡ true). let k : cond true 1 0 + hits n us ≡ 0 = rw e at h in absurd (omega arith))
-    (λ (e : eqb u n ≡ false). let k : cond false 1 0 + hits n us ≡ 0 = rw e at h in rw e (after-append n us xs (omega arith))) (cases_Bool (eqb u n))
+use Rattle.dom_model.specs.Definitions.{hits, is_number, head_of, last_of, after, before, Entry, Arena, names, entry_at, parent_in, children_in, list_under, siblings_in, next_in, previous_in, IsLinked}
+use Rattle.dom_model.proofs.Forests.{Climbing.hits-append, Standing.after-ahead}
+use Rattle.dom_links.specs.{Cells.look, declared.node.Node.Node, Standing.pointer_in, Standing.link_in, Standing.node_behind, Standing.node_in, Standing.slot_behind, Standing.slots_from, Standing.slots_along, Standing.entry_from, Standing.arena_of, Standing.wired, Standing.Stands}
+use Rattle.dom_links.proofs.{Neighbours.after-none, Neighbours.before_from-none, Neighbours.head_of-none, Neighbours.last_from-none, Neighbours.last_of-last_from, Cutting.names-same, Cutting.names-other, Cutting.hits-le}
 
 pub names-positive : (o : Option ℕ) (n : ℕ) → 0 < names o n → o ≡ Some n
 names-positive None n h = absurd (omega arith)
@@ -115,7 +103,7 @@ module _ {T : Type 0} where
         let most = hits-le at l p x in
         let positive : 0 < hits x (children_in (at p)) = omega arith in
         let under = the_parent at l p x positive in
-        let beside : next_in at x ≡ head_of xs = ap (λ o. after x (list_under at o)) under ∙ (ap (after x) h ∙ after-append x us xs (omega arith)) in
+        let beside : next_in at x ≡ head_of xs = ap (λ o. after x (list_under at o)) under ∙ (ap (after x) h ∙ after-ahead x us xs (omega arith)) in
         let rest : Option Ptr → List ℕ = λ (o : Option Ptr). slots_along cs (length xs) o in
         ap (λ o. slots_from o rest) (s.nodes x) ∙ (step x rest (at x) (known_child at l p x positive)
         ∙ ap (λ ys. x ∷ ys) (ap (λ o. rest (link_in ps o)) beside ∙ chain p (us ++ x ∷ []) xs (h ∙ sym (append_assoc us (x ∷ []) xs))))

@@ -49,8 +49,8 @@ module _ {T : Type 0} where
   abbrev pub recounted : Ptr → ℕ → Ptr → Node T → Node T
   recounted p count q n = record n { count = if same_ptr p q then count else n.count }
 
-  abbrev pub settled : Ptr → Option Ptr → Option Ptr → Option Ptr → Ptr → Node T → Node T
-  settled p parent prev next q n = record n {
+  abbrev pub with_links : Ptr → Option Ptr → Option Ptr → Option Ptr → Ptr → Node T → Node T
+  with_links p parent prev next q n = record n {
     parent = if same_ptr p q then parent else n.parent;
     prev = if same_ptr p q then prev else n.prev;
     next = if same_ptr p q then next else n.next;

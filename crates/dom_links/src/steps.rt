@@ -4,7 +4,7 @@ ghost use Rattle.std.specs.Vec.{vec_capacity};
 ghost use denote.RawPtr.{Ptr};
 ghost use Rattle.dom_links.specs.Cells.{look};
 ghost use Rattle.dom_links.specs.Standing.{pointer_in};
-ghost use Rattle.dom_links.specs.Wiring.{link_or, GivesSlot, link_ahead, with_next, with_previous, recounted, settled};
+ghost use Rattle.dom_links.specs.Wiring.{link_or, GivesSlot, link_ahead, with_next, with_previous, recounted, with_links};
 
 use crate::node::Node;
 use crate::place::Link;
@@ -92,7 +92,7 @@ pub(crate) fn recount<T>(pool: &mut Pool<Node<T>>, ptr: *mut Node<T>, count: u32
 }
 
 /// Writes the links that a node has as a child.
-pub(crate) fn settle<T>(
+pub(crate) fn write_links<T>(
     pool: &mut Pool<Node<T>>,
     ptr: *mut Node<T>,
     parent: Link,
@@ -101,7 +101,7 @@ pub(crate) fn settle<T>(
 )
     requires { IsSome (look ptr pool.old.cells) }
     ensures nodes { (q : Ptr) → look q pool.new.cells
-        ≡ option_map (settled ptr parent prev next q) (look q pool.old.cells) }
+        ≡ option_map (with_links ptr parent prev next q) (look q pool.old.cells) }
     ensures many { length pool.new.cells ≡ length pool.old.cells }
 {
     let node = pool.get_mut(NodePtr { ptr });

@@ -6,7 +6,7 @@ use crate::links::{Refused, Slot};
 use crate::node::{Node, alone, value_of};
 use crate::place::{Link, Place};
 use crate::pool::{NodePtr, Pool, Room};
-use crate::steps::{free_slot, lead_back, lead_on, link_at, link_before, recount, settle};
+use crate::steps::{free_slot, lead_back, lead_on, link_at, link_before, recount, write_links};
 use std::alloc::Global;
 use std::marker::Model;
 
@@ -212,7 +212,7 @@ impl<T> Store<T> {
         lead_on(&mut self.pool, top, prev, link);
         lead_back(&mut self.pool, top, before, link);
         recount(&mut self.pool, top, count);
-        settle(
+        write_links(
             &mut self.pool,
             child.node().ptr,
             Link::to(parent),
@@ -239,7 +239,7 @@ impl<T> Store<T> {
         lead_back(&mut self.pool, top, next, prev);
         recount(&mut self.pool, top, count);
         let none = Link::none();
-        settle(&mut self.pool, ptr, none, none, none);
+        write_links(&mut self.pool, ptr, none, none, none);
     }
 
     /// Empties the slot, which the next `add` fills. It takes no memory.

@@ -7,6 +7,7 @@ pub mod ErasedSteps
 pub mod ErasedTreeAnswers
 pub mod ErasedWatcherAnswers
 pub mod ErasedObserving
+pub mod ErasedLists
 pub mod ErasedObservers
 pub mod ErasedWatchers
 pub mod ErasedDialogues

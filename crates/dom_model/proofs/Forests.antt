@@ -1,5 +1,6 @@
 -- Laws of nested lists: what is told of each node, and what is left of it as trees are cut, put, made and changed.
 pub mod Totals
+pub mod Whereabouts
 pub mod Tops
 pub mod KindsFitting
 pub mod Changes

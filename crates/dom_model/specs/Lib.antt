@@ -11,3 +11,4 @@ pub mod Traversal
 pub mod Commands
 pub mod TokenText
 pub mod Erasure
+pub mod Definitions

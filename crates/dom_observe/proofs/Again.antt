@@ -1,18 +1,11 @@
 -- An observer observes a node again: the transient registrations that come from there end, and its registration gets the options.
-use Rattle.std.proofs.Common.{◌≡◌, ◌≢◌, ℕ, ◌≤◌, ◌==◌, Bool, true, false, ◌&&◌, ◌||◌, if◌then◌else◌, List, [], ◌∷◌, length, map, filter, Option, None, Some, refl, ap, sym, ◌∙◌, subst, arith, cond, option_map}
-use Rattle.std.specs.Prelude.{filter_map, is_some, is_none, find}
-use Rattle.std.specs.Option.{option_map_or}
-use Rattle.std.specs.List.{AllByRecursion, cons_option, list_any}
+use Rattle.std.proofs.Common.{◌≡◌, ◌≢◌, ℕ, ◌≤◌, ◌==◌, Bool, true, false, ◌&&◌, ◌||◌, if◌then◌else◌, List, [], ◌∷◌, length, map, filter, Option, None, Some, refl, ap, sym, ◌∙◌, subst, arith, cond, option_map, filter_map, is_some, is_none, find}
+use Rattle.std.specs.{Option.option_map_or, List.AllByRecursion, List.cons_option, List.list_any}
 use Rattle.std.proofs.lemmas.Bool.{true≢false}
-use Rattle.dom_model.specs.Worlds.World.{Registration, Options}
-use Rattle.dom_model.specs.MutationObservers.Records.{is_registered, with_options}
+use Rattle.dom_model.specs.Definitions.{Registration, Options, is_registered, with_options}
 use Rattle.dom_model.proofs.PlainLists.Numbers.{same_or, same, apart}
-use Rattle.dom_observe.specs.declared.registration.Ended.TheVariants.{From}
-use Rattle.dom_observe.specs.Watchers.{on}
-use Rattle.dom_observe.specs.Registrations.{spares, left_by, is_live, own_at, with_new_options, StandsOn, AllStand}
-use Rattle.dom_observe.proofs.Counting.{tally, any-from_count}
-use Rattle.dom_observe.proofs.Tables.{all_imply, all_filter}
-use Rattle.dom_observe.proofs.Keeping.{found-ended, stand-ended}
+use Rattle.dom_observe.specs.{declared.registration.Ended.TheVariants.From, Watchers.on, Registrations.spares, Registrations.left_by, Registrations.is_live, Registrations.own_at, Registrations.with_new_options, Registrations.StandsOn, Registrations.AllStand}
+use Rattle.dom_observe.proofs.{Counting.tally, Counting.any-from_count, Tables.all_imply, Tables.all_filter, Keeping.found-ended, Keeping.stand-ended}
 
 module _ (u : ℕ → Option Registration) (o node : ℕ) where
   -- the first key with the observer's registration has it

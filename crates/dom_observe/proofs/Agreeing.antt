@@ -1,21 +1,12 @@
 -- What stands of an observer from one origin has the same options, as registrations come in and end.
-use Rattle.std.proofs.Common.{◌≡◌, ◌≢◌, ℕ, ◌==◌, Bool, true, false, not, ◌&&◌, ◌||◌, if◌then◌else◌, List, [], ◌∷◌, find, Option, option_map, None, Some, refl, ap, sym, ◌∙◌, subst, cond}
-use Rattle.std.specs.Prelude.{is_none, unwrap_or}
-use Rattle.std.specs.Option.{option_map_or}
-use Rattle.std.specs.List.{list_any}
-use Rattle.std.proofs.lemmas.Bool.{true≢false}
-use Rattle.dom_model.specs.PlainLists.Lists.{among, is_number}
-use Rattle.dom_model.specs.Worlds.World.{Options, Registration}
-use Rattle.dom_model.specs.MutationObservers.Observing.{transient_of}
-use Rattle.dom_model.specs.MutationObservers.Records.{is_registered, is_transient_from}
+use Rattle.std.proofs.Common.{◌≡◌, ◌≢◌, ℕ, ◌==◌, Bool, true, false, not, ◌&&◌, ◌||◌, if◌then◌else◌, List, [], ◌∷◌, find, Option, option_map, None, Some, refl, ap, sym, ◌∙◌, subst, cond, is_none, unwrap_or}
+use Rattle.std.specs.{Option.option_map_or, List.list_any}
+use Rattle.std.proofs.lemmas.Bool.{true≢false, or_from}
+use Rattle.dom_model.specs.Definitions.{among, is_number, Options, Registration, transient_of, is_registered, is_transient_from}
 use Rattle.dom_model.proofs.PlainLists.Numbers.{Same, same_or, same, apart}
-use Rattle.dom_observe.specs.declared.registration.Ended.{Ended}
-use Rattle.dom_observe.specs.declared.registration.Ended.TheVariants.{From}
-use Rattle.dom_observe.specs.Watchers.{on}
-use Rattle.dom_observe.specs.Registrations.{left_by, own_at, from_at, origin, is_on, transient_of_any, Placed, HaveSources, Agree, Added, transient_under, with_new_options}
-use Rattle.dom_observe.proofs.Again.{find_own}
-use Rattle.dom_observe.proofs.Sources.{own-shape, left-some}
-use Rattle.dom_observe.proofs.Tables.{transient_shape}
+use Rattle.dom_observe.specs.{declared.registration.Ended.Ended, declared.registration.Ended.TheVariants.From, Watchers.on, Registrations.left_by, Registrations.own_at, Registrations.from_at, Registrations.origin, Registrations.is_on, Registrations.transient_of_any, Registrations.Placed, Registrations.HaveSources, Registrations.Agree, Registrations.Added, Registrations.transient_under, Registrations.with_new_options}
+use Rattle.dom_observe.proofs.{Again.find_own, Sources.own-shape, Sources.left-some, Tables.transient_shape}
+use Rattle.dom_model.proofs.Forests.Below.{at_itself}
 
 -- it is of the observer, and comes from the node
 abbrev pub comes : ℕ → ℕ → Registration → Bool
@@ -37,12 +28,6 @@ comes-split o n r = go (r.observer == o) r.node r.source
     go true m None = there (m == n)
     go true m (Some k) = other (m == n) (k == n)
     go false m s = refl
-
-itself : (m : ℕ) → (m == m) ≡ true
-itself m = elim (same_or m m) [ same e t ↦ t | apart ne t ↦ absurd (ne refl) ]
-
-apart_by : (a b : Bool) → a ≡ false → b ≡ false → (a || b) ≡ false
-apart_by a b e f = ap (λ c. c || b) e ∙ f
 
 -- a list has a key that passes
 any_there : (p : ℕ → Bool) (k : ℕ) (keys : List ℕ) → among k keys ≡ true → p k ≡ true → list_any p keys ≡ true
@@ -122,13 +107,13 @@ module _ (u v : ℕ → Option Registration) where
       here : (r : Registration) → with_new_options options s.0 ≡ r → r.options ≡ given r.observer (origin r)
       here r d =
           let from : origin s.0 ≡ n = ap (λ q. unwrap_or q s.0.node) s.4 ∙ s.3 in
-          let test : comes o n s.0 ≡ true = (λ i. (s.2 i == o) && (from i == n)) ∙ (λ i. itself o i && itself n i) in
+          let test : comes o n s.0 ≡ true = (λ i. (s.2 i == o) && (from i == n)) ∙ (λ i. at_itself o i && at_itself n i) in
           subst (λ (t : Registration). t.options ≡ given t.observer (origin t)) d (sym (ap (λ b. if b then options else a.options s.0.observer (origin s.0)) test))
 
       there : (k : ℕ) → k ≢ key → (r : Registration) → u k ≡ Some r → r.options ≡ given r.observer (origin r)
       there k ne r is =
           a.alike k r is
-          ∙ sym (ap (λ b. if b then options else a.options r.observer (origin r)) (comes-split o n r ∙ apart_by (is_registered o n r) (is_transient_from o n r) (not_own (is_registered o n r) refl) (none k r is)))
+          ∙ sym (ap (λ b. if b then options else a.options r.observer (origin r)) (comes-split o n r ∙ or_from (is_registered o n r) (is_transient_from o n r) (not_own (is_registered o n r) refl) (none k r is)))
         where
           not_own : (b : Bool) → is_registered o n r ≡ b → b ≡ false
           not_own true e = absurd (ne (agree-own u a o n key k own (ap (λ q. option_map_or (is_registered o n) q false) is ∙ e)))
@@ -181,14 +166,14 @@ module _ (u v : ℕ → Option Registration) where
         itself_given : r.options ≡ given r.observer (origin r)
         itself_given =
             let from : origin r ≡ r.node = ap (λ q. unwrap_or q r.node) lasts in
-            let test : comes r.observer r.node r ≡ true = (λ i. (r.observer == r.observer) && (from i == r.node)) ∙ (λ i. itself r.observer i && itself r.node i) in
+            let test : comes r.observer r.node r ≡ true = (λ i. (r.observer == r.observer) && (from i == r.node)) ∙ (λ i. at_itself r.observer i && at_itself r.node i) in
             sym (ap (λ b. if b then r.options else a.options r.observer (origin r)) test)
 
         -- no other is the observer's there
         none : (k : ℕ) (t : Registration) → u k ≡ Some t → t.node ≡ r.node → t.observer ≡ r.observer → t.source ≡ r.source → ⊥
         none k t is at_node by from =
             let where_from : origin t ≡ r.node = ap (λ q. unwrap_or q t.node) (from ∙ lasts) ∙ at_node in
-            let test : comes r.observer r.node t ≡ true = (λ i. (by i == r.observer) && (where_from i == r.node)) ∙ (λ i. itself r.observer i && itself r.node i) in
+            let test : comes r.observer r.node t ≡ true = (λ i. (by i == r.observer) && (where_from i == r.node)) ∙ (λ i. at_itself r.observer i && at_itself r.node i) in
             true≢false (sym test ∙ free k t is)
 
 -- the options of a transient registration that a node gets are those of its origin
@@ -206,8 +191,8 @@ alone-made u lists node key r placed some k t is at_node by from =
     let here : t.node ≡ node = at_node ∙ sym (ap (λ (q : Registration). q.node) s.2) in
     let who : t.observer ≡ s.0.observer = by ∙ sym (ap (λ (q : Registration). q.observer) s.2) in
     let where_from : t.source ≡ Some m = from ∙ sym (ap (λ (q : Registration). q.source) s.2) in
-    let there : among k (on node lists) ≡ true = placed node k ∙ ap (is_on node) is ∙ ap (λ n. n == node) here ∙ itself node in
-    let test : from_at u s.0.observer m k ≡ true = ap (λ p. option_map_or (is_transient_from s.0.observer m) p false) is ∙ (λ i. (who i == s.0.observer) && is_number (where_from i) m) ∙ (λ i. itself s.0.observer i && itself m i) in
+    let there : among k (on node lists) ≡ true = placed node k ∙ ap (is_on node) is ∙ ap (λ n. n == node) here ∙ at_itself node in
+    let test : from_at u s.0.observer m k ≡ true = ap (λ p. option_map_or (is_transient_from s.0.observer m) p false) is ∙ (λ i. (who i == s.0.observer) && is_number (where_from i) m) ∙ (λ i. at_itself s.0.observer i && at_itself m i) in
     true≢false (sym (any_there (from_at u s.0.observer m) k (on node lists) there test) ∙ gives-none u (on node lists) node (u key) r some s.0 s.1)
 
 -- Where an observer is not registered on a node, nothing comes from there.
@@ -222,12 +207,12 @@ module _ (u : ℕ → Option Registration) (o n : ℕ) where
       go false e g (apart ne t) rest = let w = rw t at there in rest g k w
 
   pub nothing-comes : (lists : List (ℕ × List ℕ)) → Placed u lists → HaveSources u → find (own_at u o n) (on n lists) ≡ None → (k : ℕ) (t : Registration) → u k ≡ Some t → comes o n t ≡ false
-  nothing-comes lists placed have none k t is = comes-split o n t ∙ apart_by (is_registered o n t) (is_transient_from o n t) (sym (ap (λ q. option_map_or (is_registered o n) q false) is) ∙ not_own k (own_at u o n k) refl) (not_from (same_or t.observer o) t.source refl)
+  nothing-comes lists placed have none k t is = comes-split o n t ∙ or_from (is_registered o n t) (is_transient_from o n t) (sym (ap (λ q. option_map_or (is_registered o n) q false) is) ∙ not_own k (own_at u o n k) refl) (not_from (same_or t.observer o) t.source refl)
     where
       not_own : (j : ℕ) (b : Bool) → own_at u o n j ≡ b → own_at u o n j ≡ false
       not_own j true e =
           let s = own-shape o n (u j) e in
-          let there : is_on n (u j) ≡ true = ap (is_on n) s.1 ∙ ap (λ m. m == n) s.3 ∙ itself n in
+          let there : is_on n (u j) ≡ true = ap (is_on n) s.1 ∙ ap (λ m. m == n) s.3 ∙ at_itself n in
           not_found (on n lists) none j (placed n j ∙ there)
       not_own j false e = e
 

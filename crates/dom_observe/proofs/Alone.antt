@@ -1,8 +1,7 @@
 -- Listeners that are all of one observer.
-use Rattle.std.proofs.Common.{◌≡◌, ℕ, ◌==◌, ◌||◌, Bool, true, false, if◌then◌else◌, List, [], ◌∷◌, ◌++◌, Option, None, Some, refl, ap, sym, ◌∙◌, subst}
-use Rattle.std.specs.Prelude.{unwrap_or, IfSome}
+use Rattle.std.proofs.Common.{◌≡◌, ℕ, ◌==◌, ◌||◌, Bool, true, false, if◌then◌else◌, List, [], ◌∷◌, ◌++◌, Option, None, Some, refl, ap, sym, ◌∙◌, subst, unwrap_or, IfSome}
 use Rattle.std.specs.Map.{keys_of}
-use Rattle.dom_model.specs.PlainLists.LastOnce.{with_last, with_all_last}
+use Rattle.dom_model.specs.Definitions.{with_last, with_all_last}
 use Rattle.dom_model.proofs.PlainLists.Numbers.{same_or, same, apart}
 use Rattle.dom_observe.specs.Telling.{flag_of, joined, IsOnly}
 use Rattle.dom_observe.proofs.Hearing.{flag-last, keys_of-append, all_last-append, last-there}

@@ -1,8 +1,6 @@
 -- Questions to the registrations under keys.
-use Rattle.std.proofs.Common.{◌≡◌, ℕ, Bool, false, ◌||◌, List, [], ◌∷◌, Option, None, Some, refl, ap}
-use Rattle.std.specs.Prelude.{filter_map}
-use Rattle.std.specs.Option.{option_map_or}
-use Rattle.std.specs.List.{list_any, cons_option}
+use Rattle.std.proofs.Common.{◌≡◌, ℕ, Bool, false, ◌||◌, List, [], ◌∷◌, Option, None, Some, refl, ap, filter_map}
+use Rattle.std.specs.{Option.option_map_or, List.list_any, List.cons_option}
 
 module _ {A : Type 0} (p : A → Bool) where
   -- of what stands under keys

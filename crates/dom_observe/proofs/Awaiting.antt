@@ -1,27 +1,12 @@
 -- For whom records wait, step by step: for the pending observers, and for those that were taken from them and not told since.
-use Rattle.std.proofs.Common.{◌≡◌, ℕ, ◌==◌, Bool, true, false, ◌||◌, if◌then◌else◌, cond, List, [], ◌∷◌, ◌++◌, Option, None, Some, refl, ap, sym, ◌∙◌, ◌⊎◌, inl, inr, nat_eq}
-use Rattle.std.specs.Prelude.{slice_index_or, slice_set, not, flat_map, unwrap_or}
+use Rattle.std.proofs.Common.{◌≡◌, ℕ, ◌==◌, Bool, true, false, ◌||◌, if◌then◌else◌, cond, List, [], ◌∷◌, ◌++◌, Option, None, Some, refl, ap, sym, ◌∙◌, ◌⊎◌, inl, inr, nat_eq, slice_index_or, slice_set, not, flat_map, unwrap_or}
 use Rattle.std.specs.List.{list_any}
-use Rattle.std.proofs.lemmas.List.Folds.{list_any-append}
-use Rattle.std.proofs.lemmas.Bool.{true≢false, or_parts}
+use Rattle.std.proofs.lemmas.{List.Folds.list_any-append, Bool.true≢false, Bool.or_parts}
 use Rattle.indexmap.specs.IndexSet.{insert_all}
-use Rattle.dom_model.specs.PlainLists.Lists.{among, left_out}
-use Rattle.dom_model.specs.PlainLists.LastOnce.{with_last, with_all_last}
-use Rattle.dom_model.specs.Worlds.World.{Registration}
-use Rattle.dom_model.specs.MutationObservers.Record.{Record}
-use Rattle.dom_model.specs.MutationObservers.Records.{is_transient_of}
-use Rattle.dom_model.specs.MutationAlgorithms.Discarding.{nodes_of_record}
+use Rattle.dom_model.specs.Definitions.{among, left_out, with_last, with_all_last, Registration, Record, is_transient_of, nodes_of_record}
 use Rattle.dom_model.proofs.PlainLists.Numbers.{Same, same_or, same, apart}
-use Rattle.dom_observe.specs.declared.registration.Ended.TheVariants.{TransientOf}
-use Rattle.dom_observe.specs.Watchers.{records_at}
-use Rattle.dom_observe.specs.Registrations.{left_by, passes_for}
-use Rattle.dom_observe.specs.Kept.{has_queue, AllThere, IsAwaited, IsIndexed}
-use Rattle.dom_observe.proofs.Hearing.{insert-last, stay-all_last, all_last-there, among-list_any}
-use Rattle.dom_observe.proofs.QueueLists.{has-more, has-set, records-more, records-set, records-gone, records-stay}
-use Rattle.dom_observe.proofs.Queued.{not_before}
-use Rattle.dom_observe.proofs.Releasing.{there-each, each-there, others-there, out-taken, there-taken, among-others}
-use Rattle.dom_observe.proofs.Tables.{all_imply}
-use Rattle.dom_observe.proofs.Waiting.{any-told}
+use Rattle.dom_observe.specs.{declared.registration.Ended.TheVariants.TransientOf, Watchers.records_at, Registrations.left_by, Registrations.passes_for, Kept.has_queue, Kept.AllThere, Kept.IsAwaited, Kept.IsIndexed}
+use Rattle.dom_observe.proofs.{Hearing.insert-last, Hearing.stay-all_last, Hearing.all_last-there, Hearing.among-list_any, QueueLists.has-more, QueueLists.has-set, QueueLists.records-more, QueueLists.records-set, QueueLists.records-gone, QueueLists.records-stay, Queued.not_before, Releasing.there-each, Releasing.each-there, Releasing.others-there, Releasing.out-taken, Releasing.there-taken, Releasing.among-others, Tables.all_imply, Waiting.any-told}
 
 -- of neither list, so not of both
 not_with_last : (p n : ℕ) (ns : List ℕ) → among p ns ≡ false → (n ≡ p → ⊥) → among p (with_last ns n) ≡ false

@@ -2,10 +2,8 @@
 use Rattle.std.proofs.Common.{◌≡◌, ℕ, ◌≤◌, Bool, true, false, ◌||◌, if◌then◌else◌, ◌==◌, ◌+◌, List, [], ◌∷◌, filter_map, Option, None, Some, refl, ap, sym, ◌∙◌, arith}
 use Rattle.std.specs.List.{AllByRecursion, IsDistinct, list_any, cons_option}
 use Rattle.std.proofs.lemmas.Bool.{true≢false, or_parts}
-use Rattle.dom_model.specs.PlainLists.Lists.{hits, among}
-use Rattle.dom_model.specs.Worlds.World.{Registration}
-use Rattle.dom_model.proofs.Forests.Climbing.{among-hits}
-use Rattle.dom_model.proofs.Forests.Listed.{hits-itself}
+use Rattle.dom_model.specs.Definitions.{hits, among, Registration}
+use Rattle.dom_model.proofs.Forests.{Climbing.among-hits, Listed.hits-itself}
 use Rattle.dom_model.proofs.PlainLists.Numbers.{same_or, same, apart}
 use Rattle.dom_observe.specs.Once.{same_registration}
 use Rattle.dom_observe.proofs.Once.{same-is}

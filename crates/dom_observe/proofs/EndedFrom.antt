@@ -1,37 +1,15 @@
 -- The transient registrations of an observer that come from one node end, where its keys stand by such nodes and only those of this node are gone through.
-use Rattle.std.proofs.Common.{◌≡◌, ℕ, zero, suc, ◌+◌, ◌-◌, ◌<◌, ◌≤◌, ◌==◌, Bool, true, false, not, ◌&&◌, if◌then◌else◌, List, [], ◌∷◌, ◌++◌, length, filter, take, drop, Option, None, Some, refl, ap, sym, ◌∙◌, ◌⊎◌, inl, inr, arith}
-use Rattle.std.specs.Prelude.{is_some, unwrap_or}
+use Rattle.std.proofs.Common.{◌≡◌, ℕ, zero, suc, ◌+◌, ◌-◌, ◌<◌, ◌≤◌, ◌==◌, Bool, true, false, not, ◌&&◌, if◌then◌else◌, List, [], ◌∷◌, ◌++◌, length, filter, take, drop, Option, None, Some, refl, ap, sym, ◌∙◌, ◌⊎◌, inl, inr, arith, is_some, unwrap_or}
 use Rattle.std.specs.Option.{option_map_or}
-use Rattle.std.proofs.lemmas.Bool.{true≢false}
-use Rattle.std.proofs.lemmas.List.{take-append-drop, length-drop}
-use Rattle.std.proofs.lemmas.List.Elements.{filter-append}
-use Rattle.dom_model.specs.PlainLists.Lists.{among, is_number}
-use Rattle.dom_model.specs.Worlds.World.{Registration}
-use Rattle.dom_model.proofs.PlainLists.Numbers.{Same, same_or, same, apart}
-use Rattle.dom_observe.specs.declared.registration.Ending.{Ending}
-use Rattle.dom_observe.specs.declared.registration.Ended.TheVariants.{From}
-use Rattle.dom_observe.specs.declared.registration.Lifetime.TheVariants.{Passing}
-use Rattle.dom_observe.specs.Registrations.{is_live, left_after, goes, passes_for, origin, origin_at, Between, IsFirstFrom, IsPast}
-use Rattle.dom_observe.proofs.EndedOnes.{filter_all, filter_none}
-use Rattle.dom_observe.proofs.NodeByNode.{take-whole}
-use Rattle.dom_observe.proofs.Ordered.{taken, dropped}
-use Rattle.dom_observe.proofs.Turns.{all_among}
+use Rattle.std.proofs.lemmas.{Bool.true≢false, List.take-append-drop, List.length-drop, List.Elements.filter-append}
+use Rattle.dom_model.specs.Definitions.{among, is_number, Registration}
+use Rattle.dom_model.proofs.PlainLists.Numbers.{same_or, same, apart}
+use Rattle.dom_observe.specs.{declared.registration.Ending.Ending, declared.registration.Ended.TheVariants.From, declared.registration.Lifetime.TheVariants.Passing, Registrations.is_live, Registrations.left_after, Registrations.goes, Registrations.passes_for, Registrations.origin, Registrations.origin_at, Registrations.Between, Registrations.IsFirstFrom, Registrations.IsPast}
+use Rattle.dom_observe.proofs.{EndedOnes.filter_all, EndedOnes.filter_none, NodeByNode.take-whole, Ordered.taken, Ordered.dropped, Turns.all_among, HeldNames.among-either}
 
 -- the transient registrations of the observer that come from the node
 abbrev pub all_from : ℕ → ℕ → Ending
 all_from o n = record { observer = Some o; lifetime = Passing; ended = From o n }
-
-among-two : (k : ℕ) (xs ys : List ℕ) → among k (xs ++ ys) ≡ true → (among k xs ≡ true) ⊎ (among k ys ≡ true)
-among-two k [] ys m = inr m
-among-two k (x ∷ xs) ys m = go (same_or x k) m (among-two k xs ys)
-  where
-    go : Same x k → (if x == k then true else among k (xs ++ ys)) ≡ true → (among k (xs ++ ys) ≡ true → (among k xs ≡ true) ⊎ (among k ys ≡ true)) → ((if x == k then true else among k xs) ≡ true) ⊎ (among k ys ≡ true)
-    go (same e t) h rest = inl (rw t refl)
-    go (apart ne t) h rest = let w = rw t at h in either (rest w)
-      where
-        either : (among k xs ≡ true) ⊎ (among k ys ≡ true) → ((if x == k then true else among k xs) ≡ true) ⊎ (among k ys ≡ true)
-        either (inl g) = inl (rw t g)
-        either (inr g) = inr g
 
 drop-none : (i : ℕ) → drop {A = ℕ} i [] ≡ []
 drop-none zero = refl
@@ -105,7 +83,7 @@ module _ (o n : ℕ) where
 
     -- what stood under each key is gone through, as it were
     pub from-done : (k : ℕ) → among k keys ≡ true → v k ≡ left_after (all_from o n) (u k)
-    from-done k m = go (among-two k (take first keys) (middle ++ rest) (ap (among k) split ∙ m))
+    from-done k m = go (among-either k (take first keys) (middle ++ rest) (ap (among k) split ∙ m))
       where
         behind : (among k middle ≡ true) ⊎ (among k rest ≡ true) → v k ≡ left_after (all_from o n) (u k)
         behind (inl h) = done k h
@@ -113,7 +91,7 @@ module _ (o n : ℕ) where
 
         go : (among k (take first keys) ≡ true) ⊎ (among k (middle ++ rest) ≡ true) → v k ≡ left_after (all_from o n) (u k)
         go (inl h) = (stays k (inl h)).1
-        go (inr h) = behind (among-two k middle rest h)
+        go (inr h) = behind (among-either k middle rest h)
 
     alive : (k : ℕ) → (among k (take first keys) ≡ true) ⊎ (among k rest ≡ true) → is_live v k ≡ true
     alive k m = ap is_some (stays k m).0 ∙ live (u k) (sym (owned k) ∙ its k m)

@@ -1,15 +1,10 @@
 -- Registrations end one by one, with their keys.
-use Rattle.std.proofs.Common.{◌≡◌, ℕ, zero, suc, ◌==◌, Bool, true, false, ◌&&◌, if◌then◌else◌, List, [], ◌∷◌, ◌++◌, filter, Option, None, Some, refl, ap, sym, ◌∙◌, subst, cond, ◌⊎◌, inl, inr}
-use Rattle.std.specs.Prelude.{is_none, is_some, slice_get}
+use Rattle.std.proofs.Common.{◌≡◌, ℕ, zero, suc, ◌==◌, Bool, true, false, ◌&&◌, if◌then◌else◌, List, [], ◌∷◌, ◌++◌, filter, Option, None, Some, refl, ap, sym, ◌∙◌, subst, cond, ◌⊎◌, inl, inr, is_none, is_some, slice_get}
 use Rattle.std.specs.List.{AllByRecursion}
 use Rattle.std.proofs.lemmas.Bool.{true≢false}
-use Rattle.dom_model.specs.PlainLists.Lists.{among}
-use Rattle.dom_model.specs.Worlds.World.{Registration}
+use Rattle.dom_model.specs.Definitions.{among, Registration}
 use Rattle.dom_model.proofs.PlainLists.Numbers.{Same, same_or, same, apart}
-use Rattle.dom_observe.specs.declared.registration.Ended.{Ended}
-use Rattle.dom_observe.specs.Watchers.{on}
-use Rattle.dom_observe.specs.declared.registration.Ended.TheVariants.{Transient}
-use Rattle.dom_observe.specs.Registrations.{spares, left_by, is_live, is_on, passes_for, Placed}
+use Rattle.dom_observe.specs.{declared.registration.Ended.Ended, Watchers.on, declared.registration.Ended.TheVariants.Transient, Registrations.spares, Registrations.left_by, Registrations.is_live, Registrations.is_on, Registrations.passes_for, Registrations.Placed}
 
 -- Members of lists.
 

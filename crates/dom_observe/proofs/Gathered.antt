@@ -1,17 +1,10 @@
 -- The records of the pending observers, one observer after another.
-use Rattle.std.proofs.Common.{◌≡◌, ℕ, zero, suc, ◌==◌, Bool, true, false, not, if◌then◌else◌, List, [], ◌∷◌, ◌++◌, length, map, filter, take, Some, refl, ap, sym, ◌∙◌, subst, cond, append-nil, nat_eq}
-use Rattle.std.specs.Prelude.{slice_set, slice_get, Option}
+use Rattle.std.proofs.Common.{◌≡◌, ℕ, zero, suc, ◌==◌, Bool, true, false, not, if◌then◌else◌, List, [], ◌∷◌, ◌++◌, length, map, filter, take, Some, refl, ap, sym, ◌∙◌, subst, cond, append-nil, nat_eq, slice_set, slice_get, Option}
 use Rattle.std.specs.List.{AllByRecursion, IsDistinct}
-use Rattle.std.proofs.lemmas.List.{map-append}
-use Rattle.std.proofs.lemmas.List.Elements.{filter-append}
-use Rattle.dom_model.specs.PlainLists.Lists.{among}
-use Rattle.dom_model.specs.Worlds.World.{Observing}
-use Rattle.dom_model.specs.MutationObservers.Record.{Record, Told}
-use Rattle.dom_model.specs.MutationObservers.Records.{has_records, told_in, queue_of}
-use Rattle.dom_observe.specs.Watchers.{records_at}
-use Rattle.dom_observe.specs.Kept.{has_queue}
-use Rattle.dom_observe.specs.Notifying.{waiting_for}
-use Rattle.dom_observe.proofs.QueueLists.{records-set}
+use Rattle.std.proofs.lemmas.{List.map-append, List.Elements.filter-append}
+use Rattle.dom_model.specs.Definitions.{among, Observing, Record, Told, has_records, told_in, queue_of}
+use Rattle.dom_observe.specs.{Watchers.records_at, Kept.has_queue, Notifying.waiting_for}
+use Rattle.dom_observe.proofs.{QueueLists.records-set, EndedOnes.among-last}
 
 pub take-next : {A : Type 0} (xs : List A) (i : ℕ) (x : A) → slice_get xs i ≡ Some x → take (suc i) xs ≡ take i xs ++ x ∷ []
 take-next [] zero x h = let d : ⊥ = cc h in absurd d
@@ -35,16 +28,6 @@ fresh-at (y ∷ xs) (suc i) x u h =
     let apart_from : (y == x) ≡ false = all-get (λ z. (y == z) ≡ false) xs i x h u.0 in
     rw apart_from (fresh-at xs i x u.1 h)
 
-among-next : (p x : ℕ) (xs : List ℕ) → among p (xs ++ x ∷ []) ≡ (if x == p then true else among p xs)
-among-next p x [] = refl
-among-next p x (y ∷ xs) = go (y == p) (x == p) (among-next p x xs)
-  where
-    go : (a b : Bool) → among p (xs ++ x ∷ []) ≡ (if b then true else among p xs) → (if a then true else among p (xs ++ x ∷ [])) ≡ (if b then true else if a then true else among p xs)
-    go true true i = refl
-    go true false i = refl
-    go false true i = i
-    go false false i = i
-
 module _ (queues0 queues queues' : List (Option (List Record))) (keys : List ℕ) (i o : ℕ) (at : slice_get keys i ≡ Some o) (u : IsDistinct nat_eq keys) (there : has_queue queues o ≡ true)
     (left : (p : ℕ) → records_at queues p ≡ (if among p (take i keys) then [] else records_at queues0 p))
     (emptied : queues' ≡ slice_set queues o (Some [])) where
@@ -58,7 +41,7 @@ module _ (queues0 queues queues' : List (Option (List Record))) (keys : List ℕ
       ∙ records-set queues o there [] p
       ∙ ap (λ rs. if o == p then [] else rs) (left p)
       ∙ go (o == p) (among p (take i keys))
-      ∙ sym (ap (λ b. if b then [] else records_at queues0 p) (ap (among p) (take-next keys i o at) ∙ among-next p o (take i keys)))
+      ∙ sym (ap (λ b. if b then [] else records_at queues0 p) (ap (among p) (take-next keys i o at) ∙ among-last p o (take i keys)))
     where
       go : (b c : Bool) → (if b then [] else (if c then [] else records_at queues0 p)) ≡ (if (if b then true else c) then [] else records_at queues0 p)
       go true c = refl

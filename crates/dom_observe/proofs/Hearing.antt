@@ -1,24 +1,12 @@
 -- Listeners, one after another, and the pending list.
-use Rattle.std.proofs.Common.{◌≡◌, ℕ, zero, suc, ◌==◌, Bool, true, false, ◌||◌, if◌then◌else◌, List, [], ◌∷◌, ◌++◌, map, filter, take, Option, None, Some, refl, ap, sym, ◌∙◌, subst, cond, append-nil, nat_eq}
-use Rattle.std.specs.Prelude.{unwrap_or, slice_get, filter_map, option_to_list}
-use Rattle.std.specs.Map.{lookup, keys_of}
-use Rattle.std.specs.Option.{option_and_then}
-use Rattle.std.specs.List.{AllByRecursion, IsDistinct, list_any, cons_option}
-use Rattle.std.proofs.lemmas.List.Folds.{list_any-append}
-use Rattle.std.proofs.lemmas.List.Elements.{filter-append}
-use Rattle.std.proofs.lemmas.Bool.{true≢false}
-use Rattle.indexmap.specs.IndexSet.{insert_key}
-use Rattle.indexmap.specs.IndexMap.{insert_entry}
+use Rattle.std.proofs.Common.{◌≡◌, ℕ, zero, suc, ◌==◌, Bool, true, false, ◌||◌, if◌then◌else◌, List, [], ◌∷◌, ◌++◌, map, filter, take, Option, None, Some, refl, ap, sym, ◌∙◌, subst, cond, append-nil, nat_eq, unwrap_or, slice_get, filter_map, option_to_list}
+use Rattle.std.specs.{Map.lookup, Map.keys_of, Option.option_and_then, List.AllByRecursion, List.IsDistinct, List.list_any, List.cons_option}
+use Rattle.std.proofs.lemmas.{List.Folds.list_any-append, List.Elements.filter-append, Bool.true≢false}
+use Rattle.indexmap.specs.{IndexSet.insert_key, IndexMap.insert_entry}
 use Rattle.dom_model.specs.declared.RecordType.{RecordType}
-use Rattle.dom_model.specs.PlainLists.Lists.{among}
-use Rattle.dom_model.specs.Worlds.World.{Registration, Mutation}
-use Rattle.dom_model.specs.MutationObservers.Records.{interests, interested, asks_old_value, record_with, record_by, record_for}
-use Rattle.dom_model.specs.PlainLists.LastOnce.{with_last, with_all_last}
-use Rattle.dom_model.proofs.PlainLists.Heads.{among-first}
-use Rattle.dom_model.proofs.PlainLists.Numbers.{Same, same_or, same, apart}
-use Rattle.dom_observe.specs.Kept.{AllThere}
-use Rattle.dom_observe.specs.Registrations.{concerns, Stands}
-use Rattle.dom_observe.specs.Telling.{listener_of, listener_under, listeners, asked_by, flag_of, delivered}
+use Rattle.dom_model.specs.Definitions.{among, Registration, Mutation, interests, interested, asks_old_value, record_with, record_by, record_for, with_last, with_all_last}
+use Rattle.dom_model.proofs.PlainLists.{Heads.among-first, Numbers.Same, Numbers.same_or, Numbers.same, Numbers.apart}
+use Rattle.dom_observe.specs.{Kept.AllThere, Registrations.concerns, Registrations.Stands, Telling.listener_of, Telling.listener_under, Telling.listeners, Telling.asked_by, Telling.flag_of, Telling.delivered}
 use Rattle.dom_observe.proofs.Tables.{all_append}
 
 pub swapped : (m n : ℕ) → (m == n) ≡ (n == m)

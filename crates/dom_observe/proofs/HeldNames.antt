@@ -1,14 +1,11 @@
 -- What observers name stays held: after a step of theirs, and after a step of the tree that they watch.
 use Rattle.std.proofs.Common.{◌≡◌, ℕ, true, false, List, [], ◌∷◌, ◌++◌, refl, ◌⊎◌, inl, inr}
 use Rattle.std.specs.List.{list_any}
-use Rattle.dom_model.specs.PlainLists.Lists.{among}
-use Rattle.dom_model.specs.Forests.Forest.{Forest, HasNode}
-use Rattle.dom_model.proofs.PlainLists.Numbers.{same_or, same, apart}
-use Rattle.dom_model.proofs.PlainLists.Searches.{passes_not}
-use Rattle.dom_observe.specs.Watchers.{Watchers}
-use Rattle.dom_observe.specs.Held.{named, NamesHeld, NamesOnly}
+use Rattle.dom_model.specs.Definitions.{among, Forest, HasNode}
+use Rattle.dom_model.proofs.PlainLists.{Numbers.same_or, Numbers.same, Numbers.apart, Searches.passes_not}
+use Rattle.dom_observe.specs.{Watchers.Watchers, Held.named, Held.NamesHeld, Held.NamesOnly}
 
-among-either : (n : ℕ) (xs ys : List ℕ) → among n (xs ++ ys) ≡ true → (among n xs ≡ true) ⊎ (among n ys ≡ true)
+pub among-either : (n : ℕ) (xs ys : List ℕ) → among n (xs ++ ys) ≡ true → (among n xs ≡ true) ⊎ (among n ys ≡ true)
 among-either n [] ys h = inr h
 among-either n (x ∷ xs) ys h = elim (same_or x n) [ same e t ↦ inl (rw t refl) | apart ne t ↦ let k = rw t at h in rw t (among-either n xs ys k) ]
 

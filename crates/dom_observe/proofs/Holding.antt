@@ -1,34 +1,14 @@
 -- What observers name, as their registrations and queues change.
-use Rattle.std.proofs.Common.{◌≡◌, ◌≢◌, ℕ, zero, suc, ◌<◌, ◌==◌, Bool, true, false, ◌||◌, if◌then◌else◌, List, [], ◌∷◌, ◌++◌, length, map, filter, Option, None, Some, option_map, refl, ap, sym, ◌∙◌, subst, nat_eq}
-use Rattle.std.specs.Prelude.{unwrap_or, slice_index_or, slice_set, flat_map}
-use Rattle.std.specs.Map.{keys_of}
-use Rattle.std.specs.Option.{option_map_or}
-use Rattle.std.specs.List.{list_any, IsDistinct, AllByRecursion}
-use Rattle.std.proofs.lemmas.Bool.{true≢false, or_parts, or_from}
-use Rattle.std.proofs.lemmas.List.Folds.{list_any-append}
+use Rattle.std.proofs.Common.{◌≡◌, ◌≢◌, ℕ, zero, suc, ◌<◌, ◌==◌, Bool, true, false, ◌||◌, if◌then◌else◌, List, [], ◌∷◌, ◌++◌, length, map, filter, Option, None, Some, option_map, refl, ap, sym, ◌∙◌, subst, nat_eq, unwrap_or, slice_index_or, slice_set, flat_map}
+use Rattle.std.specs.{Map.keys_of, Option.option_map_or, List.list_any, List.IsDistinct, List.AllByRecursion}
+use Rattle.std.proofs.lemmas.{Bool.true≢false, Bool.or_parts, Bool.or_from, List.Folds.list_any-append}
 use Rattle.slab.specs.Slab.{Slab}
-use Rattle.dom_model.specs.PlainLists.Lists.{among}
-use Rattle.dom_model.specs.Worlds.World.{Options, Registration, Mutation}
-use Rattle.dom_model.specs.MutationObservers.Record.{Record}
-use Rattle.dom_model.specs.MutationObservers.Observing.{transient_of}
-use Rattle.dom_model.specs.MutationAlgorithms.Discarding.{nodes_of_registration, nodes_of_record}
+use Rattle.dom_model.specs.Definitions.{among, Options, Registration, Mutation, Record, transient_of, nodes_of_registration, nodes_of_record}
 use Rattle.dom_model.proofs.PlainLists.Numbers.{Same, same_or, same, apart}
 use Rattle.dom_model.proofs.RangesAndContents.RangesElsewhere.{among-any}
 use Rattle.dom_observe.specs.declared.registration.Registration as held
-use Rattle.dom_observe.specs.declared.registration.Ended.{Ended}
-use Rattle.dom_observe.specs.Keys.{Keys}
-use Rattle.dom_observe.specs.Watchers.{Watchers, records_at, on}
-use Rattle.dom_observe.specs.Held.{named, watching, nodes_of_mutation, NamesOnly, SameObservers}
-use Rattle.dom_observe.specs.Registrations.{at, listed, spares, left_by, is_live, AllLive, StandsOn, Added, with_new_options, transient_under}
-use Rattle.dom_observe.specs.Kept.{registered_nodes, has_queue, IsKept}
-use Rattle.dom_observe.specs.Naming.{names_one, NamesNone, TellsNone}
-use Rattle.dom_observe.specs.Telling.{delivered}
-use Rattle.dom_observe.proofs.Asked.{any-found}
-use Rattle.dom_observe.proofs.Finding.{list_any-map}
-use Rattle.dom_observe.proofs.Keeping.{on-registered_nodes}
-use Rattle.dom_observe.proofs.QueueLists.{records-set, records-gone, records-stay, records-more}
-use Rattle.dom_observe.proofs.Named.{any-flat, none_under, some_under, keys-registered_nodes}
-use Rattle.dom_observe.proofs.Tables.{all_imply, all_append, all_filter, all_at, transient_shape, alike-added}
+use Rattle.dom_observe.specs.{declared.registration.Ended.Ended, Keys.Keys, Watchers.Watchers, Watchers.records_at, Watchers.on, Held.named, Held.watching, Held.nodes_of_mutation, Held.NamesOnly, Held.SameObservers, Registrations.at, Registrations.listed, Registrations.spares, Registrations.left_by, Registrations.is_live, Registrations.AllLive, Registrations.StandsOn, Registrations.Added, Registrations.with_new_options, Registrations.transient_under, Kept.registered_nodes, Kept.has_queue, Kept.IsKept, Naming.names_one, Naming.NamesNone, Naming.TellsNone, Telling.delivered}
+use Rattle.dom_observe.proofs.{Asked.any-found, Finding.list_any-map, Keeping.on-registered_nodes, QueueLists.records-set, QueueLists.records-gone, QueueLists.records-stay, QueueLists.records-more, Named.any-flat, Named.none_under, Named.some_under, Named.keys-registered_nodes, Tables.all_imply, Tables.all_append, Tables.all_filter, Tables.all_at, Tables.transient_shape, Tables.alike-added}
 
 module _ {A : Type 0} (p : A → Bool) where
   pub none_all : (xs : List A) → list_any p xs ≡ false → AllByRecursion (λ x. p x ≡ false) xs

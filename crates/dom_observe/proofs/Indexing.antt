@@ -1,26 +1,11 @@
 -- The keys of nodes and observers, as registrations come in and end.
-use Rattle.std.proofs.Common.{◌≡◌, ◌≢◌, ℕ, ◌<◌, ◌≤◌, ◌==◌, Bool, true, false, ◌&&◌, if◌then◌else◌, List, [], length, filter, Option, option_map, None, Some, refl, ap, sym, ◌∙◌, subst, arith, ◌⊎◌, inl, inr}
-use Rattle.std.specs.Prelude.{is_none, is_some, slice_index_or, slice_set}
-use Rattle.std.specs.Option.{option_map_or}
-use Rattle.std.specs.List.{AllByRecursion}
-use Rattle.std.proofs.lemmas.Bool.{true≢false}
-use Rattle.std.proofs.lemmas.List.{get_or-set_same, get_or-set_other}
-use Rattle.dom_model.specs.PlainLists.Lists.{hits, among}
-use Rattle.dom_model.specs.PlainLists.LastOnce.{with_last}
-use Rattle.dom_model.specs.Worlds.World.{Options, Registration}
-use Rattle.dom_model.specs.MutationObservers.Observing.{transient_of}
+use Rattle.std.proofs.Common.{◌≡◌, ◌≢◌, ℕ, ◌<◌, ◌≤◌, ◌==◌, Bool, true, false, ◌&&◌, if◌then◌else◌, List, [], length, filter, Option, option_map, None, Some, refl, ap, sym, ◌∙◌, subst, arith, ◌⊎◌, inl, inr, is_none, is_some, slice_index_or, slice_set}
+use Rattle.std.specs.{Option.option_map_or, List.AllByRecursion}
+use Rattle.std.proofs.lemmas.{Bool.true≢false, List.get_or-set_same, List.get_or-set_other}
+use Rattle.dom_model.specs.Definitions.{hits, among, with_last, Options, Registration, transient_of}
 use Rattle.dom_model.proofs.PlainLists.Numbers.{same_or, same, apart}
-use Rattle.dom_observe.specs.declared.registration.Ended.{Ended}
-use Rattle.dom_observe.specs.declared.registration.Ended.TheVariants.{Transient, Of, From}
-use Rattle.dom_observe.specs.Registrations.{is_live, left_by, lasts_for, passes_for, Placed, Owned, Stands, Added, NewKey, origin, transient_under, with_new_options, ByOrigin, IsPast}
-use Rattle.dom_observe.specs.Kept.{AllThere, PlacedOnce, IsIndexed}
-use Rattle.dom_observe.proofs.EndedOnes.{stays_by, stays_off, stays-or-gone, either_by}
-use Rattle.dom_observe.proofs.Hearing.{stay-last, there-last}
-use Rattle.dom_observe.proofs.Owning.{lasting-kind, passing-kind, not_both, not_both2, owned-ended, owned-other, owned-new, owned-beside, owned-changed, placed-added, placed-changed, left-from}
-use Rattle.dom_observe.proofs.KeysOnce.{once-set, once-new, once-ended, placed_once-added}
-use Rattle.dom_observe.proofs.Ordered.{ordered-filter, ordered-set, ordered-new, ordered-beside, ordered-ended, ordered-changed}
-use Rattle.dom_observe.proofs.Queued.{not_before}
-use Rattle.dom_observe.proofs.Tables.{all_at, all_imply, transient_shape}
+use Rattle.dom_observe.specs.{declared.registration.Ended.Ended, declared.registration.Ended.TheVariants.Transient, declared.registration.Ended.TheVariants.Of, declared.registration.Ended.TheVariants.From, Registrations.is_live, Registrations.left_by, Registrations.lasts_for, Registrations.passes_for, Registrations.Placed, Registrations.Owned, Registrations.Stands, Registrations.Added, Registrations.NewKey, Registrations.origin, Registrations.transient_under, Registrations.with_new_options, Registrations.ByOrigin, Registrations.IsPast, Kept.AllThere, Kept.PlacedOnce, Kept.IsIndexed}
+use Rattle.dom_observe.proofs.{EndedOnes.stays_by, EndedOnes.stays_off, EndedOnes.stays-or-gone, EndedOnes.either_by, Hearing.stay-last, Hearing.there-last, Owning.lasting-kind, Owning.passing-kind, Owning.not_both, Owning.not_both2, Owning.owned-ended, Owning.owned-other, Owning.owned-new, Owning.owned-beside, Owning.owned-changed, Owning.placed-added, Owning.placed-changed, Owning.left-from, KeysOnce.once-set, KeysOnce.once-new, KeysOnce.once-ended, KeysOnce.placed_once-added, Ordered.ordered-filter, Ordered.ordered-set, Ordered.ordered-new, Ordered.ordered-beside, Ordered.ordered-ended, Ordered.ordered-changed, Queued.not_before, Tables.all_at, Tables.all_imply, Tables.transient_shape}
 
 -- one more observer may have transient registrations
 pub indexed-pended : (u : ℕ → Option Registration) (lists : List (ℕ × List ℕ)) (ls ps : List (List ℕ)) (some : List ℕ) (there : ℕ → Bool) (o : ℕ) → there o ≡ true → IsIndexed u lists ls ps some there → IsIndexed u lists ls ps (with_last some o) there

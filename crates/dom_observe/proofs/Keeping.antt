@@ -1,26 +1,13 @@
 -- What the code keeps goes with its steps.
-use Rattle.std.proofs.Common.{◌≡◌, ℕ, zero, suc, ◌==◌, Bool, true, false, if◌then◌else◌, List, [], ◌∷◌, ◌++◌, length, map, filter, Option, None, Some, refl, ap, sym, ◌∙◌, subst, cond, nat_eq}
-use Rattle.std.specs.Prelude.{slice_index_or, slice_set, filter_map, flat_map, is_some}
-use Rattle.std.specs.Map.{keys_of, lookup}
-use Rattle.std.specs.List.{IsDistinct, AllByRecursion, cons_option}
-use Rattle.std.specs.Option.{option_map_or}
-use Rattle.std.proofs.lemmas.List.Elements.{filter_map-append, filter-append}
-use Rattle.std.proofs.lemmas.Bool.{true≢false}
+use Rattle.std.proofs.Common.{◌≡◌, ℕ, zero, suc, ◌==◌, Bool, true, false, if◌then◌else◌, List, [], ◌∷◌, ◌++◌, length, map, filter, Option, None, Some, refl, ap, sym, ◌∙◌, subst, cond, nat_eq, slice_index_or, slice_set, filter_map, flat_map, is_some}
+use Rattle.std.specs.{Map.keys_of, Map.lookup, List.IsDistinct, List.AllByRecursion, List.cons_option, Option.option_map_or}
+use Rattle.std.proofs.lemmas.{List.Elements.filter_map-append, List.Elements.filter-append, Bool.true≢false}
 use Rattle.slab.specs.Slab.{Slab}
-use Rattle.dom_model.specs.Worlds.World.{Registration}
-use Rattle.dom_model.specs.MutationObservers.Observing.{registered_on}
-use Rattle.dom_model.specs.MutationObservers.Record.{Record}
+use Rattle.dom_model.specs.Definitions.{Registration, registered_on, Record}
 use Rattle.dom_model.proofs.PlainLists.Numbers.{same_or, same, apart}
 use Rattle.dom_observe.specs.declared.registration.Registration as held
-use Rattle.dom_observe.specs.declared.registration.Ended.{Ended}
-use Rattle.dom_observe.specs.Once.{once}
-use Rattle.dom_observe.specs.Keys.{Keys}
-use Rattle.dom_observe.specs.Watchers.{on}
-use Rattle.dom_observe.specs.Registrations.{at, found, listed, spares, left_by, is_live, Stands, StandsOn, AllStand, HaveKeys, deep_at}
-use Rattle.dom_observe.specs.Kept.{registered_nodes, has_queue, IsKept}
-use Rattle.dom_observe.proofs.Once.{once-none}
-use Rattle.dom_observe.proofs.QueueLists.{has-more, has-set}
-use Rattle.dom_observe.proofs.Tables.{all_imply, all_append, all_filter}
+use Rattle.dom_observe.specs.{declared.registration.Ended.Ended, Once.once, Keys.Keys, Watchers.on, Registrations.at, Registrations.found, Registrations.listed, Registrations.spares, Registrations.left_by, Registrations.is_live, Registrations.Stands, Registrations.StandsOn, Registrations.AllStand, Registrations.HaveKeys, Registrations.deep_at, Kept.registered_nodes, Kept.has_queue, Kept.IsKept}
+use Rattle.dom_observe.proofs.{Once.once-none, QueueLists.has-more, QueueLists.has-set, Tables.all_imply, Tables.all_append, Tables.all_filter}
 
 -- what a function makes of each list, and of no list nothing
 pub on-map : {A B : Type 0} (f : List A → List B) → f [] ≡ [] → (n : ℕ) (es : List (ℕ × List A)) → on n (map (λ e. (e.0, f e.1)) es) ≡ f (on n es)

@@ -1,25 +1,13 @@
 -- The nodes that registrations name are those that have keys.
 use Rattle.std.proofs.Common.{◌≡◌, ℕ, Bool, true, false, List, [], ◌∷◌, Option, Some, None, refl, ap, sym, ◌∙◌, subst, nat_eq}
-use Rattle.std.specs.Map.{lookup, keys_of}
-use Rattle.std.specs.List.{list_any, AllByRecursion}
+use Rattle.std.specs.{Map.lookup, Map.keys_of, List.list_any, List.AllByRecursion}
 use Rattle.std.proofs.lemmas.Bool.{true≢false, or_parts, or_from}
 use Rattle.slab.specs.Slab.{Slab}
-use Rattle.dom_model.specs.PlainLists.Lists.{among}
-use Rattle.dom_model.specs.Worlds.World.{Registration}
-use Rattle.dom_model.specs.MutationObservers.Record.{Record}
-use Rattle.dom_model.specs.MutationAlgorithms.Discarding.{if_any, nodes_of_registration}
-use Rattle.dom_model.proofs.PlainLists.Numbers.{same_or, same, apart}
-use Rattle.dom_model.proofs.PlainLists.Searches.{alike, passes_not, none-each}
+use Rattle.dom_model.specs.Definitions.{among, Registration, Record, if_any, nodes_of_registration}
+use Rattle.dom_model.proofs.PlainLists.{Numbers.same_or, Numbers.same, Numbers.apart, Searches.alike, Searches.passes_not, Searches.none-each}
 use Rattle.dom_observe.specs.declared.registration.Registration as held
-use Rattle.dom_observe.specs.Keys.{Keys}
-use Rattle.dom_observe.specs.Watchers.{on}
-use Rattle.dom_observe.specs.Registrations.{at, listed, is_on, StandsOn, HaveKeys, HaveSources, Placed}
-use Rattle.dom_observe.specs.Kept.{registered_nodes, has_queue, IsKept}
-use Rattle.dom_observe.specs.Naming.{names_one, NamesNone}
-use Rattle.dom_observe.proofs.Holding.{none_under_keys, none_registered}
-use Rattle.dom_observe.proofs.Keys.{keys_in, on-looked}
-use Rattle.dom_observe.proofs.Sources.{own-shape}
-use Rattle.dom_observe.proofs.Tables.{all_imply}
+use Rattle.dom_observe.specs.{Keys.Keys, Watchers.on, Registrations.at, Registrations.listed, Registrations.is_on, Registrations.StandsOn, Registrations.HaveKeys, Registrations.HaveSources, Registrations.Placed, Kept.registered_nodes, Kept.has_queue, Kept.IsKept, Naming.names_one, Naming.NamesNone}
+use Rattle.dom_observe.proofs.{Holding.none_under_keys, Holding.none_registered, Keys.keys_in, Keys.on-looked, Sources.own-shape, Tables.all_imply}
 
 -- a node with a key is listed
 listed-there : (n k : ℕ) (es : List (ℕ × Keys)) → among k (on n (listed es)) ≡ true → among n (keys_of es) ≡ true

@@ -1,16 +1,8 @@
 -- The keys of nodes and observers, as what is kept of the observers changes.
-use Rattle.std.proofs.Common.{◌≡◌, ℕ, Bool, true, false, List, [], ◌∷◌, ◌++◌, map, Option, Some, ap, ◌∙◌, ◌⊎◌}
-use Rattle.std.specs.Prelude.{slice_index_or, slice_set}
-use Rattle.dom_model.specs.PlainLists.Lists.{among}
-use Rattle.dom_model.specs.Worlds.World.{Registration}
-use Rattle.dom_observe.specs.declared.registration.Ended.TheVariants.{Of}
-use Rattle.dom_observe.specs.declared.roster.Observer.{Observer}
-use Rattle.dom_observe.specs.Registrations.{left_by, Placed}
-use Rattle.dom_observe.specs.Kept.{has_queue, AllThere, PlacedOnce, IsIndexed}
-use Rattle.dom_observe.specs.Roster.{keys_by, first_keys, second_keys, lasting_by, passing_by, queues_by}
-use Rattle.dom_observe.proofs.Indexing.{indexed-alike, indexed-left}
-use Rattle.dom_observe.proofs.QueueLists.{has-more}
-use Rattle.dom_observe.proofs.Rosters.{has-same, within-lasting, within-passing, lasting-more, passing-more}
+use Rattle.std.proofs.Common.{◌≡◌, ℕ, Bool, true, false, List, [], ◌∷◌, ◌++◌, map, Option, Some, ap, ◌∙◌, ◌⊎◌, slice_index_or, slice_set}
+use Rattle.dom_model.specs.Definitions.{among, Registration}
+use Rattle.dom_observe.specs.{declared.registration.Ended.TheVariants.Of, declared.roster.Observer.Observer, Registrations.left_by, Registrations.Placed, Kept.has_queue, Kept.AllThere, Kept.PlacedOnce, Kept.IsIndexed, Roster.keys_by, Roster.first_keys, Roster.second_keys, Roster.lasting_by, Roster.passing_by, Roster.queues_by}
+use Rattle.dom_observe.proofs.{Indexing.indexed-alike, Indexing.indexed-left, QueueLists.has-more, Rosters.has-same, Rosters.within-lasting, Rosters.within-passing, Rosters.lasting-more, Rosters.passing-more}
 
 module _ (u : ℕ → Option Registration) (lists : List (ℕ × List ℕ)) (some : List ℕ) (old new : List (Option Observer))
     (ix : IsIndexed u lists (lasting_by old) (passing_by old) some (has_queue (queues_by old))) where

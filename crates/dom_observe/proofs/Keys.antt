@@ -1,13 +1,10 @@
 -- The keys that each node has, as the map from nodes to keys changes.
-use Rattle.std.proofs.Common.{◌≡◌, ℕ, ◌==◌, Bool, true, false, cond, if◌then◌else◌, List, [], ◌∷◌, ◌++◌, length, filter, Option, option_map, Some, None, refl, ap, sym, ◌∙◌, subst, nat_eq, append-nil, arith}
-use Rattle.std.specs.Prelude.{is_some}
+use Rattle.std.proofs.Common.{◌≡◌, ℕ, ◌==◌, Bool, true, false, cond, if◌then◌else◌, List, [], ◌∷◌, ◌++◌, length, filter, Option, option_map, Some, None, refl, ap, sym, ◌∙◌, subst, nat_eq, append-nil, arith, is_some}
 use Rattle.std.specs.Map.{lookup, set_value, keys_of}
 use Rattle.indexmap.specs.IndexMap.{insert_entry}
-use Rattle.dom_model.specs.PlainLists.Lists.{among}
+use Rattle.dom_model.specs.Definitions.{among}
 use Rattle.dom_model.proofs.PlainLists.Numbers.{Same, same_or, same, apart}
-use Rattle.dom_observe.specs.Keys.{Keys}
-use Rattle.dom_observe.specs.Watchers.{on}
-use Rattle.dom_observe.specs.Registrations.{listed, HaveKeys}
+use Rattle.dom_observe.specs.{Keys.Keys, Watchers.on, Registrations.listed, Registrations.HaveKeys}
 
 -- a look-up finds what is among the numbers
 pub some-lookup : {A : Type 0} (n : ℕ) (es : List (ℕ × A)) → is_some (lookup (nat_eq n) es) ≡ among n (keys_of es)

@@ -1,17 +1,13 @@
 -- No list gets a key twice: what comes in has a key that was vacant, and what ends takes keys out.
-use Rattle.std.proofs.Common.{◌≡◌, ℕ, ◌<◌, ◌≤◌, ◌==◌, Bool, true, false, if◌then◌else◌, List, [], ◌∷◌, ◌++◌, length, filter, Option, None, refl, ap, sym, ◌∙◌, subst, arith}
-use Rattle.std.specs.Prelude.{slice_index_or, slice_set}
+use Rattle.std.proofs.Common.{◌≡◌, ℕ, ◌<◌, ◌≤◌, ◌==◌, Bool, true, false, if◌then◌else◌, List, [], ◌∷◌, ◌++◌, length, filter, Option, None, refl, ap, sym, ◌∙◌, subst, arith, slice_index_or, slice_set}
 use Rattle.std.specs.List.{insert}
 use Rattle.std.proofs.lemmas.List.{get_or-set_same, get_or-set_other}
-use Rattle.dom_model.specs.PlainLists.Lists.{hits, among}
-use Rattle.dom_model.specs.Worlds.World.{Registration}
+use Rattle.dom_model.specs.Definitions.{hits, among, Registration}
 use Rattle.dom_model.proofs.Forests.Climbing.{hits-append, not_among-hits}
 use Rattle.dom_model.proofs.PlainLists.Numbers.{same_or, same, apart}
 use Rattle.dom_model.proofs.RangesAndContents.DrawnPaths.{hits-filter}
-use Rattle.dom_observe.specs.Watchers.{on}
+use Rattle.dom_observe.specs.{Watchers.on, Kept.PlacedOnce, Kept.HaveOnce, Registrations.is_on, Registrations.Placed, Registrations.Owned, Registrations.Added, Registrations.NewKey}
 use Rattle.dom_observe.proofs.Ordered.{hits-insert}
-use Rattle.dom_observe.specs.Kept.{PlacedOnce, HaveOnce}
-use Rattle.dom_observe.specs.Registrations.{is_on, Placed, Owned, Added, NewKey}
 
 -- a list is put in place of another
 pub once-set : (lists lists' : List (List ℕ)) (i : ℕ) (keys : List ℕ) → i < length lists → lists' ≡ slice_set lists i keys → ((k : ℕ) → hits k keys ≤ 1) → HaveOnce lists → HaveOnce lists'

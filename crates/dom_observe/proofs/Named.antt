@@ -1,23 +1,12 @@
 -- The nodes that registrations and waiting records name, asked in the order of the code and in that of the definitions.
-use Rattle.std.proofs.Common.{◌≡◌, ℕ, suc, ◌+◌, ◌==◌, Bool, true, false, ◌||◌, if◌then◌else◌, List, [], ◌∷◌, ◌++◌, length, filter, refl, ap, sym, ◌∙◌, nat_eq, arith, cond}
-use Rattle.std.specs.Prelude.{Option, unwrap_or, flat_map}
-use Rattle.std.specs.Map.{keys_of}
-use Rattle.std.specs.List.{list_any, IsDistinct, AllByRecursion}
-use Rattle.std.proofs.lemmas.List.Folds.{list_any-append}
+use Rattle.std.proofs.Common.{◌≡◌, ℕ, suc, ◌+◌, ◌==◌, Bool, true, false, ◌||◌, if◌then◌else◌, List, [], ◌∷◌, ◌++◌, length, filter, refl, ap, sym, ◌∙◌, nat_eq, arith, cond, Option, unwrap_or, flat_map}
+use Rattle.std.specs.{Map.keys_of, List.list_any, List.IsDistinct, List.AllByRecursion}
+use Rattle.std.proofs.lemmas.{List.Folds.list_any-append, Bool.or_parts, Bool.or_from}
 use Rattle.slab.specs.Slab.{Slab}
-use Rattle.std.proofs.lemmas.Bool.{or_parts, or_from}
-use Rattle.dom_model.specs.Worlds.World.{Registration, Observing}
-use Rattle.dom_model.specs.MutationObservers.Record.{Record}
-use Rattle.dom_model.specs.MutationObservers.Observing.{registered_on}
-use Rattle.dom_model.specs.MutationObservers.Records.{queue_of}
-use Rattle.dom_model.specs.MutationAlgorithms.Discarding.{nodes_of_registration, nodes_of_record, queues_from, queued_records, observed_nodes}
-use Rattle.dom_model.proofs.PlainLists.Numbers.{Same, same_or, same, apart}
-use Rattle.dom_model.proofs.PlainLists.Searches.{alike}
+use Rattle.dom_model.specs.Definitions.{Registration, Observing, Record, registered_on, queue_of, nodes_of_registration, nodes_of_record, queues_from, queued_records, observed_nodes}
+use Rattle.dom_model.proofs.PlainLists.{Numbers.Same, Numbers.same_or, Numbers.same, Numbers.apart, Searches.alike}
 use Rattle.dom_observe.specs.declared.registration.Registration as held
-use Rattle.dom_observe.specs.Once.{once}
-use Rattle.dom_observe.specs.Keys.{Keys}
-use Rattle.dom_observe.specs.Watchers.{on, records_at}
-use Rattle.dom_observe.specs.Kept.{registered_nodes}
+use Rattle.dom_observe.specs.{Once.once, Keys.Keys, Watchers.on, Watchers.records_at, Kept.registered_nodes}
 use Rattle.dom_observe.proofs.Once.{any-once}
 
 -- a search in the lists that a function makes

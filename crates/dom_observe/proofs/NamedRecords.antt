@@ -1,19 +1,14 @@
 -- The nodes that the records of a queue name, as a set has them.
-use Rattle.std.proofs.Common.{◌≡◌, ℕ, ◌+◌, ◌==◌, Bool, true, false, ◌||◌, if◌then◌else◌, List, ◌∷◌, ◌++◌, length, take, drop, refl, ap, sym, ◌∙◌, nat_eq, arith, length-append, take-append-drop, take_all, drop_of_length-le}
-use Rattle.std.specs.Prelude.{flat_map}
+use Rattle.std.proofs.Common.{◌≡◌, ℕ, ◌+◌, ◌==◌, Bool, true, false, ◌||◌, if◌then◌else◌, List, ◌∷◌, ◌++◌, length, take, drop, refl, ap, sym, ◌∙◌, nat_eq, arith, length-append, take-append-drop, take_all, drop_of_length-le, flat_map}
 use Rattle.std.specs.List.{list_any}
-use Rattle.std.proofs.lemmas.List.Concat.{flat_map-append}
-use Rattle.std.proofs.lemmas.List.Folds.{list_any-append}
-use Rattle.dom_model.specs.PlainLists.Lists.{among}
-use Rattle.dom_model.specs.MutationObservers.Record.{Record}
-use Rattle.dom_model.specs.MutationAlgorithms.Discarding.{nodes_of_record}
+use Rattle.std.proofs.lemmas.{List.Concat.flat_map-append, List.Folds.list_any-append}
+use Rattle.dom_model.specs.Definitions.{among, Record, nodes_of_record}
 use Rattle.dom_model.proofs.PlainLists.Searches.{among-both, any-same}
 use Rattle.indexmap.specs.IndexSet.{IndexSet, contains}
-use Rattle.dom_observe.specs.Naming.{NamesNodes, IsSettled}
-use Rattle.dom_observe.proofs.Hearing.{among-list_any}
-use Rattle.dom_observe.proofs.Named.{any-flat}
+use Rattle.dom_observe.specs.Naming.{NamesNodes, IsCaughtUp}
+use Rattle.dom_observe.proofs.{Hearing.among-list_any, Named.any-flat}
 
-or-grouped : (a b c : Bool) → (a || (b || c)) ≡ ((a || b) || c)
+pub or-grouped : (a b c : Bool) → (a || (b || c)) ≡ ((a || b) || c)
 or-grouped true b c = refl
 or-grouped false b c = refl
 
@@ -42,27 +37,27 @@ name-parts n before target added removed previous next =
     turned false false false false true d = refl
     turned false false false false false d = refl
 
--- what the records name, those that are settled and the others
-any-parts : (p : ℕ → Bool) (settled : ℕ) (rs : List Record) → list_any p (flat_map nodes_of_record rs) ≡ (list_any p (flat_map nodes_of_record (take settled rs)) || list_any p (flat_map nodes_of_record (drop settled rs)))
-any-parts p settled rs =
-    ap (λ l. list_any p (flat_map nodes_of_record l)) (sym (take-append-drop settled rs))
-    ∙ ap (list_any p) (flat_map-append nodes_of_record (take settled rs) (drop settled rs))
-    ∙ list_any-append p (flat_map nodes_of_record (take settled rs)) (flat_map nodes_of_record (drop settled rs))
+-- what the records name, those that are caught_up and the others
+any-parts : (p : ℕ → Bool) (caught_up : ℕ) (rs : List Record) → list_any p (flat_map nodes_of_record rs) ≡ (list_any p (flat_map nodes_of_record (take caught_up rs)) || list_any p (flat_map nodes_of_record (drop caught_up rs)))
+any-parts p caught_up rs =
+    ap (λ l. list_any p (flat_map nodes_of_record l)) (sym (take-append-drop caught_up rs))
+    ∙ ap (list_any p) (flat_map-append nodes_of_record (take caught_up rs) (drop caught_up rs))
+    ∙ list_any-append p (flat_map nodes_of_record (take caught_up rs)) (flat_map nodes_of_record (drop caught_up rs))
 
-pub any-settled : {S : Type 0} (p : ℕ → Bool) (rs : List Record) (named : IndexSet ℕ S) (settled owed : ℕ) → IsSettled rs named settled owed
-    → list_any p (flat_map nodes_of_record rs) ≡ (list_any p named.keys || list_any (λ r. list_any p (nodes_of_record r)) (drop settled rs))
-any-settled p rs named settled owed s =
-    any-parts p settled rs
-    ∙ (λ i. sym (any-names p (take settled rs) named s.first) i || any-flat p nodes_of_record (drop settled rs) i)
+pub any-caught_up : {S : Type 0} (p : ℕ → Bool) (rs : List Record) (named : IndexSet ℕ S) (caught_up owed : ℕ) → IsCaughtUp rs named caught_up owed
+    → list_any p (flat_map nodes_of_record rs) ≡ (list_any p named.keys || list_any (λ r. list_any p (nodes_of_record r)) (drop caught_up rs))
+any-caught_up p rs named caught_up owed s =
+    any-parts p caught_up rs
+    ∙ (λ i. sym (any-names p (take caught_up rs) named s.first) i || any-flat p nodes_of_record (drop caught_up rs) i)
 
 -- the others are named too
-pub settled-all : {S : Type 0} (rs : List Record) (old new : IndexSet ℕ S) (settled owed all : ℕ) → IsSettled rs old settled owed → all ≡ length rs
-    → ((n : ℕ) → contains nat_eq new n ≡ (contains nat_eq old n || among n (flat_map nodes_of_record (drop settled rs)))) → IsSettled rs new all 0
-settled-all rs old new settled owed all s end put = record {
+pub caught_up-all : {S : Type 0} (rs : List Record) (old new : IndexSet ℕ S) (caught_up owed all : ℕ) → IsCaughtUp rs old caught_up owed → all ≡ length rs
+    → ((n : ℕ) → contains nat_eq new n ≡ (contains nat_eq old n || among n (flat_map nodes_of_record (drop caught_up rs)))) → IsCaughtUp rs new all 0
+caught_up-all rs old new caught_up owed all s end put = record {
   within = omega (arith, end);
   first = λ n.
       put n
-      ∙ ap (λ b. b || among n (flat_map nodes_of_record (drop settled rs))) (s.first n)
+      ∙ ap (λ b. b || among n (flat_map nodes_of_record (drop caught_up rs))) (s.first n)
       ∙ sym (parts n)
       ∙ sym (ap (λ l. among n (flat_map nodes_of_record l)) (take_all all rs (omega (arith, end))));
   others = omega (arith, none);
@@ -72,11 +67,11 @@ settled-all rs old new settled owed all s end put = record {
     none : length (flat_map nodes_of_record (drop all rs)) ≡ 0
     none = ap (λ l. length (flat_map nodes_of_record l)) (drop_of_length-le rs (omega (arith, end)))
 
-    parts : (n : ℕ) → among n (flat_map nodes_of_record rs) ≡ (among n (flat_map nodes_of_record (take settled rs)) || among n (flat_map nodes_of_record (drop settled rs)))
+    parts : (n : ℕ) → among n (flat_map nodes_of_record rs) ≡ (among n (flat_map nodes_of_record (take caught_up rs)) || among n (flat_map nodes_of_record (drop caught_up rs)))
     parts n =
-        ap (λ l. among n (flat_map nodes_of_record l)) (sym (take-append-drop settled rs))
-        ∙ ap (among n) (flat_map-append nodes_of_record (take settled rs) (drop settled rs))
-        ∙ among-both n (flat_map nodes_of_record (take settled rs)) (flat_map nodes_of_record (drop settled rs))
+        ap (λ l. among n (flat_map nodes_of_record l)) (sym (take-append-drop caught_up rs))
+        ∙ ap (among n) (flat_map-append nodes_of_record (take caught_up rs) (drop caught_up rs))
+        ∙ among-both n (flat_map nodes_of_record (take caught_up rs)) (flat_map nodes_of_record (drop caught_up rs))
 
 -- the nodes of the next record are named
 module _ (rs : List Record) (i : ℕ) (r : Record) (next : drop i rs ≡ r ∷ drop (i + 1) rs) where

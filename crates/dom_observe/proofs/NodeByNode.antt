@@ -1,17 +1,9 @@
 -- What ends, node by node.
-use Rattle.std.proofs.Common.{◌≡◌, ℕ, zero, suc, ◌+◌, ◌<◌, ◌≤◌, ◌==◌, cond, Bool, true, false, not, ◌&&◌, if◌then◌else◌, List, [], ◌∷◌, length, filter, take, Option, None, Some, refl, ap, sym, ◌∙◌, ◌⊎◌, inl, inr, arith}
-use Rattle.std.specs.Prelude.{is_none, is_some, slice_index_or}
-use Rattle.std.proofs.lemmas.Bool.{true≢false}
-use Rattle.std.proofs.lemmas.List.{take_more}
-use Rattle.dom_model.specs.PlainLists.Lists.{among}
-use Rattle.dom_model.specs.Worlds.World.{Registration}
+use Rattle.std.proofs.Common.{◌≡◌, ℕ, zero, suc, ◌+◌, ◌<◌, ◌≤◌, ◌==◌, cond, Bool, true, false, not, ◌&&◌, if◌then◌else◌, List, [], ◌∷◌, length, filter, take, Option, None, Some, refl, ap, sym, ◌∙◌, ◌⊎◌, inl, inr, arith, is_none, is_some, slice_index_or}
+use Rattle.std.proofs.lemmas.{Bool.true≢false, List.take_more}
+use Rattle.dom_model.specs.Definitions.{among, Registration}
 use Rattle.dom_model.proofs.PlainLists.Numbers.{Same, same_or, same, apart}
-use Rattle.dom_observe.specs.declared.registration.Ending.{Ending}
-use Rattle.dom_observe.specs.declared.registration.Ended.TheVariants.{Transient}
-use Rattle.dom_observe.specs.declared.registration.Lifetime.TheVariants.{Passing}
-use Rattle.dom_observe.specs.Kept.{HaveNone}
-use Rattle.dom_observe.specs.Watchers.{on}
-use Rattle.dom_observe.specs.Registrations.{spares, left_by, left_after, goes, of_kind, AllLive, Between, ending_node, is_live, is_on, passes_for, Placed, Owned}
+use Rattle.dom_observe.specs.{declared.registration.Ending.Ending, declared.registration.Ended.TheVariants.Transient, declared.registration.Lifetime.TheVariants.Passing, Kept.HaveNone, Watchers.on, Registrations.spares, Registrations.left_by, Registrations.left_after, Registrations.goes, Registrations.of_kind, Registrations.AllLive, Registrations.Between, Registrations.ending_node, Registrations.is_live, Registrations.is_on, Registrations.passes_for, Registrations.Placed, Registrations.Owned}
 use Rattle.dom_observe.proofs.EndedOnes.{filter_all, among-last, either_by, live_of_placed, lasting-left}
 
 pub take-whole : (xs : List ℕ) (i : ℕ) → length xs ≤ i → take i xs ≡ xs

@@ -1,24 +1,12 @@
 -- The origins that are noted, as a transient registration comes in.
-use Rattle.std.proofs.Common.{◌≡◌, ℕ, ◌==◌, Bool, true, false, ◌&&◌, ◌||◌, if◌then◌else◌, List, [], ◌∷◌, ◌++◌, Option, Some, None, refl, ap, sym, ◌∙◌, subst}
-use Rattle.std.specs.Prelude.{filter_map, is_some, unwrap_or}
+use Rattle.std.proofs.Common.{◌≡◌, ℕ, ◌==◌, Bool, true, false, ◌&&◌, ◌||◌, if◌then◌else◌, List, [], ◌∷◌, ◌++◌, Option, Some, None, refl, ap, sym, ◌∙◌, subst, filter_map, is_some, unwrap_or}
 use Rattle.std.specs.List.{list_any}
-use Rattle.std.proofs.lemmas.Bool.{true≢false}
-use Rattle.std.proofs.lemmas.List.Folds.{list_any-append}
+use Rattle.std.proofs.lemmas.{Bool.true≢false, List.Folds.list_any-append}
 use Rattle.indexmap.specs.IndexSet.{IndexSet}
-use Rattle.dom_model.specs.PlainLists.Lists.{is_number}
-use Rattle.dom_model.specs.Worlds.World.{Registration}
-use Rattle.dom_model.specs.MutationObservers.Observing.{transient_of}
-use Rattle.dom_model.specs.MutationObservers.Records.{is_transient_from}
-use Rattle.dom_model.proofs.PlainLists.Numbers.{same_or, same, apart}
-use Rattle.dom_observe.specs.declared.origins.Origin.{Origin}
-use Rattle.dom_observe.specs.Watchers.{on}
-use Rattle.dom_observe.specs.Registrations.{AllLive, Added, from_at, origin, transient_under}
-use Rattle.dom_observe.specs.Origins.{same_origin, NotesIfAny, AlsoNotes}
-use Rattle.dom_observe.proofs.Asked.{any-found}
-use Rattle.dom_observe.proofs.Tables.{found-added, transient_shape}
-
-itself : (n : ℕ) → (n == n) ≡ true
-itself n = elim (same_or n n) [ same e t ↦ t | apart ne t ↦ absurd (ne refl) ]
+use Rattle.dom_model.specs.Definitions.{is_number, Registration, transient_of, is_transient_from}
+use Rattle.dom_observe.specs.{declared.origins.Origin.Origin, Watchers.on, Registrations.AllLive, Registrations.Added, Registrations.from_at, Registrations.origin, Registrations.transient_under, Origins.same_origin, Origins.NotesIfAny, Origins.AlsoNotes}
+use Rattle.dom_observe.proofs.{Asked.any-found, Tables.found-added, Tables.transient_shape}
+use Rattle.dom_model.proofs.Forests.Below.{at_itself}
 
 -- a transient registration is from its observer and its origin
 same-from : (q : Origin) (r : Registration) → is_some r.source ≡ true → same_origin (record { observer = r.observer; node = origin r }) q ≡ (is_transient_from q.observer q.node r || false)
@@ -46,7 +34,7 @@ module _ (u : ℕ → Option Registration) (lists : List (ℕ × List ℕ)) (r :
   from-added : (o n : ℕ) → list_any (from_at v o n) (on node lists') ≡ (list_any (from_at u o n) (on node lists) || (is_transient_from o n r || false))
   from-added o n =
       any-found p v (on node lists')
-      ∙ ap (list_any p) (found-added u lists r v lists' a live node ∙ ap (λ b. filter_map u (on node lists) ++ (if b then r ∷ [] else [])) (ap (λ m. m == node) here ∙ itself node))
+      ∙ ap (list_any p) (found-added u lists r v lists' a live node ∙ ap (λ b. filter_map u (on node lists) ++ (if b then r ∷ [] else [])) (ap (λ m. m == node) here ∙ at_itself node))
       ∙ list_any-append p (filter_map u (on node lists)) (r ∷ [])
       ∙ ap (λ b. b || (p r || false)) (sym (any-found p u (on node lists)))
     where

@@ -1,27 +1,14 @@
 -- What is left where later equal registrations are left out: the same answers to every question, and the same end of every walk that takes
 -- nothing twice.
-use Rattle.std.proofs.Common.{◌≡◌, ℕ, ◌≤◌, Bool, true, false, not, ◌&&◌, ◌||◌, if◌then◌else◌, List, [], ◌∷◌, ◌++◌, length, map, filter, Option, None, Some, refl, ap, sym, ◌∙◌, subst, cond, arith, append_assoc, nat_eq}
-use Rattle.std.specs.Prelude.{flat_map, bytes_eq}
-use Rattle.std.specs.Bool.{beq, Decides}
-use Rattle.std.specs.Option.{option_eq}
-use Rattle.std.specs.List.{AllByRecursion, list_any}
-use Rattle.std.specs.Cmp.{booleans_Decides, unsigned_Decides}
-use Rattle.std.specs.Cmp.Lexicographic.{pointwise, pointwise_decides}
-use Rattle.std.proofs.lemmas.Bool.{true≢false, or_parts, or_from}
-use Rattle.std.proofs.lemmas.List.Elements.{filter-append}
-use Rattle.std.proofs.lemmas.List.Folds.{list_any-append}
-use Rattle.std.proofs.lemmas.Slice.Eq.{bytes_eq-Decides}
-use Rattle.dom_model.specs.Worlds.World.{Options, Registration}
-use Rattle.dom_model.specs.MutationObservers.Observing.{registered_on, standing_on}
+use Rattle.std.proofs.Common.{◌≡◌, ℕ, ◌≤◌, Bool, true, false, not, ◌||◌, if◌then◌else◌, List, [], ◌∷◌, ◌++◌, length, map, filter, Option, None, Some, refl, ap, sym, ◌∙◌, subst, cond, arith, append_assoc, nat_eq, flat_map, bytes_eq}
+use Rattle.std.specs.{Bool.beq, Bool.Decides, Option.option_eq, List.AllByRecursion, List.list_any, Cmp.booleans_Decides, Cmp.unsigned_Decides, Cmp.Lexicographic.pointwise, Cmp.Lexicographic.pointwise_decides}
+use Rattle.std.proofs.lemmas.{Bool.true≢false, Bool.or_parts, Bool.or_from, List.Elements.filter-append, List.Folds.list_any-append, Slice.Eq.bytes_eq-Decides, Bool.and_parts, Bool.and_from}
+use Rattle.dom_model.specs.Definitions.{Options, Registration, registered_on, standing_on}
 use Rattle.dom_model.proofs.MutationObservers.NodeRegistrations.{filter-twice}
 use Rattle.dom_observe.specs.Once.{same_options, same_registration, once}
 use Rattle.dom_observe.proofs.Counting.{tally, count-filter}
 
 -- Two are equal in every field where they are one.
-
-parts : (a b : Bool) → (a && b) ≡ true → (a ≡ true) × (b ≡ true)
-parts true b h = (refl, h)
-parts false b h = absurd (true≢false (sym h))
 
 maybe_decides : {A : Type 0} (E : A → A → Bool) → ((x y : A) → Decides (E x y) (x ≡ y)) → (p q : Option A) → Decides (option_eq E p q) (p ≡ q)
 maybe_decides E d None None = (λ _. refl, λ _. refl)
@@ -31,12 +18,12 @@ maybe_decides E d (Some x) (Some y) = (λ h. ap (λ z. Some z) ((d x y).0 h), λ
 
 options-is : (a b : Options) → same_options a b ≡ true → a ≡ b
 options-is a b h =
-    let p1 = parts (beq a.child_list b.child_list) _ h in
-    let p2 = parts (beq a.attributes b.attributes) _ p1.1 in
-    let p3 = parts (beq a.character_data b.character_data) _ p2.1 in
-    let p4 = parts (beq a.subtree b.subtree) _ p3.1 in
-    let p5 = parts (beq a.attribute_old_value b.attribute_old_value) _ p4.1 in
-    let p6 = parts (beq a.character_data_old_value b.character_data_old_value) _ p5.1 in
+    let p1 = and_parts (beq a.child_list b.child_list) _ h in
+    let p2 = and_parts (beq a.attributes b.attributes) _ p1.1 in
+    let p3 = and_parts (beq a.character_data b.character_data) _ p2.1 in
+    let p4 = and_parts (beq a.subtree b.subtree) _ p3.1 in
+    let p5 = and_parts (beq a.attribute_old_value b.attribute_old_value) _ p4.1 in
+    let p6 = and_parts (beq a.character_data_old_value b.character_data_old_value) _ p5.1 in
     let e1 = (booleans_Decides a.child_list b.child_list).0 p1.0 in
     let e2 = (booleans_Decides a.attributes b.attributes).0 p2.0 in
     let e3 = (booleans_Decides a.character_data b.character_data).0 p3.0 in
@@ -54,24 +41,21 @@ options-is a b h =
       attribute_filter = e7 i;
     }
 
-both : (a b : Bool) → a ≡ true → b ≡ true → (a && b) ≡ true
-both a b e f = ap (λ c. c && b) e ∙ f
-
 pub options-itself : (a : Options) → same_options a a ≡ true
 options-itself a =
-    both _ _ ((booleans_Decides a.child_list a.child_list).1 refl)
-    (both _ _ ((booleans_Decides a.attributes a.attributes).1 refl)
-    (both _ _ ((booleans_Decides a.character_data a.character_data).1 refl)
-    (both _ _ ((booleans_Decides a.subtree a.subtree).1 refl)
-    (both _ _ ((booleans_Decides a.attribute_old_value a.attribute_old_value).1 refl)
-    (both _ _ ((booleans_Decides a.character_data_old_value a.character_data_old_value).1 refl)
+    and_from _ _ ((booleans_Decides a.child_list a.child_list).1 refl)
+    (and_from _ _ ((booleans_Decides a.attributes a.attributes).1 refl)
+    (and_from _ _ ((booleans_Decides a.character_data a.character_data).1 refl)
+    (and_from _ _ ((booleans_Decides a.subtree a.subtree).1 refl)
+    (and_from _ _ ((booleans_Decides a.attribute_old_value a.attribute_old_value).1 refl)
+    (and_from _ _ ((booleans_Decides a.character_data_old_value a.character_data_old_value).1 refl)
     ((maybe_decides (pointwise bytes_eq) (pointwise_decides bytes_eq-Decides) a.attribute_filter a.attribute_filter).1 refl))))))
 
 pub same-is : (r s : Registration) → same_registration r s ≡ true → r ≡ s
 same-is r s h =
-    let p1 = parts (nat_eq r.node s.node) _ h in
-    let p2 = parts (nat_eq r.observer s.observer) _ p1.1 in
-    let p3 = parts (option_eq nat_eq r.source s.source) _ p2.1 in
+    let p1 = and_parts (nat_eq r.node s.node) _ h in
+    let p2 = and_parts (nat_eq r.observer s.observer) _ p1.1 in
+    let p3 = and_parts (option_eq nat_eq r.source s.source) _ p2.1 in
     let e1 = (unsigned_Decides r.node s.node).0 p1.0 in
     let e2 = (unsigned_Decides r.observer s.observer).0 p2.0 in
     let e3 = (maybe_decides nat_eq unsigned_Decides r.source s.source).0 p3.0 in
@@ -80,9 +64,9 @@ same-is r s h =
 
 pub same-itself : (r : Registration) → same_registration r r ≡ true
 same-itself r =
-    both _ _ ((unsigned_Decides r.node r.node).1 refl)
-    (both _ _ ((unsigned_Decides r.observer r.observer).1 refl)
-    (both _ _ ((maybe_decides nat_eq unsigned_Decides r.source r.source).1 refl) (options-itself r.options)))
+    and_from _ _ ((unsigned_Decides r.node r.node).1 refl)
+    (and_from _ _ ((unsigned_Decides r.observer r.observer).1 refl)
+    (and_from _ _ ((maybe_decides nat_eq unsigned_Decides r.source r.source).1 refl) (options-itself r.options)))
 
 -- what passes a test that another does not pass is not equal to it
 pub not-same : (p : Registration → Bool) (r s : Registration) → p r ≡ false → p s ≡ true → same_registration r s ≡ false

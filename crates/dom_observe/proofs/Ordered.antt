@@ -1,23 +1,18 @@
 -- The keys of an observer's transient registrations stand by the nodes that these come from, as registrations come in and end.
-use Rattle.std.proofs.Common.{◌≡◌, ◌≢◌, ℕ, zero, suc, ◌+◌, ◌-◌, ◌<◌, ◌≤◌, ◌==◌, Bool, true, false, not, ◌&&◌, if◌then◌else◌, List, [], ◌∷◌, ◌++◌, length, filter, take, drop, Option, option_map, None, Some, refl, ap, sym, ◌∙◌, subst, cond, ◌⊎◌, inl, inr, ltb, leb, arith}
-use Rattle.std.specs.Prelude.{is_none, is_some, slice_index_or, slice_set}
-use Rattle.std.specs.Option.{option_map_or}
-use Rattle.std.specs.List.{AllByRecursion, insert, remove}
-use Rattle.std.specs.List.Sorted.{IsNonDecreasingBy, IsPartitionPoint}
-use Rattle.std.proofs.lemmas.Bool.{true≢false, ltb-true, ltb-false, leb-true, leb-false}
-use Rattle.std.proofs.lemmas.List.{get_or-set_same, get_or-set_other}
-use Rattle.dom_model.specs.PlainLists.Lists.{hits, among, is_number}
-use Rattle.dom_model.specs.Worlds.World.{Options, Registration}
-use Rattle.dom_model.proofs.PlainLists.Numbers.{Same, same_or, same, apart}
+use Rattle.std.proofs.Common.{◌≡◌, ◌≢◌, ℕ, zero, suc, ◌+◌, ◌-◌, ◌<◌, ◌≤◌, ◌==◌, Bool, true, false, not, ◌&&◌, if◌then◌else◌, List, [], ◌∷◌, ◌++◌, length, filter, take, drop, Option, option_map, None, Some, refl, ap, sym, ◌∙◌, subst, cond, ◌⊎◌, inl, inr, ltb, leb, arith, is_none, is_some, slice_index_or, slice_set}
+use Rattle.std.specs.{Option.option_map_or, List.AllByRecursion, List.insert, List.remove, List.Sorted.IsNonDecreasingBy, List.Sorted.IsPartitionPoint}
+use Rattle.std.proofs.lemmas.{Bool.true≢false, Bool.ltb-true, Bool.ltb-false, Bool.leb-true, Bool.leb-false, List.get_or-set_same, List.get_or-set_other}
+use Rattle.dom_model.specs.Definitions.{hits, among, is_number, Options, Registration}
+use Rattle.dom_model.proofs.PlainLists.{Numbers.Same, Numbers.same_or, Numbers.same, Numbers.apart, Heads.among-first}
 use Rattle.dom_observe.specs.Registrations.{is_live, passes_for, Owned, NewKey, origin, origin_at, with_new_options, ByOrigin, Ordered, IsFirstFrom, IsPast}
-use Rattle.dom_observe.proofs.Tables.{all_at, all_imply}
-use Rattle.dom_observe.proofs.Turns.{first_among, later_among, all_among, all_filter}
+use Rattle.dom_observe.proofs.{Tables.all_at, Tables.all_imply, Turns.all_among, Turns.all_filter}
+use Rattle.dom_model.proofs.MutationObservers.Queues.{among-later}
 
 -- Keys among others.
 
 pub all_from : (Q : ℕ → Type 0) (keys : List ℕ) → ((k : ℕ) → among k keys ≡ true → Q k) → AllByRecursion Q keys
 all_from Q [] each = tt
-all_from Q (k ∷ keys) each = (each k (first_among k keys), all_from Q keys (λ j m. each j (later_among j k keys m)))
+all_from Q (k ∷ keys) each = (each k (among-first k keys), all_from Q keys (λ j m. each j (among-later j k keys m)))
 
 pub taken : (k i : ℕ) (keys : List ℕ) → among k (take i keys) ≡ true → among k keys ≡ true
 taken k zero keys m = absurd (true≢false (sym m))
@@ -31,7 +26,7 @@ taken k (suc i) (j ∷ keys) m = go (same_or j k) m (taken k i keys)
 pub dropped : (k i : ℕ) (keys : List ℕ) → among k (drop i keys) ≡ true → among k keys ≡ true
 dropped k zero keys m = m
 dropped k (suc i) [] m = m
-dropped k (suc i) (j ∷ keys) m = later_among k j keys (dropped k i keys m)
+dropped k (suc i) (j ∷ keys) m = among-later k j keys (dropped k i keys m)
 
 -- a key is put among them
 pub among-insert : (k : ℕ) (keys : List ℕ) (i x : ℕ) → among k (insert keys i x) ≡ (if x == k then true else among k keys)
@@ -93,13 +88,13 @@ module _ (u : ℕ → Option Registration) where
 -- where what stands under the keys comes from stays
 pub ordered-same : (u v : ℕ → Option Registration) (keys : List ℕ) → ((k : ℕ) → among k keys ≡ true → origin_at v k ≡ origin_at u k) → ByOrigin u keys → ByOrigin v keys
 ordered-same u v [] alike h = tt
-ordered-same u v (k ∷ keys) alike h = (all keys (λ j m. alike j (later_among j k keys m)) h.0, ordered-same u v keys (λ j m. alike j (later_among j k keys m)) h.1)
+ordered-same u v (k ∷ keys) alike h = (all keys (λ j m. alike j (among-later j k keys m)) h.0, ordered-same u v keys (λ j m. alike j (among-later j k keys m)) h.1)
   where
     all : (js : List ℕ) → ((j : ℕ) → among j js ≡ true → origin_at v j ≡ origin_at u j) → AllByRecursion (λ j. origin_at u k ≤ origin_at u j) js → AllByRecursion (λ j. origin_at v k ≤ origin_at v j) js
     all [] each t = tt
     all (j ∷ js) each t = (
-      let e = alike k (first_among k keys) in let f = each j (first_among j js) in let le = t.0 in omega arith,
-      all js (λ i m. each i (later_among i j js m)) t.1,
+      let e = alike k (among-first k keys) in let f = each j (among-first j js) in let le = t.0 in omega arith,
+      all js (λ i m. each i (among-later i j js m)) t.1,
     )
 
 -- The two parts at a place that is found by halves.

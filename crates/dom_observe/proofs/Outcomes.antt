@@ -1,6 +1,5 @@
 -- Facts of one outcome of a call.
-use Rattle.std.proofs.Common.{◌≡◌, Bool, Option, Some, None, ◌∙◌}
-use Rattle.std.specs.Prelude.{Result, Ok, Err, IfOk, OnOk, OnErr, IfSome}
+use Rattle.std.proofs.Common.{◌≡◌, Bool, Option, Some, None, ◌∙◌, Result, Ok, Err, IfOk, OnOk, OnErr, IfSome}
 use Rattle.std.specs.Option.{MatchOption}
 
 pub on_ok : {A E : Type 0} (r : Result A E) {P Q : Type 0} → OnOk r P → (P → Q) → OnOk r Q

@@ -1,15 +1,11 @@
 -- The observer's registration on a node stands under a key of the node and of the observer, and under no other.
-use Rattle.std.proofs.Common.{◌≡◌, ℕ, ◌==◌, Bool, true, false, ◌&&◌, if◌then◌else◌, List, [], ◌∷◌, find, Option, None, Some, refl, ap, sym, ◌∙◌, cond}
-use Rattle.std.specs.Prelude.{is_none}
+use Rattle.std.proofs.Common.{◌≡◌, ℕ, ◌==◌, Bool, true, false, ◌&&◌, if◌then◌else◌, List, [], ◌∷◌, find, Option, None, Some, refl, ap, sym, ◌∙◌, cond, is_none}
 use Rattle.std.specs.Option.{option_map_or}
 use Rattle.std.proofs.lemmas.Bool.{true≢false}
-use Rattle.dom_model.specs.PlainLists.Lists.{among}
-use Rattle.dom_model.specs.Worlds.World.{Registration}
-use Rattle.dom_model.specs.MutationObservers.Records.{is_registered}
+use Rattle.dom_model.specs.Definitions.{among, Registration, is_registered}
 use Rattle.dom_model.proofs.PlainLists.Numbers.{same_or, same, apart}
 use Rattle.dom_observe.specs.Registrations.{own_at, is_on, lasts_for}
-use Rattle.dom_observe.proofs.Again.{find_own}
-use Rattle.dom_observe.proofs.Agreeing.{not_found}
+use Rattle.dom_observe.proofs.{Again.find_own, Agreeing.not_found}
 
 -- it is on the node, and lasts
 pub on-lasts : (o n : ℕ) (p : Option Registration) → option_map_or (is_registered o n) p false ≡ true → is_on n p ≡ lasts_for o p

@@ -1,23 +1,11 @@
 -- The keys that observers have, as registrations come in and end.
-use Rattle.std.proofs.Common.{◌≡◌, ◌≢◌, ℕ, ◌<◌, ◌==◌, Bool, true, false, not, ◌&&◌, if◌then◌else◌, List, [], ◌∷◌, ◌++◌, length, filter, Option, None, Some, option_map, refl, ap, sym, ◌∙◌, append-nil, ◌⊎◌, inl, inr}
-use Rattle.std.specs.Prelude.{is_none, is_some, slice_index_or, slice_set}
+use Rattle.std.proofs.Common.{◌≡◌, ◌≢◌, ℕ, ◌<◌, ◌==◌, Bool, true, false, not, ◌&&◌, if◌then◌else◌, List, [], ◌∷◌, ◌++◌, length, filter, Option, None, Some, option_map, refl, ap, sym, ◌∙◌, append-nil, ◌⊎◌, inl, inr, is_none, is_some, slice_index_or, slice_set}
 use Rattle.std.specs.Option.{option_map_or}
-use Rattle.std.proofs.lemmas.Bool.{true≢false}
-use Rattle.std.proofs.lemmas.List.{get_or-set_same, get_or-set_other}
-use Rattle.dom_model.specs.PlainLists.Lists.{among, is_number}
-use Rattle.dom_model.specs.Worlds.World.{Registration, Options}
+use Rattle.std.proofs.lemmas.{Bool.true≢false, List.get_or-set_same, List.get_or-set_other}
+use Rattle.dom_model.specs.Definitions.{among, is_number, Registration, Options}
 use Rattle.dom_model.proofs.PlainLists.Numbers.{Same, same_or, same, apart}
-use Rattle.dom_observe.specs.declared.registration.Ended.TheVariants.{Of, From}
-use Rattle.dom_observe.specs.Watchers.{on}
-use Rattle.dom_observe.specs.Registrations.{left_by, is_live, is_on, lasts_for, passes_for, Placed, Owned, Added, NewKey, with_new_options}
-use Rattle.dom_observe.proofs.EndedOnes.{among-filter, among-last}
-use Rattle.dom_observe.proofs.Ordered.{among-insert}
-
-swapped : (m n : ℕ) → (m == n) ≡ (n == m)
-swapped m n = elim (same_or m n) [
-  | same e t ↦ elim (same_or n m) [ same f u ↦ t ∙ sym u | apart ne u ↦ absurd (ne (sym e)) ]
-  | apart ne t ↦ elim (same_or n m) [ same f u ↦ absurd (ne (sym f)) | apart _ u ↦ t ∙ sym u ]
-]
+use Rattle.dom_observe.specs.{declared.registration.Ended.TheVariants.Of, declared.registration.Ended.TheVariants.From, Watchers.on, Registrations.left_by, Registrations.is_live, Registrations.is_on, Registrations.lasts_for, Registrations.passes_for, Registrations.Placed, Registrations.Owned, Registrations.Added, Registrations.NewKey, Registrations.with_new_options}
+use Rattle.dom_observe.proofs.{EndedOnes.among-filter, EndedOnes.among-last, Ordered.among-insert, Hearing.swapped}
 
 -- what is asked of a registration of one observer holds of no other observer
 pub record IsKind (kind : ℕ → Option Registration → Bool) : Type 0 where

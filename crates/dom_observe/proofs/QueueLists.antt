@@ -1,12 +1,9 @@
 -- The queues of observers by their numbers, as one of them changes.
-use Rattle.std.proofs.Common.{◌≡◌, ℕ, zero, suc, ◌-◌, ◌<◌, ◌≤◌, ◌==◌, true, false, if◌then◌else◌, List, [], ◌∷◌, ◌++◌, length, Option, None, Some, is_some, refl, ap, sym, ◌∙◌, arith, ◌⊎◌, inl, inr, length-set}
-use Rattle.std.specs.Prelude.{slice_index_or, slice_set, unwrap_or}
-use Rattle.std.proofs.lemmas.Bool.{cases_lt, true≢false}
-use Rattle.std.proofs.lemmas.List.{get_or_append_left, get_or-append_right, get_or_past, get_or-set_same, get_or-set_other}
-use Rattle.dom_model.specs.MutationObservers.Record.{Record}
+use Rattle.std.proofs.Common.{◌≡◌, ℕ, zero, suc, ◌-◌, ◌<◌, ◌≤◌, ◌==◌, true, false, if◌then◌else◌, List, [], ◌∷◌, ◌++◌, length, Option, None, Some, is_some, refl, ap, sym, ◌∙◌, arith, ◌⊎◌, inl, inr, length-set, slice_index_or, slice_set, unwrap_or}
+use Rattle.std.proofs.lemmas.{Bool.cases_lt, Bool.true≢false, List.get_or_append_left, List.get_or-append_right, List.get_or_past, List.get_or-set_same, List.get_or-set_other}
+use Rattle.dom_model.specs.Definitions.{Record}
 use Rattle.dom_model.proofs.PlainLists.Numbers.{Same, same_or, same, apart}
-use Rattle.dom_observe.specs.Watchers.{queue_at, records_at}
-use Rattle.dom_observe.specs.Kept.{has_queue}
+use Rattle.dom_observe.specs.{Watchers.queue_at, Watchers.records_at, Kept.has_queue}
 
 module _ (queues : List (Option (List Record))) where
   -- one that is there was made

@@ -1,27 +1,12 @@
 -- What is told of a mutation that is queued, by the registrations that stand on the ancestors of its target.
-use Rattle.std.proofs.Common.{◌≡◌, ℕ, ◌==◌, Bool, true, false, ◌&&◌, ◌||◌, if◌then◌else◌, cond, List, [], ◌∷◌, ◌++◌, map, filter, Option, None, Some, refl, ap, sym, ◌∙◌, subst}
-use Rattle.std.specs.Prelude.{filter_map, flat_map, option_to_list}
-use Rattle.std.specs.List.{AllByRecursion, list_any}
-use Rattle.std.specs.Map.{keys_of}
+use Rattle.std.proofs.Common.{◌≡◌, ℕ, ◌==◌, Bool, true, false, ◌&&◌, ◌||◌, if◌then◌else◌, cond, List, [], ◌∷◌, ◌++◌, map, filter, Option, None, Some, refl, ap, sym, ◌∙◌, subst, filter_map, flat_map, option_to_list}
+use Rattle.std.specs.{List.AllByRecursion, List.list_any, Map.keys_of}
 use Rattle.std.proofs.lemmas.Bool.{true≢false}
 use Rattle.slab.specs.Slab.{Slab}
-use Rattle.dom_model.specs.PlainLists.Lists.{among}
-use Rattle.dom_model.specs.Worlds.World.{Registration, Mutation}
-use Rattle.dom_model.specs.MutationObservers.Observing.{registered_on, standing_on}
-use Rattle.dom_model.specs.MutationObservers.Record.{Record}
-use Rattle.dom_model.specs.MutationObservers.Records.{interests, observers_of, asks_old_value, record_for}
-use Rattle.dom_model.specs.PlainLists.LastOnce.{with_last, with_all_last}
+use Rattle.dom_model.specs.Definitions.{among, Registration, Mutation, registered_on, standing_on, Record, interests, observers_of, asks_old_value, record_for, with_last, with_all_last}
 use Rattle.dom_observe.specs.declared.registration.Registration as held
-use Rattle.dom_observe.specs.Once.{once}
-use Rattle.dom_observe.specs.Keys.{Keys}
-use Rattle.dom_observe.specs.Watchers.{on}
-use Rattle.dom_observe.specs.Registrations.{at, listed, Stands, AllStand}
-use Rattle.dom_observe.specs.Kept.{has_queue, AllThere, IsKept}
-use Rattle.dom_observe.specs.Telling.{listeners, asked_by, flag_of, delivered}
-use Rattle.dom_observe.proofs.Keeping.{stand-alike, all_flat, stands_of, found_standing}
-use Rattle.dom_observe.proofs.Hearing.{listeners-interested, told-flag, keys-pairs, delivered-standing, all_last-there, flag-none, last-there, stay-last}
-use Rattle.dom_observe.proofs.Once.{walk, walk-standing, any-standing}
-use Rattle.dom_observe.proofs.Tables.{all_imply}
+use Rattle.dom_observe.specs.{Once.once, Keys.Keys, Watchers.on, Registrations.at, Registrations.listed, Registrations.Stands, Registrations.AllStand, Kept.has_queue, Kept.AllThere, Kept.IsKept, Telling.listeners, Telling.asked_by, Telling.flag_of, Telling.delivered}
+use Rattle.dom_observe.proofs.{Keeping.stand-alike, Keeping.all_flat, Keeping.stands_of, Keeping.found_standing, Hearing.listeners-interested, Hearing.told-flag, Hearing.keys-pairs, Hearing.delivered-standing, Hearing.all_last-there, Hearing.flag-none, Hearing.last-there, Hearing.stay-last, Once.walk, Once.walk-standing, Once.any-standing, Tables.all_imply}
 
 pub standing_on-none : (ns : List ℕ) → standing_on ns [] ≡ []
 standing_on-none [] = refl

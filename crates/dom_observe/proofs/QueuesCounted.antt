@@ -1,11 +1,8 @@
 -- How many observers are there, by their queues and by their places.
-use Rattle.std.proofs.Common.{◌≡◌, ℕ, suc, List, [], ◌∷◌, length, count_by, cond, Option, is_some, refl, ap, sym, arith}
-use Rattle.std.specs.Prelude.{slice_index_or, None}
+use Rattle.std.proofs.Common.{◌≡◌, ℕ, suc, List, [], ◌∷◌, length, count_by, cond, Option, is_some, refl, ap, sym, arith, slice_index_or, None}
 use Rattle.std.proofs.lemmas.List.Sums.{sum_by-cons}
-use Rattle.dom_model.specs.Worlds.World.{Observing}
-use Rattle.dom_observe.specs.declared.roster.Observer.{Observer}
-use Rattle.dom_observe.specs.Roster.{queues_by}
-use Rattle.dom_observe.specs.Watchers.{Watchers, Watches}
+use Rattle.dom_model.specs.Definitions.{Observing}
+use Rattle.dom_observe.specs.{declared.roster.Observer.Observer, Roster.queues_by, Watchers.Watchers, Watchers.Watches}
 use Rattle.dom_observe.proofs.Rosters.{has-kept, length-queues}
 
 -- 1 where a place is taken

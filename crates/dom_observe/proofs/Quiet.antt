@@ -1,38 +1,21 @@
 -- Where no ancestor of a node is named, no key stands there, and nobody is told.
-use Rattle.std.proofs.Common.{◌≡◌, ℕ, ◌<◌, ◌==◌, Bool, false, List, [], ◌∷◌, ◌++◌, length, refl, ap, sym, ◌∙◌, subst, arith}
-use Rattle.std.specs.Prelude.{filter_map, flat_map, filter, Option}
+use Rattle.std.proofs.Common.{◌≡◌, ℕ, ◌<◌, ◌==◌, Bool, false, List, [], ◌∷◌, ◌++◌, length, refl, ap, sym, ◌∙◌, subst, arith, filter_map, flat_map, filter, Option}
 use Rattle.std.specs.List.{AllByRecursion, list_any}
 use Rattle.std.proofs.lemmas.Bool.{true≢false, or_parts}
 use Rattle.slab.specs.Slab.{Slab}
-use Rattle.dom_model.specs.PlainLists.Lists.{hits, among}
-use Rattle.dom_model.specs.Worlds.World.{Registration}
-use Rattle.dom_model.specs.MutationAlgorithms.Discarding.{if_any}
-use Rattle.dom_model.specs.MutationObservers.Observing.{registered_on, standing_on}
-use Rattle.dom_model.specs.MutationObservers.Record.{Record}
+use Rattle.dom_model.specs.Definitions.{hits, among, Registration, if_any, registered_on, standing_on, Record}
 use Rattle.dom_model.proofs.PlainLists.Numbers.{same_or, same, apart}
 use Rattle.dom_model.proofs.Forests.Climbing.{hits-first}
 use Rattle.dom_observe.specs.declared.registration.Registration as held
-use Rattle.dom_observe.specs.Held.{named, NamesNoneOf}
-use Rattle.dom_observe.specs.Naming.{names_one, NamesNone, TellsNone}
-use Rattle.dom_observe.specs.Once.{once}
-use Rattle.dom_observe.specs.Keys.{Keys}
-use Rattle.dom_observe.specs.Watchers.{Watchers, on}
-use Rattle.dom_observe.specs.Registrations.{at, listed, StandsOn, AllStand, deep_at}
-use Rattle.dom_observe.specs.Kept.{registered_nodes}
-use Rattle.dom_observe.proofs.Holding.{none-named}
-use Rattle.dom_observe.proofs.Keeping.{on-registered_nodes}
-use Rattle.dom_observe.proofs.Once.{once-none}
+use Rattle.dom_observe.specs.{Held.named, Held.NamesNoneOf, Naming.names_one, Naming.NamesNone, Naming.TellsNone, Once.once, Keys.Keys, Watchers.Watchers, Watchers.on, Registrations.at, Registrations.listed, Registrations.StandsOn, Registrations.AllStand, Registrations.deep_at, Kept.registered_nodes}
+use Rattle.dom_observe.proofs.{Holding.none-named, Keeping.on-registered_nodes, Once.once-none}
+use Rattle.dom_model.proofs.RangesAndContents.{RangesElsewhere.among-any, ListsByParts.flat-none}
 
 -- a list that is not empty
 pub not_nothing : (xs : List ℕ) (len : ℕ) → length xs ≡ len → (len == 0) ≡ false → xs ≡ [] → ⊥
 not_nothing xs len ok full e =
     let l = ap (λ (ys : List ℕ). length ys) e in
     elim (same_or len 0) [ same _ t ↦ true≢false (sym t ∙ full) | apart ne _ ↦ ne (omega arith) ]
-
--- what each of some numbers adds nothing to
-pub none-flat : (f : ℕ → List ℕ) (ns : List ℕ) → ((n : ℕ) → 0 < hits n ns → f n ≡ []) → flat_map f ns ≡ []
-none-flat f [] h = refl
-none-flat f (n ∷ ns) h = rw (h n (hits-first n ns), none-flat f ns (λ m k. h m (omega arith))) refl
 
 no_first : (xs ys : List ℕ) → xs ++ ys ≡ [] → xs ≡ []
 no_first [] ys e = refl
@@ -50,11 +33,6 @@ each-none f (m ∷ ns) e n h =
       | same d t ↦ subst (λ k. f k ≡ []) d (no_first (f m) (flat_map f ns) e)
       | apart ne t ↦ each-none f ns (no_second (f m) (flat_map f ns) e) n (let k = rw t at h in omega arith)
     ]
-
--- what stands in a list, by a test
-among-any : (n : ℕ) (xs : List ℕ) → among n xs ≡ list_any (λ m. m == n) xs
-among-any n [] = refl
-among-any n (x ∷ xs) = elim (same_or x n) [ same e t ↦ rw t refl | apart ne t ↦ rw t (among-any n xs) ]
 
 module _ (table : Slab held.Registration) (entries : List (ℕ × Keys)) (there : ℕ → Bool) (all : AllStand (at table) there (listed entries)) where
   module _ (queues : List (Option (List Record))) (pending : List ℕ) (o : Watchers) (is : record { nodes = registered_nodes table entries; queues = queues; pending = pending } ≡ o) where
@@ -77,10 +55,10 @@ module _ (table : Slab held.Registration) (entries : List (ℕ × Keys)) (there 
 
     module _ (ns : List ℕ) (unnamed : NamesNoneOf ns o) where
       pub none-stand : flat_map (λ n. on n (listed entries)) ns ≡ []
-      none-stand = none-flat (λ n. on n (listed entries)) ns (λ n k. no_keys n (unnamed n k))
+      none-stand = flat-none (λ n. on n (listed entries)) ns (λ n k. no_keys n (unnamed n k))
 
       pub none-deep : flat_map (λ n. filter (deep_at (at table)) (on n (listed entries))) ns ≡ []
-      none-deep = none-flat (λ n. filter (deep_at (at table)) (on n (listed entries))) ns (λ n k. ap (filter (deep_at (at table))) (no_keys n (unnamed n k)))
+      none-deep = flat-none (λ n. filter (deep_at (at table)) (on n (listed entries))) ns (λ n k. ap (filter (deep_at (at table))) (no_keys n (unnamed n k)))
 
 -- where no key stands, no registration does
 pub none-standing : (table : Slab held.Registration) (entries : List (ℕ × Keys)) (rs : List Registration) → ((n : ℕ) → on n (registered_nodes table entries) ≡ once (registered_on n rs)) → (ns : List ℕ) → flat_map (λ n. on n (listed entries)) ns ≡ [] → standing_on ns rs ≡ []

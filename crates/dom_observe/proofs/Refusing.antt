@@ -2,20 +2,10 @@
 use Rattle.std.proofs.Common.{◌≡◌, ◌≢◌, ℕ, ◌==◌, Bool, true, false, not, ◌&&◌, if◌then◌else◌, List, [], ◌∷◌, ◌++◌, Option, Some, None, refl, ap, sym, ◌∙◌, subst, append-nil, append_assoc}
 use Rattle.std.specs.List.{list_any}
 use Rattle.slab.specs.Slab.{Slab}
-use Rattle.dom_model.specs.PlainLists.Lists.{among}
-use Rattle.dom_model.specs.PlainLists.LastOnce.{with_last, with_all_last}
-use Rattle.dom_model.specs.Worlds.World.{Registration, Mutation}
-use Rattle.dom_model.specs.MutationObservers.Record.{Record}
-use Rattle.dom_model.specs.MutationObservers.Records.{is_transient_from, record_with}
-use Rattle.dom_model.specs.MutationObservers.Observing.{transient_of}
+use Rattle.dom_model.specs.Definitions.{among, with_last, with_all_last, Registration, Mutation, Record, is_transient_from, record_with, transient_of}
 use Rattle.dom_model.proofs.PlainLists.Numbers.{same_or, same, apart}
 use Rattle.dom_observe.specs.declared.registration.Registration as held
-use Rattle.dom_observe.specs.Keys.{Keys}
-use Rattle.dom_observe.specs.Watchers.{Watchers, on, records_at}
-use Rattle.dom_observe.specs.Kept.{registered_nodes}
-use Rattle.dom_observe.specs.Registrations.{found, listed, origin, with_transient, with_transients_of, with_added_transients}
-use Rattle.dom_observe.specs.Refused.{IsFront, GetsAtMostOne, IsPartlyQueued, IsPartlyLeft, IsPartlyRemoved}
-use Rattle.dom_observe.specs.Telling.{delivered}
+use Rattle.dom_observe.specs.{Keys.Keys, Watchers.Watchers, Watchers.on, Watchers.records_at, Kept.registered_nodes, Registrations.found, Registrations.listed, Registrations.origin, Registrations.with_transient, Registrations.with_transients_of, Registrations.with_added_transients, Refused.IsFront, Refused.GetsAtMostOne, Refused.IsPartlyQueued, Refused.IsPartlyLeft, Refused.IsPartlyRemoved, Telling.delivered}
 use Rattle.dom_observe.proofs.Keeping.{on-registered_nodes}
 
 module _ {A : Type 0} where

@@ -1,26 +1,14 @@
 -- How many registrations stand under keys: as many as are left where later equal ones are left out.
-use Rattle.std.proofs.Common.{◌≡◌, ℕ, zero, suc, ◌==◌, Bool, true, false, not, ◌||◌, List, [], ◌∷◌, length, filter, filter_map, count_by, Option, None, Some, is_some, option_map, refl, ap, sym, ◌∙◌, subst, cond, arith}
-use Rattle.std.specs.Prelude.{slice_index_or}
-use Rattle.std.specs.List.{AllByRecursion, IsDistinct, list_any, cons_option}
-use Rattle.std.specs.Cmp.{IsEquivalence}
-use Rattle.std.proofs.lemmas.Bool.{true≢false}
-use Rattle.std.proofs.lemmas.List.Sums.{sum_by-cons}
-use Rattle.std.proofs.lemmas.Map.Made.{length-le_from_is_member}
+use Rattle.std.proofs.Common.{◌≡◌, ℕ, zero, suc, ◌==◌, Bool, true, false, not, ◌||◌, List, [], ◌∷◌, length, filter, filter_map, count_by, Option, None, Some, is_some, option_map, refl, ap, sym, ◌∙◌, subst, cond, arith, slice_index_or}
+use Rattle.std.specs.{List.AllByRecursion, List.IsDistinct, List.list_any, List.cons_option, Cmp.IsEquivalence}
+use Rattle.std.proofs.lemmas.{Bool.true≢false, List.Sums.sum_by-cons, Map.Made.length-le_from_is_member}
 use Rattle.slab.specs.Slab.{Slab, slab_len}
-use Rattle.dom_model.specs.PlainLists.Lists.{among}
-use Rattle.dom_model.specs.Worlds.World.{Registration}
-use Rattle.dom_model.specs.MutationObservers.Observing.{registered_on}
+use Rattle.dom_model.specs.Definitions.{among, Registration, registered_on}
 use Rattle.dom_model.proofs.PlainLists.Numbers.{Same, same_or, same, apart}
 use Rattle.dom_observe.specs.declared.registration.Registration as held
-use Rattle.dom_observe.specs.Once.{same_registration, once}
-use Rattle.dom_observe.specs.Keys.{Keys}
-use Rattle.dom_observe.specs.Watchers.{on}
-use Rattle.dom_observe.specs.Registrations.{plain, at, found, listed, is_on, Placed}
-use Rattle.dom_observe.specs.Kept.{registered_nodes}
-use Rattle.dom_observe.proofs.Distinct.{distinct-none, distinct-more, distinct-first, distinct-rest, all-none}
-use Rattle.dom_observe.proofs.Keeping.{on-registered_nodes}
-use Rattle.dom_observe.proofs.Once.{same-is, same-itself, apart_from, any-once}
-use Rattle.dom_observe.proofs.Sounding.{any_found, itself}
+use Rattle.dom_observe.specs.{Once.same_registration, Once.once, Keys.Keys, Watchers.on, Registrations.plain, Registrations.at, Registrations.found, Registrations.listed, Registrations.is_on, Registrations.Placed, Kept.registered_nodes}
+use Rattle.dom_observe.proofs.{Distinct.distinct-none, Distinct.distinct-more, Distinct.distinct-first, Distinct.distinct-rest, Distinct.all-none, Keeping.on-registered_nodes, Once.same-is, Once.same-itself, Once.apart_from, Once.any-once, Sounding.any_found}
+use Rattle.dom_model.proofs.Forests.Below.{at_itself}
 
 -- Being equal in every field.
 
@@ -171,7 +159,7 @@ module _ (table : Slab held.Registration) (entries : List (ℕ × Keys)) (placed
 
   -- a key is among those of its node
   there : (k : ℕ) (r : Registration) → at table k ≡ Some r → among k (on r.node (listed entries)) ≡ true
-  there k r is = placed r.node k ∙ ap (is_on r.node) is ∙ itself r.node
+  there k r is = placed r.node k ∙ ap (is_on r.node) is ∙ at_itself r.node
 
   one-key : (i j : ℕ) (r : Registration) → at table i ≡ Some r → at table j ≡ Some r → i ≡ j
   one-key i j r a b = apart-keys (at table) (on r.node (listed entries)) i j r a b (there i r a) (there j r b) (subst (IsDistinct same_registration) (sym (found-on r.node)) (once-distinct (registered_on r.node rs)))
@@ -181,7 +169,7 @@ module _ (table : Slab held.Registration) (entries : List (ℕ × Keys)) (placed
   among-left q =
       ap (list_any (same_registration q)) (found-on q.node)
       ∙ any-once (same_registration q) (registered_on q.node rs)
-      ∙ any-kept (same_registration q) (λ (r : Registration). r.node == q.node) (λ r t. ap (λ (s : Registration). s.node == q.node) (sym (same-is q r t)) ∙ itself q.node) rs
+      ∙ any-kept (same_registration q) (λ (r : Registration). r.node == q.node) (λ r t. ap (λ (s : Registration). s.node == q.node) (sym (same-is q r t)) ∙ at_itself q.node) rs
       ∙ sym (any-once (same_registration q) rs)
 
   left-of-standing : (q : Registration) → list_any (same_registration q) standing ≡ true → list_any (same_registration q) (once rs) ≡ true

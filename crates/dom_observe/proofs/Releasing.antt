@@ -1,24 +1,13 @@
 -- An observer is released: it goes from the list of those that are pending, and from those that may have transient registrations.
-use Rattle.std.proofs.Common.{◌≡◌, ℕ, ◌==◌, Bool, true, false, if◌then◌else◌, cond, List, [], ◌∷◌, refl, ap, sym, ◌∙◌, nat_eq, ◌⊎◌, inl, inr}
-use Rattle.std.specs.Prelude.{slice_set, Option, None, filter, not}
-use Rattle.std.specs.List.{IsDistinct, list_any}
-use Rattle.std.specs.Map.{keys_of}
-use Rattle.std.specs.Set.{remove_key}
+use Rattle.std.proofs.Common.{◌≡◌, ℕ, ◌==◌, Bool, true, false, if◌then◌else◌, cond, List, [], ◌∷◌, refl, ap, sym, ◌∙◌, nat_eq, ◌⊎◌, inl, inr, slice_set, Option, None, filter, not}
+use Rattle.std.specs.{List.IsDistinct, List.list_any, Map.keys_of, Set.remove_key}
 use Rattle.std.proofs.lemmas.Bool.{true≢false, or_parts}
 use Rattle.slab.specs.Slab.{Slab}
-use Rattle.dom_model.specs.PlainLists.Lists.{among, left_out}
-use Rattle.dom_model.specs.Worlds.World.{Registration}
-use Rattle.dom_model.specs.MutationObservers.Record.{Record}
+use Rattle.dom_model.specs.Definitions.{among, left_out, Registration, Record}
 use Rattle.dom_model.proofs.PlainLists.Numbers.{Same, same_or, same, apart}
 use Rattle.dom_observe.specs.declared.registration.Registration as held
-use Rattle.dom_observe.specs.declared.registration.Ended.TheVariants.{Of}
-use Rattle.dom_observe.specs.Keys.{Keys}
-use Rattle.dom_observe.specs.Watchers.{on}
-use Rattle.dom_observe.specs.Registrations.{at, listed, left_by, is_live, HaveKeys}
-use Rattle.dom_observe.specs.Kept.{has_queue, AllThere, IsKept}
-use Rattle.dom_observe.proofs.Hearing.{swapped, among-list_any}
-use Rattle.dom_observe.proofs.Keeping.{stand-left}
-use Rattle.dom_observe.proofs.QueueLists.{has-gone}
+use Rattle.dom_observe.specs.{declared.registration.Ended.TheVariants.Of, Keys.Keys, Watchers.on, Registrations.at, Registrations.listed, Registrations.left_by, Registrations.is_live, Registrations.HaveKeys, Kept.has_queue, Kept.AllThere, Kept.IsKept}
+use Rattle.dom_observe.proofs.{Hearing.swapped, Hearing.among-list_any, Keeping.stand-left, QueueLists.has-gone}
 
 -- The list without it.
 

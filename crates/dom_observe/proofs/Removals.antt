@@ -1,30 +1,15 @@
 -- A node that left its parent gets transient registrations: what stands above is the same before and after, and it is told of the mutation.
-use Rattle.std.proofs.Common.{◌≡◌, ℕ, ◌==◌, if◌then◌else◌, Bool, true, false, List, [], ◌∷◌, ◌++◌, map, Option, refl, ap, sym, ◌∙◌, subst, append-nil}
-use Rattle.std.specs.Prelude.{flat_map, filter, nat_eq}
-use Rattle.std.specs.List.{AllByRecursion, IsDistinct, cons_option}
-use Rattle.std.specs.Map.{keys_of}
-use Rattle.std.specs.Option.{option_and_then}
+use Rattle.std.proofs.Common.{◌≡◌, ℕ, ◌==◌, if◌then◌else◌, Bool, true, false, List, [], ◌∷◌, ◌++◌, map, Option, refl, ap, sym, ◌∙◌, subst, append-nil, flat_map, filter, nat_eq}
+use Rattle.std.specs.{List.AllByRecursion, List.IsDistinct, List.cons_option, Map.keys_of, Option.option_and_then}
 use Rattle.std.proofs.lemmas.Bool.{true≢false}
 use Rattle.slab.specs.Slab.{Slab}
 use Rattle.dom_model.specs.declared.RecordType.{RecordType}
-use Rattle.dom_model.specs.PlainLists.Lists.{among}
-use Rattle.dom_model.specs.Worlds.World.{Registration, Mutation, Observing}
-use Rattle.dom_model.specs.MutationObservers.Observing.{registered_on, standing_on, transient_of, with_transients}
-use Rattle.dom_model.specs.MutationObservers.Record.{Record}
-use Rattle.dom_model.specs.MutationObservers.Records.{interests}
+use Rattle.dom_model.specs.Definitions.{among, Registration, Mutation, Observing, registered_on, standing_on, transient_of, with_transients, Record, interests}
 use Rattle.dom_model.proofs.MutationObservers.NodeRegistrations.{registrations-transients}
 use Rattle.dom_model.proofs.PlainLists.Numbers.{same_or, same, apart}
 use Rattle.dom_observe.specs.declared.registration.Registration as held
-use Rattle.dom_observe.specs.Keys.{Keys}
-use Rattle.dom_observe.specs.Registrations.{at, listed, is_live, AllLive, Stands, AllStand, HaveKeys}
-use Rattle.dom_observe.specs.Naming.{names_one, NamesNone}
-use Rattle.dom_observe.specs.Kept.{has_queue, IsKept}
-use Rattle.dom_observe.specs.Removed.{removed_below}
-use Rattle.dom_observe.specs.Telling.{listener_of, listeners}
-use Rattle.dom_observe.specs.Watchers.{Watchers, Watches, on}
-use Rattle.dom_observe.proofs.Keeping.{all_flat, kept_table}
-use Rattle.dom_observe.proofs.Tables.{live_of_stands}
-use Rattle.dom_observe.proofs.Watching.{watches-unheard, watches-unstood}
+use Rattle.dom_observe.specs.{Keys.Keys, Registrations.at, Registrations.listed, Registrations.is_live, Registrations.AllLive, Registrations.Stands, Registrations.AllStand, Registrations.HaveKeys, Naming.names_one, Naming.NamesNone, Kept.has_queue, Kept.IsKept, Removed.removed_below, Telling.listener_of, Telling.listeners, Watchers.Watchers, Watchers.Watches, Watchers.on}
+use Rattle.dom_observe.proofs.{Keeping.all_flat, Keeping.kept_table, Tables.live_of_stands, Watching.watches-unheard, Watching.watches-unstood}
 
 -- What stands under some keys stays there.
 

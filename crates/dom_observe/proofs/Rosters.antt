@@ -1,15 +1,10 @@
 -- What is kept of observers by their numbers, as one of them changes: the keys, and the queues.
-use Rattle.std.proofs.Common.{◌≡◌, ℕ, zero, suc, ◌<◌, true, List, [], ◌∷◌, ◌++◌, length, map, Option, None, Some, is_some, option_map, refl, ap, sym, ◌∙◌, arith}
-use Rattle.std.specs.Prelude.{slice_index_or, slice_set}
+use Rattle.std.proofs.Common.{◌≡◌, ℕ, zero, suc, ◌<◌, true, List, [], ◌∷◌, ◌++◌, length, map, Option, None, Some, is_some, option_map, refl, ap, sym, ◌∙◌, arith, slice_index_or, slice_set}
 use Rattle.std.proofs.Math.ListN.{get_or-map}
 use Rattle.std.proofs.Math.Seq.{map-set_same}
 use Rattle.std.proofs.lemmas.List.{length-map, map_push, map-set}
-use Rattle.dom_observe.specs.declared.roster.Observer.{Observer}
-use Rattle.dom_observe.specs.Watchers.{queue_at}
-use Rattle.dom_observe.specs.Kept.{has_queue}
-use Rattle.dom_observe.specs.Roster.{observer_at, keys_by, first_keys, second_keys, lasting_by, passing_by, queues_by}
-use Rattle.dom_observe.proofs.Keeping.{set_same}
-use Rattle.dom_observe.proofs.QueueLists.{queue_within}
+use Rattle.dom_observe.specs.{declared.roster.Observer.Observer, Watchers.queue_at, Kept.has_queue, Roster.observer_at, Roster.keys_by, Roster.first_keys, Roster.second_keys, Roster.lasting_by, Roster.passing_by, Roster.queues_by}
+use Rattle.dom_observe.proofs.{Keeping.set_same, QueueLists.queue_within}
 
 -- the keys of one
 abbrev both_keys : Observer → List ℕ × List ℕ

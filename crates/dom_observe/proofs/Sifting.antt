@@ -1,17 +1,13 @@
 -- A name is found in the set where it is among the names of the filter.
-use Rattle.std.proofs.Common.{◌≡◌, ℕ, ◌+◌, ◌<◌, Bool, true, false, ◌||◌, if◌then◌else◌, List, [], ◌∷◌, ◌++◌, length, map, take, Option, None, Some, refl, ap, sym, ◌∙◌}
-use Rattle.std.specs.Prelude.{String, string_bytes, string_eq, bytes_eq, slice_index_or}
-use Rattle.std.specs.Option.{option_map_or}
-use Rattle.std.specs.List.{list_any}
-use Rattle.std.proofs.lemmas.List.{take_more}
-use Rattle.std.proofs.lemmas.List.Folds.{list_any-append}
-use Rattle.std.proofs.lemmas.Slice.Eq.{bytes_eq-Decides}
+use Rattle.std.proofs.Common.{◌≡◌, ℕ, ◌+◌, ◌<◌, Bool, true, false, ◌||◌, if◌then◌else◌, List, [], ◌∷◌, ◌++◌, length, map, take, Option, None, Some, refl, ap, sym, ◌∙◌, String, string_bytes, string_eq, bytes_eq, slice_index_or}
+use Rattle.std.specs.{Option.option_map_or, List.list_any}
+use Rattle.std.proofs.lemmas.{List.take_more, List.Folds.list_any-append, Slice.Eq.bytes_eq-Decides}
 use Rattle.indexmap.specs.IndexSet.{IndexSet, contains_text, insert_key}
-use Rattle.dom_model.specs.MutationObservers.Records.{name_passes}
+use Rattle.dom_model.specs.Definitions.{name_passes}
 use Rattle.dom_observe.specs.Names.{Sifts}
 use Rattle.dom_observe.proofs.Finding.{list_any-map}
 
-or_false : (b : Bool) → (b || false) ≡ b
+pub or_false : (b : Bool) → (b || false) ≡ b
 or_false true = refl
 or_false false = refl
 

@@ -1,29 +1,14 @@
 -- What the code keeps, as it is seen.
-use Rattle.std.proofs.Common.{◌≡◌, ◌≢◌, ℕ, Bool, true, false, ◌&&◌, ◌||◌, List, [], ◌∷◌, filter_map, Option, option_map, None, Some, refl, ap, sym, ◌∙◌, subst, nat_eq, ◌==◌}
-use Rattle.std.specs.Prelude.{unwrap_or}
-use Rattle.std.specs.Option.{option_map_or}
-use Rattle.std.specs.List.{AllByRecursion, IsDistinct, list_any, cons_option}
-use Rattle.std.specs.Map.{lookup}
-use Rattle.std.proofs.lemmas.Bool.{true≢false}
-use Rattle.std.proofs.lemmas.Map.Made.{keys_of-map_values, lookup-map_values}
+use Rattle.std.proofs.Common.{◌≡◌, ◌≢◌, ℕ, Bool, true, false, ◌&&◌, ◌||◌, List, [], ◌∷◌, filter_map, Option, option_map, None, Some, refl, ap, sym, ◌∙◌, subst, nat_eq, ◌==◌, unwrap_or}
+use Rattle.std.specs.{Option.option_map_or, List.AllByRecursion, List.IsDistinct, List.list_any, List.cons_option, Map.lookup}
+use Rattle.std.proofs.lemmas.{Bool.true≢false, Map.Made.keys_of-map_values, Map.Made.lookup-map_values}
 use Rattle.slab.specs.Slab.{Slab}
-use Rattle.dom_model.specs.PlainLists.Lists.{among}
-use Rattle.dom_model.specs.Worlds.World.{Registration}
-use Rattle.dom_model.specs.MutationObservers.Record.{Record}
-use Rattle.dom_model.specs.MutationObservers.Records.{is_registered}
+use Rattle.dom_model.specs.Definitions.{among, Registration, Record, is_registered}
 use Rattle.dom_model.proofs.PlainLists.Numbers.{Same, same_or, same, apart}
 use Rattle.dom_observe.specs.declared.registration.Registration as held
-use Rattle.dom_observe.specs.Once.{same_options, same_registration}
-use Rattle.dom_observe.specs.Keys.{Keys}
-use Rattle.dom_observe.specs.Watchers.{Watchers, on}
-use Rattle.dom_observe.specs.Registrations.{at, found, listed, origin, is_on, StandsOn, Placed, HaveSources, Agree}
-use Rattle.dom_observe.specs.Kept.{registered_nodes, has_queue, IsKept, PlacedOnce}
-use Rattle.dom_observe.specs.Sound.{IsThere, HasSource, IsSound}
-use Rattle.dom_observe.proofs.Distinct.{distinct-keys}
-use Rattle.dom_observe.proofs.Keeping.{on-registered_nodes}
-use Rattle.dom_observe.proofs.Keys.{keys_in, on-looked}
-use Rattle.dom_observe.proofs.Once.{options-itself}
-use Rattle.dom_observe.proofs.Sources.{own-shape}
+use Rattle.dom_observe.specs.{Once.same_options, Once.same_registration, Keys.Keys, Watchers.Watchers, Watchers.on, Registrations.at, Registrations.found, Registrations.listed, Registrations.origin, Registrations.is_on, Registrations.StandsOn, Registrations.Placed, Registrations.HaveSources, Registrations.Agree, Kept.registered_nodes, Kept.has_queue, Kept.IsKept, Kept.PlacedOnce, Sound.IsThere, Sound.HasSource, Sound.IsSound}
+use Rattle.dom_observe.proofs.{Distinct.distinct-keys, Keeping.on-registered_nodes, Keys.keys_in, Keys.on-looked, Once.options-itself, Sources.own-shape}
+use Rattle.dom_model.proofs.Forests.Below.{at_itself}
 
 -- what holds of each registration under the keys
 all_found : (u : ℕ → Option Registration) (P : Registration → Type 0) (Q : ℕ → Type 0) → ((k : ℕ) (r : Registration) → Q k → u k ≡ Some r → P r) → (keys : List ℕ) → AllByRecursion Q keys → AllByRecursion P (filter_map u keys)
@@ -48,9 +33,6 @@ any_found u p key s is on (k ∷ keys) there = go (same_or k key) (u k) refl (an
     go (apart ne t) None f rest = let w = rw t at there in rest w
     go (apart ne t) (Some r) f rest = let w = rw t at there in ap (λ b. p r || b) (rest w) ∙ or_true (p r)
 
-pub itself : (m : ℕ) → (m == m) ≡ true
-itself m = elim (same_or m m) [ same e t ↦ t | apart ne t ↦ absurd (ne refl) ]
-
 module _ (table : Slab held.Registration) (entries : List (ℕ × Keys)) (queues : List (Option (List Record))) (pending : List ℕ)
     (kept : IsKept table entries queues pending) (placed : Placed (at table) (listed entries)) (placed_once : PlacedOnce (listed entries)) (have : HaveSources (at table)) (agree : Agree (at table)) where
   abbrev seen : Watchers
@@ -66,7 +48,7 @@ module _ (table : Slab held.Registration) (entries : List (ℕ × Keys)) (queues
   has_source k r is m from =
       let o = have k r m is from in
       let s = own-shape r.observer m (at table o.key) o.own in
-      let there : among o.key (on m (listed entries)) ≡ true = placed m o.key ∙ ap (is_on m) s.1 ∙ ap (λ n. n == m) s.3 ∙ itself m in
+      let there : among o.key (on m (listed entries)) ≡ true = placed m o.key ∙ ap (is_on m) s.1 ∙ ap (λ n. n == m) s.3 ∙ at_itself m in
       let mine : origin r ≡ m = ap (λ q. unwrap_or q r.node) from in
       let its : origin s.0 ≡ m = ap (λ q. unwrap_or q s.0.node) s.4 ∙ s.3 in
       let alike : r.options ≡ s.0.options = agree.alike k r is ∙ ap (agree.options r.observer) (mine ∙ sym its) ∙ ap (λ i. agree.options i (origin s.0)) (sym s.2) ∙ sym (agree.alike o.key s.0 s.1) in

@@ -1,16 +1,10 @@
 -- The sources of transient registrations stand, as registrations come in and end.
-use Rattle.std.proofs.Common.{◌≡◌, ◌≢◌, ℕ, ◌==◌, Bool, true, false, not, ◌&&◌, if◌then◌else◌, List, Option, option_map, None, Some, refl, ap, sym, ◌∙◌, subst}
-use Rattle.std.specs.Prelude.{is_none, is_some, unwrap_or}
+use Rattle.std.proofs.Common.{◌≡◌, ◌≢◌, ℕ, ◌==◌, Bool, true, false, not, ◌&&◌, if◌then◌else◌, List, Option, option_map, None, Some, refl, ap, sym, ◌∙◌, subst, is_none, is_some, unwrap_or}
 use Rattle.std.specs.Option.{option_map_or}
 use Rattle.std.proofs.lemmas.Bool.{true≢false}
-use Rattle.dom_model.specs.PlainLists.Lists.{is_number}
-use Rattle.dom_model.specs.Worlds.World.{Options, Registration}
-use Rattle.dom_model.specs.MutationObservers.Observing.{transient_of}
-use Rattle.dom_model.specs.MutationObservers.Records.{is_registered}
+use Rattle.dom_model.specs.Definitions.{is_number, Options, Registration, transient_of, is_registered}
 use Rattle.dom_model.proofs.PlainLists.Numbers.{Same, same_or, same, apart}
-use Rattle.dom_observe.specs.declared.registration.Ended.{Ended}
-use Rattle.dom_observe.specs.declared.registration.Ended.TheVariants.{Transient, Of, From, TransientOf}
-use Rattle.dom_observe.specs.Registrations.{spares, left_by, own_at, Observes, HaveSources, Added, transient_under, with_new_options}
+use Rattle.dom_observe.specs.{declared.registration.Ended.Ended, declared.registration.Ended.TheVariants.Transient, declared.registration.Ended.TheVariants.Of, declared.registration.Ended.TheVariants.From, declared.registration.Ended.TheVariants.TransientOf, Registrations.spares, Registrations.left_by, Registrations.own_at, Registrations.Observes, Registrations.HaveSources, Registrations.Added, Registrations.transient_under, Registrations.with_new_options}
 use Rattle.dom_observe.proofs.Tables.{transient_shape}
 
 -- what the observer's registration on a node is

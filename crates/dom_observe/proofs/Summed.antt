@@ -1,21 +1,13 @@
 -- How many registrations stand under keys, with no observing part at hand: as many as all nodes have together.
-use Rattle.std.proofs.Common.{◌≡◌, ◌≢◌, ℕ, zero, suc, ◌+◌, ◌<◌, ◌==◌, Bool, true, false, if◌then◌else◌, List, [], ◌∷◌, length, filter_map, count_by, Option, None, Some, is_some, option_map, refl, ap, sym, ◌∙◌, subst, cond, arith, nat_eq, length-append}
-use Rattle.std.specs.Prelude.{flat_map, slice_index_or}
-use Rattle.std.specs.List.{AllByRecursion, IsDistinct, cons_option, sum_by}
-use Rattle.std.specs.Map.{keys_of}
-use Rattle.std.proofs.lemmas.Bool.{true≢false}
-use Rattle.std.proofs.lemmas.List.Sums.{sum_by-cons}
+use Rattle.std.proofs.Common.{◌≡◌, ◌≢◌, ℕ, zero, suc, ◌+◌, ◌<◌, ◌==◌, Bool, true, false, if◌then◌else◌, List, [], ◌∷◌, length, filter_map, count_by, Option, None, Some, is_some, option_map, refl, ap, sym, ◌∙◌, subst, cond, arith, nat_eq, length-append, flat_map, slice_index_or}
+use Rattle.std.specs.{List.AllByRecursion, List.IsDistinct, List.cons_option, List.sum_by, Map.keys_of}
+use Rattle.std.proofs.lemmas.{Bool.true≢false, List.Sums.sum_by-cons}
 use Rattle.slab.specs.Slab.{Slab, slab_len}
-use Rattle.dom_model.specs.PlainLists.Lists.{hits}
-use Rattle.dom_model.specs.Worlds.World.{Registration}
+use Rattle.dom_model.specs.Definitions.{hits, Registration}
 use Rattle.dom_model.proofs.PlainLists.Numbers.{same_or, same, apart}
-use Rattle.dom_model.proofs.Forests.Climbing.{hits-append, among-hits, not_among-hits}
+use Rattle.dom_model.proofs.Forests.{Climbing.hits-append, Climbing.among-hits, Climbing.not_among-hits, Below.at_itself}
 use Rattle.dom_observe.specs.declared.registration.Registration as held
-use Rattle.dom_observe.specs.Keys.{Keys}
-use Rattle.dom_observe.specs.Watchers.{on}
-use Rattle.dom_observe.specs.Registrations.{plain, at, found, listed, is_on, Placed}
-use Rattle.dom_observe.specs.Kept.{registered_nodes, PlacedOnce}
-use Rattle.dom_observe.proofs.Sounding.{itself}
+use Rattle.dom_observe.specs.{Keys.Keys, Watchers.on, Registrations.plain, Registrations.at, Registrations.found, Registrations.listed, Registrations.is_on, Registrations.Placed, Kept.registered_nodes, Kept.PlacedOnce}
 
 -- Numbers that are places of a list where something stands, each once: as many as stand there.
 
@@ -141,7 +133,7 @@ module _ (table : Slab held.Registration) where
             hits-keys k 0 entries unique (λ n _. not_among-hits k (on n (listed entries)) (placed n k ∙ ap (is_on n) e))
             ∙ not_among-hits k (on 0 (listed entries)) (placed 0 k ∙ ap (is_on 0) e)
         go (Some r) e =
-            let some = among-hits k (on r.node (listed entries)) (placed r.node k ∙ ap (is_on r.node) e ∙ itself r.node) in
+            let some = among-hits k (on r.node (listed entries)) (placed r.node k ∙ ap (is_on r.node) e ∙ at_itself r.node) in
             let few = once r.node k in
             let here : hits k (on r.node (listed entries)) ≡ 1 = omega (arith, some, few) in
             hits-keys k r.node entries unique (λ n ne. not_among-hits k (on n (listed entries)) (placed n k ∙ ap (is_on n) e ∙ elsewhere r n ne)) ∙ here

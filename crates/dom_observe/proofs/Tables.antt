@@ -1,15 +1,10 @@
 -- What stands under keys, as registrations are added.
-use Rattle.std.proofs.Common.{◌≡◌, ℕ, zero, suc, ◌+◌, ◌<◌, ◌==◌, Bool, true, false, not, ◌&&◌, if◌then◌else◌, List, [], ◌∷◌, ◌++◌, length, filter, take, Option, Some, None, refl, ap, sym, ◌∙◌, subst, append_assoc, append-nil, arith}
-use Rattle.std.specs.Prelude.{filter_map, flat_map, option_to_list, slice_index_or, cond, is_some}
+use Rattle.std.proofs.Common.{◌≡◌, ℕ, zero, suc, ◌+◌, ◌<◌, ◌==◌, Bool, true, false, not, ◌&&◌, if◌then◌else◌, List, [], ◌∷◌, ◌++◌, length, filter, take, Option, Some, None, refl, ap, sym, ◌∙◌, subst, append_assoc, append-nil, arith, filter_map, flat_map, option_to_list, slice_index_or, cond, is_some}
 use Rattle.std.specs.List.{AllByRecursion, cons_option}
-use Rattle.std.proofs.lemmas.List.{take_more}
-use Rattle.std.proofs.lemmas.List.Elements.{filter_map-append}
-use Rattle.dom_model.specs.Worlds.World.{Registration}
-use Rattle.dom_model.specs.MutationObservers.Observing.{transient_of}
-use Rattle.dom_model.specs.MutationObservers.Records.{is_transient_from}
+use Rattle.std.proofs.lemmas.{List.take_more, List.Elements.filter_map-append}
+use Rattle.dom_model.specs.Definitions.{Registration, transient_of, is_transient_from}
 use Rattle.dom_model.proofs.PlainLists.Numbers.{same_or, same, apart}
-use Rattle.dom_observe.specs.Watchers.{on}
-use Rattle.dom_observe.specs.Registrations.{is_live, AllLive, Stands, StandsOn, AllStand, Added, origin, gives, transient_of_any, transient_under, with_transient, with_transients_of, with_added_transients}
+use Rattle.dom_observe.specs.{Watchers.on, Registrations.is_live, Registrations.AllLive, Registrations.Stands, Registrations.StandsOn, Registrations.AllStand, Registrations.Added, Registrations.origin, Registrations.gives, Registrations.transient_of_any, Registrations.transient_under, Registrations.with_transient, Registrations.with_transients_of, Registrations.with_added_transients}
 use Rattle.dom_observe.proofs.Asked.{any-found}
 
 module _ {A : Type 0} where

@@ -1,20 +1,11 @@
 -- The transient registrations that a node gets, once for each observer and origin: the flat list's without later equal ones.
-use Rattle.std.proofs.Common.{◌≡◌, ℕ, ◌==◌, Bool, true, false, not, ◌&&◌, ◌||◌, if◌then◌else◌, List, [], ◌∷◌, ◌++◌, map, filter, Option, None, Some, refl, ap, sym, ◌∙◌, subst, cond, append-nil}
-use Rattle.std.specs.Prelude.{filter_map, flat_map, unwrap_or}
+use Rattle.std.proofs.Common.{◌≡◌, ℕ, ◌==◌, Bool, true, false, not, ◌&&◌, ◌||◌, if◌then◌else◌, List, [], ◌∷◌, ◌++◌, map, filter, Option, None, Some, refl, ap, sym, ◌∙◌, subst, cond, append-nil, filter_map, flat_map, unwrap_or}
 use Rattle.std.specs.List.{AllByRecursion, list_any, cons_option}
-use Rattle.std.proofs.lemmas.Bool.{true≢false}
-use Rattle.std.proofs.lemmas.List.Folds.{list_any-append}
-use Rattle.dom_model.specs.PlainLists.Lists.{is_number}
-use Rattle.dom_model.specs.Worlds.World.{Options, Registration}
-use Rattle.dom_model.specs.MutationObservers.Observing.{registered_on, standing_on, transient_of}
-use Rattle.dom_model.specs.MutationObservers.Records.{is_transient_from}
+use Rattle.std.proofs.lemmas.{Bool.true≢false, List.Folds.list_any-append}
+use Rattle.dom_model.specs.Definitions.{is_number, Options, Registration, registered_on, standing_on, transient_of, is_transient_from}
 use Rattle.dom_model.proofs.PlainLists.Numbers.{Same, same_or, same, apart}
-use Rattle.dom_observe.specs.Once.{same_registration, once}
-use Rattle.dom_observe.specs.Watchers.{on}
-use Rattle.dom_observe.specs.Registrations.{origin, deep_at, StandsOn, AllStand, Agree, with_transient, with_transients_of, with_added_transients}
-use Rattle.dom_observe.proofs.Once.{same-is, same-itself, with_once, with_all_once, once-append, walk, walk-standing}
-use Rattle.dom_observe.proofs.Keeping.{found_standing, found_deep}
-use Rattle.dom_observe.proofs.Tables.{all_append}
+use Rattle.dom_observe.specs.{Once.same_registration, Once.once, Watchers.on, Registrations.origin, Registrations.deep_at, Registrations.StandsOn, Registrations.AllStand, Registrations.Agree, Registrations.with_transient, Registrations.with_transients_of, Registrations.with_added_transients}
+use Rattle.dom_observe.proofs.{Once.same-is, Once.same-itself, Once.with_once, Once.with_all_once, Once.once-append, Once.walk, Once.walk-standing, Keeping.found_standing, Keeping.found_deep, Tables.all_append}
 
 abbrev is_deep : Registration → Bool
 is_deep r = r.options.subtree

@@ -1,32 +1,19 @@
 -- The keys of a node stand by their turns, as registrations come in and end; and so the place of each is found.
-use Rattle.std.proofs.Common.{◌≡◌, ◌≢◌, ℕ, zero, suc, ◌+◌, ◌-◌, ◌<◌, ◌≤◌, ◌==◌, Bool, true, false, not, ◌&&◌, if◌then◌else◌, List, [], ◌∷◌, ◌++◌, length, filter, Option, option_map, None, Some, refl, ap, sym, ◌∙◌, subst, cond, ◌⊎◌, inl, inr, ltb, append-nil, arith}
-use Rattle.std.specs.Prelude.{is_some, slice_get, slice_index_or, remove, Result, Ok, Err, IfOk, IfSome}
-use Rattle.std.specs.Result.{result_ok}
-use Rattle.std.specs.Option.{option_map_or}
-use Rattle.std.specs.List.{AllByRecursion}
-use Rattle.std.specs.List.Sorted.{IsNonDecreasingBy, IsPartitionPoint}
+use Rattle.std.proofs.Common.{◌≡◌, ◌≢◌, ℕ, zero, suc, ◌+◌, ◌-◌, ◌<◌, ◌≤◌, ◌==◌, Bool, true, false, not, ◌&&◌, if◌then◌else◌, List, [], ◌∷◌, ◌++◌, length, filter, Option, option_map, None, Some, refl, ap, sym, ◌∙◌, subst, cond, ◌⊎◌, inl, inr, ltb, append-nil, arith, is_some, slice_get, slice_index_or, remove, Result, Ok, Err, IfOk, IfSome}
+use Rattle.std.specs.{Result.result_ok, Option.option_map_or, List.AllByRecursion, List.Sorted.IsNonDecreasingBy, List.Sorted.IsPartitionPoint}
 use Rattle.std.proofs.lemmas.Bool.{true≢false, ltb-true, ltb-false}
 use Rattle.slab.specs.Slab.{Slab, get}
-use Rattle.dom_model.specs.PlainLists.Lists.{among}
-use Rattle.dom_model.proofs.PlainLists.Numbers.{Same, same_or, same, apart}
-use Rattle.dom_observe.specs.declared.registration.Registration.{Registration}
-use Rattle.dom_observe.specs.Watchers.{on}
-use Rattle.dom_observe.specs.Registrations.{plain, at, is_live, is_on, Placed}
-use Rattle.dom_observe.specs.Turns.{turn_at, Rises, Rising, Fewer}
-use Rattle.dom_observe.proofs.EndedOnes.{filter_all, among-filter, at-get}
-use Rattle.dom_observe.proofs.Tables.{all_at}
+use Rattle.dom_model.specs.Definitions.{among}
+use Rattle.dom_model.proofs.PlainLists.{Numbers.Same, Numbers.same_or, Numbers.same, Numbers.apart, Heads.among-first}
+use Rattle.dom_observe.specs.{declared.registration.Registration.Registration, Watchers.on, Registrations.plain, Registrations.at, Registrations.is_live, Registrations.is_on, Registrations.Placed, Turns.turn_at, Turns.Rises, Turns.Rising, Turns.Fewer}
+use Rattle.dom_observe.proofs.{EndedOnes.filter_all, EndedOnes.among-filter, EndedOnes.at-get, Tables.all_at}
+use Rattle.dom_model.proofs.MutationObservers.Queues.{among-later}
 
 -- Keys among others.
 
 or_true : (b : Bool) → (if b then true else true) ≡ true
 or_true true = refl
 or_true false = refl
-
-pub first_among : (k : ℕ) (keys : List ℕ) → among k (k ∷ keys) ≡ true
-first_among k keys = elim (same_or k k) [ same e t ↦ rw t refl | apart ne t ↦ absurd (ne refl) ]
-
-pub later_among : (j k : ℕ) (keys : List ℕ) → among j keys ≡ true → among j (k ∷ keys) ≡ true
-later_among j k keys m = ap (λ b. if k == j then true else b) m ∙ or_true (k == j)
 
 pub all_among : (P : ℕ → Type 0) (keys : List ℕ) (j : ℕ) → AllByRecursion P keys → among j keys ≡ true → P j
 all_among P [] j h m = absurd (true≢false (sym m))
@@ -58,10 +45,10 @@ module _ (turn : ℕ → ℕ) where
   -- one that is later than all comes last
   pub rises-last : (x : ℕ) (keys : List ℕ) → ((k : ℕ) → among k keys ≡ true → turn k < turn x) → Rises turn keys → Rises turn (keys ++ x ∷ [])
   rises-last x [] late h = (tt, tt)
-  rises-last x (k ∷ keys) late h = (all keys h.0, rises-last x keys (λ j m. late j (later_among j k keys m)) h.1)
+  rises-last x (k ∷ keys) late h = (all keys h.0, rises-last x keys (λ j m. late j (among-later j k keys m)) h.1)
     where
       all : (js : List ℕ) → AllByRecursion (λ j. turn k < turn j) js → AllByRecursion (λ j. turn k < turn j) (js ++ x ∷ [])
-      all [] t = (late k (first_among k keys), tt)
+      all [] t = (late k (among-first k keys), tt)
       all (j ∷ js) t = (t.0, all js t.1)
 
   -- no turn is higher than the last
@@ -123,13 +110,13 @@ module _ (turn : ℕ → ℕ) where
 -- other turns under keys that are not among them
 pub rises-same : (turn turn' : ℕ → ℕ) (keys : List ℕ) → ((k : ℕ) → among k keys ≡ true → turn' k ≡ turn k) → Rises turn keys → Rises turn' keys
 rises-same turn turn' [] alike h = tt
-rises-same turn turn' (k ∷ keys) alike h = (all keys (λ j m. alike j (later_among j k keys m)) h.0, rises-same turn turn' keys (λ j m. alike j (later_among j k keys m)) h.1)
+rises-same turn turn' (k ∷ keys) alike h = (all keys (λ j m. alike j (among-later j k keys m)) h.0, rises-same turn turn' keys (λ j m. alike j (among-later j k keys m)) h.1)
   where
     all : (js : List ℕ) → ((j : ℕ) → among j js ≡ true → turn' j ≡ turn j) → AllByRecursion (λ j. turn k < turn j) js → AllByRecursion (λ j. turn' k < turn' j) js
     all [] each t = tt
     all (j ∷ js) each t = (
-      let e = alike k (first_among k keys) in let f = each j (first_among j js) in let lt = t.0 in omega arith,
-      all js (λ i m. each i (later_among i j js m)) t.1,
+      let e = alike k (among-first k keys) in let f = each j (among-first j js) in let lt = t.0 in omega arith,
+      all js (λ i m. each i (among-later i j js m)) t.1,
     )
 
 -- Tables.

@@ -1,14 +1,10 @@
 -- The queues of pending observers are all that has records.
-use Rattle.std.proofs.Common.{◌≡◌, ℕ, Bool, true, false, List, [], refl, ap, ◌∙◌}
-use Rattle.std.specs.Prelude.{Option, unwrap_or, flat_map}
+use Rattle.std.proofs.Common.{◌≡◌, ℕ, Bool, true, false, List, [], refl, ap, ◌∙◌, Option, unwrap_or, flat_map}
 use Rattle.std.specs.List.{list_any}
-use Rattle.dom_model.specs.PlainLists.Lists.{among}
-use Rattle.dom_model.specs.MutationObservers.Record.{Record}
-use Rattle.dom_model.specs.MutationAlgorithms.Discarding.{nodes_of_record}
+use Rattle.dom_model.specs.Definitions.{among, Record, nodes_of_record}
 use Rattle.dom_model.proofs.PlainLists.Searches.{alike, passes_not, none-each}
 use Rattle.dom_observe.specs.Watchers.{records_at}
-use Rattle.dom_observe.proofs.Holding.{any_tells, tells_any}
-use Rattle.dom_observe.proofs.Named.{any-flat}
+use Rattle.dom_observe.proofs.{Holding.any_tells, Holding.tells_any, Named.any-flat}
 
 module _ (t : List Record → Bool) (nothing : t [] ≡ false) (queues : List (Option (List Record))) (pending : List ℕ) (waiting : (o : ℕ) → among o pending ≡ false → records_at queues o ≡ []) where
   of_one : list_any (λ o. t (records_at queues o)) pending ≡ false → (o : ℕ) → t (records_at queues o) ≡ false

@@ -1,29 +1,13 @@
 -- The observing part that observers stand for goes with them, step by step.
-use Rattle.std.proofs.Common.{◌≡◌, ℕ, zero, suc, ◌-◌, ◌<◌, ◌≤◌, ◌==◌, Bool, true, false, not, ◌&&◌, if◌then◌else◌, cond, List, [], ◌∷◌, ◌++◌, length, map, filter, Option, None, Some, is_some, refl, ap, sym, ◌∙◌, subst, arith, length-append, append-nil, ◌⊎◌, inl, inr}
-use Rattle.std.specs.Prelude.{slice_index_or, slice_set, is_none, filter_map, option_to_list}
+use Rattle.std.proofs.Common.{◌≡◌, ℕ, zero, suc, ◌-◌, ◌<◌, ◌≤◌, ◌==◌, Bool, true, false, not, ◌&&◌, if◌then◌else◌, cond, List, [], ◌∷◌, ◌++◌, length, map, filter, Option, None, Some, is_some, refl, ap, sym, ◌∙◌, subst, arith, length-append, append-nil, ◌⊎◌, inl, inr, slice_index_or, slice_set, is_none, filter_map, option_to_list}
 use Rattle.std.specs.List.{list_any, AllByRecursion}
-use Rattle.std.proofs.lemmas.List.{get_or_append_left, get_or-append_right, get_or_past, length-set}
-use Rattle.std.proofs.lemmas.List.Elements.{All-from_recursion}
+use Rattle.std.proofs.lemmas.{List.get_or_append_left, List.get_or-append_right, List.get_or_past, List.length-set, List.Elements.All-from_recursion, Bool.true≢false, Bool.or_parts, Bool.cases_lt}
 use Rattle.std.proofs.Math.Seq.{drop-length}
-use Rattle.std.proofs.lemmas.Bool.{true≢false, or_parts, cases_lt}
-use Rattle.dom_model.specs.Worlds.World.{Options, Registration, Mutation, Observing}
-use Rattle.dom_model.specs.MutationObservers.Record.{Record}
-use Rattle.dom_model.specs.MutationObservers.Observing.{registered_on, standing_on, transient_of, with_transients, noted}
-use Rattle.dom_model.specs.MutationObservers.Records.{is_registered, is_transient_from, new_registration, with_options, registered, observed, taken_up_to, has_observer, records_past, queue_of, with_observer, records_taken, released_observer, record_by, record_for, interested, observers_of, pending_of, after_notify, pending_taken}
-use Rattle.dom_model.specs.PlainLists.Lists.{among, left_out}
-use Rattle.dom_model.specs.PlainLists.LastOnce.{with_all_last}
+use Rattle.dom_model.specs.Definitions.{Options, Registration, Mutation, Observing, Record, registered_on, standing_on, transient_of, with_transients, noted, is_registered, is_transient_from, new_registration, with_options, registered, observed, taken_up_to, has_observer, records_past, queue_of, with_observer, records_taken, released_observer, record_by, record_for, interested, observers_of, pending_of, after_notify, pending_taken, among, left_out, with_all_last}
 use Rattle.dom_model.proofs.PlainLists.Numbers.{Same, same_or, same, apart}
-use Rattle.dom_model.proofs.MutationObservers.Queues.{IsTimely, observer-made, there-taken, place-released, place-released_other, there-notified, length-moved, pending-pending_taken, interested_made-pending_taken, queue-with_observer, queue-taken, queue-kept, queue-released, queue-released_other, timely-taken, timely-released, timely-notified, timely-with_observer, timely-noted, queue-noted, pending-noted_there, pending-taken, pending-released, pending-with_observer, queue-notified, pending-notified, interested_made-taken, interested_made-released, interested_made-with_observer, interested_made-noted, interested_made-notified}
-use Rattle.dom_model.proofs.MutationObservers.NodeRegistrations.{registered_on-filter, registered-there, registrations-observed, registrations-observed_again, registrations-transients}
-use Rattle.dom_observe.specs.Once.{same_registration, once}
-use Rattle.dom_observe.specs.Watchers.{Watchers, Watches, records_at, on}
-use Rattle.dom_observe.specs.Kept.{has_queue, AllThere}
-use Rattle.dom_observe.proofs.Counting.{tally, count-append, count-filter, count-map, count-none, count-fails, any-from_count}
-use Rattle.dom_observe.proofs.Named.{fewer}
-use Rattle.dom_observe.proofs.QueueLists.{has-set, has-gone, records-none, records-set, records-gone, records-stay, records-more}
-use Rattle.dom_observe.proofs.Releasing.{there-each}
-use Rattle.dom_observe.proofs.Tables.{all_imply}
-use Rattle.dom_observe.proofs.Once.{not-same, apart_from, filter-once, any-once, once-new, apart-map}
+use Rattle.dom_model.proofs.MutationObservers.{Queues.IsTimely, Queues.observer-made, Queues.there-taken, Queues.place-released, Queues.place-released_other, Queues.there-notified, Queues.length-moved, Queues.pending-pending_taken, Queues.interested_made-pending_taken, Queues.queue-with_observer, Queues.queue-taken, Queues.queue-kept, Queues.queue-released, Queues.queue-released_other, Queues.timely-taken, Queues.timely-released, Queues.timely-notified, Queues.timely-with_observer, Queues.timely-noted, Queues.queue-noted, Queues.pending-noted_there, Queues.pending-taken, Queues.pending-released, Queues.pending-with_observer, Queues.queue-notified, Queues.pending-notified, Queues.interested_made-taken, Queues.interested_made-released, Queues.interested_made-with_observer, Queues.interested_made-noted, Queues.interested_made-notified, NodeRegistrations.registered_on-filter, NodeRegistrations.registered-there, NodeRegistrations.registrations-observed, NodeRegistrations.registrations-observed_again, NodeRegistrations.registrations-transients}
+use Rattle.dom_observe.specs.{Once.same_registration, Once.once, Watchers.Watchers, Watchers.Watches, Watchers.records_at, Watchers.on, Kept.has_queue, Kept.AllThere}
+use Rattle.dom_observe.proofs.{Counting.tally, Counting.count-append, Counting.count-filter, Counting.count-map, Counting.count-none, Counting.count-fails, Counting.any-from_count, Named.fewer, QueueLists.has-set, QueueLists.has-gone, QueueLists.records-none, QueueLists.records-set, QueueLists.records-gone, QueueLists.records-stay, QueueLists.records-more, Releasing.there-each, Tables.all_imply, Once.not-same, Once.apart_from, Once.filter-once, Once.any-once, Once.once-new, Once.apart-map}
 
 -- options put in place leave a registration the observer's or not
 own-with_options : (o n i m : ℕ) (options : Options) (r : Registration) → is_registered i m (with_options o n options r) ≡ is_registered i m r

@@ -30,8 +30,8 @@ abbrev pub NamesNodes : {S : Type 0} → List Record → IndexSet ℕ S → Type
 NamesNodes records named = (n : ℕ) → contains nat_eq named n ≡ among n (flat_map nodes_of_record records)
 
 -- a set has the numbers of the nodes that the first records name, and room for those of the others
-pub record IsSettled {S : Type 0} (records : List Record) (named : IndexSet ℕ S) (settled owed : ℕ) : Type 0 where
-  pub within : settled ≤ length records
-  pub first : NamesNodes (take settled records) named
-  pub others : length (flat_map nodes_of_record (drop settled records)) ≤ owed
+pub record IsCaughtUp {S : Type 0} (records : List Record) (named : IndexSet ℕ S) (caught_up owed : ℕ) : Type 0 where
+  pub within : caught_up ≤ length records
+  pub first : NamesNodes (take caught_up records) named
+  pub others : length (flat_map nodes_of_record (drop caught_up records)) ≤ owed
   pub room : owed ≤ spare named

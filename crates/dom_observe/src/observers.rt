@@ -24,7 +24,7 @@ use crate::node_keys::{NodeKeys, keys_on};
 use crate::notifying::gather;
 use crate::observer_id::ObserverId;
 use crate::options::Options;
-use crate::queues::{settle_each, take_from};
+use crate::queues::{catch_up_each, take_from};
 use crate::record::{Mutation, Record};
 use crate::registration::{Ended, Ending, Lifetime, Registration};
 use crate::roster::Roster;
@@ -470,18 +470,18 @@ impl Observers {
     ///
     /// A record is queued without that, since most are taken before anyone asks. It costs one look at each observer that is pending, or was taken and not told, and as much as the records name
     /// that came since the last call: so call it before `refers` where it may be asked many times while the same records wait.
-    pub fn settle(&mut self)
+    pub fn catch_up(&mut self)
         ensures { self.new ≡ self.old }
     {
-        settle_each(&mut self.roster, &self.pending);
-        settle_each(&mut self.roster, &self.untold);
+        catch_up_each(&mut self.roster, &self.pending);
+        catch_up_each(&mut self.roster, &self.untold);
     }
 
     /// Whether a registration, or a record that waits, names a node inside another. It takes no memory.
     ///
     /// It walks the nodes inside, and asks of each whether a registration stands on it: so does one on the source of each transient one. Where climbs from
     /// the nodes with registrations take fewer steps, it asks these: walk and climbs are counted in step, as `Tree::steps_inside` says. It asks each queue
-    /// of an observer that is pending, or was taken and not told, in the same way, by the nodes that its records name, and climbs from each node of the records that came since `settle`.
+    /// of an observer that is pending, or was taken and not told, in the same way, by the nodes that its records name, and climbs from each node of the records that came since `catch_up`.
     pub fn refers<X>(&self, tree: &Tree<X>, top: NodeId) -> bool
         requires { HasNode tree.now.forest top }
         ensures observed { Answers

@@ -24,7 +24,7 @@ pub struct Queue {
     // the numbers of the nodes that the first records name
     named: IndexSet<u32>,
     // how many records these are
-    settled: usize,
+    caught_up: usize,
     // the room that is kept in the set for the nodes that the other records name
     owed: usize,
 }
@@ -37,9 +37,9 @@ impl Model for Queue {
 
     ghost view = { λ q. q.records.items };
 
-    ghost use Rattle.dom_observe.specs.Naming.{IsSettled};
+    ghost use Rattle.dom_observe.specs.Naming.{IsCaughtUp};
 
-    ghost invariant = { λ q. IsSettled q.records.items q.named q.settled q.owed };
+    ghost invariant = { λ q. IsCaughtUp q.records.items q.named q.caught_up q.owed };
 }
 
 impl Queue {
@@ -50,12 +50,12 @@ impl Queue {
         Queue {
             records: Vec::new(alloc),
             named: IndexSet::new(alloc),
-            settled: 0,
+            caught_up: 0,
             owed: 0,
         }
     }
 
-    // Puts a record last. There is room for the numbers of its nodes then, which `settle` names.
+    // Puts a record last. There is room for the numbers of its nodes then, which `catch_up` names.
     pub fn push(&mut self, told: Record) -> Result<(), AllocError>
         ensures ok { OnOk result (self.new ≡ self.old ++ told ∷ []) }
         ensures err { OnErr result (self.new ≡ self.old) }
@@ -69,11 +69,11 @@ impl Queue {
     }
 
     // Names the nodes of the records that came since it was last called. It takes no memory: there is room for them.
-    pub fn settle(&mut self)
+    pub fn catch_up(&mut self)
         ensures { self.new ≡ self.old }
     {
-        name_each(&mut self.named, &self.records.as_slice()[self.settled..]);
-        self.settled = self.records.len();
+        name_each(&mut self.named, &self.records.as_slice()[self.caught_up..]);
+        self.caught_up = self.records.len();
         self.owed = 0;
     }
 
@@ -91,7 +91,7 @@ impl Queue {
         } else if used > 0 {
             self.named.clear();
         }
-        self.settled = 0;
+        self.caught_up = 0;
         self.owed = 0;
         mem::replace(&mut self.records, Vec::new(alloc))
     }
@@ -105,7 +105,7 @@ impl Queue {
             (flat_map nodes_of_record self.now) }
     {
         is_named_inside(tree, top, &self.named)
-            || is_told_inside(tree, top, &self.records.as_slice()[self.settled..])
+            || is_told_inside(tree, top, &self.records.as_slice()[self.caught_up..])
     }
 }
 

@@ -21,13 +21,13 @@ pub(crate) fn take_from(roster: &mut Roster, observer: ObserverId, alloc: Global
     kept.queue.take(alloc)
 }
 
-// Settles the queue of each of some observers. It takes no memory.
-pub(crate) fn settle_each(roster: &mut Roster, observers: &IndexSet<ObserverId>)
+// Catches up in the queue of each of some observers. It takes no memory.
+pub(crate) fn catch_up_each(roster: &mut Roster, observers: &IndexSet<ObserverId>)
     requires { AllThere (is_there roster.old) observers.now.keys }
     ensures { roster.new ≡ roster.old }
 {
     for observer in observers.as_slice() {
         let kept = roster.get_mut(*observer);
-        kept.queue.settle();
+        kept.queue.catch_up();
     }
 }

@@ -2,12 +2,9 @@
 use Rattle.std.proofs.Common.{◌≡◌, ◌∙◌, ◌≤◌, ℕ, Bool, true, false, cond, nat_le, ◌&&◌, Option, Some, None, Result, Ok, Err, ap, refl, sym, subst, true≢false}
 use Rattle.std.specs.Str.Parse.{ParsesUnsigned, digits_value, without_leading_plus}
 use Rattle.std.proofs.lemmas.Bool.{leb-true, le-leb}
-use Rattle.clap.specs.Words.{Text}
-use Rattle.clap.specs.Matches.{ReadsOne}
-use Rattle.clap.specs.ValueTests.{is_unsigned_in}
+use Rattle.clap.specs.{Words.Text, Matches.ReadsOne, ValueTests.is_unsigned_in}
 use Rattle.clap.specs.declared.builder.value_parser.ValueParser.TheVariants as parser
-use Rattle.clap.proofs.WalkLemmas.{both}
-use Rattle.clap.proofs.ValueTestLemmas.{Accepts-accepts, accepts-Accepts}
+use Rattle.clap.proofs.{WalkLemmas.both, ValueTestLemmas.Accepts-accepts, ValueTestLemmas.accepts-Accepts}
 use Rattle.dom_options.specs.CommandLine.{limit_of, value_within}
 
 -- a value that was read is the number of its text, and lies in the range where clap takes the text

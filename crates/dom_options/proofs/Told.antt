@@ -1,12 +1,8 @@
 -- What is told of words comes of the faults that clap finds in them.
 use Rattle.std.proofs.Common.{◌≡◌, ◌∙◌, Bool, true, false, not, [], ◌∷◌, ◌||◌, ap, refl, sym, inl, inr, true≢false}
 use Rattle.std.specs.List.{list_any}
-use Rattle.clap.specs.Words.{HasKind, IsAmong, Kinds, kind_of}
-use Rattle.clap.specs.declared.error.Error.{Error}
-use Rattle.clap.specs.declared.error.kind.ErrorKind.{ErrorKind}
-use Rattle.dom_options.specs.CommandLine.{IsRefusalOf, TellsOf, is_request}
-use Rattle.dom_options.specs.declared.options.Refusal.{Refusal}
-use Rattle.dom_options.specs.declared.options.Refusal.TheVariants.{Memory, Help, Mistake}
+use Rattle.clap.specs.{Words.HasKind, Words.IsAmong, Words.Kinds, Words.kind_of, declared.error.Error.Error, declared.error.kind.ErrorKind.ErrorKind}
+use Rattle.dom_options.specs.{CommandLine.IsRefusalOf, CommandLine.TellsOf, CommandLine.is_request, declared.options.Refusal.Refusal, declared.options.Refusal.TheVariants.Memory, declared.options.Refusal.TheVariants.Help, declared.options.Refusal.TheVariants.Mistake}
 
 any_among : (p : ErrorKind → Bool) (k : ErrorKind) (ks : Kinds) → IsAmong k ks → p k ≡ true → list_any p ks ≡ true
 any_among p k [] among holds = absurd among

@@ -1,8 +1,6 @@
 -- What clap makes of some command lines.
-use Rattle.std.specs.Prelude.{◌≡◌, List, [], ◌∷◌, true, false, codes}
-use Rattle.std.proofs.Common.{refl}
-use Rattle.clap.specs.Words.{Text, takes}
-use Rattle.clap.specs.declared.error.kind.ErrorKind.TheVariants.{DisplayHelp, DisplayVersion, UnknownArgument, ValueValidation}
+use Rattle.std.proofs.Common.{◌≡◌, List, [], ◌∷◌, true, false, codes, refl}
+use Rattle.clap.specs.{Words.Text, Words.takes, declared.error.kind.ErrorKind.TheVariants.DisplayHelp, declared.error.kind.ErrorKind.TheVariants.DisplayVersion, declared.error.kind.ErrorKind.TheVariants.UnknownArgument, declared.error.kind.ErrorKind.TheVariants.ValueValidation}
 use Rattle.clap.proofs.OnLiterals.{clap_on_literals}
 use Rattle.dom_options.specs.CommandLine.{bounds_asked, faults_in, program_app}
 

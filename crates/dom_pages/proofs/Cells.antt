@@ -1,8 +1,6 @@
 -- What stands under each of the first numbers.
 use Rattle.std.proofs.Common.{◌≡◌, ℕ, ◌+◌, ◌/◌, ◌%◌, ◌<◌, List, [], ◌∷◌, ◌++◌, length, Option, None, slice_index_or, slice_set, ap, sym, ◌∙◌, arith, ⊎_elim}
-use Rattle.std.proofs.lemmas.Bool.{cases_eq}
-use Rattle.std.proofs.lemmas.List.{get_or-set_same, get_or-set_other, length-set}
-use Rattle.std.proofs.lemmas.List.FromFn.{length-map-range_with_len, get_or-map-range_with_len, map-range_with_len_more, fill_by_all}
+use Rattle.std.proofs.lemmas.{Bool.cases_eq, List.get_or-set_same, List.get_or-set_other, List.length-set, List.FromFn.length-map-range_with_len, List.FromFn.get_or-map-range_with_len, List.FromFn.map-range_with_len_more, List.FromFn.fill_by_all}
 use Rattle.dom_pages.specs.Paged.{page_at, cell_at, cells_of, AllVacant}
 use Rattle.dom_pages.proofs.Written.{written, cell_at-other, cell_at-inside, cell_at-outside}
 

@@ -1,7 +1,6 @@
 -- What the cells of a page hold, read cell by cell.
 use Rattle.std.proofs.Common.{◌≡◌, ℕ, ◌+◌, ◌<◌, List, [], ◌∷◌, ◌++◌, length, map, Option, Some, None, slice_index_or, slice_set, sym, ap, ◌∙◌, arith}
-use Rattle.std.proofs.lemmas.List.{length-map, map-append, map-set, get_or-map}
-use Rattle.std.proofs.lemmas.List.Sums.{sum_by-append}
+use Rattle.std.proofs.lemmas.{List.length-map, List.map-append, List.map-set, List.get_or-map, List.Sums.sum_by-append}
 use Rattle.dom_pages.specs.Paged.{taken, taken_in}
 use Rattle.dom_pages.proofs.Taken.{taken_in-set}
 

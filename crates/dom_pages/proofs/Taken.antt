@@ -1,7 +1,6 @@
 -- In how many cells of a page something stands.
 use Rattle.std.proofs.Common.{◌≡◌, ℕ, zero, suc, ◌+◌, ◌<◌, ◌≤◌, List, [], ◌∷◌, length, Option, Some, None, is_some, true, false, slice_index_or, slice_set, refl, ap, arith}
-use Rattle.std.proofs.lemmas.List.{length-set}
-use Rattle.std.proofs.lemmas.List.Sums.{sum_by-cons, sum_by-set}
+use Rattle.std.proofs.lemmas.{List.length-set, List.Sums.sum_by-cons, List.Sums.sum_by-set}
 use Rattle.dom_pages.specs.Paged.{taken, taken_in, AllVacant}
 
 module _ {T : Type 0} where

@@ -1,7 +1,6 @@
 -- A page replaced, or one cell written: what stands under the other numbers stays.
 use Rattle.std.proofs.Common.{◌≡◌, ◌≢◌, ℕ, zero, suc, ◌-◌, ◌/◌, ◌%◌, ◌<◌, ◌≤◌, List, [], ◌∷◌, ◌++◌, length, Option, None, slice_index_or, slice_set, refl, ap, sym, ◌∙◌, arith, ⊎_elim}
-use Rattle.std.proofs.lemmas.Bool.{cases_eq, cases_lt}
-use Rattle.std.proofs.lemmas.List.{get_or_past, get_or_default, get_or_append_left, get_or-append_right, get_or-set_same, get_or-set_other, length-set, set_past}
+use Rattle.std.proofs.lemmas.{Bool.cases_eq, Bool.cases_lt, List.get_or_past, List.get_or_default, List.get_or_append_left, List.get_or-append_right, List.get_or-set_same, List.get_or-set_other, List.length-set, List.set_past}
 use Rattle.dom_pages.specs.Paged.{page_at, cell_at, AllVacant}
 
 -- two numbers at the same place of the same page are one

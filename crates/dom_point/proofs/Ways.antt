@@ -1,21 +1,11 @@
 -- The answers where the ways up from two nodes meet.
-use Rattle.std.proofs.Common.{◌≡◌, ℕ, ◌<◌, nat_lt, if◌then◌else◌, Option, Some, None, ap, sym, ◌∙◌, subst}
+use Rattle.std.proofs.Common.{◌≡◌, ℕ, ◌<◌, nat_lt, if◌then◌else◌, Option, Some, None, ap, sym, ◌∙◌, subst, Less, Greater}
 use Rattle.std.specs.Ordering.{nat_cmp}
-use Rattle.std.specs.declared.cmp.Ordering.TheVariants.{Less, Greater}
-use Rattle.dom_model.specs.PlainLists.Lists.{hits}
-use Rattle.dom_model.specs.Forests.Forest.{Grove, HasNode, parent_of, index_of, ancestors, IsForest}
-use Rattle.dom_model.specs.Worlds.World.{Point}
-use Rattle.dom_model.specs.BoundaryPoints.Points.{order_of}
-use Rattle.dom_model.specs.RangesAndContents.Ranges.{common_ancestor}
-use Rattle.dom_model.proofs.Forests.Climbing.{among-hits}
-use Rattle.dom_model.proofs.Forests.Chains.{index-apart}
-use Rattle.dom_model.proofs.Forests.Indices.{parent-there}
-use Rattle.dom_model.proofs.Forests.Entries.{occurs-HasNode}
-use Rattle.dom_model.proofs.BoundaryPoints.PointOrder.{order-one_node, order-above}
+use Rattle.dom_model.specs.Definitions.{hits, Grove, HasNode, parent_of, index_of, ancestors, IsForest, Point, order_of, common_ancestor}
+use Rattle.dom_model.proofs.Forests.{Climbing.among-hits, Chains.index-apart, Indices.parent-there, Entries.occurs-HasNode, WaysMeeting.met-first, WaysMeeting.met-second, WaysMeeting.met-between}
+use Rattle.dom_model.proofs.BoundaryPoints.{PointOrder.order-one_node, PointOrder.order-above, OrderByWays.path-through, OrderByWays.order-below, OrderByWays.order-beside}
 use Rattle.dom_tree.specs.Ways.{IsOnWay, AreApart}
 use Rattle.dom_tree.proofs.Ways.{way-held}
-use Rattle.dom_model.proofs.Forests.WaysMeeting.{met-first, met-second, met-between}
-use Rattle.dom_model.proofs.BoundaryPoints.OrderByWays.{path-through, order-below, order-beside}
 
 module _ {X : Type 0} {g : Grove X} (s : IsForest g) where
   -- where ways that meet come from different children, they meet in the deepest node above both

@@ -1,15 +1,14 @@
 -- The chains stay spelled as ends are taken out of them and put in.
 use Rattle.std.proofs.Common.{◌≡◌, ℕ, ◌≤◌, ◌<◌, ◌==◌, true, false, cond, List, [], ◌∷◌, length, set, Option, Some, None, refl, sym, ap, ◌∙◌, ⊎_elim, arith, length-set, get_or-set_same, get_or-set_other, if◌then◌else◌}
-use Rattle.std.proofs.lemmas.Bool.{cases_Bool, cases_eq, cases_lt, eq-eqb, ne_eqb, false≢true}
-use Rattle.std.proofs.lemmas.Bool.Decides.{nat_tests}
-use Rattle.std.proofs.lemmas.List.{get_or_past}
-use Rattle.dom_model.specs.PlainLists.Lists.{hits, is_number, head_of, after, before_from, before, left_out}
-use Rattle.dom_model.specs.Worlds.World.{Point}
+use Rattle.std.proofs.lemmas.{Bool.cases_Bool, Bool.cases_eq, Bool.cases_lt, Bool.eq-eqb, Bool.ne_eqb, Bool.false≢true, Bool.Decides.nat_tests, List.get_or_past}
+use Rattle.dom_model.specs.Definitions.{hits, is_number, head_of, after, before_from, before, left_out, Point}
 use Rattle.dom_links.specs.Wiring.{link_unless}
-use Rattle.dom_links.proofs.Neighbours.{is_number-true, head_of-none, after-none, before_from-none, left_out-none, hits-left_out_same, hits-left_out_other, head_of-left_out, after-left_out, before_from-left_out, meets, first_of}
-use Rattle.dom_ranges.specs.declared.chains.End.{End}
-use Rattle.dom_ranges.specs.Chained.{Heads, free_end, end_at, point_at, covers, cover_of, head_in, head_at, counted_at, IsChained, ForLink, led_on, heads_led, led_back, table_without, heads_without, table_with, heads_with}
+use Rattle.dom_links.proofs.Neighbours.{head_of-none, after-none, before_from-none, hits-left_out_other, head_of-left_out, after-left_out, before_from-left_out, meets, first_of}
+use Rattle.dom_ranges.specs.{declared.chains.End.End, Chained.Heads, Chained.free_end, Chained.end_at, Chained.point_at, Chained.covers, Chained.cover_of, Chained.head_in, Chained.head_at, Chained.counted_at, Chained.IsChained, Chained.ForLink, Chained.led_on, Chained.heads_led, Chained.led_back, Chained.table_without, Chained.heads_without, Chained.table_with, Chained.heads_with}
 use Rattle.dom_ranges.proofs.Covers as Covers
+use Rattle.dom_model.proofs.Soundness.SoundEditing.{number_is}
+use Rattle.dom_model.proofs.MutationAlgorithms.Emptied.{none-left_out}
+use Rattle.dom_model.proofs.Forests.Lying.{left_out-absent}
 
 -- a point stands in one node
 pub stands-both : (n m : ℕ) (o : Option Point) → 0 < counted_at n o → 0 < counted_at m o → n ≡ m
@@ -194,13 +193,13 @@ module _ (c : ℕ → List ℕ) (t : List End) (heads : Heads) (ok : IsChained c
   not-before : (k n : ℕ) → hits e (c n) ≡ 0 → 0 < hits k (c n) → is_number (end_at t e).prev k ≡ false
   not-before k n z h =
       ⊎_elim (λ (y : is_number (end_at t e).prev k ≡ true).
-      let a : before e (c p.node) ≡ Some k = sym (ok.prev e p.node here) ∙ is_number-true (end_at t e).prev k y in
+      let a : before e (c p.node) ≡ Some k = sym (ok.prev e p.node here) ∙ number_is (end_at t e).prev k y in
       absurd (apart n z (one-chain c t heads ok k n p.node h (before-there e k (c p.node) a)))) (λ y. y) (cases_Bool (is_number (end_at t e).prev k))
 
   not-after : (k n : ℕ) → hits e (c n) ≡ 0 → 0 < hits k (c n) → is_number (end_at t e).next k ≡ false
   not-after k n z h =
       ⊎_elim (λ (y : is_number (end_at t e).next k ≡ true).
-      let a : after e (c p.node) ≡ Some k = sym (ok.next e p.node here) ∙ is_number-true (end_at t e).next k y in
+      let a : after e (c p.node) ≡ Some k = sym (ok.next e p.node here) ∙ number_is (end_at t e).next k y in
       absurd (apart n z (one-chain c t heads ok k n p.node h (after-there e k (c p.node) a)))) (λ y. y) (cases_Bool (is_number (end_at t e).next k))
 
   first-here : head_at (heads_led (end_at t e).prev p.node (end_at t e).next heads) p.node ≡ head_of (left_out e (c p.node))
@@ -225,16 +224,16 @@ module _ (c : ℕ → List ℕ) (t : List End) (heads : Heads) (ok : IsChained c
     where
       first : (n : ℕ) → head_at (heads_without e p.node t heads) n ≡ head_of (left_out e (c n))
       first n =
-          ⊎_elim (λ (z : hits e (c n) ≡ 0). first-there n (apart n z) (end_at t e).prev ∙ ok.first n ∙ sym (ap head_of (left_out-none e (c n) z)))
+          ⊎_elim (λ (z : hits e (c n) ≡ 0). first-there n (apart n z) (end_at t e).prev ∙ ok.first n ∙ sym (ap head_of (left_out-absent e (c n) z)))
           (λ (d : hits e (c n) ≡ 0 → ⊥). let q : n ≡ p.node = one-chain c t heads ok e n p.node (omega arith) here in rw q first-here) (cases_eq (hits e (c n)) 0)
 
       counted : (k n : ℕ) → hits k (left_out e (c n)) ≡ counted_at n (point_at (table_without e t) k)
       counted k n =
-          ⊎_elim (λ (q : k ≡ e). rw q (hits-left_out_same e (c n) ∙ sym (ap (λ (x : End). counted_at n x.point) without-itself)))
+          ⊎_elim (λ (q : k ≡ e). rw q (none-left_out e (c n) ∙ sym (ap (λ (x : End). counted_at n x.point) without-itself)))
           (λ (d : k ≡ e → ⊥). hits-left_out_other k e (c n) (λ q. d (sym q)) ∙ ok.counted k n ∙ sym (ap (λ (x : End). counted_at n x.point) (without-end k d))) (cases_eq k e)
 
       other : (k n : ℕ) → 0 < hits k (left_out e (c n)) → k ≡ e → ⊥
-      other k n h q = let a : 0 < hits e (left_out e (c n)) = rw q at h in omega (arith, hits-left_out_same e (c n))
+      other k n h q = let a : 0 < hits e (left_out e (c n)) = rw q at h in omega (arith, none-left_out e (c n))
 
       stayed : (k n : ℕ) → (k ≡ e → ⊥) → 0 < hits k (left_out e (c n)) → 0 < hits k (c n)
       stayed k n d h = omega (arith, hits-left_out_other k e (c n) (λ q. d (sym q)))
@@ -244,7 +243,7 @@ module _ (c : ℕ → List ℕ) (t : List End) (heads : Heads) (ok : IsChained c
           let d = other k n h in
           let there : 0 < hits k (c n) = stayed k n d h in
           let a : (end_at (table_without e t) k).next ≡ (if is_number (end_at t e).prev k then (end_at t e).next else (end_at t k).next) = ap (λ (x : End). x.next) (without-end k d) in
-          a ∙ ⊎_elim (λ (z : hits e (c n) ≡ 0). rw (not-before k n z there) (ok.next k n there ∙ sym (ap (after k) (left_out-none e (c n) z))))
+          a ∙ ⊎_elim (λ (z : hits e (c n) ≡ 0). rw (not-before k n z there) (ok.next k n there ∙ sym (ap (after k) (left_out-absent e (c n) z))))
           (λ (y : hits e (c n) ≡ 0 → ⊥).
           let inside : 0 < hits e (c n) = omega arith in
           let m = meets None e k (c n) d (once c t heads ok e n) (once c t heads ok k n) refl in
@@ -255,7 +254,7 @@ module _ (c : ℕ → List ℕ) (t : List End) (heads : Heads) (ok : IsChained c
           let d = other k n h in
           let there : 0 < hits k (c n) = stayed k n d h in
           let a : (end_at (table_without e t) k).prev ≡ (if is_number (end_at t e).next k then (end_at t e).prev else (end_at t k).prev) = ap (λ (x : End). x.prev) (without-end k d) in
-          a ∙ ⊎_elim (λ (z : hits e (c n) ≡ 0). rw (not-after k n z there) (ok.prev k n there ∙ sym (ap (before k) (left_out-none e (c n) z))))
+          a ∙ ⊎_elim (λ (z : hits e (c n) ≡ 0). rw (not-after k n z there) (ok.prev k n there ∙ sym (ap (before k) (left_out-absent e (c n) z))))
           (λ (y : hits e (c n) ≡ 0 → ⊥).
           let inside : 0 < hits e (c n) = omega arith in
           let m = meets None k e (c n) (λ q. d (sym q)) (once c t heads ok k n) (once c t heads ok e n) refl in
@@ -292,7 +291,7 @@ module _ (c : ℕ → List ℕ) (t : List End) (heads : Heads) (ok : IsChained c
   not-head : (k n : ℕ) → 0 < hits k (c n) → (p.node ≡ n → ⊥) → is_number (head_at heads p.node) k ≡ false
   not-head k n h d =
       ⊎_elim (λ (y : is_number (head_at heads p.node) k ≡ true).
-      let a : head_of (c p.node) ≡ Some k = sym (ok.first p.node) ∙ is_number-true (head_at heads p.node) k y in
+      let a : head_of (c p.node) ≡ Some k = sym (ok.first p.node) ∙ number_is (head_at heads p.node) k y in
       absurd (d (one-chain c t heads ok k p.node n (head-there k (c p.node) a) h))) (λ y. y) (cases_Bool (is_number (head_at heads p.node) k))
 
   pub IsChained-with : IsChained entered_first (table_with e p heads t) (heads_with e p heads)

@@ -1,8 +1,7 @@
 -- Which nodes are covered, read off the heads of their chains.
 use Rattle.std.proofs.Common.{◌≡◌, ℕ, zero, suc, ◌+◌, ◌-◌, ◌≤◌, ◌<◌, Bool, true, false, List, [], ◌∷◌, ◌++◌, length, set, replicate, Option, Some, None, is_some, refl, sym, ap, ◌∙◌, arith, length-append}
 use Rattle.std.specs.Option.{IsSome}
-use Rattle.std.proofs.lemmas.Bool.{false≢true}
-use Rattle.std.proofs.lemmas.List.{length-map, length-replicate}
+use Rattle.std.proofs.lemmas.{Bool.false≢true, List.length-map, List.length-replicate}
 use Rattle.dom_pages.specs.Numbered.{item_at}
 use Rattle.dom_ranges.specs.Chained.{Heads, covers, covered_to, cover_of, head_at}
 

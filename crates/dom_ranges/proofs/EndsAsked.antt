@@ -2,17 +2,10 @@
 use Rattle.std.proofs.Common.{◌≡◌, ℕ, ◌+◌, ◌<◌, ◌≤◌, ◌==◌, true, false, Bool, List, [], ◌∷◌, length, map, set, Option, Some, None, option_map, refl, sym, ap, ◌∙◌, ⊎_elim, arith}
 use Rattle.std.specs.List.{list_any, flat_map}
 use Rattle.std.proofs.lemmas.Bool.{cases_eq, false≢true}
-use Rattle.dom_model.specs.PlainLists.Lists.{among}
-use Rattle.dom_model.specs.Worlds.World.{Point}
-use Rattle.dom_model.specs.MutationAlgorithms.Discarding.{nodes_of_range, nodes_unless_released}
-use Rattle.dom_ranges.specs.declared.chains.End.{End}
-use Rattle.dom_ranges.specs.Chained.{Heads, point_at, points_of, cover_of, HasChains, Rechains, moved_from}
-use Rattle.dom_ranges.specs.Tables.{RangeTable, live_nodes, paired, IsPaired, by_slot, moved_in, nodes_at, stands_among, IsInOrder}
-use Rattle.dom_ranges.proofs.Steps.{points-moved, same-length, point-written, point-kept, has-after}
-use Rattle.dom_ranges.proofs.Slots.{slots-any}
-use Rattle.dom_ranges.proofs.Pairs.{ranges-are}
+use Rattle.dom_model.specs.Definitions.{among, Point, nodes_of_range, nodes_unless_released}
+use Rattle.dom_ranges.specs.{declared.chains.End.End, Chained.Heads, Chained.point_at, Chained.points_of, Chained.cover_of, Chained.HasChains, Chained.Rechains, Chained.moved_from, Tables.RangeTable, Tables.live_nodes, Tables.paired, Tables.IsPaired, Tables.by_slot, Tables.moved_in, Tables.nodes_at, Tables.stands_among, Tables.IsInOrder}
+use Rattle.dom_ranges.proofs.{Steps.points-moved, Steps.same-length, Steps.point-written, Steps.point-kept, Steps.has-after, Slots.slots-any, Pairs.ranges-are, Making.many}
 use Rattle.dom_model.proofs.RangesAndContents.RangesElsewhere.{among-any}
-use Rattle.dom_ranges.proofs.Making.{many}
 
 -- the nodes of the ends are those of the live ranges
 pub nodes-paired : (ps : List (Option Point)) → IsPaired ps → nodes_at ps ≡ flat_map (nodes_unless_released nodes_of_range) (paired ps)

@@ -1,21 +1,12 @@
 -- How many ends of static ranges stand in a node, as ranges come and go; and the ranges by number asked as those by slot are.
-use Rattle.std.proofs.Common.{◌≡◌, ℕ, ◌+◌, ◌-◌, ◌^◌, ◌<◌, ◌≤◌, ◌==◌, nat_lt, Bool, true, false, ◌||◌, if◌then◌else◌, List, [], ◌∷◌, ◌++◌, length, filter_map, sum_by, count_by, swap_remove, slice_index_or, Option, Some, None, is_some, refl, sym, ap, ◌∙◌, ⊎_elim, arith}
-use Rattle.std.specs.Prelude.{flat_map}
+use Rattle.std.proofs.Common.{◌≡◌, ℕ, ◌+◌, ◌-◌, ◌^◌, ◌<◌, ◌≤◌, ◌==◌, nat_lt, Bool, true, false, ◌||◌, if◌then◌else◌, List, [], ◌∷◌, ◌++◌, length, filter_map, sum_by, count_by, swap_remove, slice_index_or, Option, Some, None, is_some, refl, sym, ap, ◌∙◌, ⊎_elim, arith, flat_map}
 use Rattle.std.specs.List.{list_any}
-use Rattle.std.proofs.lemmas.Bool.{cases_Bool, lt-ltb}
-use Rattle.std.proofs.lemmas.Grind.{flat_map-append}
-use Rattle.std.proofs.lemmas.List.{length_push}
-use Rattle.std.proofs.lemmas.List.Folds.{list_any-append}
-use Rattle.std.proofs.lemmas.List.Sums.{sum_by-cons, count_by-le-length, sum_by-swap_remove}
-use Rattle.std.proofs.lemmas.List.Sorted.{list_any-IsPermutation}
-use Rattle.dom_model.specs.PlainLists.Lists.{among, hits}
-use Rattle.dom_model.specs.Worlds.World.{Range}
-use Rattle.dom_model.specs.MutationAlgorithms.Discarding.{nodes_of_range, nodes_unless_released}
+use Rattle.std.proofs.lemmas.{Bool.cases_Bool, Bool.lt-ltb, Grind.flat_map-append, List.length_push, List.Folds.list_any-append, List.Sums.sum_by-cons, List.Sums.count_by-le-length, List.Sums.sum_by-swap_remove, List.Sorted.list_any-IsPermutation}
+use Rattle.dom_model.specs.Definitions.{among, hits, Range, nodes_of_range, nodes_unless_released}
 use Rattle.dom_model.proofs.Forests.Climbing.{hits-append, hits-first, among-hits, not_among-hits}
 use Rattle.dom_model.proofs.RangesAndContents.RangesElsewhere.{among-any}
 use Rattle.dom_slots.specs.Slotted.{by_slot, Fit}
-use Rattle.dom_slots.proofs.Live.{live-by_slot}
-use Rattle.dom_slots.proofs.Places.{length-swap_remove}
+use Rattle.dom_slots.proofs.{Live.live-by_slot, Places.length-swap_remove}
 use Rattle.dom_ranges.specs.StaticEnds.{ends_in, count_in, with_end, AreKept}
 
 -- 1 where the node is that one

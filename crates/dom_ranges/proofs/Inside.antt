@@ -1,25 +1,16 @@
 -- Walks through the nodes inside a node that forget each, or gather the ends that stand there.
 use Rattle.std.proofs.Common.{◌≡◌, ℕ, ◌+◌, ◌-◌, ◌^◌, ◌≤◌, ◌<◌, ◌==◌, nat_lt, nat_le, ◌&&◌, true, false, Bool, if◌then◌else◌, List, [], ◌∷◌, set, Option, Some, None, IfSome, refl, sym, ap, subst, ◌∙◌, ⊎_elim, arith}
 use Rattle.std.specs.List.{list_any, flat_map}
-use Rattle.std.proofs.lemmas.Bool.{cases_Bool, cases_eq, false≢true, eq-eqb, ne_eqb}
-use Rattle.std.proofs.lemmas.Bool.Decides.{nat_tests}
+use Rattle.std.proofs.lemmas.{Bool.cases_Bool, Bool.cases_eq, Bool.false≢true, Bool.eq-eqb, Bool.ne_eqb, Bool.Decides.nat_tests}
 use Rattle.std.proofs.Math.Path.{fun_ext}
-use Rattle.dom_model.specs.PlainLists.Lists.{hits, among, after, from_first}
-use Rattle.dom_model.specs.Forests.Forest.{Grove, HasNode, inclusive_descendants, IsForest}
-use Rattle.dom_model.specs.Worlds.World.{Point, Range}
-use Rattle.dom_model.specs.BoundaryPoints.Points.{after_splice, after_removal, moved_range, map_ranges}
-use Rattle.dom_model.specs.MutationAlgorithms.Discarding.{nodes_of_range, nodes_unless_released}
-use Rattle.dom_model.proofs.PlainLists.Numbers.{same_or, same, apart}
-use Rattle.dom_model.proofs.PlainLists.Heads.{hits-first, among-first, among-rest}
-use Rattle.dom_model.proofs.PlainLists.Searches.{passes_not, any-either}
-use Rattle.dom_model.proofs.Forests.Climbing.{hits-among, hits-not_among}
-use Rattle.dom_model.proofs.Forests.TreeOrder.InsideWalks.{IsAt, from-top, at-top, at-next, inside-one, here-inside, rest-next, rest-end}
+use Rattle.dom_model.specs.Definitions.{hits, among, after, from_first, Grove, HasNode, inclusive_descendants, IsForest, Point, Range, after_splice, after_removal, moved_range, map_ranges, nodes_of_range, nodes_unless_released}
+use Rattle.dom_model.proofs.PlainLists.{Numbers.same_or, Numbers.same, Numbers.apart, Heads.among-first, Heads.among-rest, Searches.passes_not, Searches.any-either}
+use Rattle.dom_model.proofs.Forests.{Climbing.hits-among, Climbing.hits-not_among, TreeOrder.InsideWalks.IsAt, TreeOrder.InsideWalks.from-top, TreeOrder.InsideWalks.at-top, TreeOrder.InsideWalks.at-next, TreeOrder.InsideWalks.inside-one, TreeOrder.InsideWalks.here-inside, TreeOrder.InsideWalks.rest-next, TreeOrder.InsideWalks.rest-end, Listed.hits-itself}
 use Rattle.dom_model.proofs.BoundaryPoints.PointOrder.{map_ranges-twice}
 use Rattle.dom_model.proofs.Soundness.SoundPlacing.{map_ranges-same}
 use Rattle.dom_model.proofs.RangesAndContents.RangesElsewhere.{removal-elsewhere}
-use Rattle.dom_ranges.specs.Chained.{uncovered, on_node}
-use Rattle.dom_ranges.specs.Tables.{RangeTable, live_nodes, moved_in}
-use Rattle.dom_ranges.proofs.Moving.{splice-node}
+use Rattle.dom_ranges.specs.{Chained.uncovered, Chained.on_node, Tables.RangeTable, Tables.live_nodes, Tables.moved_in}
+use Rattle.dom_model.proofs.TokenText.Contents.ExtractedAsDeleted.{splice-node}
 
 -- ranges moved twice
 pub ranges-twice : (g h k : Point → Point) → ((p : Point) → h (g p) ≡ k p) → (rs : List (Option Range)) → map_ranges h (map_ranges g rs) ≡ map_ranges k rs
@@ -41,7 +32,7 @@ ranges-alike g h p e (Some r ∷ rs) n =
     ap (λ z. Some z ∷ map_ranges g rs) w ∙ ap (λ xs. Some (moved_range h r) ∷ xs) (ranges-alike g h p e rs rest)) (cases_Bool (p r.end.node))) (cases_Bool (p r.start.node))
 
 -- from a number on stand no more than in the whole list
-from-fewer : (n k : ℕ) (l : List ℕ) → hits k (from_first n l) ≤ hits k l
+pub from-fewer : (n k : ℕ) (l : List ℕ) → hits k (from_first n l) ≤ hits k l
 from-fewer n k [] = omega arith
 from-fewer n k (x ∷ xs) = elim (same_or x n) [ same _ v ↦ rw v (omega arith) | apart _ v ↦ rw v (let i = from-fewer n k xs in omega arith) ]
 
@@ -122,7 +113,7 @@ module _ {X : Type 0} (g : Grove X) (s : IsForest g) (top : ℕ) where
   gathered-on : (start v w : RangeTable) (to : Point) (here : ℕ) (rest : List ℕ) → IsGathered start v to here → from_first here (inclusive_descendants g.forest top) ≡ here ∷ rest → w ≡ record v { ranges = map_ranges (on_node here (λ _. to)) v.ranges }
       → w ≡ record start { ranges = map_ranges (moved_out rest to) start.ranges }
   gathered-on start v w to here rest c e h =
-      let absent : hits here rest ≡ 0 = omega (arith, inside-one g s top here, from-fewer here here (inclusive_descendants g.forest top), ap (hits here) e, hits-first here rest) in
+      let absent : hits here rest ≡ 0 = omega (arith, inside-one g s top here, from-fewer here here (inclusive_descendants g.forest top), ap (hits here) e, hits-itself here rest) in
       let a : map_ranges (on_node here (λ _. to)) (map_ranges (moved_out (here ∷ rest) to) start.ranges) ≡ map_ranges (moved_out rest to) start.ranges =
       ranges-twice (moved_out (here ∷ rest) to) (on_node here (λ _. to)) (moved_out rest to) (out-step here rest to (here-inside g s top here c.at) absent) start.ranges in
       h ∙ ap (λ (x : RangeTable). record x { ranges = map_ranges (on_node here (λ _. to)) x.ranges }) c.moved

@@ -1,15 +1,9 @@
 -- What the calls that make, release and move ranges leave in order.
-use Rattle.std.proofs.Common.{◌≡◌, ℕ, ◌+◌, ◌-◌, ◌≤◌, ◌<◌, List, [], ◌∷◌, ◌++◌, length, count_by, get_or, set, take, Option, Some, None, is_some, refl, sym, ap, subst, ◌∙◌, arith, length-append, length-set}
-use Rattle.std.proofs.lemmas.Grind.{get_or_default_zero}
-use Rattle.std.proofs.lemmas.List.{length-take-le}
-use Rattle.std.specs.Prelude.{swap_remove}
-use Rattle.dom_model.specs.Worlds.World.{Point, Range}
-use Rattle.dom_ranges.specs.declared.chains.End.{End}
-use Rattle.dom_ranges.specs.Chained.{Heads, cover_of, points_of, HasChains}
-use Rattle.dom_ranges.specs.Tables.{RangeTable, live_nodes, paired, IsPaired, live_count, by_slot, slot_at, range_in_slot, without_slot, HaveSlots, IsInOrder}
-use Rattle.dom_ranges.proofs.Steps.{points-length, same-length}
-use Rattle.dom_ranges.proofs.Slots.{slots-none, slots-added, ranges-added, slots-written, ranges-written, held-live, slot-there, moves, slots-released, ranges-released, idle-none}
-use Rattle.dom_ranges.proofs.Pairs.{paired-length, paired-append, IsPaired-append, live-counted, live-set, live-append, written-ranges, written-paired, left-ranges, left-paired, ranges-are, covered-is}
+use Rattle.std.proofs.Common.{◌≡◌, ℕ, ◌+◌, ◌-◌, ◌≤◌, ◌<◌, List, [], ◌∷◌, ◌++◌, length, count_by, get_or, set, take, Option, Some, None, is_some, refl, sym, ap, subst, ◌∙◌, arith, length-append, length-set, swap_remove}
+use Rattle.std.proofs.lemmas.{Grind.get_or_default_zero, List.length-take-le}
+use Rattle.dom_model.specs.Definitions.{Point, Range}
+use Rattle.dom_ranges.specs.{declared.chains.End.End, Chained.Heads, Chained.cover_of, Chained.points_of, Chained.HasChains, Tables.RangeTable, Tables.live_nodes, Tables.paired, Tables.IsPaired, Tables.live_count, Tables.by_slot, Tables.slot_at, Tables.range_in_slot, Tables.without_slot, Tables.HaveSlots, Tables.IsInOrder}
+use Rattle.dom_ranges.proofs.{Steps.points-length, Steps.same-length, Slots.slots-none, Slots.slots-added, Slots.ranges-added, Slots.slots-written, Slots.ranges-written, Slots.held-live, Slots.slot-there, Slots.moves, Slots.slots-released, Slots.ranges-released, Slots.idle-none, Pairs.paired-length, Pairs.paired-append, Pairs.IsPaired-append, Pairs.live-counted, Pairs.live-set, Pairs.live-append, Pairs.written-ranges, Pairs.written-paired, Pairs.left-ranges, Pairs.left-paired, Pairs.ranges-are, Pairs.covered-is}
 
 -- as many ranges as slots
 pub many : (t : List End) (heads : Heads) (slots : List (Option ℕ)) (numbers : List ℕ) → IsInOrder t heads slots numbers → length (paired (points_of t)) ≡ length numbers

@@ -1,26 +1,8 @@
 -- The live ranges stand as their markers do, before an edit of the token texts and after it.
 use Rattle.std.proofs.Common.{◌≡◌, ◌<◌, true, [], ◌∷◌, None, refl, ap, sym, subst}
-use Rattle.dom_model.specs.Forests.Kinds.{is_character_data}
-use Rattle.dom_model.specs.Forests.Forest.{occurs}
-use Rattle.dom_model.specs.Worlds.World.{World}
-use Rattle.dom_model.specs.Soundness.Sound.{IsSound}
-use Rattle.dom_model.specs.MutationAlgorithms.Editing.{remove, put_in, gap_before}
-use Rattle.dom_model.specs.DataAndCopies.Data.{replace_units, split}
-use Rattle.dom_model.specs.TokenText.Tokens.{Edit, Insertion, Removal, Splice, Parting, point, texts_of, on_texts, marked_ranges}
-use Rattle.dom_model.specs.TokenText.Edits.{on_world, removal_from, parting_from, index_before, split_edits_by}
-use Rattle.dom_model.specs.MutationAlgorithms.Insertable.{IsPlaceable}
-use Rattle.dom_model.specs.TokenText.Fitting.{IsReady, fits_splice}
-use Rattle.dom_model.proofs.Soundness.SoundWorlds.{child_there, sound-remove}
-use Rattle.dom_model.proofs.Soundness.SoundPlacing.{sound-put_one}
-use Rattle.dom_model.proofs.Soundness.SoundData.{sound-replace_units}
-use Rattle.dom_model.proofs.Soundness.SoundSplitting.{sound-split}
-use Rattle.dom_model.proofs.TokenText.Marked.MarkedFirst.{marked-first, kinds-childless}
-use Rattle.dom_model.proofs.TokenText.Marked.MarkedEdits.{ranges-found, markers-follow}
-use Rattle.dom_model.proofs.TokenText.EditsMade.FittingEdits.{ready-laid, ready-sound, passes_there}
-use Rattle.dom_model.proofs.TokenText.EditsMade.EditsLeave.{laid, Leave, leave-edit, leave-ranges}
-use Rattle.dom_model.proofs.TokenText.EditsMade.EditsOfSteps.{leave-removal}
-use Rattle.dom_model.proofs.TokenText.EditsMade.EditsOfInsertions.{come_in-fits, come_in-edit}
-use Rattle.dom_model.proofs.TokenText.EditsMade.EditsOfSplitting.{leave-split}
+use Rattle.dom_model.specs.Definitions.{is_character_data, occurs, World, IsSound, remove, put_in, gap_before, replace_units, split, Edit, Insertion, Removal, Splice, Parting, point, texts_of, on_texts, marked_ranges, on_world, removal_from, parting_from, index_before, split_edits_by, IsPlaceable, IsReady, fits_splice}
+use Rattle.dom_model.proofs.Soundness.{SoundWorlds.child_there, SoundWorlds.sound-remove, SoundPlacing.sound-put_one, SoundData.sound-replace_units, SoundSplitting.sound-split}
+use Rattle.dom_model.proofs.TokenText.{Marked.MarkedFirst.marked-first, Marked.MarkedFirst.kinds-childless, Marked.MarkedEdits.ranges-found, Marked.MarkedEdits.markers-follow, EditsMade.FittingEdits.ready-laid, EditsMade.FittingEdits.ready-sound, EditsMade.FittingEdits.passes_there, EditsMade.EditsLeave.laid, EditsMade.EditsLeave.Leave, EditsMade.EditsLeave.leave-edit, EditsMade.EditsLeave.leave-ranges, EditsMade.EditsOfSteps.leave-removal, EditsMade.EditsOfInsertions.come_in-fits, EditsMade.EditsOfInsertions.come_in-edit, EditsMade.EditsOfSplitting.leave-split}
 use Rattle.dom_ranges.specs.Markers.{MoveAsMarkers, MoveWhereNodesComeIn, MoveWhereANodeLeaves, MoveWhereUnitsAreReplaced, MoveWhereATextIsSplit}
 
 -- an edit that leaves a sound world

@@ -1,34 +1,14 @@
 -- Two Texts are joined: the live ranges stand as their markers do.
 use Rattle.std.proofs.Common.{◌≡◌, ℕ, ◌+◌, ◌<◌, ◌≤◌, ◌==◌, true, false, List, [], ◌∷◌, length, Some, None, refl, ap, sym, ◌∙◌, subst, arith}
 use Rattle.dom_model.specs.declared.Kind.TheVariants.{Text}
-use Rattle.dom_model.specs.Forests.Kinds.{is_kind, is_character_data}
-use Rattle.dom_model.specs.Forests.Texts.{spliced}
-use Rattle.dom_model.specs.Forests.Forest.{occurs, parent_of, children_of, index_of, inclusive_descendants}
-use Rattle.dom_model.specs.Worlds.Lengths.{unit_count, node_length}
-use Rattle.dom_model.specs.Worlds.World.{Point, World}
-use Rattle.dom_model.specs.Soundness.Sound.{IsBoundary, IsRange, IsSound}
-use Rattle.dom_model.specs.BoundaryPoints.Points.{map_ranges, moved_range, after_removal, after_splice, after_merge}
-use Rattle.dom_model.specs.Forests.Nodes.{kind_passes, is_of_kind}
-use Rattle.dom_model.specs.MutationAlgorithms.Editing.{remove}
-use Rattle.dom_model.specs.DataAndCopies.Data.{content_in, data_of, with_data, replace_units}
-use Rattle.dom_model.specs.TokenText.Tokens.{Removal, Merge}
-use Rattle.dom_model.specs.TokenText.Edits.{removal_from, merge_from}
-use Rattle.dom_model.specs.DataAndCopies.Joinable.{IsUpTo, AreUpTo}
-use Rattle.dom_model.specs.TokenText.Fitting.{fits_merge}
+use Rattle.dom_model.specs.Definitions.{is_kind, is_character_data, spliced, occurs, parent_of, children_of, index_of, inclusive_descendants, unit_count, node_length, Point, World, IsBoundary, IsRange, IsSound, map_ranges, moved_range, after_removal, after_splice, after_merge, kind_passes, is_of_kind, remove, content_in, data_of, with_data, replace_units, Removal, Merge, removal_from, merge_from, IsUpTo, AreUpTo, fits_merge}
 use Rattle.dom_model.proofs.PlainLists.Numbers.{same_or, same, apart}
 use Rattle.dom_model.proofs.Forests.Changes.{change_at}
-use Rattle.dom_model.proofs.Worlds.SameShape.{IsAlike, with_node-alike, occurs-alike, parent-alike, kind-alike, index-alike, inside-alike}
-use Rattle.dom_model.proofs.Worlds.Measured.{entry-with_node}
+use Rattle.dom_model.proofs.Worlds.{SameShape.IsAlike, SameShape.with_node-alike, SameShape.occurs-alike, SameShape.parent-alike, SameShape.kind-alike, SameShape.index-alike, SameShape.inside-alike, Measured.entry-with_node}
 use Rattle.dom_model.proofs.BoundaryPoints.MergeOrder.{joined-settled}
 use Rattle.dom_model.proofs.RangesAndContents.RangesMerged.{range-merged}
-use Rattle.dom_model.proofs.Soundness.SoundForests.{entry_there, data-childless}
-use Rattle.dom_model.proofs.Soundness.SoundWorlds.{each-moved, child_there, sound-remove}
-use Rattle.dom_model.proofs.Soundness.SoundData.{length-data, length-other, length-spliced, sound-replace_units}
-use Rattle.dom_model.proofs.Soundness.SoundSplitting.{text_has_data}
-use Rattle.dom_model.proofs.Soundness.SoundJoining.{text_is_no_doctype, lives-both}
-use Rattle.dom_model.proofs.TokenText.EditsMade.FittingEdits.{ready-sound}
-use Rattle.dom_model.proofs.TokenText.EditsMade.EditsLeave.{laid, Leave, leave-edit, leave-laid}
-use Rattle.dom_model.proofs.TokenText.EditsMade.EditsOfSteps.{leave-removal}
+use Rattle.dom_model.proofs.Soundness.{SoundForests.entry_there, SoundForests.data-childless, SoundWorlds.each-moved, SoundWorlds.child_there, SoundWorlds.sound-remove, SoundData.length-data, SoundData.length-other, SoundData.length-spliced, SoundData.sound-replace_units, SoundSplitting.text_has_data, SoundJoining.text_is_no_doctype, SoundJoining.lives-both}
+use Rattle.dom_model.proofs.TokenText.{EditsMade.FittingEdits.ready-sound, EditsMade.EditsLeave.laid, EditsMade.EditsLeave.Leave, EditsMade.EditsLeave.leave-edit, EditsMade.EditsLeave.leave-laid, EditsMade.EditsOfSteps.leave-removal}
 use Rattle.dom_ranges.specs.Markers.{MoveAsMarkers, MoveWhereTextsAreJoined}
 use Rattle.dom_ranges.proofs.Marking.{edit-moves}
 

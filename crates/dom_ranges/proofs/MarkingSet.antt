@@ -1,25 +1,11 @@
 -- The live ranges stand as their markers do, before one of them is set anew and after it.
 use Rattle.std.proofs.Common.{◌≡◌, ℕ, [], ◌∷◌, Option, Some, None, IfSome, sym, subst}
-use Rattle.dom_model.specs.declared.Kind.TheVariants.{DocumentType}
-use Rattle.dom_model.specs.declared.DomError.TheVariants.{InvalidNodeTypeError}
-use Rattle.dom_model.specs.Worlds.Lengths.{unit_count}
-use Rattle.dom_model.specs.Worlds.World.{Range, World}
-use Rattle.dom_model.specs.Soundness.Sound.{IsRange, IsSound}
-use Rattle.dom_model.specs.Forests.Nodes.{is_of_kind}
-use Rattle.dom_model.specs.RangesAndContents.Ranges.{start_set, end_set, around, contents_of, collapsed, range_at, with_range}
-use Rattle.dom_model.specs.TokenText.Tokens.{texts_of, all_on_texts, marked_ranges}
-use Rattle.dom_model.specs.TokenText.Edits.{ends_edits}
-use Rattle.dom_model.specs.TokenText.Fitting.{IsReady}
+use Rattle.dom_model.specs.declared.{Kind.TheVariants.DocumentType, DomError.TheVariants.InvalidNodeTypeError}
+use Rattle.dom_model.specs.Definitions.{unit_count, Range, World, IsRange, IsSound, is_of_kind, start_set, end_set, around, contents_of, collapsed, range_at, with_range, texts_of, all_on_texts, marked_ranges, ends_edits, IsReady}
 use Rattle.dom_model.proofs.Forests.Entries.{occurs-HasNode}
-use Rattle.dom_model.proofs.Soundness.SoundEditing.{clear}
-use Rattle.dom_model.proofs.Soundness.SoundRangeSteps.{live_range, sound-with_range}
-use Rattle.dom_model.proofs.Soundness.SoundWorlds.{IsLive}
+use Rattle.dom_model.proofs.Soundness.{SoundEditing.clear, SoundRangeSteps.live_range, SoundRangeSteps.sound-with_range, SoundWorlds.IsLive}
 use Rattle.dom_model.proofs.RangesAndContents.RangesSet.{range_collapsed, range-start_set, range-end_set, boundary_checked, range_selected, range_of_contents}
-use Rattle.dom_model.proofs.TokenText.Marked.MarkedFirst.{marked-first, kinds-childless}
-use Rattle.dom_model.proofs.TokenText.Marked.MarkedEdits.{ranges-found, markers-follow}
-use Rattle.dom_model.proofs.TokenText.EditsMade.FittingEdits.{ready-laid, ready-sound}
-use Rattle.dom_model.proofs.TokenText.EditsMade.EditsLeave.{laid}
-use Rattle.dom_model.proofs.TokenText.EditsMade.EditsOfSteps.{leave-ends}
+use Rattle.dom_model.proofs.TokenText.{Marked.MarkedFirst.marked-first, Marked.MarkedFirst.kinds-childless, Marked.MarkedEdits.ranges-found, Marked.MarkedEdits.markers-follow, EditsMade.FittingEdits.ready-laid, EditsMade.FittingEdits.ready-sound, EditsMade.EditsLeave.laid, EditsMade.EditsOfSteps.leave-ends}
 use Rattle.dom_ranges.specs.Markers.{SetAsMarkers, MoveWhereEndsAreSet}
 
 module _ (w : World) (s : IsSound w) (r : ℕ) (old : Range) (e : range_at w r ≡ Some old) where

@@ -1,42 +1,16 @@
 -- Each call that sets a live range anew leaves its ends where the edits of the token text put their markers.
-use Rattle.std.proofs.Common.{◌≡◌, ℕ, Bool, ◌+◌, ◌*◌, nat_lt, not, ◌&&◌, if◌then◌else◌, List, [], ◌∷◌, map, drop, reverse, Option, Some, None, IsSome, IfSome, option_map, refl, ap, sym, ◌∙◌, subst}
-use Rattle.std.specs.Prelude.{◌++◌, slice_index_or, slice_set, Result, Ok, Err, OnOk}
-use Rattle.std.specs.Ordering.{nat_cmp}
-use Rattle.std.specs.Cmp.Lexicographic.{slice_cmp}
+use Rattle.std.proofs.Common.{◌≡◌, ℕ, Bool, ◌+◌, ◌*◌, nat_lt, not, ◌&&◌, if◌then◌else◌, List, [], ◌∷◌, map, drop, reverse, Option, Some, None, IsSome, IfSome, option_map, refl, ap, sym, ◌∙◌, subst, ◌++◌, slice_index_or, slice_set, Result, Ok, Err, OnOk}
+use Rattle.std.specs.{Ordering.nat_cmp, Cmp.Lexicographic.slice_cmp}
 use Rattle.std.proofs.Math.Path.{fun_ext}
 use Rattle.std.proofs.lemmas.Bool.{false≢true}
-use Rattle.dom_model.specs.declared.Kind.TheVariants.{DocumentType}
-use Rattle.dom_model.specs.declared.DomError.{DomError}
-use Rattle.dom_model.specs.declared.DomError.TheVariants.{InvalidNodeTypeError, IndexSizeError}
-use Rattle.dom_model.specs.PlainLists.Lists.{is_same, last_of, first_refusal}
-use Rattle.dom_model.specs.Forests.Forest.{Forest, HasNode, parent_of, index_of, ancestors, root_of}
-use Rattle.dom_model.specs.Forests.Nodes.{is_of_kind, same_root}
-use Rattle.dom_model.specs.Worlds.World.{Point, Range, World}
-use Rattle.dom_model.specs.Worlds.Lengths.{unit_count, node_length}
-use Rattle.dom_model.specs.BoundaryPoints.Points.{place_of}
-use Rattle.dom_model.specs.RangesAndContents.Ranges.{is_less, is_before, start_set, end_set, around, contents_of, check_point, check_parent, check_contents, range_at, with_range, collapsed, collapsed_at}
-use Rattle.dom_model.specs.RangesAndContents.Contents.{for_range}
-use Rattle.dom_model.specs.Soundness.Sound.{IsBoundary, IsRange, IsSound}
-use Rattle.dom_model.specs.TokenText.Tokens.{Token, Edit, texts_of, all_on_texts}
-use Rattle.dom_model.specs.TokenText.Edits.{ends_edits, ends_edits_at, all_on_world}
-use Rattle.dom_model.specs.TokenText.CommandEdits.{start_edits, end_edits, select_edits}
+use Rattle.dom_model.specs.declared.{Kind.TheVariants.DocumentType, DomError.DomError, DomError.TheVariants.InvalidNodeTypeError, DomError.TheVariants.IndexSizeError}
+use Rattle.dom_model.specs.Definitions.{is_same, last_of, first_refusal, Forest, HasNode, parent_of, index_of, ancestors, root_of, is_of_kind, same_root, Point, Range, World, unit_count, node_length, place_of, is_less, is_before, start_set, end_set, around, contents_of, check_point, check_parent, check_contents, range_at, with_range, collapsed, collapsed_at, for_range, IsBoundary, IsRange, IsSound, Token, Edit, texts_of, all_on_texts, ends_edits, ends_edits_at, all_on_world, start_edits, end_edits, select_edits}
 use Rattle.dom_model.proofs.Forests.Entries.{occurs-HasNode}
-use Rattle.dom_model.proofs.Soundness.SoundEditing.{clear}
-use Rattle.dom_model.proofs.Soundness.SoundRangeSteps.{live_range, sound-with_range}
-use Rattle.dom_model.proofs.Soundness.SoundWorlds.{IsLive}
+use Rattle.dom_model.proofs.Soundness.{SoundEditing.clear, SoundRangeSteps.live_range, SoundRangeSteps.sound-with_range, SoundWorlds.IsLive}
 use Rattle.dom_model.proofs.RangesAndContents.RangesSet.{range_collapsed, range_at_point, range-start_set, range-end_set, boundary_checked, range_selected, range_of_contents}
-use Rattle.dom_model.proofs.TokenText.AlikeTrees.TreesAlike.{bared}
-use Rattle.dom_model.proofs.TokenText.Marked.MarkedTexts.{Marked}
-use Rattle.dom_model.proofs.TokenText.Marked.MarkedFirst.{marked-kept}
-use Rattle.dom_model.proofs.TokenText.Marked.MarkedEdits.{marked-edits, end-found}
-use Rattle.dom_model.proofs.TokenText.Pieces.NodeTokens.{tokens-same}
-use Rattle.dom_model.proofs.TokenText.EditsMade.FittingEdits.{ready-sound}
-use Rattle.dom_model.proofs.TokenText.EditsMade.EditsLeave.{laid, Leave}
-use Rattle.dom_model.proofs.TokenText.EditsMade.EditsOfSteps.{leave-ends}
-use Rattle.dom_model.proofs.TokenText.EditsMade.MarkersKept.{marked-own}
+use Rattle.dom_model.proofs.TokenText.{AlikeTrees.TreesAlike.bared, Marked.MarkedTexts.Marked, Marked.MarkedFirst.marked-kept, Marked.MarkedEdits.marked-edits, Marked.MarkedEdits.end-found, Pieces.NodeTokens.tokens-same, EditsMade.FittingEdits.ready-sound, EditsMade.EditsLeave.laid, EditsMade.EditsLeave.Leave, EditsMade.EditsOfSteps.leave-ends, EditsMade.MarkersKept.marked-own}
 use Rattle.dom_point.specs.Refusals.{refused}
-use Rattle.dom_ranges.specs.Tables.{RangeTable, range_in}
-use Rattle.dom_ranges.specs.Markers.{StandAsEdited, StandByEdits, IsNestedAs, IsMeasuredAs, HasPoint, IsAny}
+use Rattle.dom_ranges.specs.{Tables.RangeTable, Tables.range_in, Markers.StandAsEdited, Markers.StandByEdits, Markers.IsNestedAs, Markers.IsMeasuredAs, Markers.HasPoint, Markers.IsAny}
 
 -- a range of the forest in place of another
 ends-stand : (w : World) → IsSound w → (r : ℕ) (old next : Range) → range_at w r ≡ Some old → IsRange w.forest next → StandAsEdited w (ends_edits r old next) (slice_set w.ranges r (Some next))

@@ -1,20 +1,8 @@
 -- Several nodes come in one after another: the live ranges stand as their markers do.
-use Rattle.std.proofs.Common.{◌≡◌, ℕ, ◌+◌, ◌<◌, ◌==◌, nat_lt, ◌&&◌, Bool, true, false, if◌then◌else◌, List, [], ◌∷◌, length, Option, Some, None, refl, ap, sym, ◌∙◌, subst, arith}
-use Rattle.dom_model.specs.Forests.Forest.{occurs, children_of}
-use Rattle.dom_model.specs.Worlds.World.{Point, World}
-use Rattle.dom_model.specs.BoundaryPoints.Points.{after_gap, map_ranges}
-use Rattle.dom_model.specs.MutationAlgorithms.Editing.{put_in, put_all, gap_before}
-use Rattle.dom_model.specs.MutationAlgorithms.Insertable.{ArePlaceable, IsChildOf}
-use Rattle.dom_model.specs.Soundness.Sound.{IsSound}
-use Rattle.dom_model.specs.TokenText.Tokens.{Edit, texts_of, all_on_texts, marked_ranges}
-use Rattle.dom_model.specs.TokenText.Edits.{index_before, insertions}
-use Rattle.dom_model.specs.TokenText.Fitting.{IsReady}
-use Rattle.dom_model.proofs.Soundness.SoundPlacing.{passes, sound-put_all}
-use Rattle.dom_model.proofs.TokenText.Marked.MarkedFirst.{marked-first, kinds-childless}
-use Rattle.dom_model.proofs.TokenText.Marked.MarkedEdits.{ranges-found, markers-follow}
-use Rattle.dom_model.proofs.TokenText.EditsMade.FittingEdits.{ready-laid, ready-sound}
-use Rattle.dom_model.proofs.TokenText.EditsMade.EditsLeave.{laid, Leave}
-use Rattle.dom_model.proofs.TokenText.EditsMade.EditsOfInsertions.{ranges-stay, gap-last, leave-insertions}
+use Rattle.std.proofs.Common.{◌≡◌, ℕ, ◌<◌, List, [], ◌∷◌, length, Option, Some, None, refl, sym, ◌∙◌, subst}
+use Rattle.dom_model.specs.Definitions.{occurs, children_of, World, after_gap, map_ranges, put_in, put_all, gap_before, ArePlaceable, IsChildOf, IsSound, Edit, texts_of, all_on_texts, marked_ranges, index_before, insertions, IsReady}
+use Rattle.dom_model.proofs.Soundness.SoundPlacing.{passes, sound-put_all, gap-none}
+use Rattle.dom_model.proofs.TokenText.{Marked.MarkedFirst.marked-first, Marked.MarkedFirst.kinds-childless, Marked.MarkedEdits.ranges-found, Marked.MarkedEdits.markers-follow, EditsMade.FittingEdits.ready-laid, EditsMade.FittingEdits.ready-sound, EditsMade.EditsLeave.laid, EditsMade.EditsLeave.Leave, EditsMade.EditsOfInsertions.ranges-stay, EditsMade.EditsOfInsertions.gap-last, EditsMade.EditsOfInsertions.leave-insertions}
 use Rattle.dom_ranges.specs.Markers.{MoveAsMarkersByAll, MoveWhereSeveralNodesComeIn}
 
 -- edits that leave a sound world
@@ -30,17 +18,6 @@ edits-move es w v s sv h = record {
 put-moves_none : (parent : ℕ) (child : Option ℕ) (ns : List ℕ) (w : World) → (put_all parent child ns w).ranges ≡ w.ranges
 put-moves_none parent child [] w = refl
 put-moves_none parent child (n ∷ ns) w = put-moves_none parent child ns (put_in parent child n w)
-
--- a gap for none moves no end
-gap-none : (parent index : ℕ) (p : Point) → after_gap parent index 0 p ≡ p
-gap-none parent index p = go ((p.node == parent) && nat_lt index p.offset)
-  where
-    same_offset : p.offset + 0 ≡ p.offset
-    same_offset = omega arith
-
-    go : (b : Bool) → (if b then record p { offset = p.offset + 0 } else p) ≡ p
-    go true = ap (λ x. record p { offset = x }) same_offset
-    go false = refl
 
 -- the room that is made, told by the map
 gap-is : (parent : ℕ) (child : Option ℕ) (ns : List ℕ) (w : World) → IsSound w → 0 < occurs parent w.forest → ArePlaceable w.forest parent ns → IsChildOf w.forest parent child →

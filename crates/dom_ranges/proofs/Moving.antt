@@ -1,18 +1,10 @@
 -- What a shift of the ends is to the ranges.
 use Rattle.std.proofs.Common.{◌≡◌, ℕ, zero, suc, ◌+◌, ◌-◌, ◌≤◌, ◌<◌, ◌^◌, ◌==◌, nat_lt, nat_le, ◌&&◌, Bool, true, false, List, [], ◌∷◌, length, map, get_or, Option, Some, None, is_some, option_map, refl, sym, ap, subst, ◌∙◌, ⊎_elim, arith, IfSome}
-use Rattle.std.proofs.lemmas.Bool.{cases_Bool, cases_eq, cases_lt, false≢true, eq-eqb, ne_eqb}
-use Rattle.std.proofs.lemmas.Bool.Decides.{nat_tests}
-use Rattle.std.proofs.lemmas.List.{length-map, get_or_past}
-use Rattle.dom_model.specs.Worlds.World.{Point, Range}
-use Rattle.dom_model.specs.BoundaryPoints.Points.{after_gap, after_splice, after_split, after_merge, map_ranges}
-use Rattle.dom_ranges.specs.declared.chains.End.{End}
-use Rattle.dom_ranges.specs.Chained.{Heads, covers, cover_of, point_at, points_of, HasChains, on_node, MovesWithin, GoesElsewhere, StaysBeside}
-use Rattle.dom_ranges.specs.Tables.{RangeTable, FitsMoved, OffsetsFit, paired, IsPaired, live_count, in_slot, by_slot, slot_at, range_in_slot, HaveSlots, IsInOrder}
+use Rattle.std.proofs.lemmas.{Bool.cases_Bool, Bool.cases_eq, Bool.cases_lt, Bool.false≢true, Bool.eq-eqb, Bool.ne_eqb, Bool.Decides.nat_tests, List.length-map, List.get_or_past}
+use Rattle.dom_model.specs.Definitions.{Point, Range, after_gap, after_splice, after_split, after_merge, map_ranges}
+use Rattle.dom_ranges.specs.{declared.chains.End.End, Chained.Heads, Chained.covers, Chained.cover_of, Chained.point_at, Chained.points_of, Chained.HasChains, Chained.on_node, Chained.MovesWithin, Chained.GoesElsewhere, Chained.StaysBeside, Tables.RangeTable, Tables.FitsMoved, Tables.OffsetsFit, Tables.paired, Tables.IsPaired, Tables.live_count, Tables.in_slot, Tables.by_slot, Tables.slot_at, Tables.range_in_slot, Tables.HaveSlots, Tables.IsInOrder}
 use Rattle.dom_ranges.proofs.Chained as Chained
-use Rattle.dom_ranges.proofs.Steps.{points-at, points-length}
-use Rattle.dom_ranges.proofs.Slots.{by_slot-at, by_slot-map, slots-same, map-some, some-within}
-use Rattle.dom_ranges.proofs.Making.{many}
-use Rattle.dom_ranges.proofs.Pairs.{paired-map, IsPaired-map, live-map, ranges-are, covered-is}
+use Rattle.dom_ranges.proofs.{Steps.points-at, Steps.points-length, Slots.by_slot-at, Slots.by_slot-map, Slots.slots-same, Slots.map-some, Slots.some-within, Making.many, Pairs.paired-map, Pairs.IsPaired-map, Pairs.live-map, Pairs.ranges-are, Pairs.covered-is}
 
 -- the same map, of optional points and of ranges
 pub map-same : (g h : Point → Point) → ((p : Point) → g p ≡ h p) → (ps : List (Option Point)) → map (λ (o : Option Point). option_map g o) ps ≡ map (λ (o : Option Point). option_map h o) ps
@@ -147,11 +139,6 @@ gap-splice n at count p =
 pub splice-elsewhere : (n at count added : ℕ) (p : Point) → on_node n (after_splice n at count added) p ≡ after_splice n at count added p
 splice-elsewhere n at count added p =
     ⊎_elim (λ (a : (p.node == n) ≡ true). rw a refl) (λ (a : (p.node == n) ≡ false). rw a refl) (cases_Bool (p.node == n))
-
-pub splice-node : (n at count added : ℕ) (p : Point) → (after_splice n at count added p).node ≡ p.node
-splice-node n at count added p =
-    ⊎_elim (λ (a : ((p.node == n) && nat_lt at p.offset) ≡ true). rw a (⊎_elim (λ (b : nat_le p.offset (at + count) ≡ true). rw b refl) (λ (b : nat_le p.offset (at + count) ≡ false). rw b refl) (cases_Bool (nat_le p.offset (at + count)))))
-    (λ (a : ((p.node == n) && nat_lt at p.offset) ≡ false). rw a refl) (cases_Bool ((p.node == n) && nat_lt at p.offset))
 
 -- the nodes of moved points
 pub split-node : (text at new parent index : ℕ) (cs : List Bool) (p : Point) → covers cs new ≡ true → covers cs p.node ≡ true → covers cs (after_split text at new parent index p).node ≡ true

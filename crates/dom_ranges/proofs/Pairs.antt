@@ -1,14 +1,9 @@
 -- Ranges are pairs of ends: what a change of the ends is to the ranges.
 use Rattle.std.proofs.Common.{◌≡◌, ℕ, zero, suc, ◌+◌, ◌<◌, if◌then◌else◌, List, [], ◌∷◌, ◌++◌, length, map, count_by, cond, get_or, set, take, Option, Some, None, IsSome, is_some, option_map, refl, sym, ap, subst, ◌∙◌, arith}
-use Rattle.std.proofs.lemmas.Bool.{false≢true}
-use Rattle.std.proofs.lemmas.List.Sums.{sum_by-cons}
-use Rattle.dom_model.specs.Worlds.World.{Point, Range}
-use Rattle.dom_model.specs.BoundaryPoints.Points.{moved_range, map_ranges}
-use Rattle.dom_ranges.specs.declared.chains.End.{End}
-use Rattle.dom_ranges.specs.Chained.{Heads, cover_of, point_at, points_of}
-use Rattle.dom_ranges.specs.Tables.{RangeTable, range_in, both, paired, IsPaired, live_count, in_slot, by_slot, slot_at, without_slot, IsInOrder}
-use Rattle.dom_ranges.proofs.Steps.{points-at, some-within, point-kept}
-use Rattle.dom_ranges.proofs.Slots.{by_slot-at}
+use Rattle.std.proofs.lemmas.{Bool.false≢true, List.Sums.sum_by-cons}
+use Rattle.dom_model.specs.Definitions.{Point, Range, moved_range, map_ranges}
+use Rattle.dom_ranges.specs.{declared.chains.End.End, Chained.Heads, Chained.cover_of, Chained.point_at, Chained.points_of, Tables.RangeTable, Tables.range_in, Tables.both, Tables.paired, Tables.IsPaired, Tables.live_count, Tables.in_slot, Tables.by_slot, Tables.slot_at, Tables.without_slot, Tables.IsInOrder}
+use Rattle.dom_ranges.proofs.{Steps.points-at, Steps.some-within, Steps.point-kept, Slots.by_slot-at}
 
 abbrev pub twice : ℕ → ℕ
 twice zero = 0

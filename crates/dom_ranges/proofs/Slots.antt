@@ -1,11 +1,8 @@
 -- The slots of the numbers: what a change of the ranges by slot is to the ranges by number.
 use Rattle.std.proofs.Common.{◌≡◌, ℕ, zero, suc, ◌+◌, ◌≤◌, ◌<◌, Bool, true, false, List, [], ◌∷◌, ◌++◌, length, get_or, set, take, Option, Some, None, IsSome, is_some, option_map, refl, sym, ap, subst, ◌∙◌, ◌⊎◌, inl, inr, ⊎_elim, arith, length-set, length-append, get_or-set_same, get_or-set_other}
 use Rattle.std.specs.List.{flat_map, list_any}
-use Rattle.std.proofs.lemmas.Bool.{cases_Bool, cases_eq, cases_lt, false≢true}
-use Rattle.std.proofs.lemmas.List.{map-append, get_or_past, get_or-take, get_or_append_left, ext_get_or, length-map, length-take}
-use Rattle.dom_model.specs.Worlds.World.{Point, Range}
-use Rattle.dom_model.specs.BoundaryPoints.Points.{moved_range, map_ranges}
-use Rattle.dom_model.specs.MutationAlgorithms.Discarding.{nodes_of_range, nodes_unless_released}
+use Rattle.std.proofs.lemmas.{Bool.cases_Bool, Bool.cases_eq, Bool.cases_lt, Bool.false≢true, List.map-append, List.get_or_past, List.get_or-take, List.get_or_append_left, List.ext_get_or, List.length-map, List.length-take}
+use Rattle.dom_model.specs.Definitions.{Point, Range, moved_range, map_ranges, nodes_of_range, nodes_unless_released}
 use Rattle.dom_ranges.specs.Tables.{in_slot, by_slot, slot_at, range_in_slot, live_count, HaveSlots}
 
 pub by_slot-at : (pairs : List (Option Range)) (slots : List (Option ℕ)) (r : ℕ) → get_or (by_slot pairs slots) r None ≡ in_slot pairs (get_or slots r None)

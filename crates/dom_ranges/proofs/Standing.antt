@@ -1,13 +1,9 @@
 -- Whether an end stands in a node, read off the head of its chain.
 use Rattle.std.proofs.Common.{◌≡◌, ℕ, zero, suc, ◌<◌, ◌==◌, true, false, cond, List, [], ◌∷◌, get_or, Option, Some, None, is_some, refl, sym, ◌∙◌, ⊎_elim, arith}
 use Rattle.std.proofs.lemmas.Bool.{cases_Bool, cases_eq}
-use Rattle.dom_model.specs.PlainLists.Lists.{among, hits, head_of}
-use Rattle.dom_model.specs.Worlds.World.{Point}
-use Rattle.dom_ranges.specs.declared.chains.End.{End}
-use Rattle.dom_ranges.specs.Chained.{Heads, head_at, point_at, points_of, counted_at, HasChains}
-use Rattle.dom_ranges.specs.Tables.{nodes_at}
-use Rattle.dom_ranges.proofs.Chained.{has-head, head-there, in-stands}
-use Rattle.dom_ranges.proofs.Steps.{points-at}
+use Rattle.dom_model.specs.Definitions.{among, hits, head_of, Point}
+use Rattle.dom_ranges.specs.{declared.chains.End.End, Chained.Heads, Chained.head_at, Chained.point_at, Chained.points_of, Chained.counted_at, Chained.HasChains, Tables.nodes_at}
+use Rattle.dom_ranges.proofs.{Chained.has-head, Chained.head-there, Chained.in-stands, Steps.points-at}
 
 pub nodes-none : (n : ℕ) (ps : List (Option Point)) → ((e : ℕ) (q : Point) → get_or ps e None ≡ Some q → (q.node == n) ≡ false) → among n (nodes_at ps) ≡ false
 nodes-none n [] h = refl

@@ -1,13 +1,8 @@
 -- What holds of the live ranges at any time, read off their ends.
 use Rattle.std.proofs.Common.{◌≡◌, ℕ, ◌≤◌, ◌^◌, List, count_by, Option, Some, None, is_some, refl, sym, ap, ◌∙◌, arith}
 use Rattle.std.proofs.lemmas.Bool.{false≢true}
-use Rattle.dom_ranges.specs.declared.chains.End.{End}
-use Rattle.dom_ranges.specs.Chained.{Heads, covers, cover_of, head_at, points_of}
-use Rattle.dom_ranges.specs.Tables.{RangeTable, IsCovered, AreCovered, live_count, paired, by_slot, IsInOrder}
-use Rattle.dom_ranges.proofs.Covers.{head-covers}
-use Rattle.dom_ranges.proofs.EndsAsked.{stands-told}
-use Rattle.dom_ranges.proofs.Pairs.{live-counted, ranges-are, covered-is}
-use Rattle.dom_ranges.proofs.Standing.{heads-tell}
+use Rattle.dom_ranges.specs.{declared.chains.End.End, Chained.Heads, Chained.covers, Chained.cover_of, Chained.head_at, Chained.points_of, Tables.RangeTable, Tables.IsCovered, Tables.AreCovered, Tables.live_count, Tables.paired, Tables.by_slot, Tables.IsInOrder}
+use Rattle.dom_ranges.proofs.{Covers.head-covers, EndsAsked.stands-told, Pairs.live-counted, Pairs.ranges-are, Pairs.covered-is, Standing.heads-tell}
 
 module _ (t : List End) (heads : Heads) (slots : List (Option ℕ)) (numbers : List ℕ) (k : IsInOrder t heads slots numbers) (v : RangeTable) (view : record { ranges = by_slot (paired (points_of t)) slots; covered = cover_of heads } ≡ v) where
   -- a node in which an end stands has a chain, and so it is covered

@@ -1,15 +1,10 @@
 -- The steps by which an end is taken out of its chain or put in come to the changed tables.
 use Rattle.std.proofs.Common.{◌≡◌, ℕ, zero, suc, ◌+◌, ◌<◌, ◌≤◌, ◌==◌, if◌then◌else◌, true, false, List, [], ◌∷◌, length, map, set, get_or, take, ◌++◌, Option, Some, None, option_map, is_some, refl, sym, ap, ◌∙◌, ⊎_elim, arith, length-set, get_or-set_same, get_or-set_other}
 use Rattle.std.specs.Option.{IsSome}
-use Rattle.std.proofs.lemmas.Bool.{cases_eq, cases_lt, eq-eqb, ne_eqb, false≢true}
-use Rattle.std.proofs.lemmas.List.{map-set, map-append, length-map, length-take, get_or_past, get_or-take, take-set-le, take-map}
-use Rattle.dom_model.specs.PlainLists.Lists.{hits}
-use Rattle.dom_model.specs.Worlds.World.{Point}
-use Rattle.dom_ranges.specs.declared.chains.End.{End}
-use Rattle.dom_ranges.specs.Chained.{Heads, free_end, end_at, point_at, points_of, covers, cover_of, head_in, head_at, counted_at, HasChains, Rechains, unchained, chained_first, moved_from, table_moved, ForLink, led_on, heads_led, led_back, table_without, heads_without, table_with, heads_with}
-use Rattle.dom_ranges.specs.Tables.{without_slot}
-use Rattle.dom_ranges.proofs.Covers.{cover-set}
-use Rattle.dom_ranges.proofs.Chained.{live-within, in-chain, point-covered, next-within, prev-within, head-within, IsChained-without, IsChained-with, led_on-length}
+use Rattle.std.proofs.lemmas.{Bool.cases_eq, Bool.cases_lt, Bool.eq-eqb, Bool.ne_eqb, Bool.false≢true, List.map-set, List.map-append, List.length-map, List.length-take, List.get_or_past, List.get_or-take, List.take-set-le, List.take-map}
+use Rattle.dom_model.specs.Definitions.{hits, Point}
+use Rattle.dom_ranges.specs.{declared.chains.End.End, Chained.Heads, Chained.free_end, Chained.end_at, Chained.point_at, Chained.points_of, Chained.covers, Chained.cover_of, Chained.head_in, Chained.head_at, Chained.counted_at, Chained.HasChains, Chained.Rechains, Chained.unchained, Chained.chained_first, Chained.moved_from, Chained.table_moved, Chained.ForLink, Chained.led_on, Chained.heads_led, Chained.led_back, Chained.table_without, Chained.heads_without, Chained.table_with, Chained.heads_with, Tables.without_slot}
+use Rattle.dom_ranges.proofs.{Covers.cover-set, Chained.live-within, Chained.in-chain, Chained.point-covered, Chained.next-within, Chained.prev-within, Chained.head-within, Chained.IsChained-without, Chained.IsChained-with, Chained.led_on-length}
 
 -- the table and the heads, once an end is taken out
 pub out-table : (t t1 t2 t3 : List End) (id : ℕ) (end : End) → end ≡ end_at t id → t1 ≡ led_on end.prev end.next t → t2 ≡ led_back end.next end.prev t1 → t3 ≡ set t2 id free_end → t3 ≡ table_without id t

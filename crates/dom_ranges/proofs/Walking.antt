@@ -2,16 +2,12 @@
 use Rattle.std.proofs.Common.{◌≡◌, ℕ, zero, suc, ◌≤◌, ◌<◌, ◌^◌, ◌==◌, Bool, true, false, cond, if◌then◌else◌, List, [], ◌∷◌, length, map, set, subst, Option, Some, None, option_map, refl, sym, ap, ◌∙◌, ⊎_elim, arith}
 use Rattle.std.specs.Option.{IsSome}
 use Rattle.std.proofs.lemmas.Bool.{cases_Bool, cases_eq, eq-eqb, eqb-true, false≢true}
-use Rattle.dom_model.specs.PlainLists.Lists.{hits, among, is_number, head_of, after, left_out}
-use Rattle.dom_model.specs.Worlds.World.{Point}
-use Rattle.dom_model.proofs.Forests.Climbing.{hits-not_among, not_among-hits}
-use Rattle.dom_model.proofs.PlainLists.Heads.{hits-first, hits-rest, after-first, after-rest, among-first, among-rest}
-use Rattle.dom_links.proofs.Neighbours.{after-none, after-left_out, hits-left_out_other}
-use Rattle.dom_links.proofs.Counting.{length-le_from_once}
-use Rattle.dom_ranges.specs.declared.chains.End.{End}
-use Rattle.dom_ranges.specs.Chained.{Heads, end_at, point_at, points_of, covers, cover_of, head_at, counted_at, IsChained, HasChains, Rechains, moved_from, on_node, MovesWithin}
-use Rattle.dom_ranges.proofs.Chained.{in-stands, once, chained-within}
-use Rattle.dom_ranges.proofs.Steps.{points-moved, same-length, point-written, point-kept, stays-there, goes-elsewhere}
+use Rattle.dom_model.specs.Definitions.{hits, among, is_number, head_of, after, left_out, Point}
+use Rattle.dom_model.proofs.Forests.{Climbing.hits-not_among, Climbing.not_among-hits, Listed.hits-itself}
+use Rattle.dom_model.proofs.PlainLists.Heads.{hits-rest, after-first, after-rest, among-first, among-rest}
+use Rattle.dom_links.proofs.{Neighbours.after-none, Neighbours.after-left_out, Neighbours.hits-left_out_other, Counting.length-le_from_once}
+use Rattle.dom_ranges.specs.{declared.chains.End.End, Chained.Heads, Chained.end_at, Chained.point_at, Chained.points_of, Chained.covers, Chained.cover_of, Chained.head_at, Chained.counted_at, Chained.IsChained, Chained.HasChains, Chained.Rechains, Chained.moved_from, Chained.on_node, Chained.MovesWithin}
+use Rattle.dom_ranges.proofs.{Chained.in-stands, Chained.once, Chained.chained-within, Steps.points-moved, Steps.same-length, Steps.point-written, Steps.point-kept, Steps.stays-there, Steps.goes-elsewhere}
 
 -- the ends along a list of links, no more than the fuel
 abbrev pub along : List End → ℕ → Option ℕ → List ℕ
@@ -24,12 +20,12 @@ along-rest t zero [] one next few = refl
 along-rest t zero (e ∷ es) one next few = absurd (omega arith)
 along-rest t (suc k) [] one next few = refl
 along-rest t (suc k) (e ∷ es) one next few =
-    let h = hits-first e es in
+    let h = hits-itself e es in
     let n : (end_at t e).next ≡ head_of es = next e (omega arith) ∙ after-first e es in
     ap (λ xs. e ∷ xs) (ap (along t k) n ∙ along-rest t k es one' next' (omega arith))
   where
     out : hits e es ≡ 0
-    out = omega (arith, one e, hits-first e es)
+    out = omega (arith, one e, hits-itself e es)
 
     other : (k : ℕ) → 0 < hits k es → k ≡ e → ⊥
     other k h q = let z : 0 < hits e es = rw q at h in omega (arith, out)
@@ -104,7 +100,7 @@ module _ (node : ℕ) (move : Point → Point) (t0 : List End) (covered : List B
 
   module _ (id : ℕ) (es : List ℕ) (w : IsWalked node move t0 covered t heads chain (id ∷ es)) where
     chained-here : 0 < hits id (chain node)
-    chained-here = w.inside id (omega (arith, hits-first id es))
+    chained-here = w.inside id (omega (arith, hits-itself id es))
 
     pub id-within : id < length t
     id-within = chained-within chain t heads w.chained id node chained-here
@@ -126,10 +122,10 @@ module _ (node : ℕ) (move : Point → Point) (t0 : List End) (covered : List B
     id-stood = let a = among-first id es in w.points id ∙ rw a refl
 
     pub id-next : (end_at t id).next ≡ head_of es
-    id-next = w.chained.next id node chained-here ∙ w.follows id (omega (arith, hits-first id es)) ∙ after-first id es
+    id-next = w.chained.next id node chained-here ∙ w.follows id (omega (arith, hits-itself id es)) ∙ after-first id es
 
     out : hits id es ≡ 0
-    out = omega (arith, w.one id, hits-first id es)
+    out = omega (arith, w.one id, hits-itself id es)
 
     other : (k : ℕ) → 0 < hits k es → k ≡ id → ⊥
     other k h q = let z : 0 < hits id es = rw q at h in omega (arith, out)

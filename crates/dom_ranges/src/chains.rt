@@ -164,7 +164,7 @@ impl Chains {
     }
 
     // Writes an end that comes before all in the chain of its node.
-    fn settle(&mut self, id: EndId, point: Point)
+    fn write_first(&mut self, id: EndId, point: Point)
         requires { id < length self.old.table.items }
         ensures table { self.new.table.items
             ≡ slice_set self.old.table.items id (record {
@@ -214,7 +214,7 @@ impl Chains {
         let node = node_of(&point);
         let next = self.head(node);
         self.lead_back(next, Some(id));
-        self.settle(id, point);
+        self.write_first(id, point);
         self.begin(node, id);
     }
 

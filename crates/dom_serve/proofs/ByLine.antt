@@ -1,10 +1,7 @@
 -- What is written line by line.
 use Rattle.std.proofs.Common.{◌≡◌, ℕ, List, [], ◌∷◌, ◌++◌, length, Result, Ok, Err, IfOk, ap, subst, sym, codes}
-use Rattle.serde_json.specs.Data.{Data, string}
-use Rattle.serde_json.specs.Written.{compact_text}
-use Rattle.dom_model.specs.Commands.Reply.{Reply}
-use Rattle.dom_model.specs.Commands.Printed.{reply_json, reply_line, only_member, out_of_memory_line}
-use Rattle.dom_model.specs.Commands.Output.{whole_lines, last_piece}
+use Rattle.serde_json.specs.{Data.Data, Data.string, Written.compact_text}
+use Rattle.dom_model.specs.Definitions.{Reply, reply_json, reply_line, only_member, out_of_memory_line, whole_lines, last_piece}
 use Rattle.dom_model.proofs.Commands.ReplyLines.{IsOneLine-compact_text, whole_lines-newline, last_piece-newline}
 use Rattle.dom_serve.specs.ByLine.{IsLine}
 

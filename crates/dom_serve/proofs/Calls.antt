@@ -1,7 +1,6 @@
 -- Calls that were made of a writer, and then more of them.
 use Rattle.std.proofs.Common.{◌≡◌, ℕ, zero, suc, Bool, true, false, Result, Ok, Err, OnOk, OnErr, is_err, refl, sym, ◌∙◌, subst, ◌⊎◌, inl, inr}
-use Rattle.dom_serve.specs.Streams.{Writing}
-use Rattle.dom_serve.specs.Calls.{Works, IsCalled, HasPassedOn, HasAnswered}
+use Rattle.dom_serve.specs.{Streams.Writing, Calls.Works, Calls.IsCalled, Calls.HasPassedOn, Calls.HasAnswered}
 
 Works-more : {S : Type 0} (works : S → S → Type 0) (n m : ℕ) (old mid new : S) → Works works n old mid → Works works m mid new → (k : ℕ) × Works works k old new
 Works-more works zero m old mid new p q = (m, subst (λ s. Works works m s new) p q)

@@ -1,22 +1,13 @@
 -- What a server holds and has written after more bytes.
-use Rattle.std.proofs.Common.{◌≡◌, ℕ, ◌+◌, ◌<◌, ◌≤◌, Bool, true, false, List, [], ◌∷◌, ◌++◌, length, Option, Result, Ok, Err, refl, sym, ap, ◌∙◌, subst, arith, append-nil, length-append, append_assoc, ◌⊎◌, inl, inr}
-use Rattle.std.specs.Prelude.{◌==◌, nat_le, if◌then◌else◌}
+use Rattle.std.proofs.Common.{◌≡◌, ℕ, ◌+◌, ◌<◌, ◌≤◌, Bool, true, false, List, [], ◌∷◌, ◌++◌, length, Option, Result, Ok, Err, refl, sym, ap, ◌∙◌, subst, arith, append-nil, length-append, append_assoc, ◌⊎◌, inl, inr, ◌==◌, nat_le, if◌then◌else◌}
 use Rattle.std.proofs.lemmas.Bool.{le-leb, lt-leb, eqb-false}
 use Rattle.std.specs.Io.KnownBytes.{Appends}
 use Rattle.dom_model.specs.declared.OwnError.TheVariants.{LineTooLong}
-use Rattle.dom_model.specs.Commands.Table.{whole_table}
-use Rattle.dom_model.specs.Commands.Line.{command_of, command_within}
-use Rattle.dom_model.specs.Commands.Answer.{Bounds, Step}
-use Rattle.dom_model.specs.Worlds.World.{World, first_world}
-use Rattle.dom_model.specs.Commands.Printed.{reply_line}
-use Rattle.dom_model.specs.Commands.Output.{whole_lines, last_piece, lines_of, line_if_any, step_of, line_step, world_after, replies_from, due}
+use Rattle.dom_model.specs.Definitions.{Bounds, Step, World, first_world, reply_line, lines_of, line_if_any, step_of, line_step, world_after, replies_from}
+use Rattle.dom_model.specs.{Commands.Table.whole_table, Commands.Line.command_of, Commands.Line.command_within, Commands.Output.whole_lines, Commands.Output.last_piece, Commands.Output.due}
 use Rattle.dom_wire.specs.Sessions.{StandsFor}
-use Rattle.dom_serve.specs.declared.fault.Fault.{Fault}
-use Rattle.dom_serve.specs.declared.fault.Fault.TheVariants.{Read, Write, Memory, InputTooLong}
-use Rattle.dom_serve.specs.declared.server.Server.{Server}
-use Rattle.dom_serve.specs.Server.{EndsNoLine, held_command, held_step, Fails, HoldsPiece, Stands, Grows, Breaks, Fed, Finishes, SaysWant}
-use Rattle.dom_serve.proofs.Lines.{whole_lines-append_newline, last_piece-append_newline, whole_lines-append_part, last_piece-append_part, due-append, due-part, due-newline, world-newline}
-use Rattle.dom_serve.proofs.Growth.{Grows-same, Grows-one, Grows-trans, Breaks-more, Breaks-after, Breaks-want, Breaks-front}
+use Rattle.dom_serve.specs.{declared.fault.Fault.Fault, declared.fault.Fault.TheVariants.Read, declared.fault.Fault.TheVariants.Write, declared.fault.Fault.TheVariants.Memory, declared.fault.Fault.TheVariants.InputTooLong, declared.server.Server.Server, Server.EndsNoLine, Server.held_command, Server.held_step, Server.Fails, Server.HoldsPiece, Server.Stands, Server.Grows, Server.Breaks, Server.Fed, Server.Finishes, Server.SaysWant}
+use Rattle.dom_serve.proofs.{Lines.whole_lines-append_newline, Lines.last_piece-append_newline, Lines.whole_lines-append_part, Lines.last_piece-append_part, Lines.due-append, Lines.due-part, Lines.due-newline, Lines.world-newline, Growth.Grows-same, Growth.Grows-one, Growth.Grows-trans, Growth.Breaks-more, Growth.Breaks-after, Growth.Breaks-want, Growth.Breaks-front}
 
 -- ---- the line that is held
 

@@ -2,13 +2,8 @@
 use Rattle.std.proofs.Common.{◌≡◌, ℕ, List, [], ◌∷◌, ◌++◌, Option, refl, sym, ap, ◌∙◌, subst, append_assoc, append-nil, inl, inr}
 use Rattle.std.specs.Io.KnownBytes.{Appends}
 use Rattle.std.proofs.KnownBytes.{Appends-trans, Appends-nil}
-use Rattle.dom_model.specs.Commands.Printed.{out_of_memory_line}
-use Rattle.dom_model.specs.Commands.Output.{joined}
-use Rattle.dom_serve.specs.declared.fault.Fault.{Fault}
-use Rattle.dom_serve.specs.declared.fault.Fault.TheVariants.{Read, Write, Memory, InputTooLong}
-use Rattle.dom_serve.specs.Writes.{IsPrefix, AppendsFront}
-use Rattle.dom_serve.specs.Tells.{SaysOutOfMemory, IsCutShort}
-use Rattle.dom_serve.specs.Server.{Grows, IsBroken, Breaks, SaysWant}
+use Rattle.dom_model.specs.Definitions.{out_of_memory_line, joined}
+use Rattle.dom_serve.specs.{declared.fault.Fault.Fault, declared.fault.Fault.TheVariants.Read, declared.fault.Fault.TheVariants.Write, declared.fault.Fault.TheVariants.Memory, declared.fault.Fault.TheVariants.InputTooLong, Writes.IsPrefix, Writes.AppendsFront, Tells.SaysOutOfMemory, Tells.IsCutShort, Server.Grows, Server.IsBroken, Server.Breaks, Server.SaysWant}
 use Rattle.dom_serve.proofs.Lines.{joined-append, joined-single, IsPrefix-trans, IsPrefix-joined, IsPrefix-after}
 
 -- nothing became due

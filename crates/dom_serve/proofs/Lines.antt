@@ -1,16 +1,9 @@
 -- Lines of a stream that grows at its end.
-use Rattle.std.proofs.Common.{◌≡◌, ◌≢◌, ℕ, Bool, true, false, List, [], ◌∷◌, ◌++◌, refl, sym, ap, ◌∙◌, append_assoc, append-nil}
-use Rattle.std.specs.Prelude.{◌==◌, if◌then◌else◌}
-use Rattle.std.proofs.lemmas.Bool.{ne_eqb}
-use Rattle.std.proofs.lemmas.Grind.{flat_map-append}
-use Rattle.std.proofs.lemmas.List.Elements.{All-head, All-tail}
-use Rattle.dom_model.specs.Commands.Table.{Row, whole_table}
-use Rattle.dom_model.specs.Commands.Answer.{Bounds}
-use Rattle.dom_model.specs.Worlds.World.{World, first_world}
-use Rattle.dom_model.specs.Commands.Printed.{reply_line}
-use Rattle.dom_model.specs.Commands.Output.{onto_first, onto_last, whole_lines, last_piece, line_if_any, line_step, replies_from, world_after, due_lines, due, joined}
-use Rattle.dom_serve.specs.Writes.{IsPrefix}
-use Rattle.dom_serve.specs.Server.{EndsNoLine}
+use Rattle.std.proofs.Common.{◌≡◌, ◌≢◌, ℕ, Bool, true, false, List, [], ◌∷◌, ◌++◌, refl, sym, ap, ◌∙◌, append_assoc, append-nil, ◌==◌, if◌then◌else◌}
+use Rattle.std.proofs.lemmas.{Bool.ne_eqb, Grind.flat_map-append, List.Elements.All-head, List.Elements.All-tail}
+use Rattle.dom_model.specs.Definitions.{Row, Bounds, World, first_world, reply_line, onto_first, onto_last, line_if_any, line_step, replies_from, world_after, due_lines, joined}
+use Rattle.dom_model.specs.{Commands.Table.whole_table, Commands.Output.whole_lines, Commands.Output.last_piece, Commands.Output.due}
+use Rattle.dom_serve.specs.{Writes.IsPrefix, Server.EndsNoLine}
 
 pub joined-append : (xs ys : List (List ℕ)) → joined (xs ++ ys) ≡ joined xs ++ joined ys
 joined-append xs ys = flat_map-append (λ part. part) xs ys

@@ -1,26 +1,12 @@
 -- What reads gave and what was written for them, one more read at a time.
 use Rattle.std.proofs.Common.{◌≡◌, ℕ, ◌+◌, ◌*◌, ◌<◌, true, false, List, [], ◌∷◌, ◌++◌, length, Option, Result, Ok, Err, OnOk, IfSome, refl, sym, ap, ◌∙◌, subst, arith, take, ◌≤◌, append-nil, length-append, length-take, inr}
-use Rattle.std.specs.List.{All, AllByRecursion}
+use Rattle.std.specs.{List.All, List.AllByRecursion, Io.KnownBytes.Appends, Io.KnownBytes.Consumes, Io.KnownBytes.IsAtEnd, Io.KnownBytes.Keeps}
 use Rattle.std.proofs.lemmas.List.Elements.{All-push}
-use Rattle.std.specs.Io.KnownBytes.{Appends, Consumes, IsAtEnd, Keeps}
 use Rattle.std.proofs.KnownBytes.{Appends-trans, Appends-nil, Consumes-nil, Consumes-trans, Consumes-kept, Consumes-whole}
-use Rattle.dom_model.specs.Commands.Answer.{Bounds}
-use Rattle.dom_model.specs.Commands.Table.{whole_table}
-use Rattle.dom_model.specs.Commands.Printed.{out_of_memory_line}
-use Rattle.dom_model.specs.Commands.Output.{joined, due, whole_lines, lines_of, output_of}
-use Rattle.dom_serve.specs.declared.fault.Fault.{Fault}
-use Rattle.dom_serve.specs.declared.fault.Fault.TheVariants.{Read, Write, Memory, InputTooLong}
-use Rattle.dom_serve.specs.declared.fault.Summary.{Summary}
-use Rattle.dom_serve.specs.declared.server.Server.{Server}
-use Rattle.dom_serve.specs.Streams.{Reading}
-use Rattle.dom_serve.specs.Writes.{IsPrefix}
-use Rattle.dom_serve.specs.Calls.{EndsWith}
-use Rattle.dom_serve.specs.Pieces.{Reads, AreWithin, EndsOnce, is_nothing, has_end, before_last}
-use Rattle.dom_serve.specs.Tells.{is_read_fault, SaysOutOfMemory, IsCutShort, AnswersEarlier, Tells}
-use Rattle.dom_serve.specs.Server.{Stands, Grows, IsBroken, Breaks, Concludes, SaysWant, IsSoFar}
-use Rattle.dom_serve.specs.Serves.{IsTold}
-use Rattle.dom_serve.proofs.Lines.{joined-single}
-use Rattle.dom_serve.proofs.Growth.{Grows-written}
+use Rattle.dom_model.specs.Definitions.{Bounds, out_of_memory_line, joined, lines_of, output_of}
+use Rattle.dom_model.specs.{Commands.Table.whole_table, Commands.Output.due, Commands.Output.whole_lines}
+use Rattle.dom_serve.specs.{declared.fault.Fault.Fault, declared.fault.Fault.TheVariants.Read, declared.fault.Fault.TheVariants.Write, declared.fault.Fault.TheVariants.Memory, declared.fault.Fault.TheVariants.InputTooLong, declared.fault.Summary.Summary, declared.server.Server.Server, Streams.Reading, Writes.IsPrefix, Calls.EndsWith, Pieces.Reads, Pieces.AreWithin, Pieces.EndsOnce, Pieces.is_nothing, Pieces.has_end, Pieces.before_last, Tells.is_read_fault, Tells.SaysOutOfMemory, Tells.IsCutShort, Tells.AnswersEarlier, Tells.Tells, Server.Stands, Server.Grows, Server.IsBroken, Server.Breaks, Server.Concludes, Server.SaysWant, Server.IsSoFar, Serves.IsTold}
+use Rattle.dom_serve.proofs.{Lines.joined-single, Growth.Grows-written}
 
 -- ---- one more piece
 

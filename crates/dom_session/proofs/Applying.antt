@@ -1,42 +1,10 @@
 -- From the step of a world to the step of a session.
 use Rattle.std.proofs.Common.{◌≡◌, refl, ap, ◌∙◌, subst}
-use Rattle.dom_model.specs.Worlds.World.{World}
+use Rattle.dom_model.specs.Definitions.{World, Bounds, Step, answer}
 use Rattle.dom_model.specs.Commands.Command as model
-use Rattle.dom_model.specs.Commands.Answer.{Bounds, Step, answer}
-use Rattle.dom_session.specs.declared.command.Command.{Command}
+use Rattle.dom_session.specs.{declared.command.Command.Command, declared.command.Making.Making, declared.command.Making.TheVariants.NewDocument, declared.command.Making.TheVariants.CreateElement, declared.command.Making.TheVariants.CreateText, declared.command.Making.TheVariants.CreateComment, declared.command.Making.TheVariants.CreatePI, declared.command.Making.TheVariants.CreateDoctype, declared.command.Making.TheVariants.CreateFragment, declared.command.Editing.Editing, declared.command.Editing.TheVariants.InsertBefore, declared.command.Editing.TheVariants.AppendChild, declared.command.Editing.TheVariants.AdoptNode, declared.command.Editing.TheVariants.ReplaceChild, declared.command.Editing.TheVariants.RemoveChild, declared.command.Editing.TheVariants.Remove, declared.command.Editing.TheVariants.ReplaceChildren, declared.command.Editing.TheVariants.Discard, declared.command.Asking.Asking, declared.command.Asking.TheVariants.DescribeNode, declared.command.Asking.TheVariants.Children, declared.command.Asking.TheVariants.Index, declared.command.Asking.TheVariants.Length, declared.command.Asking.TheVariants.Root, declared.command.Asking.TheVariants.Tree, declared.command.Ranging.Ranging, declared.command.Ranging.TheVariants.CreateRange, declared.command.Ranging.TheVariants.CloneRange, declared.command.Ranging.TheVariants.DescribeRange, declared.command.Ranging.TheVariants.ReleaseRange, declared.command.Setting.Setting, declared.command.Setting.TheVariants.SetStart, declared.command.Setting.TheVariants.SetEnd, declared.command.Setting.TheVariants.SetStartBefore, declared.command.Setting.TheVariants.SetStartAfter, declared.command.Setting.TheVariants.SetEndBefore, declared.command.Setting.TheVariants.SetEndAfter, declared.command.Setting.TheVariants.Collapse, declared.command.Setting.TheVariants.SelectNode, declared.command.Setting.TheVariants.SelectNodeContents, declared.command.Comparing.Comparing, declared.command.Comparing.TheVariants.CompareBoundaryPoints, declared.command.Comparing.TheVariants.ComparePoint, declared.command.Comparing.TheVariants.IsPointInRange, declared.command.Comparing.TheVariants.IntersectsNode, declared.command.Comparing.TheVariants.CommonAncestor, declared.command.StaticRanging.StaticRanging, declared.command.StaticRanging.TheVariants.CreateStaticRange, declared.command.StaticRanging.TheVariants.DescribeStaticRange, declared.command.StaticRanging.TheVariants.ReleaseStaticRange, declared.command.Traversing.Traversing, declared.command.Traversing.TheVariants.CreateIterator, declared.command.Traversing.TheVariants.CreateWalker, declared.command.Traversing.TheVariants.DescribeIterator, declared.command.Traversing.TheVariants.NextNode, declared.command.Traversing.TheVariants.PreviousNode, declared.command.Traversing.TheVariants.DescribeWalker, declared.command.Traversing.TheVariants.SetCurrent, declared.command.Traversing.TheVariants.Walk, declared.command.Traversing.TheVariants.ReleaseIterator, declared.command.Traversing.TheVariants.ReleaseWalker, declared.command.Observing.Observing, declared.command.Observing.TheVariants.CreateObserver, declared.command.Observing.TheVariants.Observe, declared.command.Observing.TheVariants.Disconnect, declared.command.Observing.TheVariants.TakeRecords, declared.command.Observing.TheVariants.Notify, declared.command.Observing.TheVariants.Pending, declared.command.Observing.TheVariants.ReleaseObserver, declared.command.Observing.TheVariants.TakePending, declared.command.Observing.TheVariants.TellObserver, declared.command.Texts.Texts, declared.command.Texts.TheVariants.Normalize, declared.command.Texts.TheVariants.TextContent, declared.command.Texts.TheVariants.SetTextContent, declared.command.Texts.TheVariants.GetData, declared.command.Texts.TheVariants.SetData, declared.command.Texts.TheVariants.AppendData, declared.command.Texts.TheVariants.InsertData, declared.command.Texts.TheVariants.DeleteData, declared.command.Texts.TheVariants.ReplaceData, declared.command.Texts.TheVariants.SubstringData, declared.command.Texts.TheVariants.SplitText, declared.command.Attributes.Attributes, declared.command.Attributes.TheVariants.SetAttribute, declared.command.Attributes.TheVariants.GetAttribute, declared.command.Attributes.TheVariants.HasAttribute, declared.command.Attributes.TheVariants.RemoveAttribute, declared.command.Attributes.TheVariants.ToggleAttribute, declared.command.Attributes.TheVariants.AttributeNames, declared.command.Copying.Copying, declared.command.Copying.TheVariants.ImportNode, declared.command.Copying.TheVariants.CloneNode, declared.command.Copying.TheVariants.IsContaining, declared.command.Copying.TheVariants.IsEqual, declared.command.Copying.TheVariants.ComparePosition, declared.command.Contents.Contents, declared.command.Contents.TheVariants.RangeText, declared.command.Contents.TheVariants.DeleteContents, declared.command.Contents.TheVariants.ExtractContents, declared.command.Contents.TheVariants.CloneContents, declared.command.Contents.TheVariants.InsertNode, declared.command.Contents.TheVariants.SurroundContents, declared.reply.Reply.Reply, Views.making_view, Views.editing_view, Views.asking_view, Views.ranging_view, Views.setting_view, Views.comparing_view, Views.static_ranging_view, Views.traversing_view, Views.observing_view, Views.texts_view, Views.attributes_view, Views.copying_view, Views.contents_view, Views.command_view, Stands.Held, Stands.StandsFor, Stands.IsStep, Stands.IsAnswered, Limiting.numbered}
 use Rattle.dom_session.specs.declared.command.Command.TheVariants as group
-use Rattle.dom_session.specs.declared.command.Making.{Making}
-use Rattle.dom_session.specs.declared.command.Making.TheVariants.{NewDocument, CreateElement, CreateText, CreateComment, CreatePI, CreateDoctype, CreateFragment}
-use Rattle.dom_session.specs.declared.command.Editing.{Editing}
-use Rattle.dom_session.specs.declared.command.Editing.TheVariants.{InsertBefore, AppendChild, AdoptNode, ReplaceChild, RemoveChild, Remove, ReplaceChildren, Discard}
-use Rattle.dom_session.specs.declared.command.Asking.{Asking}
-use Rattle.dom_session.specs.declared.command.Asking.TheVariants.{DescribeNode, Children, Index, Length, Root, Tree}
-use Rattle.dom_session.specs.declared.command.Ranging.{Ranging}
-use Rattle.dom_session.specs.declared.command.Ranging.TheVariants.{CreateRange, CloneRange, DescribeRange, ReleaseRange}
-use Rattle.dom_session.specs.declared.command.Setting.{Setting}
-use Rattle.dom_session.specs.declared.command.Setting.TheVariants.{SetStart, SetEnd, SetStartBefore, SetStartAfter, SetEndBefore, SetEndAfter, Collapse, SelectNode, SelectNodeContents}
-use Rattle.dom_session.specs.declared.command.Comparing.{Comparing}
-use Rattle.dom_session.specs.declared.command.Comparing.TheVariants.{CompareBoundaryPoints, ComparePoint, IsPointInRange, IntersectsNode, CommonAncestor}
-use Rattle.dom_session.specs.declared.command.StaticRanging.{StaticRanging}
-use Rattle.dom_session.specs.declared.command.StaticRanging.TheVariants.{CreateStaticRange, DescribeStaticRange, ReleaseStaticRange}
-use Rattle.dom_session.specs.declared.command.Traversing.{Traversing}
-use Rattle.dom_session.specs.declared.command.Traversing.TheVariants.{CreateIterator, CreateWalker, DescribeIterator, NextNode, PreviousNode, DescribeWalker, SetCurrent, Walk, ReleaseIterator, ReleaseWalker}
-use Rattle.dom_session.specs.declared.command.Observing.{Observing}
-use Rattle.dom_session.specs.declared.command.Observing.TheVariants.{CreateObserver, Observe, Disconnect, TakeRecords, Notify, Pending, ReleaseObserver, TakePending, TellObserver}
-use Rattle.dom_session.specs.declared.command.Texts.{Texts}
-use Rattle.dom_session.specs.declared.command.Texts.TheVariants.{Normalize, TextContent, SetTextContent, GetData, SetData, AppendData, InsertData, DeleteData, ReplaceData, SubstringData, SplitText}
-use Rattle.dom_session.specs.declared.command.Attributes.{Attributes}
-use Rattle.dom_session.specs.declared.command.Attributes.TheVariants.{SetAttribute, GetAttribute, HasAttribute, RemoveAttribute, ToggleAttribute, AttributeNames}
-use Rattle.dom_session.specs.declared.command.Copying.{Copying}
-use Rattle.dom_session.specs.declared.command.Copying.TheVariants.{ImportNode, CloneNode, IsContaining, IsEqual, ComparePosition}
-use Rattle.dom_session.specs.declared.command.Contents.{Contents}
-use Rattle.dom_session.specs.declared.command.Contents.TheVariants.{RangeText, DeleteContents, ExtractContents, CloneContents, InsertNode, SurroundContents}
-use Rattle.dom_session.specs.declared.reply.Reply.{Reply}
-use Rattle.dom_session.specs.Views.{making_view, editing_view, asking_view, ranging_view, setting_view, comparing_view, static_ranging_view, traversing_view, observing_view, texts_view, attributes_view, copying_view, contents_view, command_view}
-use Rattle.dom_edit.specs.declared.world.World.{World as CodeWorld}
-use Rattle.dom_edit.specs.Whole.{Shows, IsShown}
-use Rattle.dom_session.specs.Stands.{Held, StandsFor, IsStep, IsAnswered}
-use Rattle.dom_session.specs.Limiting.{numbered}
+use Rattle.dom_edit.specs.{declared.world.World.World as CodeWorld, Whole.Shows, Whole.IsShown}
 
 -- an answer knows nothing of the limit of a line
 same_making : (b : Bounds) (w : World) (c : Making) → answer (numbered b.numbers) w (making_view c) ≡ answer b w (making_view c)

@@ -1,31 +1,16 @@
 -- The answers of the commands on the contents of ranges, where the objects are there and numbers are left.
-use Rattle.std.proofs.Common.{◌≡◌, ℕ, ◌+◌, ◌*◌, ◌≤◌, nat_lt, Bool, true, false, List, [], ◌∷◌, Option, Some, None, Ok, Err, refl, sym, ap, ◌∙◌, arith}
+use Rattle.std.proofs.Common.{◌≡◌, ℕ, ◌+◌, ◌*◌, ◌≤◌, nat_lt, Bool, true, false, List, [], ◌∷◌, Option, Some, None, Ok, Err, refl, sym, ap, ◌∙◌, arith, is_some, IfSome}
 use Rattle.std.proofs.lemmas.Bool.Decides.{nat_tests}
-use Rattle.std.specs.Prelude.{is_some, IfSome}
 use Rattle.dom_model.specs.declared.DomError.{DomError}
-use Rattle.dom_model.specs.Forests.Forest.{Forest, size, entry_in}
-use Rattle.dom_model.specs.Worlds.World.{Content, Range}
+use Rattle.dom_model.specs.Definitions.{Forest, size, entry_in, Content, Range, range_at, range_text, delete_contents, check_extract, extract, clone_contents, Outcome, insert_node, surround, refusal_in, check_whole_surround, RangeText, DeleteContents, ExtractContents, CloneContents, InsertNode, SurroundContents, Bounds, Step, guarded, refused, answer, no_node, no_room, no_room_for_copies, answers, does, checked, no_range, on_range, done_or_refused}
 use Rattle.dom_model.specs.Worlds.World as model
-use Rattle.dom_model.specs.RangesAndContents.Ranges.{range_at}
-use Rattle.dom_model.specs.RangesAndContents.Contents.{range_text, delete_contents, check_extract, extract, clone_contents}
-use Rattle.dom_model.specs.RangesAndContents.Wrapping.{Outcome, insert_node, surround, refusal_in, check_whole_surround}
-use Rattle.dom_model.specs.Commands.Command.{RangeText, DeleteContents, ExtractContents, CloneContents, InsertNode, SurroundContents}
 use Rattle.dom_model.specs.Commands.Reply as model_reply
-use Rattle.dom_model.specs.Commands.Answer.{Bounds, Step, guarded, refused, answer}
-use Rattle.dom_model.specs.Commands.Guards.{no_node, no_room, no_room_for_copies, answers, does, checked}
-use Rattle.dom_model.specs.Commands.AnswerRanges.{no_range, on_range, done_or_refused}
-use Rattle.dom_model.proofs.Counting.CountsOfExtraction.{IsGrownTo, extract-grown, surround-to}
-use Rattle.dom_model.proofs.Counting.CopiesOfContents.{clone_contents-grown}
-use Rattle.dom_model.proofs.Counting.NumbersKept.{in_order}
+use Rattle.dom_model.proofs.Counting.{CountsOfExtraction.IsGrownTo, CountsOfExtraction.extract-grown, CountsOfExtraction.surround-to, CopiesOfContents.clone_contents-grown, NumbersKept.in_order}
 use Rattle.dom_ranges.specs.Tables.{range_in}
-use Rattle.dom_edit.specs.declared.world.World.{World}
-use Rattle.dom_edit.specs.Whole.{IsWhole, Keeps, Shows, unwatched}
+use Rattle.dom_edit.specs.{declared.world.World.World, Whole.IsWhole, Whole.Keeps, Whole.Shows, Whole.unwatched}
 use Rattle.dom_edit.proofs.Leaving.{sound-unwatched}
 use Rattle.dom_wrap.specs.Outcomes.{left_by}
-use Rattle.dom_session.proofs.Stepping.{guarded-none}
-use Rattle.dom_session.proofs.TreeEdits.{not-none}
-use Rattle.dom_session.proofs.NodeData.{guarded-past_node, guarded-past_room}
-use Rattle.dom_session.proofs.Unfelt.{Beside, beside, insert_node-refusal, surround-refusal}
+use Rattle.dom_session.proofs.{Stepping.guarded-none, TreeEdits.not-none, NodeData.guarded-past_node, NodeData.guarded-past_room, Unfelt.Beside, Unfelt.beside, Unfelt.insert_node-refusal, Unfelt.surround-refusal}
 
 -- Numbers that are left.
 

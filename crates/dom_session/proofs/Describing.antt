@@ -1,18 +1,8 @@
 -- The answer to the question where a node stands, from what the parts of the tree say of it.
-use Rattle.std.proofs.Common.{◌≡◌, ℕ, true, [], ◌∷◌, Option, Some, None, refl, sym, subst, ◌∙◌}
-use Rattle.std.specs.Prelude.{is_some, IfSome}
-use Rattle.dom_model.specs.Forests.Kinds.{Label}
-use Rattle.dom_model.specs.Forests.Arena.{Entry, parent_in}
-use Rattle.dom_model.specs.Forests.Forest.{Node, Forest, entry_in, parent_of, next_of, previous_of}
+use Rattle.std.proofs.Common.{◌≡◌, ℕ, true, [], ◌∷◌, Option, Some, None, refl, sym, subst, ◌∙◌, is_some, IfSome}
+use Rattle.dom_model.specs.Definitions.{Label, Entry, parent_in, Node, Forest, entry_in, parent_of, next_of, previous_of, Content, DescribeNode, NodeAt, Bounds, Step, guarded, no_node, answers, answer, described}
 use Rattle.dom_model.specs.Worlds.World as model
-use Rattle.dom_model.specs.Worlds.World.{Content}
-use Rattle.dom_model.specs.Commands.Command.{DescribeNode}
-use Rattle.dom_model.specs.Commands.Reply.{NodeAt}
-use Rattle.dom_model.specs.Commands.Guards.{Bounds, Step, guarded, no_node, answers}
-use Rattle.dom_model.specs.Commands.Answer.{answer}
-use Rattle.dom_model.specs.Commands.AnswerTree.{described}
-use Rattle.dom_edit.specs.declared.world.World.{World}
-use Rattle.dom_edit.specs.Whole.{Shows}
+use Rattle.dom_edit.specs.{declared.world.World.World, Whole.Shows}
 use Rattle.dom_session.proofs.TreeEdits.{not-none}
 
 module _ (n document : ℕ) (label : Label) (next parent previous : Option ℕ) where

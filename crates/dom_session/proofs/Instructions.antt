@@ -1,7 +1,6 @@
 -- Looking for the end of a processing instruction, unit by unit.
-use Rattle.std.specs.Prelude.{◌==◌, ◌&&◌, ◌||◌}
-use Rattle.std.proofs.Common.{◌≡◌, ℕ, Bool, false, List, [], ◌∷◌, refl, ap}
-use Rattle.dom_model.specs.Commands.AnswerMaking.{closes_instruction}
+use Rattle.std.proofs.Common.{◌==◌, ◌&&◌, ◌||◌, ◌≡◌, ℕ, Bool, false, List, [], ◌∷◌, refl, ap}
+use Rattle.dom_model.specs.Definitions.{closes_instruction}
 
 -- whether the rest closes, where it comes after a question mark or not
 abbrev pub closes_after : Bool → List ℕ → Bool

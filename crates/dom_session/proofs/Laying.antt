@@ -1,9 +1,8 @@
 -- One list laid over the front of another, a part at a time.
-use Rattle.std.proofs.Common.{arith, ◌≡◌, ◌<◌, ◌+◌, ℕ, zero, suc, List, [], ◌∷◌, ◌++◌, length, take, drop, slice_set, refl, sym}
+use Rattle.std.proofs.Common.{arith, ◌≡◌, ◌<◌, ◌+◌, ℕ, zero, suc, List, [], ◌∷◌, ◌++◌, length, take, drop, slice_set, refl, sym, false, Option, Some, None, is_some}
 use Rattle.std.proofs.lemmas.List.{append_assoc, append-nil, take-append-drop, take_more_set, drop-set-lt}
 use Rattle.std.proofs.Math.Seq.{take-length, drop-length}
-use Rattle.std.specs.Prelude.{false, Option, Some, None, is_some}
-use Rattle.dom_model.specs.Forests.Arena.{Entry, children_in}
+use Rattle.dom_model.specs.Definitions.{Entry, children_in}
 use Rattle.dom_session.specs.Links.{laid_over}
 
 module _ {A : Type 0} where

@@ -1,23 +1,12 @@
 -- The answers of the commands that copy and compare nodes, and of those on the contents of ranges, where nothing is refused before the step.
-use Rattle.std.proofs.Common.{◌≡◌, ℕ, ◌+◌, ◌*◌, ◌≤◌, nat_lt, Bool, true, false, Some, None, refl, arith}
+use Rattle.std.proofs.Common.{◌≡◌, ℕ, ◌+◌, ◌*◌, ◌≤◌, nat_lt, Bool, true, false, Some, None, refl, arith, is_some}
 use Rattle.std.proofs.lemmas.Bool.Decides.{nat_tests}
-use Rattle.std.specs.Prelude.{is_some}
-use Rattle.dom_model.specs.declared.Kind.TheVariants.{Document}
-use Rattle.dom_model.specs.declared.DomError.{DomError}
-use Rattle.dom_model.specs.declared.DomError.TheVariants.{NotSupportedError}
-use Rattle.dom_model.specs.Forests.Kinds.{is_kind}
-use Rattle.dom_model.specs.Forests.Forest.{Forest, size, entry_in}
-use Rattle.dom_model.specs.Worlds.World.{Content}
+use Rattle.dom_model.specs.declared.{Kind.TheVariants.Document, DomError.DomError, DomError.TheVariants.NotSupportedError}
+use Rattle.dom_model.specs.Definitions.{is_kind, Forest, size, entry_in, Content, kind_passes, is_of_kind, original, clone_node, import_node, ImportNode, CloneNode, refused, answer}
 use Rattle.dom_model.specs.Worlds.World as model
-use Rattle.dom_model.specs.Forests.Nodes.{kind_passes, is_of_kind}
-use Rattle.dom_model.specs.DataAndCopies.Clones.{original, clone_node, import_node}
-use Rattle.dom_model.specs.Commands.Command.{ImportNode, CloneNode}
 use Rattle.dom_model.specs.Commands.Reply as model_reply
-use Rattle.dom_model.specs.Commands.Answer.{refused, answer}
 use Rattle.dom_model.proofs.Counting.CountsOfContents.{size-original}
-use Rattle.dom_edit.specs.declared.world.World.{World}
-use Rattle.dom_edit.specs.Whole.{Shows}
-use Rattle.dom_edit.specs.Refusals.{check_adopt}
+use Rattle.dom_edit.specs.{declared.world.World.World, Whole.Shows, Refusals.check_adopt}
 use Rattle.dom_session.specs.Limiting.{numbered}
 use Rattle.dom_session.proofs.TreeEdits.{not-none, throws-some, throws-none}
 

@@ -1,33 +1,12 @@
 -- The answers of the commands on attributes, data and text, where nothing is refused before the step.
-use Rattle.std.proofs.Common.{◌≡◌, ℕ, suc, zero, ◌+◌, nat_lt, Bool, true, false, List, [], ◌∷◌, ◌++◌, Option, Some, None, refl, sym, ap, subst, ◌∙◌, take, slice_get, map, string_bytes}
-use Rattle.std.specs.Prelude.{String, is_some, IfSome, Result, Ok, Err, IfOk, filter, flat_map, drop, length}
-use Rattle.dom_model.specs.declared.Kind.{Kind}
-use Rattle.dom_model.specs.declared.Kind.TheVariants.{Element, Text, ProcessingInstruction, Comment, Document, DocumentType, DocumentFragment}
-use Rattle.dom_model.specs.declared.DomError.{DomError}
-use Rattle.dom_model.specs.declared.DomError.TheVariants.{IndexSizeError}
-use Rattle.dom_model.specs.Forests.Kinds.{is_kind, is_character_data}
-use Rattle.dom_model.specs.Forests.Names.{is_attribute_name}
-use Rattle.dom_model.specs.Forests.Attributes.{Attribute, attribute_value, attribute_names}
-use Rattle.dom_model.specs.Forests.Texts.{substring}
-use Rattle.dom_model.specs.Forests.Arena.{Entry}
-use Rattle.dom_model.specs.Forests.Forest.{Node, Forest, entry_in, inclusive_descendants}
-use Rattle.dom_model.specs.Worlds.Lengths.{length_of, length_in, node_length, unit_count, length_at}
-use Rattle.dom_model.specs.Worlds.World.{Content}
+use Rattle.std.proofs.Common.{◌≡◌, ℕ, suc, zero, ◌+◌, nat_lt, Bool, true, false, List, [], ◌∷◌, ◌++◌, Option, Some, None, refl, sym, ap, subst, ◌∙◌, take, slice_get, map, string_bytes, String, is_some, IfSome, Result, Ok, Err, IfOk, filter, flat_map, drop, length}
+use Rattle.dom_model.specs.declared.{Kind.Kind, Kind.TheVariants.Element, Kind.TheVariants.Text, Kind.TheVariants.ProcessingInstruction, Kind.TheVariants.Comment, Kind.TheVariants.Document, Kind.TheVariants.DocumentType, Kind.TheVariants.DocumentFragment, DomError.DomError, DomError.TheVariants.IndexSizeError}
+use Rattle.dom_model.specs.Definitions.{is_kind, is_character_data, is_attribute_name, Attribute, attribute_value, attribute_names, substring, Entry, Node, Forest, entry_in, inclusive_descendants, length_of, length_in, node_length, unit_count, length_at, Content, first_refusal, is_of_kind, content_in, cut_count, check_offset, replace_data, set_data, substring_data, split, normalize, text_content_by, text_content, set_text_content, by_kind, set_attribute, has_attribute, remove_attribute, is_toggled_on, toggle_attribute, Command, SetAttribute, GetAttribute, HasAttribute, RemoveAttribute, ToggleAttribute, AttributeNames, GetData, SetData, AppendData, ReplaceData, SubstringData, SplitText, Normalize, TextContent, SetTextContent, Bounds, Step, guarded, refused, answer, no_node, wrong_kind, bad_name, no_room, answers, does, checked}
 use Rattle.dom_model.specs.Worlds.World as model
-use Rattle.dom_model.specs.PlainLists.Lists.{first_refusal}
-use Rattle.dom_model.specs.Forests.Nodes.{is_of_kind}
-use Rattle.dom_model.specs.DataAndCopies.Data.{content_in, cut_count, check_offset, replace_data, set_data, substring_data, split, normalize, text_content_by, text_content, set_text_content, by_kind, set_attribute, has_attribute, remove_attribute, is_toggled_on, toggle_attribute}
-use Rattle.dom_model.specs.Commands.Command.{Command, SetAttribute, GetAttribute, HasAttribute, RemoveAttribute, ToggleAttribute, AttributeNames, GetData, SetData, AppendData, ReplaceData, SubstringData, SplitText, Normalize, TextContent, SetTextContent}
 use Rattle.dom_model.specs.Commands.Reply as model_reply
-use Rattle.dom_model.specs.Commands.Answer.{Bounds, Step, guarded, refused, answer}
-use Rattle.dom_model.specs.Commands.Guards.{no_node, wrong_kind, bad_name, no_room, answers, does, checked}
-use Rattle.dom_edit.specs.declared.world.World.{World}
-use Rattle.dom_edit.specs.Whole.{Shows, unwatched}
-use Rattle.dom_session.specs.Refusing.{kind_refusal}
-use Rattle.dom_session.specs.declared.reply.Reply.{Reply}
-use Rattle.dom_session.specs.Stands.{IsStep}
-use Rattle.dom_session.proofs.Stepping.{guarded-none, guarded-some}
-use Rattle.dom_session.proofs.TreeEdits.{not-none}
+use Rattle.dom_edit.specs.{declared.world.World.World, Whole.Shows, Whole.unwatched}
+use Rattle.dom_session.specs.{Refusing.kind_refusal, declared.reply.Reply.Reply, Stands.IsStep}
+use Rattle.dom_session.proofs.{Stepping.guarded-none, Stepping.guarded-some, TreeEdits.not-none}
 
 -- the text of a node, by its kind, is read off the forest
 content-by-same : (k : Kind) (w u : model.World) (n : ℕ) → w.forest ≡ u.forest → text_content_by k w n ≡ text_content_by k u n

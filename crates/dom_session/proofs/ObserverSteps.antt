@@ -1,29 +1,15 @@
 -- The steps that change the observers and nothing else, from a world that is shown.
-use Rattle.std.proofs.Common.{◌≡◌, ℕ, ◌+◌, nat_lt, true, false, List, [], ◌∷◌, length, subst, Option, Some, None, Ok, Err, refl, sym, ap, ◌∙◌}
-use Rattle.std.specs.Prelude.{is_some}
+use Rattle.std.proofs.Common.{◌≡◌, ℕ, ◌+◌, nat_lt, true, false, List, [], ◌∷◌, length, subst, Option, Some, None, Ok, Err, refl, sym, ap, ◌∙◌, is_some}
 use Rattle.dom_model.specs.declared.DomError.{DomError}
-use Rattle.dom_model.specs.Forests.Forest.{HasNode, entry_in}
-use Rattle.dom_model.specs.Worlds.World.{Observing, Options}
+use Rattle.dom_model.specs.Definitions.{HasNode, entry_in, Observing, Options, Command, CreateObserver, Observe, Disconnect, TakeRecords, Notify, ReleaseObserver, TakePending, TellObserver, GivenOptions, is_refusal, Bounds, answer, with_observing, options_refusal, options_of, settled, settled_unless, has_observer, with_observer, observed, disconnected, released_observer, queue_of, records_taken, told, after_notify, pending_taken, observer_told, Record, Told}
 use Rattle.dom_model.specs.Worlds.World as model
-use Rattle.dom_model.specs.Commands.Command.{Command, CreateObserver, Observe, Disconnect, TakeRecords, Notify, ReleaseObserver, TakePending, TellObserver}
-use Rattle.dom_model.specs.MutationObservers.GivenOptions.{GivenOptions}
 use Rattle.dom_model.specs.Commands.Reply as model_reply
-use Rattle.dom_model.specs.Commands.Reply.{is_refusal}
-use Rattle.dom_model.specs.Commands.Answer.{Bounds, answer}
-use Rattle.dom_model.specs.Commands.AnswerObserving.{with_observing}
-use Rattle.dom_model.specs.MutationObservers.Records.{options_refusal, options_of, settled, settled_unless, has_observer, with_observer, observed, disconnected, released_observer, queue_of, records_taken, told, after_notify, pending_taken, observer_told}
-use Rattle.dom_model.specs.MutationObservers.Record.{Record, Told}
 use Rattle.dom_model.proofs.PlainLists.Numbers.{same_or, same, apart}
-use Rattle.dom_observe.specs.Held.{NamesHeld, NamesOnly}
-use Rattle.dom_observe.specs.Watchers.{Watchers, Watches, queue_in}
+use Rattle.dom_observe.specs.{Held.NamesHeld, Held.NamesOnly, Watchers.Watchers, Watchers.Watches, Watchers.queue_in}
 use Rattle.dom_observe.proofs.HeldNames.{held-after}
-use Rattle.dom_edit.specs.declared.world.World.{World}
-use Rattle.dom_edit.specs.Whole.{IsWhole, Shows}
-use Rattle.dom_session.specs.declared.reply.Reply.{Reply}
-use Rattle.dom_session.specs.Views.{reply_view}
-use Rattle.dom_session.specs.Stands.{IsStep}
-use Rattle.dom_session.proofs.Stepping.{step-follows, step-stays}
-use Rattle.dom_session.proofs.TreeEdits.{not-none}
+use Rattle.dom_edit.specs.{declared.world.World.World, Whole.IsWhole, Whole.Shows}
+use Rattle.dom_session.specs.{declared.reply.Reply.Reply, Views.reply_view, Stands.IsStep}
+use Rattle.dom_session.proofs.{Stepping.step-follows, Stepping.step-stays, TreeEdits.not-none}
 
 module _ (v : World) (whole : IsWhole v) where
   -- observers that name what is there

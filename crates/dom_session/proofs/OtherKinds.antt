@@ -1,16 +1,11 @@
 -- A command on a node that is not there, or of another kind than the command is for.
 use Rattle.std.proofs.Common.{◌≡◌, ℕ, Bool, List, [], ◌∷◌, Some, sym, ◌∙◌}
 use Rattle.dom_model.specs.declared.Kind.{Kind}
+use Rattle.dom_model.specs.Definitions.{Command, Bounds, Step, guarded, answer, no_node, wrong_kind}
 use Rattle.dom_model.specs.Worlds.World as model
-use Rattle.dom_model.specs.Commands.Command.{Command}
 use Rattle.dom_model.specs.Commands.Reply as model_reply
-use Rattle.dom_model.specs.Commands.Answer.{Bounds, Step, guarded, answer}
-use Rattle.dom_model.specs.Commands.Guards.{no_node, wrong_kind}
 use Rattle.dom_edit.specs.declared.world.World.{World}
-use Rattle.dom_session.specs.declared.reply.Reply.{Reply}
-use Rattle.dom_session.specs.Refusing.{kind_refusal}
-use Rattle.dom_session.specs.Stands.{IsStep}
-use Rattle.dom_session.specs.Views.{reply_view}
+use Rattle.dom_session.specs.{declared.reply.Reply.Reply, Refusing.kind_refusal, Stands.IsStep, Views.reply_view}
 use Rattle.dom_session.proofs.Stepping.{guarded-some, step-stays}
 
 pub step-other_kind : (v : World) (b : Bounds) (c : Command) (test : Kind → Bool) (n : ℕ) (reply : Reply) (cs : List (Bool × model_reply.Reply)) (s : model.World → Step)

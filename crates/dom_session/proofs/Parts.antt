@@ -1,20 +1,12 @@
 -- Steps that change the table of live ranges, or that of static ranges, and nothing else.
-use Rattle.std.proofs.Common.{◌≡◌, ℕ, true, false, List, Option, Some, None, All, refl, sym, ap, subst}
-use Rattle.std.specs.Prelude.{IfSome, is_some, slice_set}
+use Rattle.std.proofs.Common.{◌≡◌, ℕ, true, false, List, Option, Some, None, All, refl, sym, ap, subst, IfSome, is_some, slice_set}
 use Rattle.dom_model.specs.Worlds.World as model
-use Rattle.dom_model.specs.Worlds.World.{Range}
-use Rattle.dom_model.specs.Soundness.Sound.{IsSound}
-use Rattle.dom_model.specs.Commands.Command.{Command}
-use Rattle.dom_model.specs.Commands.Reply.{is_refusal}
-use Rattle.dom_model.specs.Commands.Answer.{Bounds, Step, answer}
+use Rattle.dom_model.specs.Definitions.{Range, IsSound, Command, is_refusal, Bounds, Step, answer}
 use Rattle.dom_model.proofs.Soundness.SoundAnswers.{sound-answer}
 use Rattle.dom_ranges.specs.Tables.{RangeTable}
-use Rattle.dom_edit.specs.declared.world.World.{World}
-use Rattle.dom_edit.specs.Whole.{AreCovered, IsWhole, Shows, IsShown, Follows, AreHeld}
+use Rattle.dom_edit.specs.{declared.world.World.World, Whole.AreCovered, Whole.IsWhole, Whole.Shows, Whole.IsShown, Whole.Follows, Whole.AreHeld}
 use Rattle.dom_edit.proofs.Following.{whole-sound}
-use Rattle.dom_session.specs.declared.reply.Reply.{Reply}
-use Rattle.dom_session.specs.Views.{reply_view}
-use Rattle.dom_session.specs.Stands.{IsStep}
+use Rattle.dom_session.specs.{declared.reply.Reply.Reply, Views.reply_view, Stands.IsStep}
 use Rattle.dom_session.proofs.Stepping.{step-follows, step-stays}
 
 -- other live ranges, under the same cover

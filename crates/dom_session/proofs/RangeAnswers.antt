@@ -1,24 +1,11 @@
 -- The answers of the commands on ranges, as the world of the code tells them.
-use Rattle.std.proofs.Common.{◌≡◌, ℕ, ◌+◌, nat_lt, Bool, true, false, [], ◌∷◌, ◌++◌, length, Option, Some, None, Ok, Err, refl, sym, ap, ◌∙◌}
-use Rattle.std.specs.Prelude.{is_some, is_none, slice_set, option_map}
-use Rattle.dom_model.specs.declared.Kind.TheVariants.{Document}
-use Rattle.dom_model.specs.declared.DomError.{DomError}
-use Rattle.dom_model.specs.declared.DomError.TheVariants.{InvalidNodeTypeError}
-use Rattle.dom_model.specs.Forests.Forest.{Forest, entry_in, parent_of, index_of}
-use Rattle.dom_model.specs.Worlds.Lengths.{unit_count}
+use Rattle.std.proofs.Common.{◌≡◌, ℕ, ◌+◌, nat_lt, Bool, true, false, [], ◌∷◌, ◌++◌, length, Option, Some, None, Ok, Err, refl, sym, ap, ◌∙◌, is_some, is_none, slice_set, option_map}
+use Rattle.dom_model.specs.declared.{Kind.TheVariants.Document, DomError.DomError, DomError.TheVariants.InvalidNodeTypeError}
+use Rattle.dom_model.specs.Definitions.{Forest, entry_in, parent_of, index_of, unit_count, Content, Point, Range, CreateRange, CloneRange, SetStart, SetEnd, SetStartBefore, SetStartAfter, SetEndBefore, SetEndAfter, Collapse, SelectNode, SelectNodeContents, ComparePoint, IsPointInRange, CreateStaticRange, Bounds, answer, sets_start, sets_end, first_refusal, is_of_kind, same_root, start_set, end_set, point_before, point_after, around, contents_of, collapsed_at, collapsed, check_point, check_parent, check_contents, place_against, is_point_in, check_static}
 use Rattle.dom_model.specs.Worlds.World as model
-use Rattle.dom_model.specs.Worlds.World.{Content, Point, Range}
-use Rattle.dom_model.specs.Commands.Command.{CreateRange, CloneRange, SetStart, SetEnd, SetStartBefore, SetStartAfter, SetEndBefore, SetEndAfter, Collapse, SelectNode, SelectNodeContents, ComparePoint, IsPointInRange, CreateStaticRange}
 use Rattle.dom_model.specs.Commands.Reply as model_reply
-use Rattle.dom_model.specs.Commands.Answer.{Bounds, answer}
-use Rattle.dom_model.specs.Commands.AnswerRanges.{sets_start, sets_end}
-use Rattle.dom_model.specs.PlainLists.Lists.{first_refusal}
-use Rattle.dom_model.specs.Forests.Nodes.{is_of_kind, same_root}
-use Rattle.dom_model.specs.RangesAndContents.Ranges.{start_set, end_set, point_before, point_after, around, contents_of, collapsed_at, collapsed, check_point, check_parent, check_contents, place_against, is_point_in}
-use Rattle.dom_model.specs.RangesAndContents.StaticRanges.{check_static}
 use Rattle.dom_ranges.specs.Tables.{range_in, refused}
-use Rattle.dom_edit.specs.declared.world.World.{World}
-use Rattle.dom_edit.specs.Whole.{Shows}
+use Rattle.dom_edit.specs.{declared.world.World.World, Whole.Shows}
 use Rattle.dom_session.proofs.TreeEdits.{not-none}
 
 -- an answer without refusal

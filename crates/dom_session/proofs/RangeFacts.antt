@@ -1,26 +1,14 @@
 -- What a world that is whole tells of the nodes and live ranges that it holds.
 use Rattle.std.proofs.Common.{◌≡◌, ℕ, ◌+◌, ◌<◌, ◌≤◌, true, length, Some, None, ◌∷◌, sym, ap, ◌∙◌, subst, arith, ⊎_elim}
 use Rattle.std.specs.Option.{ForSome}
-use Rattle.std.proofs.lemmas.Bool.{cases_lt}
-use Rattle.std.proofs.lemmas.List.{get_or_past}
+use Rattle.std.proofs.lemmas.{Bool.cases_lt, List.get_or_past}
 use Rattle.dom_model.specs.declared.Kind.TheVariants.{Document}
-use Rattle.dom_model.specs.Forests.Forest.{Forest, Grove, HasNode, IsForest, parent_of, index_of, root_of}
-use Rattle.dom_model.specs.Worlds.Lengths.{unit_count}
-use Rattle.dom_model.specs.Forests.Nodes.{is_of_kind}
-use Rattle.dom_model.specs.Worlds.World.{Content, Point, Range}
-use Rattle.dom_model.specs.Soundness.Sound.{IsBoundary, IsRange}
-use Rattle.dom_model.specs.PlainLists.Lists.{last_of}
-use Rattle.dom_model.proofs.Forests.Entries.{occurs-HasNode}
-use Rattle.dom_model.proofs.Forests.Changes.{seen, nothing, just}
-use Rattle.dom_model.proofs.Forests.Climbing.{ancestors-there}
-use Rattle.dom_model.proofs.Forests.Above.{above}
-use Rattle.dom_model.proofs.Soundness.SoundWorlds.{IsLive}
-use Rattle.dom_model.proofs.Soundness.SoundRangeSteps.{document_is_no_doctype}
+use Rattle.dom_model.specs.Definitions.{Forest, Grove, HasNode, IsForest, parent_of, index_of, root_of, unit_count, is_of_kind, Content, Point, Range, IsBoundary, IsRange, last_of, collapsed_at, around}
+use Rattle.dom_model.proofs.Forests.{Entries.occurs-HasNode, Changes.seen, Changes.nothing, Changes.just, Climbing.ancestors-there, Above.above}
+use Rattle.dom_model.proofs.Soundness.{SoundWorlds.IsLive, SoundRangeSteps.document_is_no_doctype}
 use Rattle.dom_model.proofs.RangesAndContents.RangesSet.{range_at_point}
-use Rattle.dom_model.specs.RangesAndContents.Ranges.{collapsed_at, around}
 use Rattle.dom_ranges.specs.Tables.{IsCovered, range_in, StandsIn, IsBoundaryIn, IsRangeIn}
-use Rattle.dom_edit.specs.declared.world.World.{World}
-use Rattle.dom_edit.specs.Whole.{IsWhole}
+use Rattle.dom_edit.specs.{declared.world.World.World, Whole.IsWhole}
 
 boundary-in : (f : Forest Content) (p : Point) → IsBoundary f p → IsBoundaryIn unit_count f p
 boundary-in f p b = record { there = b.there; kind = b.kind; within = b.within }

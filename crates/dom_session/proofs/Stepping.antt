@@ -1,28 +1,14 @@
 -- What each command's proof is made of: a refusal, an answer that leaves the world, and a step that the world of the code follows.
-use Rattle.std.proofs.Common.{◌≡◌, Bool, true, false, List, [], ◌∷◌, ◌++◌, Option, Some, None, refl, sym, ap, subst}
-use Rattle.std.specs.Prelude.{if◌then◌else◌, Result, Ok, Err, IfOk}
+use Rattle.std.proofs.Common.{◌≡◌, Bool, true, false, List, [], ◌∷◌, ◌++◌, Option, Some, None, refl, sym, ap, subst, if◌then◌else◌, Result, Ok, Err, IfOk}
 use Rattle.std.specs.declared.alloc.AllocError.{AllocError}
 use Rattle.dom_model.specs.declared.DomError.{DomError}
+use Rattle.dom_model.specs.Definitions.{Command, is_refusal, Bounds, Step, guarded, refused, answer, first_refusal, IsSound}
 use Rattle.dom_model.specs.Worlds.World as model
-use Rattle.dom_model.specs.Commands.Command.{Command}
 use Rattle.dom_model.specs.Commands.Reply as model_reply
-use Rattle.dom_model.specs.Commands.Reply.{is_refusal}
-use Rattle.dom_model.specs.Commands.Answer.{Bounds, Step, guarded, refused, answer}
-use Rattle.dom_model.specs.PlainLists.Lists.{first_refusal}
-use Rattle.dom_model.specs.Soundness.Sound.{IsSound}
 use Rattle.dom_model.proofs.Soundness.SoundAnswers.{sound-answer}
-use Rattle.dom_edit.specs.declared.world.World.{World}
-use Rattle.dom_edit.specs.declared.refusal.Refusal.{Refusal}
+use Rattle.dom_edit.specs.{declared.world.World.World, declared.refusal.Refusal.Refusal, Whole.IsWhole, Whole.Shows, Whole.Follows, Refusals.IsRefused}
 use Rattle.dom_edit.specs.declared.refusal.Refusal.TheVariants as refusal
-use Rattle.dom_edit.specs.Whole.{IsWhole, Shows, Follows}
-use Rattle.dom_edit.specs.Refusals.{IsRefused}
-use Rattle.dom_session.specs.declared.reply.Reply.{Reply}
-use Rattle.dom_session.specs.declared.brief.Brief.TheVariants.{Dom}
-use Rattle.dom_session.specs.Views.{reply_view}
-use Rattle.dom_session.specs.Refusing.{reply_to}
-use Rattle.dom_session.specs.declared.brief.Brief.{Brief}
-use Rattle.dom_session.specs.Brief.{reply_of, brief_to}
-use Rattle.dom_session.specs.Stands.{IsStep}
+use Rattle.dom_session.specs.{declared.reply.Reply.Reply, declared.brief.Brief.TheVariants.Dom, Views.reply_view, Refusing.reply_to, declared.brief.Brief.Brief, Brief.reply_of, Brief.brief_to, Stands.IsStep}
 
 -- where none of the first tests holds, those behind them decide
 pub guarded-none : (cs ds : List (Bool × model_reply.Reply)) (w : model.World) (s : Step) → first_refusal cs ≡ None → guarded (cs ++ ds) w s ≡ guarded ds w s

@@ -1,23 +1,11 @@
 -- The steps of the commands that make nodes, from any world that is shown.
 use Rattle.std.proofs.Common.{◌≡◌, ℕ, ◌+◌, nat_lt, Bool, true, false, List, [], ◌∷◌, Some, None, refl, sym, ap, ◌∙◌}
-use Rattle.dom_model.specs.declared.Kind.TheVariants.{Element, Text, ProcessingInstruction, Comment, Document, DocumentFragment}
-use Rattle.dom_model.specs.declared.DomError.TheVariants.{InvalidCharacterError}
-use Rattle.dom_model.specs.Forests.Kinds.{Label, is_kind}
-use Rattle.dom_model.specs.Worlds.World.{Content, no_content, document_label}
+use Rattle.dom_model.specs.declared.{Kind.TheVariants.Element, Kind.TheVariants.Text, Kind.TheVariants.ProcessingInstruction, Kind.TheVariants.Comment, Kind.TheVariants.Document, Kind.TheVariants.DocumentFragment, DomError.TheVariants.InvalidCharacterError}
+use Rattle.dom_model.specs.Definitions.{Label, is_kind, Content, no_content, document_label, is_element_name, is_doctype_name, closes_instruction, doctype_label, Command, NewDocument, CreateElement, CreateText, CreateComment, CreatePI, CreateDoctype, CreateFragment, Bounds, Step, guarded, refused, no_node, wrong_kind, no_room, bad_name, made_node, makes, named, with_text, answer, throws}
 use Rattle.dom_model.specs.Worlds.World as model
 use Rattle.dom_model.specs.Commands.Reply as model_reply
-use Rattle.dom_model.specs.Forests.Names.{is_element_name, is_doctype_name}
-use Rattle.dom_model.specs.Commands.AnswerMaking.{closes_instruction, doctype_label}
-use Rattle.dom_model.specs.Commands.Command.{Command, NewDocument, CreateElement, CreateText, CreateComment, CreatePI, CreateDoctype, CreateFragment}
-use Rattle.dom_model.specs.Commands.Answer.{Bounds, Step, guarded, refused, no_node, wrong_kind, no_room, bad_name, made_node, makes, named, with_text, answer}
-use Rattle.dom_model.specs.Commands.Guards.{throws}
-use Rattle.dom_edit.specs.declared.world.World.{World}
-use Rattle.dom_edit.specs.Whole.{IsWhole, Shows, Follows}
-use Rattle.dom_session.specs.declared.brief.Brief.TheVariants.{Number}
-use Rattle.dom_session.specs.declared.reply.Reply.TheVariants.{Brief}
-use Rattle.dom_session.specs.Limiting.{numbered}
-use Rattle.dom_session.specs.Stands.{IsStep}
-use Rattle.dom_session.specs.Refusing.{making_refusal}
+use Rattle.dom_edit.specs.{declared.world.World.World, Whole.IsWhole, Whole.Shows, Whole.Follows}
+use Rattle.dom_session.specs.{declared.brief.Brief.TheVariants.Number, declared.reply.Reply.TheVariants.Brief, Limiting.numbered, Stands.IsStep, Refusing.making_refusal}
 use Rattle.dom_session.proofs.Stepping.{guarded-none, guarded-some, step-follows}
 
 -- what may stand in the way of every new node in a document

@@ -1,28 +1,15 @@
 -- The steps that change the iterators or the walkers and nothing else, from a world that is shown.
-use Rattle.std.proofs.Common.{◌≡◌, ℕ, ◌+◌, nat_lt, true, false, List, [], ◌∷◌, ◌++◌, length, slice_set, Option, Some, None, refl, ap, subst}
-use Rattle.std.specs.Prelude.{IfSome, is_some}
+use Rattle.std.proofs.Common.{◌≡◌, ℕ, ◌+◌, nat_lt, true, false, List, [], ◌∷◌, ◌++◌, length, slice_set, Option, Some, None, refl, ap, subst, IfSome, is_some}
 use Rattle.dom_model.specs.declared.Move.{Move}
-use Rattle.dom_model.specs.Forests.Forest.{entry_in}
-use Rattle.dom_model.specs.Worlds.World.{Filter, Iterator, Walker}
+use Rattle.dom_model.specs.Definitions.{entry_in, Filter, Iterator, Walker, IsSound, Command, CreateIterator, CreateWalker, NextNode, PreviousNode, SetCurrent, Walk, is_refusal, Bounds, Step, answer, new_iterator, next_found, previous_found, moved_to_next, moved_to_previous, new_walker, walk_found, walker_moved}
 use Rattle.dom_model.specs.Worlds.World as model
-use Rattle.dom_model.specs.Soundness.Sound.{IsSound}
-use Rattle.dom_model.specs.Commands.Command.{Command, CreateIterator, CreateWalker, NextNode, PreviousNode, SetCurrent, Walk}
 use Rattle.dom_model.specs.Commands.Reply as model_reply
-use Rattle.dom_model.specs.Commands.Reply.{is_refusal}
-use Rattle.dom_model.specs.Commands.Answer.{Bounds, Step, answer}
-use Rattle.dom_model.specs.Traversal.Iterators.{new_iterator, next_found, previous_found, moved_to_next, moved_to_previous}
-use Rattle.dom_model.specs.Traversal.Walks.{new_walker, walk_found, walker_moved}
 use Rattle.dom_model.proofs.Soundness.SoundAnswers.{sound-answer}
 use Rattle.dom_traverse.specs.Standing.{iterator_in, walker_in}
-use Rattle.dom_edit.specs.declared.world.World.{World}
-use Rattle.dom_edit.specs.Whole.{IsWhole, Keeps, Shows, IsShown}
+use Rattle.dom_edit.specs.{declared.world.World.World, Whole.IsWhole, Whole.Keeps, Whole.Shows, Whole.IsShown}
 use Rattle.dom_edit.proofs.Following.{whole-sound}
-use Rattle.dom_session.specs.declared.reply.Reply.{Reply}
-use Rattle.dom_session.specs.Views.{reply_view}
-use Rattle.dom_session.specs.Stands.{IsStep}
-use Rattle.dom_session.specs.Limiting.{numbered}
-use Rattle.dom_session.proofs.Stepping.{step-follows}
-use Rattle.dom_session.proofs.TreeEdits.{not-none}
+use Rattle.dom_session.specs.{declared.reply.Reply.Reply, Views.reply_view, Stands.IsStep, Limiting.numbered}
+use Rattle.dom_session.proofs.{Stepping.step-follows, TreeEdits.not-none}
 
 -- what follows from what there is, where there is one
 pub held-then : {A : Type 0} {Q : Type 0} (o : Option A) → is_some o ≡ true → ((a : A) → o ≡ Some a → Q) → Q

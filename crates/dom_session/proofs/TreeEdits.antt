@@ -1,29 +1,10 @@
 -- The answers of the commands that change where nodes stand, where the objects are there.
-use Rattle.std.proofs.Common.{◌≡◌, ℕ, Bool, true, false, not, [], ◌∷◌, Option, Some, None, refl, sym, ap}
-use Rattle.std.specs.Prelude.{is_some, is_none, IfSome}
-use Rattle.dom_model.specs.declared.Kind.{Kind}
-use Rattle.dom_model.specs.declared.Kind.TheVariants.{Document}
-use Rattle.dom_model.specs.declared.DomError.{DomError}
-use Rattle.dom_model.specs.declared.DomError.TheVariants.{NotFoundError, NotSupportedError, TypeError}
-use Rattle.dom_model.specs.PlainLists.Lists.{is_number, first_refusal}
-use Rattle.dom_model.specs.Forests.Kinds.{Label, is_kind, may_be_parent}
-use Rattle.dom_model.specs.Forests.Arena.{Entry}
-use Rattle.dom_model.specs.Forests.Forest.{Node, Forest, entry_in, parent_of}
+use Rattle.std.proofs.Common.{◌≡◌, ℕ, Bool, true, false, not, [], ◌∷◌, Option, Some, None, refl, sym, ap, is_some, is_none, IfSome}
+use Rattle.dom_model.specs.declared.{Kind.Kind, Kind.TheVariants.Document, DomError.DomError, DomError.TheVariants.NotFoundError, DomError.TheVariants.NotSupportedError, DomError.TheVariants.TypeError, OwnError.TheVariants.NoSuchObject, OwnError.TheVariants.InUse}
+use Rattle.dom_model.specs.Definitions.{is_number, first_refusal, Label, is_kind, may_be_parent, Entry, Node, Forest, entry_in, parent_of, Content, InsertBefore, AppendChild, AdoptNode, ReplaceChild, RemoveChild, Remove, ReplaceChildren, Discard, Bounds, Step, guarded, refused, answer, does, checked, is_child_node, gives, is_in_use, discarded, check_insert, check_replace, entry_has, kind_passes, is_of_kind, remove, pre_insert, append, replace, replace_all, adopt}
 use Rattle.dom_model.specs.Worlds.World as model
-use Rattle.dom_model.specs.Worlds.World.{Content}
-use Rattle.dom_model.specs.Commands.Command.{InsertBefore, AppendChild, AdoptNode, ReplaceChild, RemoveChild, Remove, ReplaceChildren, Discard}
 use Rattle.dom_model.specs.Commands.Reply as model_reply
-use Rattle.dom_model.specs.Commands.Answer.{Bounds, Step, guarded, refused, answer}
-use Rattle.dom_model.specs.Commands.Guards.{does, checked}
-use Rattle.dom_model.specs.Commands.AnswerTree.{is_child_node, gives}
-use Rattle.dom_model.specs.declared.OwnError.TheVariants.{NoSuchObject, InUse}
-use Rattle.dom_model.specs.MutationAlgorithms.Discarding.{is_in_use, discarded}
-use Rattle.dom_model.specs.MutationAlgorithms.Checks.{check_insert, check_replace}
-use Rattle.dom_model.specs.Forests.Nodes.{entry_has, kind_passes, is_of_kind}
-use Rattle.dom_model.specs.MutationAlgorithms.Editing.{remove, pre_insert, append, replace, replace_all, adopt}
-use Rattle.dom_edit.specs.declared.world.World.{World}
-use Rattle.dom_edit.specs.Whole.{Shows}
-use Rattle.dom_edit.specs.Refusals.{check_remove_child, check_only_child, check_adopt}
+use Rattle.dom_edit.specs.{declared.world.World.World, Whole.Shows, Refusals.check_remove_child, Refusals.check_only_child, Refusals.check_adopt}
 use Rattle.dom_session.specs.Refusing.{lacks_given}
 
 pub not-none : {A : Type 0} (o : Option A) → is_some o ≡ true → is_none o ≡ false
@@ -50,14 +31,6 @@ throws-some false x e h = absurd (cc h)
 pub throws-none : (t : Bool) (x : DomError) → first_refusal ((t, x) ∷ []) ≡ None → t ≡ false
 throws-none true x h = absurd (cc h)
 throws-none false x h = refl
-
-pub not-false : (t : Bool) → not t ≡ false → t ≡ true
-not-false true h = refl
-not-false false h = absurd (cc h)
-
-pub not-true : (t : Bool) → not t ≡ true → t ≡ false
-not-true true h = absurd (cc h)
-not-true false h = refl
 
 module _ (v : World) (b : Bounds) where
   pub answer-insert_before : (p n : ℕ) (c : Option ℕ) (w : model.World) (o : Option DomError) → Shows v w → is_some (entry_in v.tree.forest p) ≡ true → is_some (entry_in v.tree.forest n) ≡ true → lacks_given v c ≡ false → check_insert v.tree.forest p n c ≡ o → answer b w (InsertBefore p n c) ≡ checked o w (gives n (pre_insert n p c w))

@@ -1,25 +1,8 @@
 -- Worlds that differ in their observing parts alone: insert node and surround contents refuse alike, and the steps keep the two so.
 -- DOM Standard, "Mutation algorithms", "Interface Range".
-use Rattle.std.proofs.Common.{◌≡◌, ℕ, ◌-◌, Bool, true, false, ◌||◌, if◌then◌else◌, List, [], ◌∷◌, length, take, drop, Option, Some, None, refl}
-use Rattle.std.specs.Prelude.{Ok, Err}
-use Rattle.dom_model.specs.declared.Kind.TheVariants.{Text, DocumentFragment}
-use Rattle.dom_model.specs.declared.DomError.{DomError}
-use Rattle.dom_model.specs.declared.DomError.TheVariants.{InvalidNodeTypeError}
-use Rattle.dom_model.specs.Forests.Kinds.{Label, is_character_data}
-use Rattle.dom_model.specs.Forests.Forest.{Forest, parent_of, children_of, next_of, previous_of, index_of, map_nodes}
-use Rattle.dom_model.specs.Forests.Texts.{substring}
-use Rattle.dom_model.specs.Worlds.World.{Content, Point, Range, Observing, Mutation, World, no_content}
-use Rattle.dom_model.specs.BoundaryPoints.Points.{map_ranges, after_split}
-use Rattle.dom_model.specs.PlainLists.Lists.{past, up_to}
-use Rattle.dom_model.specs.MutationAlgorithms.Checks.{check_insert}
-use Rattle.dom_model.specs.Forests.Nodes.{kind_passes}
-use Rattle.dom_model.specs.MutationAlgorithms.Editing.{queued, tree_record, tree_record_unless, taken_out, transients_made, removed_from, remove, remove_all, is_fragment, nodes_of, freed, put_in, put_all, gap_before, previous_to, insert_all, insert_nodes, insert, reference_child, pre_insert, append, added_by, insert_if_any, replaced_record, replace_all, node_document}
-use Rattle.dom_model.specs.Worlds.Making.{made_node, named, with_text}
-use Rattle.dom_model.specs.DataAndCopies.Data.{data_of, with_data, cut_count, data_record, replace_units, replace_data, tail_of, split_off, split}
-use Rattle.dom_model.specs.DataAndCopies.Clones.{original, with_copies, document_of_clone, clone_node}
-use Rattle.dom_model.specs.RangesAndContents.Ranges.{is_collapsed, collapsed_at, around, range_at, with_range}
-use Rattle.dom_model.specs.RangesAndContents.Contents.{for_range, is_in_one_data, new_place, new_fragment, clone_with, cut_if, units_into, child_into, children_into, copy_into, tail_into, head_into, path_below, common_of, contained_children, parts_into, contents_drawn, check_extract, extracted, extract}
-use Rattle.dom_model.specs.RangesAndContents.Wrapping.{Outcome, and_then, unless, try_pre_insert, is_text, reference_at, parent_at, check_start, split_at, reference_after, offset_past, end_if_collapsed, placed_at, inserted_at, insert_node, check_surround, try_extract, selected, try_select, surrounded, surround, refusal_in}
+use Rattle.std.proofs.Common.{◌≡◌, ℕ, ◌-◌, Bool, true, false, ◌||◌, if◌then◌else◌, List, [], ◌∷◌, length, take, drop, Option, Some, None, refl, Ok, Err}
+use Rattle.dom_model.specs.declared.{Kind.TheVariants.Text, Kind.TheVariants.DocumentFragment, DomError.DomError, DomError.TheVariants.InvalidNodeTypeError}
+use Rattle.dom_model.specs.Definitions.{Label, is_character_data, Forest, parent_of, children_of, next_of, previous_of, index_of, map_nodes, substring, Content, Point, Range, Observing, Mutation, World, no_content, map_ranges, after_split, past, up_to, check_insert, kind_passes, queued, tree_record, tree_record_unless, taken_out, transients_made, removed_from, remove, remove_all, is_fragment, nodes_of, freed, put_in, put_all, gap_before, previous_to, insert_all, insert_nodes, insert, reference_child, pre_insert, append, added_by, insert_if_any, replaced_record, replace_all, node_document, made_node, named, with_text, data_of, with_data, cut_count, data_record, replace_units, replace_data, tail_of, split_off, split, original, with_copies, document_of_clone, clone_node, is_collapsed, collapsed_at, around, range_at, with_range, for_range, is_in_one_data, new_place, new_fragment, clone_with, cut_if, units_into, child_into, children_into, copy_into, tail_into, head_into, path_below, common_of, contained_children, parts_into, contents_drawn, check_extract, extracted, extract, Outcome, and_then, unless, try_pre_insert, is_text, reference_at, parent_at, check_start, split_at, reference_after, offset_past, end_if_collapsed, placed_at, inserted_at, insert_node, check_surround, try_extract, selected, try_select, surrounded, surround, refusal_in}
 
 -- the second world is the first one with any observing part
 pub data Beside (x : World) : World → Type 0 where

@@ -1,22 +1,11 @@
 -- What waits to be printed stands for parts of the forest, and their rows are what is still to come.
-use Rattle.std.specs.Prelude.{IfSome}
-use Rattle.std.proofs.Common.{◌≡◌, ℕ, suc, ◌+◌, ◌<◌, ◌≤◌, List, [], ◌∷◌, ◌++◌, length, map, Option, Some, None, refl, sym, ap, ◌∙◌, subst, arith, append_assoc, length-append, add-one}
+use Rattle.std.proofs.Common.{IfSome, ◌≡◌, ℕ, suc, ◌+◌, ◌<◌, ◌≤◌, List, [], ◌∷◌, ◌++◌, length, map, Option, Some, None, refl, sym, ap, ◌∙◌, subst, arith, append_assoc, length-append, add-one}
 use Rattle.std.proofs.lemmas.List.{append-nil, map-append}
-use Rattle.dom_model.specs.PlainLists.Lists.{hits, head_of, after}
-use Rattle.dom_model.specs.Forests.Forest.{Node, Forest, empty, node, Grove, IsForest, rows, occurs, tops, tree_at, entry_in, HasNode, children_of, next_of, parent_of}
-use Rattle.dom_model.specs.Worlds.World.{Content}
-use Rattle.dom_model.specs.Commands.Reply.{TreeRow}
-use Rattle.dom_model.specs.Commands.Answer.{tree_row, tree_rows}
-use Rattle.dom_model.specs.Forests.Lies.{Lies}
+use Rattle.dom_model.specs.Definitions.{hits, head_of, after, Node, Forest, empty, node, Grove, IsForest, rows, occurs, tops, tree_at, entry_in, HasNode, children_of, next_of, parent_of, Content, TreeRow, tree_row, tree_rows, Lies}
 use Rattle.dom_model.proofs.PlainLists.Numbers.{same_or, same, apart}
-use Rattle.dom_model.proofs.Forests.Totals.{IsOnce}
-use Rattle.dom_model.proofs.Forests.Entries.{occurs-HasNode, Lies-entry_in}
-use Rattle.dom_model.proofs.Forests.Indices.{child-once}
-use Rattle.dom_model.proofs.Forests.Climbing.{hits-first, hits-append}
-use Rattle.dom_clone.specs.declared.waiting.Waiting.{Waiting}
-use Rattle.dom_clone.specs.Waits.{waiting_for}
+use Rattle.dom_model.proofs.Forests.{Totals.IsOnce, Entries.occurs-HasNode, Entries.Lies-entry_in, Indices.child-once, Climbing.hits-first, Climbing.hits-append, TreeOrder.Ordering.Single, TreeOrder.Ordering.single, TreeOrder.Ordering.tree_at-single, TreeOrder.Ordering.Lies-tree_at, TreeOrder.Ordering.after-front}
+use Rattle.dom_clone.specs.{declared.waiting.Waiting.Waiting, Waits.waiting_for}
 use Rattle.dom_session.specs.Printing.{row_at}
-use Rattle.dom_model.proofs.Forests.TreeOrder.Ordering.{Single, single, tree_at-single, Lies-tree_at, after-front}
 
 -- a part of the forest: trees that stand beside one another at a depth
 pub record Part : Type 0 where

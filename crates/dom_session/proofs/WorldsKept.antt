@@ -1,20 +1,10 @@
 -- What commands keep of a world where memory was wanting.
 use Rattle.std.proofs.Common.{◌≡◌, false, refl}
-use Rattle.std.specs.Prelude.{Result, Ok, Err, OnErr}
-use Rattle.dom_edit.specs.declared.world.World.{World}
-use Rattle.dom_edit.specs.Whole.{IsWhole}
-use Rattle.dom_edit.specs.Keeping.{KeepsLabels, KeepsNodes}
-use Rattle.dom_edit.specs.Leaving.{LeavesAll}
+use Rattle.dom_edit.specs.{declared.world.World.World, Whole.IsWhole, Keeping.KeepsLabels, Keeping.KeepsNodes, Leaving.LeavesAll}
 use Rattle.dom_data.specs.Keeping.{KeepsNumbers}
 use Rattle.dom_clone.proofs.Left.{left-same}
 use Rattle.dom_content.proofs.LabelsKept.{labels-left}
-use Rattle.dom_session.specs.Stands.{Held}
-use Rattle.dom_session.specs.Ending.{IsKept, IsLeft}
-
--- whatever a call answers
-pub on_err : {T E P : Type 0} (r : Result T E) → P → OnErr r P
-on_err (Ok x) p = tt
-on_err (Err e) p = p
+use Rattle.dom_session.specs.{Stands.Held, Ending.IsKept, Ending.IsLeft}
 
 pub kept_labels : (old new : World) → KeepsLabels old new → IsWhole new → IsKept old new
 kept_labels old new k whole = record { whole = whole; held = k }

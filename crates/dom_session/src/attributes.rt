@@ -1,7 +1,6 @@
 //! The commands on attributes (DOM Standard, "Interface Element").
 
-ghost use Rattle.std.specs.Prelude.{◌≡◌, ◌<◌, Some, is_some, length, map, slice_get, string_bytes, IfOk, OnErr};
-ghost use Rattle.dom_attrs.specs.Entries.{attribute_at};
+ghost use Rattle.std.specs.Prelude.{◌≡◌, is_some, map, string_bytes, IfOk, OnErr};
 ghost use Rattle.dom_model.specs.Forests.Attributes.{attribute_value, attribute_names};
 ghost use Rattle.dom_model.specs.Forests.Forest.{HasNode, entry_in};
 ghost use Rattle.dom_model.specs.DataAndCopies.Data.{content_in};
@@ -150,14 +149,6 @@ pub(crate) fn toggle_attribute(
     Ok(Reply::Done(Answer::Flag(present)))
 }
 
-// The attribute at an index that is below the length.
-fn pair_at(content: &Content, index: usize) -> (&str, &Units)
-    requires { index < length content.now.attributes }
-    ensures { slice_get content.now.attributes index ≡ Some (attribute_at result) }
-{
-    content.attribute_at(index).unwrap()
-}
-
 // Copies of the names of attributes, in order.
 fn names_in(content: &Content, alloc: Global) -> Result<Vec<String>, AllocError>
     ensures { IfOk result (λ names. map string_bytes names.items
@@ -166,7 +157,7 @@ fn names_in(content: &Content, alloc: Global) -> Result<Vec<String>, AllocError>
     let count = content.attribute_count();
     let mut names: Vec<String> = Vec::with_capacity(alloc, count)?;
     for index in 0..count {
-        let (name, _) = pair_at(content, index);
+        let (name, _) = content.pair_at(index);
         names.push(String::from_str(alloc, name)?)?;
     }
     Ok(names)

@@ -218,7 +218,7 @@ pub(crate) fn discard(world: &mut World, top: NodeId) -> Brief
     if !world.tree.holds(top) {
         return Brief::Own(OwnError::NoSuchObject);
     }
-    world.settle();
+    world.catch_up();
     if !world.can_discard(top) {
         return Brief::Own(OwnError::InUse);
     }

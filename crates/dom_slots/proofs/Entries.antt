@@ -1,12 +1,9 @@
 -- What is kept by slot, as it is by number: for whoever keeps items in a list by slot, and is seen as the list of entries by number.
 use Rattle.std.proofs.Common.{◌≡◌, ℕ, zero, suc, ◌+◌, ◌-◌, ◌<◌, List, [], ◌∷◌, ◌++◌, length, map, swap_remove, Option, Some, None, is_some, option_map, option_and_then, slice_get, slice_index_or, slice_set, refl, ap, sym, ◌∙◌, ⊎_elim, arith, length-set, get_or-set_same, get_or-set_other}
-use Rattle.std.proofs.lemmas.Bool.{cases_eq}
-use Rattle.std.proofs.lemmas.List.{ext_get_or, length-map, map_push}
-use Rattle.std.proofs.lemmas.Option.{slice_get-map}
+use Rattle.std.proofs.lemmas.{Bool.cases_eq, List.ext_get_or, List.length-map, List.map_push, Option.slice_get-map}
 use Rattle.dom_pages.specs.Numbered.{item_at}
 use Rattle.dom_slots.specs.Slotted.{slot_at, slots_left, by_slot, Fit}
-use Rattle.dom_slots.proofs.Fitting.{slot_within, given_out, ends, mover_at, ahead, slot_at-released, slot_at-mover, slot_at-other, elsewhere, before_last}
-use Rattle.dom_slots.proofs.Places.{slice_get-append_left, slice_get_push, slice_get-set_same, slice_get-set_other, slice_get_some, slice_get-swap_remove_same, slice_get-swap_remove_other}
+use Rattle.dom_slots.proofs.{Fitting.slot_within, Fitting.given_out, Fitting.ends, Fitting.mover_at, Fitting.ahead, Fitting.slot_at-released, Fitting.slot_at-mover, Fitting.slot_at-other, Fitting.elsewhere, Fitting.before_last, Places.slice_get-append_left, Places.slice_get_push, Places.slice_get-set_same, Places.slice_get-set_other, Places.slice_get_some, Places.slice_get-swap_remove_same, Places.slice_get-swap_remove_other}
 
 module _ {T : Type 0} where
   -- as many entries as numbers

@@ -1,8 +1,6 @@
 -- Slots and numbers fit each other, and do so after each change.
 use Rattle.std.proofs.Common.{◌≡◌, ℕ, ◌+◌, ◌-◌, ◌<◌, ◌≤◌, List, [], ◌∷◌, ◌++◌, length, swap_remove, Option, Some, None, slice_get, slice_index_or, slice_set, ap, sym, ◌∙◌, ⊎_elim, arith, length-set, get_or-set_same, get_or-set_other}
-use Rattle.std.proofs.lemmas.Bool.{cases_eq, cases_lt}
-use Rattle.std.proofs.lemmas.List.{get_or_past, get_or_push, get_or_append_left, length_push}
-use Rattle.std.proofs.lemmas.Option.{none-some, same_Some, slice_get-get_or, slice_get_past, slice_get_within}
+use Rattle.std.proofs.lemmas.{Bool.cases_eq, Bool.cases_lt, List.get_or_past, List.get_or_push, List.get_or_append_left, List.length_push, Option.none-some, Option.same_Some, Option.slice_get-get_or, Option.slice_get_past, Option.slice_get_within}
 use Rattle.dom_slots.specs.Slotted.{slot_at, slots_left, Fit}
 use Rattle.dom_slots.proofs.Places.{slice_get_push, slice_get-append_left, length-swap_remove, slice_get-swap_remove_same, slice_get-swap_remove_other}
 

@@ -1,13 +1,8 @@
 -- The entries of live numbers are the items, in another order: what is told of all the items, or counted of them, is told of those entries.
 use Rattle.std.proofs.Common.{◌≡◌, ℕ, zero, suc, ◌<◌, List, [], ◌∷◌, length, swap_remove, filter_map, count_by, IsPermutation, Option, Some, None, is_some, if◌then◌else◌, option_and_then, slice_get, slice_index_or, slice_set, refl, ap, sym, subst, ◌∙◌, arith}
-use Rattle.std.proofs.lemmas.List.{get_or_default, nil_from_length}
-use Rattle.std.proofs.lemmas.List.Sorted.{IsPermutation-refl, IsPermutation-sym, IsPermutation-trans, IsPermutation-cons, IsPermutation-middle, IsPermutation-swap_remove, length_permutation}
-use Rattle.std.proofs.lemmas.List.Sums.{sum_by-cons}
-use Rattle.std.proofs.lemmas.Option.{none-some, same_Some, slice_get-get_or}
+use Rattle.std.proofs.lemmas.{List.get_or_default, List.nil_from_length, List.Sorted.IsPermutation-refl, List.Sorted.IsPermutation-sym, List.Sorted.IsPermutation-trans, List.Sorted.IsPermutation-cons, List.Sorted.IsPermutation-middle, List.Sorted.IsPermutation-swap_remove, List.Sorted.length_permutation, List.Sums.sum_by-cons, Option.none-some, Option.same_Some, Option.slice_get-get_or}
 use Rattle.dom_slots.specs.Slotted.{slot_at, slots_left, by_slot, Fit}
-use Rattle.dom_slots.proofs.Entries.{item_at-by_slot, by_slot-released}
-use Rattle.dom_slots.proofs.Fitting.{slot_within, Fit-released}
-use Rattle.dom_slots.proofs.Places.{slice_get_some, length-swap_remove}
+use Rattle.dom_slots.proofs.{Entries.item_at-by_slot, Entries.by_slot-released, Fitting.slot_within, Fitting.Fit-released, Places.slice_get_some, Places.length-swap_remove}
 
 module _ {T : Type 0} where
   -- one entry taken away from those that are there

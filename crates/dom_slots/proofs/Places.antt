@@ -1,7 +1,6 @@
 -- What stands at a place of a list once it was changed.
 use Rattle.std.proofs.Common.{◌≡◌, ℕ, zero, suc, ◌+◌, ◌-◌, ◌<◌, List, [], ◌∷◌, ◌++◌, length, take, swap_remove, Some, is_some, true, slice_get, slice_index_or, slice_set, refl, ap, sym, ◌∙◌, arith, length-set}
-use Rattle.std.proofs.lemmas.List.{length-take-le}
-use Rattle.std.proofs.lemmas.Option.{slice_get-get_or}
+use Rattle.std.proofs.lemmas.{List.length-take-le, Option.slice_get-get_or}
 
 module _ {T : Type 0} where
   pub slice_get-set_same : (xs : List T) (k : ℕ) (x : T) → k < length xs → slice_get (slice_set xs k x) k ≡ Some x

@@ -1,10 +1,8 @@
 -- What the code does to its table and its list, as the slots and the numbers have it.
 use Rattle.std.proofs.Common.{◌≡◌, ℕ, ◌-◌, ◌<◌, ◌≤◌, List, [], ◌∷◌, ◌++◌, length, take, swap_remove, Option, Some, None, is_some, slice_index_or, slice_set, ap, sym, subst, ◌∙◌, arith, length-set}
-use Rattle.std.proofs.lemmas.List.{get_or_default, length_push}
-use Rattle.std.proofs.lemmas.List.Sums.{count_by-le-length}
+use Rattle.std.proofs.lemmas.{List.get_or_default, List.length_push, List.Sums.count_by-le-length}
 use Rattle.dom_slots.specs.Slotted.{slot_at, slots_left, Fit, IsSlotted}
-use Rattle.dom_slots.proofs.Fitting.{slot_within, Fit-pushed, Fit-released}
-use Rattle.dom_slots.proofs.Live.{count_by-slots}
+use Rattle.dom_slots.proofs.{Fitting.slot_within, Fitting.Fit-pushed, Fitting.Fit-released, Live.count_by-slots}
 
 module _ {slots : List (Option ℕ)} {numbers : List ℕ} (i : IsSlotted slots numbers) where
   -- no more numbers are live than were given out

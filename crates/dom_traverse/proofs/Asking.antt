@@ -1,17 +1,14 @@
 -- A walk along a chain asks each item of the chain.
 use Rattle.std.proofs.Common.{◌≡◌, ℕ, zero, suc, ◌+◌, ◌≤◌, ◌<◌, ◌==◌, nat_eq, true, false, List, [], ◌∷◌, ◌++◌, length, get_or, Option, Some, None, refl, sym, ap, ◌∙◌, ⊎_elim, arith, append_assoc}
-use Rattle.std.specs.List.{list_any}
-use Rattle.std.specs.Option.{option_eq}
+use Rattle.std.specs.{List.list_any, Option.option_eq}
 use Rattle.std.proofs.lemmas.Bool.{cases_Bool, cases_eq, eq-eqb, false≢true}
-use Rattle.dom_model.specs.PlainLists.Lists.{hits, is_number, head_of, after}
-use Rattle.dom_model.proofs.PlainLists.Heads.{hits-first, hits-rest, after-first, after-rest}
-use Rattle.dom_model.proofs.Forests.Climbing.{hits-append}
-use Rattle.dom_model.proofs.Forests.TreeOrder.Ordering.{after-front}
-use Rattle.dom_links.proofs.Neighbours.{is_number-true}
+use Rattle.dom_model.specs.Definitions.{hits, is_number, head_of, after}
+use Rattle.dom_model.proofs.PlainLists.Heads.{hits-rest, after-first, after-rest}
+use Rattle.dom_model.proofs.Forests.{Climbing.hits-append, TreeOrder.Ordering.after-front, Listed.hits-itself}
 use Rattle.dom_links.proofs.Counting.{length-le_from_once}
-use Rattle.dom_traverse.specs.declared.seats.Seat.{Seat}
-use Rattle.dom_traverse.specs.Seats.{Heads, seat_at, place_at, head_at, IsChained, HasChains}
+use Rattle.dom_traverse.specs.{declared.seats.Seat.Seat, Seats.Heads, Seats.seat_at, Seats.place_at, Seats.head_at, Seats.IsChained, Seats.HasChains}
 use Rattle.dom_traverse.proofs.Chained.{once, in-chain, chained-within}
+use Rattle.dom_model.proofs.Soundness.SoundEditing.{number_is}
 
 -- the items along a list of links, no more than the fuel
 abbrev pub along : List Seat → ℕ → Option ℕ → List ℕ
@@ -24,12 +21,12 @@ along-rest t zero [] one next few = refl
 along-rest t zero (e ∷ es) one next few = absurd (omega arith)
 along-rest t (suc k) [] one next few = refl
 along-rest t (suc k) (e ∷ es) one next few =
-    let h = hits-first e es in
+    let h = hits-itself e es in
     let n : (seat_at t e).next ≡ head_of es = next e (omega arith) ∙ after-first e es in
     ap (λ xs. e ∷ xs) (ap (along t k) n ∙ along-rest t k es one' next' (omega arith))
   where
     out : hits e es ≡ 0
-    out = omega (arith, one e, hits-first e es)
+    out = omega (arith, one e, hits-itself e es)
 
     other : (k : ℕ) → 0 < hits k es → k ≡ e → ⊥
     other k h q = let z : 0 < hits e es = rw q at h in omega (arith, out)
@@ -108,7 +105,7 @@ module _ (t : List Seat) (heads : Heads) (place : ℕ) (marks : List (Option ℕ
   stop = at-some t heads place marks mark here are id q
 
   in-rest : 0 < hits id are.rest
-  in-rest = omega (arith, ap (hits id) stop.is, hits-first id stop.later)
+  in-rest = omega (arith, ap (hits id) stop.is, hits-itself id stop.later)
 
   pub asked-within : id < length t
   asked-within = chained-within are.chain t heads are.chained id place (in-chain-too t heads place marks mark here are id in-rest)
@@ -143,7 +140,7 @@ module _ (t : List Seat) (heads : Heads) (place : ℕ) (marks : List (Option ℕ
 pub any-none : (marks : List (Option ℕ)) (mark : ℕ) → ((e : ℕ) → get_or marks e None ≡ Some mark → ⊥) → list_any (λ o. is_number o mark) marks ≡ false
 any-none [] mark h = refl
 any-none (o ∷ marks) mark h =
-    ⊎_elim (λ (y : is_number o mark ≡ true). absurd (h 0 (is_number-true o mark y))) (λ (y : is_number o mark ≡ false). rw y (any-none marks mark (λ e. h (suc e)))) (cases_Bool (is_number o mark))
+    ⊎_elim (λ (y : is_number o mark ≡ true). absurd (h 0 (number_is o mark y))) (λ (y : is_number o mark ≡ false). rw y (any-none marks mark (λ e. h (suc e)))) (cases_Bool (is_number o mark))
 
 pub any-one : (marks : List (Option ℕ)) (mark e : ℕ) → get_or marks e None ≡ Some mark → list_any (λ o. is_number o mark) marks ≡ true
 any-one [] mark e h = absurd (cc h)

@@ -1,16 +1,10 @@
 -- What is kept by slot, told and changed by number.
 use Rattle.std.proofs.Common.{◌≡◌, ℕ, ◌-◌, ◌<◌, ◌≤◌, Bool, ◌||◌, List, [], ◌∷◌, ◌++◌, length, map, swap_remove, filter_map, count_by, Option, Some, None, is_some, IfSome, option_map, option_and_then, slice_get, slice_index_or, slice_set, refl, ap, sym, subst, ◌∙◌, arith, length-set}
-use Rattle.std.specs.List.{list_any, flat_map}
-use Rattle.std.specs.Option.{IsSome, ForSome}
-use Rattle.std.proofs.lemmas.Bool.{false≢true}
-use Rattle.std.proofs.lemmas.List.Folds.{list_any-append}
-use Rattle.std.proofs.lemmas.List.Sorted.{list_any-IsPermutation}
-use Rattle.std.proofs.lemmas.List.Sums.{count_by-le-length}
-use Rattle.dom_model.specs.MutationAlgorithms.Discarding.{nodes_unless_released}
+use Rattle.std.specs.{List.list_any, List.flat_map, Option.IsSome, Option.ForSome}
+use Rattle.std.proofs.lemmas.{Bool.false≢true, List.Folds.list_any-append, List.Sorted.list_any-IsPermutation, List.Sums.count_by-le-length}
+use Rattle.dom_model.specs.Definitions.{nodes_unless_released}
 use Rattle.dom_slots.specs.Slotted.{slot_at, slots_left, by_slot, Fit}
-use Rattle.dom_slots.proofs.Entries.{length-by_slot, item_at-by_slot, by_slot-map, item_within, is_some-by_slot, by_slot-pushed, by_slot-set, by_slot-released}
-use Rattle.dom_slots.proofs.Live.{live-by_slot, count_by-by_slot}
-use Rattle.dom_slots.proofs.Places.{slice_get_some, length-swap_remove}
+use Rattle.dom_slots.proofs.{Entries.length-by_slot, Entries.item_at-by_slot, Entries.by_slot-map, Entries.item_within, Entries.is_some-by_slot, Entries.by_slot-pushed, Entries.by_slot-set, Entries.by_slot-released, Live.live-by_slot, Live.count_by-by_slot, Places.slice_get_some, Places.length-swap_remove}
 
 module _ {A : Type 0} (slots : List (Option ℕ)) (items : List A) (view : List (Option A)) (is : by_slot slots items ≡ view) (n e : ℕ) (same : e ≡ n) where
   entry-read : slice_index_or view n None ≡ option_and_then (slice_get items) (slot_at slots n)

@@ -1,14 +1,14 @@
 -- The chains stay spelled as items are taken out of them and put in.
 use Rattle.std.proofs.Common.{◌≡◌, ℕ, ◌≤◌, ◌<◌, ◌==◌, true, false, cond, List, [], ◌∷◌, length, set, Option, Some, None, refl, sym, ap, ◌∙◌, ⊎_elim, arith, length-set, get_or-set_same, get_or-set_other, if◌then◌else◌}
-use Rattle.std.proofs.lemmas.Bool.{cases_Bool, cases_eq, cases_lt, eq-eqb, ne_eqb}
-use Rattle.std.proofs.lemmas.Bool.Decides.{nat_tests}
-use Rattle.std.proofs.lemmas.List.{get_or_past}
-use Rattle.dom_model.specs.PlainLists.Lists.{hits, is_number, head_of, after, before_from, before, left_out}
+use Rattle.std.proofs.lemmas.{Bool.cases_Bool, Bool.cases_eq, Bool.cases_lt, Bool.eq-eqb, Bool.ne_eqb, Bool.Decides.nat_tests, List.get_or_past}
+use Rattle.dom_model.specs.Definitions.{hits, is_number, head_of, after, before_from, before, left_out}
 use Rattle.dom_links.specs.Wiring.{link_unless}
-use Rattle.dom_links.proofs.Neighbours.{is_number-true, left_out-none, hits-left_out_same, hits-left_out_other, head_of-left_out, after-left_out, before_from-left_out, meets, first_of}
-use Rattle.dom_traverse.specs.declared.seats.Seat.{Seat}
-use Rattle.dom_traverse.specs.Seats.{Heads, free_seat, seat_at, place_at, head_at, counted_at, IsChained, ForLink, led_on, heads_led, led_back, seats_without, heads_without, seats_with, heads_with}
+use Rattle.dom_links.proofs.Neighbours.{hits-left_out_other, head_of-left_out, after-left_out, before_from-left_out, meets, first_of}
+use Rattle.dom_traverse.specs.{declared.seats.Seat.Seat, Seats.Heads, Seats.free_seat, Seats.seat_at, Seats.place_at, Seats.head_at, Seats.counted_at, Seats.IsChained, Seats.ForLink, Seats.led_on, Seats.heads_led, Seats.led_back, Seats.seats_without, Seats.heads_without, Seats.seats_with, Seats.heads_with}
 use Rattle.dom_traverse.proofs.ListsBeside.{after-there, before-there, head-there, has-head}
+use Rattle.dom_model.proofs.Soundness.SoundEditing.{number_is}
+use Rattle.dom_model.proofs.MutationAlgorithms.Emptied.{none-left_out}
+use Rattle.dom_model.proofs.Forests.Lying.{left_out-absent}
 
 -- an item stands at one place
 pub stands-both : (n m : ℕ) (o : Option ℕ) → 0 < counted_at n o → 0 < counted_at m o → n ≡ m
@@ -164,13 +164,13 @@ module _ (c : ℕ → List ℕ) (t : List Seat) (heads : Heads) (ok : IsChained 
   not-before : (k n : ℕ) → hits e (c n) ≡ 0 → 0 < hits k (c n) → is_number (seat_at t e).prev k ≡ false
   not-before k n z h =
       ⊎_elim (λ (y : is_number (seat_at t e).prev k ≡ true).
-      let a : before e (c p) ≡ Some k = sym (ok.prev e p here) ∙ is_number-true (seat_at t e).prev k y in
+      let a : before e (c p) ≡ Some k = sym (ok.prev e p here) ∙ number_is (seat_at t e).prev k y in
       absurd (apart n z (one-chain c t heads ok k n p h (before-there e k (c p) a)))) (λ y. y) (cases_Bool (is_number (seat_at t e).prev k))
 
   not-after : (k n : ℕ) → hits e (c n) ≡ 0 → 0 < hits k (c n) → is_number (seat_at t e).next k ≡ false
   not-after k n z h =
       ⊎_elim (λ (y : is_number (seat_at t e).next k ≡ true).
-      let a : after e (c p) ≡ Some k = sym (ok.next e p here) ∙ is_number-true (seat_at t e).next k y in
+      let a : after e (c p) ≡ Some k = sym (ok.next e p here) ∙ number_is (seat_at t e).next k y in
       absurd (apart n z (one-chain c t heads ok k n p h (after-there e k (c p) a)))) (λ y. y) (cases_Bool (is_number (seat_at t e).next k))
 
   first-here : head_at (heads_led (seat_at t e).prev p (seat_at t e).next heads) p ≡ head_of (left_out e (c p))
@@ -195,16 +195,16 @@ module _ (c : ℕ → List ℕ) (t : List Seat) (heads : Heads) (ok : IsChained 
     where
       first : (n : ℕ) → head_at (heads_without e p t heads) n ≡ head_of (left_out e (c n))
       first n =
-          ⊎_elim (λ (z : hits e (c n) ≡ 0). first-there n (apart n z) (seat_at t e).prev ∙ ok.first n ∙ sym (ap head_of (left_out-none e (c n) z)))
+          ⊎_elim (λ (z : hits e (c n) ≡ 0). first-there n (apart n z) (seat_at t e).prev ∙ ok.first n ∙ sym (ap head_of (left_out-absent e (c n) z)))
           (λ (d : hits e (c n) ≡ 0 → ⊥). let q : n ≡ p = one-chain c t heads ok e n p (omega arith) here in rw q first-here) (cases_eq (hits e (c n)) 0)
 
       counted : (k n : ℕ) → hits k (left_out e (c n)) ≡ counted_at n (place_at (seats_without e t) k)
       counted k n =
-          ⊎_elim (λ (q : k ≡ e). rw q (hits-left_out_same e (c n) ∙ sym (ap (λ (x : Seat). counted_at n x.place) without-itself)))
+          ⊎_elim (λ (q : k ≡ e). rw q (none-left_out e (c n) ∙ sym (ap (λ (x : Seat). counted_at n x.place) without-itself)))
           (λ (d : k ≡ e → ⊥). hits-left_out_other k e (c n) (λ q. d (sym q)) ∙ ok.counted k n ∙ sym (ap (λ (x : Seat). counted_at n x.place) (without-seat k d))) (cases_eq k e)
 
       other : (k n : ℕ) → 0 < hits k (left_out e (c n)) → k ≡ e → ⊥
-      other k n h q = let a : 0 < hits e (left_out e (c n)) = rw q at h in omega (arith, hits-left_out_same e (c n))
+      other k n h q = let a : 0 < hits e (left_out e (c n)) = rw q at h in omega (arith, none-left_out e (c n))
 
       stayed : (k n : ℕ) → (k ≡ e → ⊥) → 0 < hits k (left_out e (c n)) → 0 < hits k (c n)
       stayed k n d h = omega (arith, hits-left_out_other k e (c n) (λ q. d (sym q)))
@@ -214,7 +214,7 @@ module _ (c : ℕ → List ℕ) (t : List Seat) (heads : Heads) (ok : IsChained 
           let d = other k n h in
           let there : 0 < hits k (c n) = stayed k n d h in
           let a : (seat_at (seats_without e t) k).next ≡ (if is_number (seat_at t e).prev k then (seat_at t e).next else (seat_at t k).next) = ap (λ (x : Seat). x.next) (without-seat k d) in
-          a ∙ ⊎_elim (λ (z : hits e (c n) ≡ 0). rw (not-before k n z there) (ok.next k n there ∙ sym (ap (after k) (left_out-none e (c n) z))))
+          a ∙ ⊎_elim (λ (z : hits e (c n) ≡ 0). rw (not-before k n z there) (ok.next k n there ∙ sym (ap (after k) (left_out-absent e (c n) z))))
           (λ (y : hits e (c n) ≡ 0 → ⊥).
           let inside : 0 < hits e (c n) = omega arith in
           let m = meets None e k (c n) d (once c t heads ok e n) (once c t heads ok k n) refl in
@@ -225,7 +225,7 @@ module _ (c : ℕ → List ℕ) (t : List Seat) (heads : Heads) (ok : IsChained 
           let d = other k n h in
           let there : 0 < hits k (c n) = stayed k n d h in
           let a : (seat_at (seats_without e t) k).prev ≡ (if is_number (seat_at t e).next k then (seat_at t e).prev else (seat_at t k).prev) = ap (λ (x : Seat). x.prev) (without-seat k d) in
-          a ∙ ⊎_elim (λ (z : hits e (c n) ≡ 0). rw (not-after k n z there) (ok.prev k n there ∙ sym (ap (before k) (left_out-none e (c n) z))))
+          a ∙ ⊎_elim (λ (z : hits e (c n) ≡ 0). rw (not-after k n z there) (ok.prev k n there ∙ sym (ap (before k) (left_out-absent e (c n) z))))
           (λ (y : hits e (c n) ≡ 0 → ⊥).
           let inside : 0 < hits e (c n) = omega arith in
           let m = meets None k e (c n) (λ q. d (sym q)) (once c t heads ok k n) (once c t heads ok e n) refl in
@@ -259,7 +259,7 @@ module _ (c : ℕ → List ℕ) (t : List Seat) (heads : Heads) (ok : IsChained 
   not-head : (k n : ℕ) → 0 < hits k (c n) → (p ≡ n → ⊥) → is_number (head_at heads p) k ≡ false
   not-head k n h d =
       ⊎_elim (λ (y : is_number (head_at heads p) k ≡ true).
-      let a : head_of (c p) ≡ Some k = sym (ok.first p) ∙ is_number-true (head_at heads p) k y in
+      let a : head_of (c p) ≡ Some k = sym (ok.first p) ∙ number_is (head_at heads p) k y in
       absurd (d (one-chain c t heads ok k p n (head-there k (c p) a) h))) (λ y. y) (cases_Bool (is_number (head_at heads p) k))
 
   pub IsChained-with : IsChained entered_first (seats_with e p heads t) (heads_with e p heads)

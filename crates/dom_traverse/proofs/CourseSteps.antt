@@ -1,16 +1,9 @@
 -- What a course comes to, step by step.
 use Rattle.std.proofs.Common.{◌≡◌, ◌≢◌, ℕ, ◌*◌, true, false, if◌then◌else◌, Option, Some, None, refl, ap, sym, ◌∙◌, subst}
-use Rattle.dom_model.specs.declared.Verdict.{Verdict}
-use Rattle.dom_model.specs.declared.Verdict.TheVariants.{Accept, Skip, Reject}
-use Rattle.dom_model.specs.Forests.Forest.{Forest, Grove, HasNode, size, parent_of, IsForest}
-use Rattle.dom_model.specs.Worlds.World.{Filter}
-use Rattle.dom_model.specs.Traversal.Filters.{verdict_on}
-use Rattle.dom_model.specs.Traversal.WalkSteps.{Stand, at, leaving, ended, at_or, come_to, up_to_parent}
+use Rattle.dom_model.specs.declared.{Verdict.Verdict, Verdict.TheVariants.Accept, Verdict.TheVariants.Skip, Verdict.TheVariants.Reject}
+use Rattle.dom_model.specs.Definitions.{Forest, Grove, HasNode, size, parent_of, IsForest, Filter, verdict_on, Stand, at, leaving, ended, at_or, come_to, up_to_parent}
 use Rattle.dom_model.proofs.Traversal.WalksEnd.{Leads-here, LeadsOn-at, LeadsOn-leaving}
-use Rattle.dom_traverse.specs.declared.course.Side.{Side}
-use Rattle.dom_traverse.specs.declared.course.Side.TheVariants.{First, Last}
-use Rattle.dom_traverse.specs.declared.course.Course.{Course}
-use Rattle.dom_traverse.specs.Courses.{child_on, sibling_on, way_into, blocks, stops, come_up_to, past_in, course_step, LeadsTo, GoesOnTo}
+use Rattle.dom_traverse.specs.{declared.course.Side.Side, declared.course.Side.TheVariants.First, declared.course.Side.TheVariants.Last, declared.course.Course.Course, Courses.child_on, Courses.sibling_on, Courses.way_into, Courses.blocks, Courses.stops, Courses.come_up_to, Courses.past_in, Courses.course_step, Courses.LeadsTo, Courses.GoesOnTo}
 use Rattle.dom_traverse.proofs.Neighbors.{first-there, last-there, next-there, previous-there}
 
 module _ {X : Type 0} {g : Grove X} (s : IsForest g) where

@@ -1,16 +1,9 @@
 -- The inclusive descendants of a node, told by ancestors.
 use Rattle.std.proofs.Common.{◌≡◌, ℕ, ◌<◌, ◌==◌, Bool, true, false, List, [], ◌∷◌, Option, None, is_some, refl, ap, sym, ◌∙◌, arith}
-use Rattle.dom_model.specs.PlainLists.Lists.{hits, among, head_of}
+use Rattle.dom_model.specs.Definitions.{hits, among, head_of, Entry, children_in, Node, Forest, empty, node, HasNode, tops, numbers, tree_at, entry_in, children_of, ancestors, inclusive_descendants}
 use Rattle.std.proofs.lemmas.Bool.{false≢true}
-use Rattle.dom_model.specs.Forests.Arena.{Entry, children_in}
-use Rattle.dom_model.specs.Forests.Forest.{Node, Forest, empty, node, HasNode, tops, numbers, tree_at, entry_in, children_of, ancestors, inclusive_descendants}
 use Rattle.dom_model.proofs.PlainLists.Numbers.{same_or, same, apart}
-use Rattle.dom_model.proofs.Forests.Totals.{IsOnce}
-use Rattle.dom_model.proofs.Forests.Entries.{occurs-HasNode, HasNode-occurs}
-use Rattle.dom_model.proofs.Forests.TreeOrder.Flattened.{hits-numbers}
-use Rattle.dom_model.proofs.Forests.Climbing.{among-hits, hits-among, not_among-hits, hits-not_among, hits-ancestors, ancestors-there}
-use Rattle.dom_model.proofs.Forests.Standing.{Tree, tree_of}
-use Rattle.dom_model.proofs.Forests.Below.{occurs-tree, at_itself}
+use Rattle.dom_model.proofs.Forests.{Totals.IsOnce, Entries.occurs-HasNode, Entries.HasNode-occurs, TreeOrder.Flattened.hits-numbers, Climbing.among-hits, Climbing.hits-among, Climbing.not_among-hits, Climbing.hits-not_among, Climbing.hits-ancestors, Climbing.ancestors-there, Standing.Tree, Standing.tree_of, Below.occurs-tree, Below.at_itself}
 
 -- two numbers that stand in two lists as often
 among-alike : (n m : ℕ) (ns ms : List ℕ) → hits n ns ≡ hits m ms → among n ns ≡ among m ms

@@ -1,13 +1,9 @@
 -- An iterator with its reference inside a node that goes steps off to where the exits of its root lead.
 use Rattle.std.proofs.Common.{◌≡◌, ℕ, ◌==◌, Bool, true, false, not, ◌&&◌, if◌then◌else◌, List, refl, sym, ap, ◌∙◌, subst}
 use Rattle.std.proofs.lemmas.Bool.{and_parts}
-use Rattle.dom_model.specs.PlainLists.Lists.{among, head_of, before}
-use Rattle.dom_model.specs.Forests.Forest.{Forest, ancestors, inclusive_descendants}
-use Rattle.dom_model.specs.Worlds.World.{Iterator}
-use Rattle.dom_model.specs.MutationAlgorithms.PreRemoval.{following_outside, moved_on, moved_back, stepped_off, pre_removed_among, pre_removed}
+use Rattle.dom_model.specs.Definitions.{among, head_of, before, Forest, ancestors, inclusive_descendants, Iterator, following_outside, moved_on, moved_back, stepped_off, pre_removed_among, pre_removed}
 use Rattle.dom_model.proofs.Forests.Totals.{IsOnce}
-use Rattle.dom_traverse.specs.declared.exit.Exit.{Exit}
-use Rattle.dom_traverse.specs.Exits.{IsExit, gone_by}
+use Rattle.dom_traverse.specs.{declared.exit.Exit.Exit, Exits.IsExit, Exits.gone_by}
 use Rattle.dom_traverse.proofs.Descendants.{among-inside}
 
 module _ {X : Type 0} (f : Forest X) where

@@ -1,8 +1,6 @@
 -- What was read or written of an item, told by its number.
 use Rattle.std.proofs.Common.{◌≡◌, ℕ, ◌<◌, List, length, get_or, set, map, take, drop, ◌++◌, ◌+◌, [], ◌∷◌, slice_get, Option, Some, IfSome, sym, ap, ◌∙◌, subst, arith, length-append, length-drop}
-use Rattle.std.proofs.lemmas.List.{length-map, length-take, get_or_default}
-use Rattle.std.proofs.lemmas.List.Edits.{map_over_more}
-use Rattle.std.proofs.lemmas.Option.{slice_get-get_or}
+use Rattle.std.proofs.lemmas.{List.length-map, List.length-take, List.get_or_default, List.Edits.map_over_more, Option.slice_get-get_or}
 
 -- what holds of the item that was read holds of the one by that number
 module _ {A : Type 0} (is view : List A) (same : is ≡ view) (id e : ℕ) (q : id ≡ e) (within : e < length view) (x : A) (read : x ≡ get_or is id x) where

@@ -1,22 +1,13 @@
 -- Items that are found by their roots and by where they stand.
-use Rattle.std.proofs.Common.{◌≡◌, ℕ, zero, suc, ◌+◌, ◌-◌, ◌<◌, ◌≤◌, ◌==◌, nat_eq, Bool, true, false, ◌||◌, if◌then◌else◌, List, [], ◌∷◌, ◌++◌, length, map, get_or, set, swap_remove, Option, Some, None, is_some, ◌⊎◌, inl, inr, refl, sym, ap, ◌∙◌, ⊎_elim, arith, length-set, length-append}
-use Rattle.std.specs.List.{list_any, flat_map}
-use Rattle.std.specs.Option.{IsSome, unwrap_or}
-use Rattle.std.specs.Map.{lookup}
-use Rattle.std.proofs.lemmas.Bool.{cases_Bool, cases_eq, eq-eqb, ne_eqb, or_right}
-use Rattle.std.proofs.lemmas.List.{map-set, map-append, set-get_or, get_or-map, length-map}
-use Rattle.dom_model.specs.PlainLists.Lists.{hits, among, is_number}
-use Rattle.dom_model.specs.Worlds.World.{Iterator, Walker}
-use Rattle.dom_model.specs.Traversal.Iterators.{iterator_moved}
-use Rattle.dom_model.specs.Traversal.Walks.{walker_moved}
+use Rattle.std.proofs.Common.{◌≡◌, ℕ, zero, suc, ◌+◌, ◌-◌, ◌<◌, ◌≤◌, ◌==◌, nat_eq, true, false, ◌||◌, if◌then◌else◌, List, [], ◌∷◌, ◌++◌, length, map, get_or, set, swap_remove, Option, Some, None, is_some, ◌⊎◌, inl, inr, refl, sym, ap, ◌∙◌, ⊎_elim, arith, length-set, length-append}
+use Rattle.std.specs.{List.list_any, List.flat_map, Option.IsSome, Option.unwrap_or, Map.lookup}
+use Rattle.std.proofs.lemmas.{Bool.cases_Bool, Bool.cases_eq, Bool.eq-eqb, Bool.ne_eqb, Bool.or_right, List.map-set, List.map-append, List.set-get_or, List.get_or-map, List.length-map}
+use Rattle.dom_model.specs.Definitions.{hits, among, is_number, Iterator, Walker, walker_moved}
 use Rattle.dom_model.proofs.Forests.Climbing.{hits-append, among-hits, not_among-hits}
 use Rattle.dom_slots.proofs.Places.{length-swap_remove}
 use Rattle.indexmap.specs.IndexMap.{IndexMap, get}
-use Rattle.dom_traverse.specs.Naming.{if_counted, count_at, Recounts, AreNames, AreFound, IteratorsFound}
-use Rattle.dom_traverse.specs.GivingWay.{GaveWay}
-use Rattle.dom_traverse.specs.Whereabouts.{node_in, StandOrWait}
-use Rattle.dom_traverse.proofs.Settling.{all-stand, settled-end, stand-written, stand-kept, stand-more, stand-fewer}
-use Rattle.dom_traverse.proofs.Swapped.{map-swap_remove, hits-le-length, hits-swap_remove}
+use Rattle.dom_traverse.specs.{Naming.if_counted, Naming.count_at, Naming.Recounts, Naming.AreNames, Naming.AreFound, Naming.IteratorsFound, GivingWay.GaveWay, Whereabouts.node_in, Whereabouts.StandOrWait}
+use Rattle.dom_traverse.proofs.{CatchingUp.all-stand, CatchingUp.caught_up-end, CatchingUp.stand-written, CatchingUp.stand-kept, CatchingUp.stand-more, CatchingUp.stand-fewer, Swapped.map-swap_remove, Swapped.hits-le-length, Swapped.hits-swap_remove}
 
 -- what a count that is kept tells
 counted-number : (k : ℕ) → unwrap_or (if_counted k) 0 ≡ k
@@ -44,7 +35,7 @@ module _ {A : Type 0} (root at : A → ℕ) where
     pub found-names : ((e : ℕ) → e < length standing → IsSome (node_in standing e)) → AreNames roots standing (flat_map (λ x. root x ∷ at x ∷ []) xs)
     found-names all n =
         nodes-named xs n ∙ ap (λ b. b || list_any (λ o. is_number o n) (map (λ x. Some (at x)) xs)) (sym (ap is_some (are.counted n) ∙ counted-among n (map root xs)))
-        ∙ ap (λ ns. is_some (get nat_eq roots n) || list_any (λ o. is_number o n) ns) (sym (settled-end at xs standing are.stand all))
+        ∙ ap (λ ns. is_some (get nat_eq roots n) || list_any (λ o. is_number o n) ns) (sym (caught_up-end at xs standing are.stand all))
 
     -- how many items have a root
     pub found-count : (n : ℕ) → count_at roots n ≡ hits n (map root xs)
@@ -54,8 +45,8 @@ module _ {A : Type 0} (root at : A → ℕ) where
     found-few roots0 n same = omega (arith, ap (λ es. unwrap_or (lookup (nat_eq n) es) 0) same, found-count n, hits-le-length n (map root xs), length-map xs root)
 
     -- all that wait have come to stand
-    pub found-settled : (standing' : List (Option ℕ)) → standing' ≡ map (λ x. Some (at x)) xs → AreFound root at xs roots standing'
-    found-settled standing' h = record { stand = all-stand at xs standing' h; counted = are.counted; few = are.few }
+    pub found-caught_up : (standing' : List (Option ℕ)) → standing' ≡ map (λ x. Some (at x)) xs → AreFound root at xs roots standing'
+    found-caught_up standing' h = record { stand = all-stand at xs standing' h; counted = are.counted; few = are.few }
 
     -- an item has moved
     module _ (id : ℕ) (x y : A) (within : id < length xs) (is : x ≡ get_or xs id x) (same : root y ≡ root x) where
@@ -168,11 +159,6 @@ found-gave step here old new roots standing standing' keeps are gave h = record 
     kind : {P Q R : Type 0} → P ⊎ (Q × R) → P ⊎ Q
     kind (inl p) = inl p
     kind (inr q) = inr q.0
-
--- nor does a move change it
-pub moved-root : (before : Bool) (found : Option ℕ) (i : Iterator) → (iterator_moved before found i).root ≡ i.root
-moved-root before None i = refl
-moved-root before (Some n) i = refl
 
 pub moved-walker_root : (found : Option ℕ) (k : Walker) → (walker_moved found k).root ≡ k.root
 moved-walker_root None k = refl

@@ -1,14 +1,9 @@
 -- One rule more is known.
-use Rattle.std.proofs.Common.{◌≡◌, ℕ, ◌+◌, ◌<◌, length, drop, get_or, Bool, true, false, ◌||◌, if◌then◌else◌, List, ◌∷◌, Option, Some, None, refl, ap, sym, ◌∙◌}
-use Rattle.std.specs.Prelude.{String, unwrap_or, is_some, bytes_eq, codes}
-use Rattle.std.specs.BTreeMap.{BTreeMap, get_by_text}
-use Rattle.std.specs.Map.{update}
-use Rattle.std.proofs.lemmas.Bool.{false≢true}
-use Rattle.std.proofs.lemmas.List.{at_drop_more}
-use Rattle.std.proofs.lemmas.Slice.Eq.{bytes_eq-Decides}
+use Rattle.std.proofs.Common.{◌≡◌, ℕ, ◌+◌, ◌<◌, length, drop, get_or, Bool, true, false, ◌||◌, if◌then◌else◌, List, ◌∷◌, Option, Some, None, refl, ap, sym, ◌∙◌, String, unwrap_or, is_some, bytes_eq, codes}
+use Rattle.std.specs.{BTreeMap.BTreeMap, BTreeMap.get_by_text, Map.update}
+use Rattle.std.proofs.lemmas.{Bool.false≢true, List.at_drop_more, Slice.Eq.bytes_eq-Decides}
 use Rattle.dom_model.specs.declared.Verdict.{Verdict}
-use Rattle.dom_model.specs.Worlds.World.{FilterRule}
-use Rattle.dom_model.specs.Traversal.Filters.{ruled}
+use Rattle.dom_model.specs.Definitions.{FilterRule, ruled}
 use Rattle.dom_traverse.specs.Judging.{known_or}
 
 -- where a verdict is known, that on the others does not matter

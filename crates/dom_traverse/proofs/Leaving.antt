@@ -1,12 +1,10 @@
 -- Iterators that give way one after another, and wait.
 use Rattle.std.proofs.Common.{◌≡◌, ℕ, zero, suc, ◌+◌, ◌<◌, List, [], ◌∷◌, length, get_or, set, Option, Some, None, is_some, subst, ◌⊎◌, inl, inr, refl, sym, ap, ◌∙◌, ⊎_elim, arith, length-set, get_or-set_same, get_or-set_other}
 use Rattle.std.specs.Option.{IsSome}
-use Rattle.std.proofs.lemmas.Bool.{cases_eq, false≢true}
-use Rattle.std.proofs.lemmas.List.{get_or_default, length-map}
-use Rattle.dom_model.specs.Worlds.World.{Iterator}
-use Rattle.dom_traverse.specs.Whereabouts.{node_in, StandOrWait}
+use Rattle.std.proofs.lemmas.{Bool.cases_eq, Bool.false≢true, List.get_or_default, List.length-map}
+use Rattle.dom_model.specs.Definitions.{Iterator}
+use Rattle.dom_traverse.specs.{Whereabouts.node_in, Whereabouts.StandOrWait, GivingWay.references_of, GivingWay.stepped_at, GivingWay.GaveWay}
 use Rattle.dom_model.proofs.PlainLists.Numbers.{same_or, same, apart}
-use Rattle.dom_traverse.specs.GivingWay.{references_of, stepped_at, GaveWay}
 
 -- how many items stand, and how many wait
 abbrev pub standing : List (Option ℕ) → ℕ

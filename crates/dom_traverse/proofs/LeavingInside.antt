@@ -1,10 +1,7 @@
 -- The iterators inside a node, as they give way at one node after another.
 use Rattle.std.proofs.Common.{◌≡◌, ℕ, suc, ◌<◌, true, false, List, [], ◌∷◌, length, map, get_or, Some, None, ◌⊎◌, inl, inr, refl, sym, ap, ◌∙◌, subst, ⊎_elim, arith}
 use Rattle.std.proofs.lemmas.Bool.{cases_Bool, false≢true}
-use Rattle.dom_model.specs.PlainLists.Lists.{among, after, from_first}
-use Rattle.dom_model.specs.Forests.Forest.{Grove, HasNode, inclusive_descendants, IsForest}
-use Rattle.dom_model.specs.Worlds.World.{Iterator}
-use Rattle.dom_model.specs.MutationAlgorithms.PreRemoval.{pre_removed}
+use Rattle.dom_model.specs.Definitions.{among, after, from_first, Grove, HasNode, inclusive_descendants, IsForest, Iterator, pre_removed}
 use Rattle.dom_model.proofs.PlainLists.Heads.{among-rest}
 use Rattle.dom_model.proofs.Forests.TreeOrder.InsideWalks.{IsAt, at-top, at-next, from-top, rest-next, rest-end}
 use Rattle.dom_traverse.specs.GivingWay.{GaveWay}

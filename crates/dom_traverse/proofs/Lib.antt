@@ -15,7 +15,7 @@ pub mod PassedTrees
 pub mod Referring
 pub mod SeatSteps
 pub mod SeatsFreed
-pub mod Settling
+pub mod CatchingUp
 pub mod Spots
 pub mod Spreading
 pub mod Stances

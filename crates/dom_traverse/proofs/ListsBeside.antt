@@ -1,7 +1,7 @@
 -- What stands beside a number in a list, or at its head, stands in the list.
 use Rattle.std.proofs.Common.{◌≡◌, ℕ, ◌<◌, ◌==◌, true, false, List, [], ◌∷◌, Some, None, refl, sym, ◌∙◌, ⊎_elim, arith}
 use Rattle.std.proofs.lemmas.Bool.{cases_eq, eq-eqb, false≢true}
-use Rattle.dom_model.specs.PlainLists.Lists.{hits, is_number, head_of, after, before}
+use Rattle.dom_model.specs.Definitions.{hits, is_number, head_of, after, before}
 use Rattle.dom_links.proofs.Neighbours.{head_of-none, after-none, before_from-none}
 
 pub after-there : (e k : ℕ) (xs : List ℕ) → after e xs ≡ Some k → 0 < hits k xs

@@ -1,14 +1,7 @@
 -- The nodes beside, under and over a node are there.
 use Rattle.std.proofs.Common.{◌≡◌, ℕ, ◌<◌, Option, Some, None}
-use Rattle.dom_model.specs.PlainLists.Lists.{hits, head_of, last_of, after}
-use Rattle.dom_model.specs.Forests.Arena.{list_under}
-use Rattle.dom_model.specs.Forests.Forest.{Grove, HasNode, entry_in, children_of, parent_of, next_of, previous_of, IsForest}
-use Rattle.dom_model.proofs.Forests.Entries.{HasNode-occurs}
-use Rattle.dom_model.proofs.Forests.Indices.{child-there}
-use Rattle.dom_model.proofs.Forests.PutBack.{hits-head_of, hits-after}
-use Rattle.dom_model.proofs.Forests.Above.{above}
-use Rattle.dom_model.proofs.Forests.Siblings.{index-step}
-use Rattle.dom_model.proofs.Forests.TreeOrder.Ending.{last-down}
+use Rattle.dom_model.specs.Definitions.{hits, head_of, last_of, after, list_under, Grove, HasNode, entry_in, children_of, parent_of, next_of, previous_of, IsForest}
+use Rattle.dom_model.proofs.Forests.{Entries.HasNode-occurs, Indices.child-there, PutBack.hits-head_of, PutBack.hits-after, Above.above, Siblings.index-step, TreeOrder.Ending.last-down}
 
 module _ {X : Type 0} {g : Grove X} (s : IsForest g) where
   child : (m p : ℕ) → 0 < hits m (children_of g.forest p) → HasNode g.forest m

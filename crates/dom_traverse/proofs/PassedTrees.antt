@@ -1,17 +1,10 @@
 -- What comes past a node's whole tree is the first that follows the node and does not stand inside it.
 use Rattle.std.proofs.Common.{◌≡◌, ℕ, nat_lt, ◌<◌, Bool, true, false, not, List, [], ◌∷◌, ◌++◌, filter, Option, None, refl, ap, sym, ◌∙◌, arith, append_assoc, append-nil}
 use Rattle.std.proofs.lemmas.Bool.{lt-ltb, le-ltb}
-use Rattle.dom_model.specs.PlainLists.Lists.{hits, among, head_of, or_else, past as rest_past}
-use Rattle.dom_model.specs.Forests.Forest.{Forest, empty, node, occurs, tops, numbers, tree_at, inclusive_descendants}
-use Rattle.dom_model.specs.MutationAlgorithms.PreRemoval.{following_outside}
+use Rattle.dom_model.specs.Definitions.{hits, among, head_of, or_else, past as rest_past, Forest, empty, node, occurs, tops, numbers, tree_at, inclusive_descendants, following_outside}
 use Rattle.dom_model.proofs.PlainLists.Numbers.{same_or, same, apart}
-use Rattle.dom_model.proofs.Forests.Totals.{IsOnce}
-use Rattle.dom_model.proofs.Forests.TreeOrder.Flattened.{hits-numbers}
-use Rattle.dom_model.proofs.Forests.Climbing.{hits-first, hits-among, hits-not_among}
-use Rattle.dom_model.proofs.Forests.Standing.{top, inside, beyond, whereabouts}
+use Rattle.dom_model.proofs.Forests.{Totals.IsOnce, TreeOrder.Flattened.hits-numbers, Climbing.hits-first, Climbing.hits-among, Climbing.hits-not_among, Standing.top, Standing.inside, Standing.beyond, Standing.whereabouts, Below.tree-top, Below.tree-inside, Below.tree-beyond, Below.occurs-tree, TreeOrder.Ordering.past}
 use Rattle.dom_model.proofs.Traversal.IteratorsStay.{tree_at-inside}
-use Rattle.dom_model.proofs.Forests.Below.{tree-top, tree-inside, tree-beyond, occurs-tree}
-use Rattle.dom_model.proofs.Forests.TreeOrder.Ordering.{past}
 
 rest_past-front : (n : ℕ) (ns ms : List ℕ) → hits n ns ≡ 0 → rest_past n (ns ++ ms) ≡ rest_past n ms
 rest_past-front n [] ms h = refl

@@ -1,14 +1,10 @@
 -- The steps by which an item is taken out of its chain or put in come to the changed seats.
 use Rattle.std.proofs.Common.{◌≡◌, ℕ, zero, suc, ◌<◌, ◌==◌, if◌then◌else◌, replicate, take, drop, subst, List, [], ◌∷◌, ◌++◌, length, set, get_or, Option, Some, None, IfSome, IfNone, refl, sym, ap, ◌∙◌, arith, length-set, get_or-set_same}
 use Rattle.std.specs.Option.{IsSome}
-use Rattle.std.proofs.lemmas.Bool.{false≢true}
-use Rattle.std.proofs.lemmas.List.{get_or_default, take_all, take-append-le, map-set, map-append, set-set, length-map, get_or_past}
-use Rattle.dom_model.specs.PlainLists.Lists.{hits, left_out}
-use Rattle.dom_traverse.specs.declared.seats.Seat.{Seat}
-use Rattle.dom_traverse.specs.Placing.{Placing, place_of_item}
-use Rattle.dom_traverse.specs.Seats.{Heads, free_seat, seat_at, place_at, places_of, head_at, counted_at, HasChains, ForLink, led_on, heads_led, led_back, seats_without, heads_without, seats_with}
-use Rattle.dom_traverse.proofs.ListsBeside.{head-there, has-head}
-use Rattle.dom_traverse.proofs.Chained.{stands-both, stands-itself, live-within, in-stands, in-chain, within-heads, next-within, prev-within, first-within, IsChained-without, IsChained-with, led_on-length}
+use Rattle.std.proofs.lemmas.{Bool.false≢true, List.get_or_default, List.take_all, List.take-append-le, List.map-set, List.map-append, List.set-set, List.length-map, List.get_or_past}
+use Rattle.dom_model.specs.Definitions.{hits, left_out}
+use Rattle.dom_traverse.specs.{declared.seats.Seat.Seat, Placing.Placing, Placing.place_of_item, Seats.Heads, Seats.free_seat, Seats.seat_at, Seats.place_at, Seats.places_of, Seats.head_at, Seats.counted_at, Seats.HasChains, Seats.ForLink, Seats.led_on, Seats.heads_led, Seats.led_back, Seats.seats_without, Seats.heads_without, Seats.seats_with}
+use Rattle.dom_traverse.proofs.{ListsBeside.head-there, ListsBeside.has-head, Chained.stands-both, Chained.stands-itself, Chained.live-within, Chained.in-stands, Chained.in-chain, Chained.within-heads, Chained.next-within, Chained.prev-within, Chained.first-within, Chained.IsChained-without, Chained.IsChained-with, Chained.led_on-length}
 
 -- the places of seats of which one is written with the same place
 set-same : (t : List Seat) (k : ℕ) (y : Seat) → y.place ≡ place_at t k → places_of (set t k y) ≡ places_of t

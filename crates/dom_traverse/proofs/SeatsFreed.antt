@@ -1,14 +1,10 @@
 -- An item is taken out of its place for good: it comes to the place of the last, whose seat is then given up.
 use Rattle.std.proofs.Common.{◌≡◌, ℕ, ◌+◌, ◌-◌, ◌<◌, ◌≤◌, take, List, length, set, get_or, swap_remove, Option, Some, None, is_some, refl, sym, ap, ◌∙◌, ⊎_elim, arith, length-set, get_or-set_same, get_or-set_other}
 use Rattle.std.specs.Option.{IsSome}
-use Rattle.std.proofs.lemmas.Bool.{cases_eq, cases_lt}
-use Rattle.std.proofs.lemmas.List.{take-map, take-set-le, get_or-take, get_or_past, length-take-le}
-use Rattle.dom_model.specs.PlainLists.Lists.{hits}
-use Rattle.dom_traverse.specs.declared.seats.Seat.{Seat}
-use Rattle.dom_traverse.specs.Placing.{Placing}
-use Rattle.dom_traverse.specs.Seats.{Heads, free_seat, seat_at, place_at, places_of, counted_at, HasChains, last_freed}
-use Rattle.dom_traverse.proofs.Chained.{chained-within}
-use Rattle.dom_traverse.proofs.SeatSteps.{places-at, places-length, is-placing}
+use Rattle.std.proofs.lemmas.{Bool.cases_eq, Bool.cases_lt, List.take-map, List.take-set-le, List.get_or-take, List.get_or_past, List.length-take-le}
+use Rattle.dom_model.specs.Definitions.{hits}
+use Rattle.dom_traverse.specs.{declared.seats.Seat.Seat, Placing.Placing, Seats.Heads, Seats.free_seat, Seats.seat_at, Seats.place_at, Seats.places_of, Seats.counted_at, Seats.HasChains, Seats.last_freed}
+use Rattle.dom_traverse.proofs.{Chained.chained-within, SeatSteps.places-at, SeatSteps.places-length, SeatSteps.is-placing}
 
 -- an item comes to the place of the last, which is then taken out
 module _ (t : List Seat) (e l p : ℕ) (last : l ≡ length t - 1) (at : place_at t l ≡ Some p) where

@@ -1,7 +1,7 @@
 -- What is told of a node where it stands, told of the tree that it stands in.
 use Rattle.std.proofs.Common.{◌≡◌, ℕ, Some, ap, sym, ◌∙◌, subst}
 use Rattle.std.specs.Option.{ForSome}
-use Rattle.dom_model.specs.Forests.Forest.{Grove}
+use Rattle.dom_model.specs.Definitions.{Grove}
 use Rattle.dom_tree.specs.Spots.{Spot}
 
 module _ {X : Type 0} {B : Type 0} {a t : Grove X} (e : a ≡ t) (q : Grove X → B) {b : B} where

@@ -3,8 +3,7 @@ use Rattle.std.proofs.Common.{◌≡◌, ℕ, zero, suc, ◌-◌, ◌<◌, List,
 use Rattle.std.specs.Option.{IsSome}
 use Rattle.std.proofs.lemmas.List.{map-set, length-map}
 use Rattle.dom_slots.proofs.Places.{length-swap_remove}
-use Rattle.dom_traverse.specs.Placing.{Placing, place_of_item}
-use Rattle.dom_traverse.specs.Whereabouts.{node_in, place_of, spread_over, AreSpread}
+use Rattle.dom_traverse.specs.{Placing.Placing, Placing.place_of_item, Whereabouts.node_in, Whereabouts.place_of, Whereabouts.spread_over, Whereabouts.AreSpread}
 use Rattle.dom_traverse.proofs.Swapped.{map-swap_remove}
 
 -- an item at a node is at the node's place, and one that waits at the first

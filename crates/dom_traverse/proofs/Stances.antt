@@ -1,11 +1,7 @@
 -- What an iterator's place tells, and when a root loses its reference.
 use Rattle.std.proofs.Common.{◌≡◌, ℕ, true, ◌∙◌, ◌<◌, subst}
-use Rattle.dom_model.specs.PlainLists.Lists.{hits, among}
-use Rattle.dom_model.specs.Forests.Forest.{Forest, HasNode, ancestors, inclusive_descendants}
-use Rattle.dom_model.specs.Worlds.World.{Content, Iterator, Walker}
-use Rattle.dom_model.specs.Soundness.Sound.{IsIterator, IsWalker}
-use Rattle.dom_model.proofs.Forests.Totals.{IsOnce}
-use Rattle.dom_model.proofs.Forests.Climbing.{among-hits}
+use Rattle.dom_model.specs.Definitions.{hits, among, Forest, HasNode, ancestors, inclusive_descendants, Content, Iterator, Walker, IsIterator, IsWalker}
+use Rattle.dom_model.proofs.Forests.{Totals.IsOnce, Climbing.among-hits}
 use Rattle.dom_traverse.specs.Standing.{StandsInside, StandsThere}
 use Rattle.dom_traverse.proofs.Descendants.{among-inside, hits-inside, inside-there}
 

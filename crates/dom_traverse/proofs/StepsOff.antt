@@ -1,39 +1,9 @@
 -- An iterator that has given way to a node does so no more: its reference is outside.
-use Rattle.std.proofs.Common.{◌≡◌, ℕ, ◌+◌, ◌<◌, ◌≤◌, ◌==◌, Bool, true, false, not, ◌&&◌, if◌then◌else◌, List, [], ◌∷◌, ◌++◌, Option, Some, None, refl, sym, ap, ◌∙◌, subst, arith, ◌⊎◌, inl, inr}
+use Rattle.std.proofs.Common.{◌≡◌, ℕ, ◌+◌, ◌<◌, ◌≤◌, ◌==◌, Bool, true, false, not, ◌&&◌, if◌then◌else◌, List, [], ◌∷◌, ◌++◌, Option, Some, None, refl, sym, ap, ◌∙◌, arith, ◌⊎◌, inl, inr}
 use Rattle.std.proofs.lemmas.Bool.{not-true, and_parts}
-use Rattle.dom_model.specs.PlainLists.Lists.{hits, among, head_of, before, before_from, past}
-use Rattle.dom_model.specs.Forests.Forest.{Forest, occurs, numbers, tree_at, without, inclusive_descendants}
-use Rattle.dom_model.specs.Worlds.World.{Iterator}
-use Rattle.dom_model.specs.MutationAlgorithms.PreRemoval.{following_outside, moved_on, moved_back, stepped_off, pre_removed_among, pre_removed}
-use Rattle.dom_model.proofs.PlainLists.Numbers.{same_or, same, apart}
-use Rattle.dom_model.proofs.Forests.Totals.{IsOnce}
-use Rattle.dom_model.proofs.Forests.Climbing.{among-hits, hits-not_among, hits-append, hits-first}
-use Rattle.dom_model.proofs.Forests.Below.{occurs-tree}
-use Rattle.dom_model.proofs.Forests.TreeOrder.Flattened.{Piece, hits-numbers, numbers-without}
-use Rattle.dom_model.proofs.Forests.TreeOrder.Ordering.{Single, single, tree_at-single}
-use Rattle.dom_model.proofs.Traversal.IteratorsStay.{filter-passes, tree_at-inside}
-
--- what stands just before the first n of a list was passed, or stands ahead of it
-before-ahead : (passed : Option ℕ) (n : ℕ) (ahead rest : List ℕ) (x : ℕ) → hits n ahead ≡ 0 → before_from passed n (ahead ++ n ∷ rest) ≡ Some x → (passed ≡ Some x) ⊎ (0 < hits x ahead)
-before-ahead passed n [] rest x h e =
-    elim (same_or n n) [
-      | same d t ↦ (let k = rw t at e in inl k)
-      | apart ne t ↦ absurd (ne refl)
-    ]
-before-ahead passed n (y ∷ ahead) rest x h e =
-    elim (same_or y n) [
-      | same d t ↦ absurd (let k = rw t at h in omega arith)
-      | apart ne t ↦
-          let k = rw t at h in
-          let e2 = rw t at e in
-          from (before-ahead (Some y) n ahead rest x (omega arith) e2)
-    ]
-  where
-    from : (Some y ≡ Some x) ⊎ (0 < hits x ahead) → (passed ≡ Some x) ⊎ (0 < hits x (y ∷ ahead))
-    from (inl d) =
-        let u : y ≡ x = cc d in
-        inr (subst (λ z. 0 < hits z (y ∷ ahead)) u (hits-first y ahead))
-    from (inr i) = inr (omega arith)
+use Rattle.dom_model.specs.Definitions.{hits, among, head_of, before, past, Forest, occurs, numbers, tree_at, without, inclusive_descendants, Iterator, following_outside, moved_on, moved_back, stepped_off, pre_removed_among, pre_removed}
+use Rattle.dom_model.proofs.Forests.{Totals.IsOnce, Climbing.among-hits, Climbing.hits-not_among, Climbing.hits-append, Climbing.hits-first, Below.occurs-tree, TreeOrder.Flattened.Piece, TreeOrder.Flattened.hits-numbers, TreeOrder.Flattened.numbers-without, TreeOrder.Ordering.Single, TreeOrder.Ordering.single, TreeOrder.Ordering.tree_at-single}
+use Rattle.dom_model.proofs.Traversal.IteratorsStay.{filter-passes, tree_at-inside, before-ahead}
 
 -- the node just before those inside n is not one of them
 module _ {X : Type 0} (f : Forest X) (o : IsOnce f) (n c : ℕ) where

@@ -1,8 +1,7 @@
 -- Lists of which an item went, and the last came into its place.
 use Rattle.std.proofs.Common.{◌≡◌, ℕ, ◌+◌, ◌-◌, ◌<◌, ◌≤◌, ◌==◌, if◌then◌else◌, List, [], ◌∷◌, length, map, take, set, get_or, swap_remove, sum_by, refl, sym, ap, ◌∙◌, arith, get_or-take, get_or-set_same, get_or-set_other}
-use Rattle.std.proofs.lemmas.List.{take-map, map-set, get_or-map, get_or_default, length-map}
-use Rattle.std.proofs.lemmas.List.Sums.{sum_by-swap_remove, sum_by-cons, count_by-le-length}
-use Rattle.dom_model.specs.PlainLists.Lists.{hits}
+use Rattle.std.proofs.lemmas.{List.take-map, List.map-set, List.get_or-map, List.get_or_default, List.length-map, List.Sums.sum_by-swap_remove, List.Sums.sum_by-cons, List.Sums.count_by-le-length}
+use Rattle.dom_model.specs.Definitions.{hits}
 
 -- what is read of an empty list is read of no other
 pub swap_remove-any : {A : Type 0} (xs : List A) (k : ℕ) (d e : A) → k < length xs → swap_remove xs k d ≡ swap_remove xs k e

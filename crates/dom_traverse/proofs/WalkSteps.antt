@@ -1,25 +1,11 @@
 -- The steps to the parent, and to the previous node; and the courses of the other moves.
 use Rattle.std.proofs.Common.{◌≡◌, ℕ, ◌*◌, ◌<◌, ◌==◌, true, false, if◌then◌else◌, Option, Some, None, refl, ap, sym, ◌∙◌, subst, arith, inl, inr, ◌⊎◌}
 use Rattle.std.proofs.lemmas.Bool.{false≢true}
-use Rattle.dom_model.specs.declared.Verdict.{Verdict}
-use Rattle.dom_model.specs.declared.Verdict.TheVariants.{Accept, Skip, Reject}
-use Rattle.dom_model.specs.PlainLists.Lists.{head_of, last_of}
-use Rattle.dom_model.specs.Forests.Forest.{Forest, occurs, size, children_of, parent_of, previous_of}
-use Rattle.dom_model.specs.Worlds.World.{Filter}
-use Rattle.dom_model.specs.Traversal.Filters.{is_accept, is_reject, verdict_on, accepts}
-use Rattle.dom_model.specs.Traversal.WalkSteps.{Stand, at, leaving, ended, at_or, come_back_to, up_to_parent, parent_arrived, parent_step, previous_arrived, up_unless_root, back_past_node, previous_step, next_by_steps, first_child_step, next_sibling_step, next_step}
-use Rattle.dom_model.specs.Traversal.Walks.{found_by_steps}
-use Rattle.dom_model.specs.Traversal.Ending.{Leads, LeadsOn}
+use Rattle.dom_model.specs.declared.{Verdict.Verdict, Verdict.TheVariants.Accept, Verdict.TheVariants.Skip, Verdict.TheVariants.Reject}
+use Rattle.dom_model.specs.Definitions.{head_of, last_of, Forest, occurs, size, children_of, parent_of, previous_of, Filter, is_accept, is_reject, verdict_on, accepts, Stand, at, leaving, ended, at_or, come_back_to, up_to_parent, parent_arrived, parent_step, previous_arrived, up_unless_root, back_past_node, previous_step, next_by_steps, first_child_step, next_sibling_step, next_step, found_by_steps, Leads, LeadsOn}
 use Rattle.dom_model.proofs.Forests.Totals.{IsOnce}
-use Rattle.dom_model.proofs.Traversal.EndingWalks.{HasEnded-agree}
-use Rattle.dom_model.proofs.Traversal.WalksMirrored.{walked-agree, last_child_step, previous_sibling_step, child_steps-mirrored, sibling_steps-mirrored}
-use Rattle.dom_model.proofs.Traversal.WalksEnd.{Walks, Walks-on, Leads-here, Leads-then, LeadsOn-at, LeadsOn-leaving, first_child-walks, last_child-walks, next_sibling-walks, previous_sibling-walks, next-walks}
-use Rattle.dom_traverse.specs.declared.course.Side.{Side}
-use Rattle.dom_traverse.specs.declared.course.Side.TheVariants.{First, Last}
-use Rattle.dom_traverse.specs.declared.course.Limit.TheVariants.{Root, Current, Accepted}
-use Rattle.dom_traverse.specs.declared.course.Course.{Course}
-use Rattle.dom_traverse.specs.Courses.{child_move, sibling_move, child_on, past_in, course_step}
-use Rattle.dom_traverse.specs.Ends.{Descends, begun, down, IsEnd}
+use Rattle.dom_model.proofs.Traversal.{EndingWalks.HasEnded-agree, WalksMirrored.walked-agree, WalksMirrored.last_child_step, WalksMirrored.previous_sibling_step, WalksMirrored.child_steps-mirrored, WalksMirrored.sibling_steps-mirrored, WalksEnd.Walks, WalksEnd.Walks-on, WalksEnd.Leads-here, WalksEnd.Leads-then, WalksEnd.LeadsOn-at, WalksEnd.LeadsOn-leaving, WalksEnd.first_child-walks, WalksEnd.last_child-walks, WalksEnd.next_sibling-walks, WalksEnd.previous_sibling-walks, WalksEnd.next-walks}
+use Rattle.dom_traverse.specs.{declared.course.Side.Side, declared.course.Side.TheVariants.First, declared.course.Side.TheVariants.Last, declared.course.Limit.TheVariants.Root, declared.course.Limit.TheVariants.Current, declared.course.Limit.TheVariants.Accepted, declared.course.Course.Course, Courses.child_move, Courses.sibling_move, Courses.child_on, Courses.past_in, Courses.course_step, Ends.Descends, Ends.begun, Ends.down, Ends.IsEnd}
 
 -- a walk by other steps that go the same way
 Walks-agree : (s t : Stand → Stand) → ((stand : Stand) → s stand ≡ t stand) → (moves : ℕ) (stand : Stand) (found : Option ℕ) → Walks s moves stand found → Walks t moves stand found

@@ -44,7 +44,7 @@ pub(crate) fn give_way<X>(
 }
 
 // Those that wait come to stand at their references.
-pub(crate) fn settle(iterators: &[NodeIterator], references: &mut Whereabouts)
+pub(crate) fn catch_up(iterators: &[NodeIterator], references: &mut Whereabouts)
     requires { StandOrWait (λ (i : Iterator). i.reference) iterators.now references.old }
     ensures { references.new ≡ references_of iterators.now }
 {

@@ -178,10 +178,10 @@ impl NodeIterators {
     ///
     /// It takes no memory, and one move for each iterator that stepped since the last call or that a removal left waiting, however often it
     /// stepped.
-    pub fn settle(&mut self)
+    pub fn catch_up(&mut self)
         ensures { self.new ≡ self.old }
     {
-        self.iterators.settle();
+        self.iterators.catch_up();
     }
 
     /// Whether some iterator has its root or its reference among the inclusive descendants of a node.

@@ -14,7 +14,7 @@ ghost use Rattle.dom_traverse.specs.Standing.{StandsInside};
 
 use crate::exit::Exit;
 use crate::filter::Filter;
-use crate::giving_way::{give_way, settle};
+use crate::giving_way::{catch_up, give_way};
 use crate::inside::has_few_inside;
 use crate::iterator::NodeIterator;
 use crate::judge::Judge;
@@ -193,7 +193,7 @@ impl IteratorsBySlot {
         ensures gave { GaveWay (pre_removed tree.now.forest node) here self.old self.new }
         ensures found { ForSome result (IsExit tree.now.forest node) }
     {
-        settle(&self.iterators, &mut self.references);
+        catch_up(&self.iterators, &mut self.references);
         give_way(
             &mut self.iterators,
             &mut self.references,
@@ -240,10 +240,10 @@ impl IteratorsBySlot {
     }
 
     // Those that wait come to stand at their references.
-    pub(crate) fn settle(&mut self)
+    pub(crate) fn catch_up(&mut self)
         ensures { self.new ≡ self.old }
     {
-        settle(&self.iterators, &mut self.references);
+        catch_up(&self.iterators, &mut self.references);
     }
 
     // Whether some iterator has its root or its reference among the inclusive descendants of a node. It walks the nodes inside, or climbs

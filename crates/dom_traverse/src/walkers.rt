@@ -164,15 +164,15 @@ impl Walkers {
     /// Lets `refers` find by the nodes inside what stands there: each walker that moved is put at its current node.
     ///
     /// It takes as many moves as walkers moved since the last call, however often each did, and no memory.
-    pub fn settle(&mut self)
+    pub fn catch_up(&mut self)
         ensures { self.new ≡ self.old }
     {
-        self.walkers.settle();
+        self.walkers.catch_up();
     }
 
     /// Whether some walker has its root or its current node among the inclusive descendants of a node.
     ///
-    /// It walks the nodes inside, or climbs from each walker where that takes fewer steps, or where one moved since the last `settle`.
+    /// It walks the nodes inside, or climbs from each walker where that takes fewer steps, or where one moved since the last `catch_up`.
     pub fn refers<X>(&self, tree: &Tree<X>, top: NodeId) -> bool
         requires { HasNode tree.now.forest top }
         ensures { result ≡ list_any (λ m. among m (inclusive_descendants tree.now.forest top))

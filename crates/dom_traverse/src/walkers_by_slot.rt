@@ -47,7 +47,7 @@ impl Model for WalkersBySlot {
 }
 
 // Those that wait come to stand at their current nodes.
-fn settle(walkers: &[TreeWalker], currents: &mut Whereabouts)
+fn catch_up(walkers: &[TreeWalker], currents: &mut Whereabouts)
     requires { StandOrWait (λ (k : Walker). k.current) walkers.now currents.old }
     ensures { currents.new ≡ map (λ (k : Walker). Some k.current) walkers.now }
 {
@@ -143,10 +143,10 @@ impl WalkersBySlot {
     }
 
     // Those that wait come to stand at their current nodes.
-    pub(crate) fn settle(&mut self)
+    pub(crate) fn catch_up(&mut self)
         ensures { self.new ≡ self.old }
     {
-        settle(&self.walkers, &mut self.currents);
+        catch_up(&self.walkers, &mut self.currents);
     }
 
     // Whether some walker has its root or its current node among the inclusive descendants of a node. It walks the nodes inside, or climbs

@@ -1,18 +1,9 @@
 -- The node document set node by node, in tree order.
 use Rattle.std.proofs.Common.{◌≡◌, ℕ, ◌<◌, ◌≤◌, ◌==◌, Bool, true, false, if◌then◌else◌, List, [], ◌∷◌, ◌++◌, length, Some, None, refl, ap, sym, ◌∙◌, arith}
-use Rattle.std.proofs.lemmas.Bool.{false_from_ne_true}
-use Rattle.std.proofs.lemmas.Bool.Decides.{nat_tests}
-use Rattle.dom_model.specs.PlainLists.Lists.{hits, among, after, from_first}
-use Rattle.dom_model.specs.Forests.Forest.{Node, Forest, empty, node, Grove, occurs, one_at, numbers, HasNode, ancestors, beside, tree_at, without, map_nodes, with_node, with_tree, in_document, adopted, inclusive_descendants, IsForest}
-use Rattle.dom_model.proofs.PlainLists.Numbers.{same_or, same, apart}
-use Rattle.dom_model.proofs.PlainLists.FromFirst.{from-after, from-last}
-use Rattle.dom_model.proofs.Forests.Totals.{total-beside, total-tree_at}
-use Rattle.dom_model.proofs.Forests.Climbing.{hits-among, among-hits}
-use Rattle.dom_model.proofs.Forests.TreeOrder.Flattened.{hits-numbers}
-use Rattle.dom_model.proofs.Forests.Entries.{occurs-HasNode, HasNode-occurs}
-use Rattle.dom_model.proofs.Forests.TreeOrder.Ordering.{Single, single, tree_at-single}
-use Rattle.dom_model.proofs.Forests.ToTheRoot.{inside-among}
-use Rattle.dom_model.proofs.Forests.TreeOrder.Stepping.{after-inside}
+use Rattle.std.proofs.lemmas.{Bool.false_from_ne_true, Bool.Decides.nat_tests}
+use Rattle.dom_model.specs.Definitions.{hits, among, after, from_first, Node, Forest, empty, node, Grove, occurs, one_at, numbers, HasNode, ancestors, beside, tree_at, without, map_nodes, with_node, with_tree, in_document, adopted, inclusive_descendants, IsForest}
+use Rattle.dom_model.proofs.PlainLists.{Numbers.same_or, Numbers.same, Numbers.apart, FromFirst.from-after, FromFirst.from-last}
+use Rattle.dom_model.proofs.Forests.{Totals.total-beside, Totals.total-tree_at, Climbing.hits-among, Climbing.among-hits, TreeOrder.Flattened.hits-numbers, Entries.occurs-HasNode, Entries.HasNode-occurs, TreeOrder.Ordering.Single, TreeOrder.Ordering.single, TreeOrder.Ordering.tree_at-single, ToTheRoot.inside-among, TreeOrder.Stepping.after-inside}
 
 module _ {X : Type 0} where
   -- the node document of each number of the list set

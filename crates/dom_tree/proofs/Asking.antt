@@ -1,10 +1,8 @@
 -- A test that is put to the nodes inside a node in tree order, and what is told by what it finds.
-use Rattle.std.proofs.Common.{◌≡◌, ℕ, zero, suc, ◌+◌, ◌-◌, ◌<◌, Bool, true, false, List, [], ◌∷◌, Option, Some, None, refl, sym, ap, ◌∙◌, subst, ⊎_elim, arith}
-use Rattle.std.specs.Prelude.{IfSome}
+use Rattle.std.proofs.Common.{◌≡◌, ℕ, zero, suc, ◌+◌, ◌-◌, ◌<◌, Bool, true, false, List, [], ◌∷◌, Option, Some, None, refl, sym, ap, ◌∙◌, subst, ⊎_elim, arith, IfSome}
 use Rattle.std.specs.List.{list_any}
 use Rattle.std.proofs.lemmas.Bool.{cases_Bool}
-use Rattle.dom_model.specs.PlainLists.Lists.{among, after, from_first}
-use Rattle.dom_model.specs.Forests.Forest.{Forest, Grove, HasNode, inclusive_descendants, IsForest}
+use Rattle.dom_model.specs.Definitions.{among, after, from_first, Forest, Grove, HasNode, inclusive_descendants, IsForest}
 use Rattle.dom_model.proofs.PlainLists.Searches.{any-either}
 use Rattle.dom_model.proofs.Forests.TreeOrder.InsideWalks.{IsAt, from-top, rest-next, rest-end}
 use Rattle.dom_tree.specs.Asked.{first_asked}

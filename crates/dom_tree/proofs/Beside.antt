@@ -1,19 +1,9 @@
 -- Steps to the next and to the previous sibling, and which of two siblings comes first.
-use Rattle.std.proofs.Common.{◌≡◌, ℕ, zero, suc, ◌+◌, ◌-◌, ◌<◌, ◌≤◌, nat_lt, true, false, List, [], ◌∷◌, length, Option, Some, None, IsSome, refl, ap, sym, ◌∙◌, subst, arith, ⊎_elim}
+use Rattle.std.proofs.Common.{◌≡◌, ℕ, zero, suc, ◌+◌, ◌-◌, ◌<◌, ◌≤◌, nat_lt, true, false, List, [], ◌∷◌, length, Option, Some, None, IsSome, refl, ap, sym, ◌∙◌, subst, arith, ⊎_elim, slice_get}
 use Rattle.std.proofs.lemmas.Bool.{cases_lt, lt-ltb, le-ltb, false≢true}
-use Rattle.std.specs.Prelude.{slice_get}
-use Rattle.dom_model.specs.PlainLists.Lists.{hits, last_of, before_from}
-use Rattle.dom_model.specs.Forests.Arena.{siblings_in}
-use Rattle.dom_model.specs.Forests.Forest.{Forest, Grove, entry_in, HasNode, parent_of, children_of, next_of, previous_of, index_of, IsForest}
-use Rattle.dom_model.proofs.PlainLists.Numbers.{same_or, same, apart}
-use Rattle.dom_model.proofs.Forests.Changes.{seen, nothing, just}
-use Rattle.dom_model.proofs.Forests.PutBack.{hits-after}
-use Rattle.dom_model.proofs.PlainLists.Places.{place-there}
-use Rattle.dom_model.proofs.Forests.Chains.{index-apart}
-use Rattle.dom_model.proofs.Forests.Entries.{occurs-HasNode, HasNode-occurs}
-use Rattle.dom_model.proofs.Forests.Indices.{child-parent, child-there, child-listed, child-once, index-child, parent-there}
-use Rattle.dom_model.proofs.Forests.TreeOrder.Preceding.{place-after, place-last, lt-step}
-use Rattle.dom_model.proofs.Forests.Siblings.{hits-get, index-step, index-first}
+use Rattle.dom_model.specs.Definitions.{hits, last_of, before_from, siblings_in, Forest, Grove, entry_in, HasNode, parent_of, children_of, next_of, previous_of, index_of, IsForest}
+use Rattle.dom_model.proofs.PlainLists.{Numbers.same_or, Numbers.same, Numbers.apart, Places.place-there}
+use Rattle.dom_model.proofs.Forests.{Changes.seen, Changes.nothing, Changes.just, PutBack.hits-after, Chains.index-apart, Entries.occurs-HasNode, Entries.HasNode-occurs, Indices.child-parent, Indices.child-there, Indices.child-listed, Indices.child-once, Indices.index-child, Indices.parent-there, TreeOrder.Preceding.place-after, TreeOrder.Preceding.place-last, TreeOrder.Preceding.lt-step, Siblings.hits-get, Siblings.index-step, Siblings.index-first}
 use Rattle.dom_tree.proofs.PlacesAt.{get-place, place-get}
 
 -- the last of a list, by its index

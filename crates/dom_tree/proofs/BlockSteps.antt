@@ -1,15 +1,11 @@
 -- A walk back to the start of a block, and two children in different ones.
 use Rattle.std.proofs.Common.{◌≡◌, ℕ, ◌+◌, ◌<◌, ◌^◌, nat_lt, List, length, Option, Some, None, ap, sym, ◌∙◌, arith}
-use Rattle.dom_model.specs.PlainLists.Lists.{place_in}
-use Rattle.dom_model.specs.Forests.Arena.{Arena, Entry, entry_at, parent_in, children_in, previous_in, IsSound}
-use Rattle.dom_model.proofs.PlainLists.Numbers.{same_or, same, apart}
-use Rattle.dom_model.proofs.PlainLists.Places.{place-there}
-use Rattle.dom_model.proofs.Forests.Changes.{seen, nothing, just}
-use Rattle.dom_model.proofs.Forests.Siblings.{place-first}
-use Rattle.dom_tree.specs.Slots.{Kept, index_in}
-use Rattle.dom_tree.specs.Blocks.{ahead_of, StandsInBlocks, if_in_block}
-use Rattle.dom_tree.proofs.InBlocks.{fits-start, fits-first, fits-order}
-use Rattle.dom_tree.proofs.Written.{IsAhead, listed_under, before_here, ahead-next}
+use Rattle.dom_model.specs.Definitions.{place_in, Arena, Entry, entry_at, parent_in, children_in, previous_in}
+use Rattle.dom_model.specs.Forests.Arena.{IsSound}
+use Rattle.dom_model.proofs.PlainLists.{Numbers.same_or, Numbers.same, Numbers.apart, Places.place-there}
+use Rattle.dom_model.proofs.Forests.{Changes.seen, Changes.nothing, Changes.just, Siblings.place-first}
+use Rattle.dom_tree.specs.{Slots.Kept, Slots.index_in, Blocks.ahead_of, Blocks.StandsInBlocks, Blocks.if_in_block}
+use Rattle.dom_tree.proofs.{InBlocks.fits-start, InBlocks.fits-first, InBlocks.fits-order, Written.IsAhead, Written.listed_under, Written.before_here, Written.ahead-next}
 
 module _ {X : Type 0} where
   -- a sibling that stands in the block

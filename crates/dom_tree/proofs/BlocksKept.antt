@@ -1,26 +1,13 @@
 -- Children stay in their blocks over each change of the store.
-use Rattle.std.proofs.Common.{◌≡◌, ℕ, ◌+◌, ◌-◌, ◌<◌, ◌≤◌, ◌==◌, ◌^◌, min, true, false, if◌then◌else◌, List, [], ◌∷◌, length, Option, Some, None, option_map, IsSome, refl, ap, sym, ◌∙◌, subst, arith, ⊎_elim}
-use Rattle.std.specs.Prelude.{slice_get}
+use Rattle.std.proofs.Common.{◌≡◌, ℕ, ◌+◌, ◌-◌, ◌<◌, ◌≤◌, ◌==◌, ◌^◌, min, true, false, if◌then◌else◌, List, [], ◌∷◌, length, Option, Some, None, option_map, IsSome, refl, ap, sym, ◌∙◌, subst, arith, ⊎_elim, slice_get}
 use Rattle.std.proofs.lemmas.Bool.{cases_lt}
-use Rattle.dom_model.specs.PlainLists.Lists.{hits, is_number, entered, left_out, last_of, place_in}
-use Rattle.dom_model.specs.Forests.Arena.{Arena, Entry, entry_at, names, parent_in, children_in, with_value, linked, unlinked, altered, added, taken, next_slot, IsLinked, IsHeld, IsSound}
-use Rattle.dom_model.proofs.PlainLists.Numbers.{same_or, same, apart}
-use Rattle.dom_model.proofs.PlainLists.Places.{place_before, place-there}
-use Rattle.dom_model.proofs.Forests.Changes.{seen, nothing, just, cut_at}
-use Rattle.dom_model.proofs.Forests.Lying.{left_out-absent}
-use Rattle.dom_model.proofs.Forests.Siblings.{hits-get}
-use Rattle.dom_tree.specs.Slots.{Kept, with_index, with_sure, unknown, Tells, index_in, sure_in, reach_in, indexed, assured, IsCounted}
-use Rattle.dom_tree.specs.Numberings.{index_put, sure_put, reach_put, numbered_put, numbered_cut_from, numbered_cut, IsWritten, IsNumbered}
-use Rattle.dom_tree.specs.Blocks.{ahead_of, raised, lowered, counts_in, counts_but, AreFilled, Fits, StandsInBlocks, AreBlocked, block_of, block_beside, block_put, unsure, blocked_put, block_at, IsInBlocks, IsRenumbered}
-use Rattle.dom_tree.proofs.PlacesAt.{get-place, get-within}
-use Rattle.dom_tree.proofs.Beside.{get-last}
-use Rattle.dom_tree.proofs.Stores.{linked-at, unlinked-at, added-old, taken-other}
-use Rattle.dom_tree.proofs.Counting.{children-once, altered-children, altered-parent, altered-part, indexed-index, indexed-other, indexed-sure, indexed-reach, assured-sure, assured-reach, assured-other, assured-far, assured-index, hits-entered, link-index, link-reach, link-children, cut-index, cut-reach, cut-children, some-altered, linked-under, held-linked, names-itself, names-other}
-use Rattle.dom_tree.proofs.Nodes.{indexed-nodes, assured-nodes, room-altered}
-use Rattle.dom_tree.proofs.OwnedSlots.{indexed-owned, assured-owned}
-use Rattle.dom_tree.proofs.Written.{children-same, held-same, not_in}
-use Rattle.dom_tree.proofs.InBlocks.{ahead-first, fits-entered, fits-left_out, fits-filled}
-use Rattle.dom_tree.proofs.MapTable.{blocks, but-here, but-other}
+use Rattle.dom_model.specs.Definitions.{hits, is_number, entered, left_out, last_of, place_in, Arena, Entry, entry_at, names, parent_in, children_in, with_value, linked, unlinked, altered, added, taken, next_slot, IsLinked, IsHeld}
+use Rattle.dom_model.specs.Forests.Arena.{IsSound}
+use Rattle.dom_model.proofs.PlainLists.{Numbers.same_or, Numbers.same, Numbers.apart, Places.place_before, Places.place-there}
+use Rattle.dom_model.proofs.Forests.{Changes.seen, Changes.nothing, Changes.just, Changes.cut_at, Lying.left_out-absent, Siblings.hits-get}
+use Rattle.dom_tree.specs.{Slots.Kept, Slots.with_index, Slots.with_sure, Slots.unknown, Slots.Tells, Slots.index_in, Slots.sure_in, Slots.reach_in, Slots.indexed, Slots.assured, Slots.IsCounted, Numberings.index_put, Numberings.sure_put, Numberings.reach_put, Numberings.numbered_put, Numberings.numbered_cut_from, Numberings.numbered_cut, Numberings.IsWritten, Numberings.IsNumbered, Blocks.ahead_of, Blocks.raised, Blocks.lowered, Blocks.counts_in, Blocks.counts_but, Blocks.AreFilled, Blocks.Fits, Blocks.StandsInBlocks, Blocks.AreBlocked, Blocks.block_of, Blocks.block_beside, Blocks.block_put, Blocks.unsure, Blocks.blocked_put, Blocks.block_at, Blocks.IsInBlocks, Blocks.IsRenumbered}
+use Rattle.dom_tree.proofs.{PlacesAt.get-place, PlacesAt.get-within, Beside.get-last, Stores.linked-at, Stores.unlinked-at, Stores.added-old, Stores.taken-other, Counting.children-once, Counting.altered-children, Counting.altered-parent, Counting.altered-part, Counting.indexed-index, Counting.indexed-other, Counting.indexed-sure, Counting.indexed-reach, Counting.assured-sure, Counting.assured-reach, Counting.assured-other, Counting.assured-far, Counting.assured-index, Counting.hits-entered, Counting.link-index, Counting.link-reach, Counting.link-children, Counting.cut-index, Counting.cut-reach, Counting.cut-children, Counting.some-altered, Counting.linked-under, Counting.held-linked, Nodes.indexed-nodes, Nodes.assured-nodes, Nodes.room-altered, OwnedSlots.indexed-owned, OwnedSlots.assured-owned, Written.children-same, Written.held-same, Written.not_in, InBlocks.ahead-first, InBlocks.fits-entered, InBlocks.fits-left_out, InBlocks.fits-filled, MapTable.blocks, MapTable.but-here, MapTable.but-other}
+use Rattle.dom_links.proofs.Cutting.{names-same, names-other}
 
 raised-some : (cs : List ℕ) (r : ℕ) → 0 < length (raised cs r) → 0 < length cs
 raised-some [] r h = h
@@ -211,7 +198,7 @@ module _ {X : Type 0} {a : Arena (Kept X)} (l : IsSound a) (table : List (ℕ ×
 
       beside : (o : Option ℕ) → ((q : ℕ) → o ≡ Some q → parent_in (entry_at a q) ≡ Some p) → Fits (counts_in table p) (λ x. index_in (entry_at a x)) (children_in (entry_at a p)) → (ahead_of (counts_in table p) (block_beside (entry_at a) p o) ≤ place_before o (children_in (entry_at a p))) × (place_before o (children_in (entry_at a p)) ≤ ahead_of (counts_in table p) (block_beside (entry_at a) p o + 1))
       beside (Some q) h ft =
-          let hq : 0 < hits q (children_in (entry_at a p)) = omega (arith, l.linked p q, ap (λ o. names o p) (h q refl), names-itself p) in
+          let hq : 0 < hits q (children_in (entry_at a p)) = omega (arith, l.linked p q, ap (λ o. names o p) (h q refl), names-same p) in
           let u = ft.until q hq in
           (ft.since q hq, omega arith)
       beside None h ft =
@@ -367,7 +354,7 @@ module _ {X : Type 0} {a : Arena (Kept X)} (l : IsSound a) (table : List (ℕ ×
               ])
 
           listed : 0 < hits c (children_in (entry_at a p))
-          listed = omega (arith, l.linked p c, ap (λ o. names o p) e, names-itself p)
+          listed = omega (arith, l.linked p c, ap (λ o. names o p) e, names-same p)
 
   -- the indices of a parent's first children made known, where they stand in no blocks
   pub blocked-numbered : (b : Arena (Kept X)) (p c : ℕ) → IsNumbered a b p c → (table' : List (ℕ × List ℕ)) → counts_in table' p ≡ [] → ((q : ℕ) → counts_in table' q ≡ counts_but p (counts_in table' p) table q) → IsRenumbered a b table'

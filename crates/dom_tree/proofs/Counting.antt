@@ -1,17 +1,13 @@
 -- The kept indices stay right over each change of the store.
 use Rattle.std.proofs.Common.{◌≡◌, ℕ, ◌+◌, ◌<◌, ◌≤◌, ◌==◌, nat_lt, nat_le, min, true, false, ◌-◌, ◌&&◌, if◌then◌else◌, List, [], ◌∷◌, length, Option, Some, None, option_map, IsSome, refl, ap, sym, ◌∙◌, subst, arith, ◌⊎◌, inl, inr, ⊎_elim}
-use Rattle.std.proofs.lemmas.Bool.{cases_lt, lt-ltb, le-ltb, false≢true}
-use Rattle.std.proofs.lemmas.Bool.Decides.{nat_tests}
-use Rattle.dom_model.specs.PlainLists.Lists.{hits, is_number, entered, left_out, place_in}
-use Rattle.dom_model.specs.Forests.Arena.{Arena, Entry, entry_at, names, parent_in, children_in, with_value, linked, unlinked, altered, added, taken, next_slot, IsLinked, IsHeld, IsSound}
-use Rattle.dom_model.proofs.PlainLists.Numbers.{same_or, same, apart}
-use Rattle.dom_model.proofs.Forests.Changes.{cut_at, link_at}
-use Rattle.dom_model.proofs.Forests.Lying.{left_out-absent}
-use Rattle.dom_model.proofs.PlainLists.Places.{place-there, place-left_out, place-entered, place-kept}
-use Rattle.dom_tree.specs.Slots.{Kept, with_index, with_sure, unknown, Tells, index_in, sure_in, reach_in, indexed, assured, IsCounted}
-use Rattle.dom_tree.specs.Numberings.{index_put, sure_put, reach_put, numbered_put, numbered_cut_from, numbered_cut}
-use Rattle.dom_tree.proofs.PlacesAt.{last-there}
-use Rattle.dom_tree.proofs.Stores.{altered-at, linked-at, unlinked-at, added-new, added-old, taken-at, taken-other}
+use Rattle.std.proofs.lemmas.{Bool.cases_lt, Bool.lt-ltb, Bool.le-ltb, Bool.false≢true, Bool.Decides.nat_tests}
+use Rattle.dom_model.specs.Definitions.{hits, is_number, entered, left_out, place_in, Arena, Entry, entry_at, names, parent_in, children_in, with_value, linked, unlinked, altered, added, taken, next_slot, IsLinked, IsHeld}
+use Rattle.dom_model.specs.Forests.Arena.{IsSound}
+use Rattle.dom_model.proofs.PlainLists.{Numbers.same_or, Numbers.same, Numbers.apart, Places.place-there, Places.place-left_out, Places.place-entered, Places.place-kept}
+use Rattle.dom_model.proofs.Forests.{Changes.cut_at, Changes.link_at, Lying.left_out-absent}
+use Rattle.dom_tree.specs.{Slots.Kept, Slots.with_index, Slots.with_sure, Slots.unknown, Slots.Tells, Slots.index_in, Slots.sure_in, Slots.reach_in, Slots.indexed, Slots.assured, Slots.IsCounted, Numberings.index_put, Numberings.sure_put, Numberings.reach_put, Numberings.numbered_put, Numberings.numbered_cut_from, Numberings.numbered_cut}
+use Rattle.dom_tree.proofs.{PlacesAt.last-there, Stores.altered-at, Stores.linked-at, Stores.unlinked-at, Stores.added-new, Stores.added-old, Stores.taken-at, Stores.taken-other}
+use Rattle.dom_links.proofs.Cutting.{names-le, names-same, names-other}
 
 pub hits-left_out : (x c : ℕ) (l : List ℕ) → 0 < hits x (left_out c l) → (x ≡ c → ⊥) × (0 < hits x l)
 hits-left_out x c [] h = absurd (omega arith)
@@ -153,19 +149,9 @@ counted-left_out index sure reach c l hc o h x hx =
     (λ (le : place_in x l ≤ place_in c l). let e = k.1 le in (omega (arith, tc, te0), λ le2. te.1 (omega arith)))
     (cases_lt (place_in c l) (place_in x l))
 
-names-once : (p : Option ℕ) (n : ℕ) → names p n ≤ 1
-names-once None n = omega arith
-names-once (Some m) n = elim (same_or m n) [ same _ t ↦ rw t (omega arith) | apart _ t ↦ rw t (omega arith) ]
-
-pub names-itself : (n : ℕ) → names (Some n) n ≡ 1
-names-itself n = elim (same_or n n) [ same _ t ↦ rw t refl | apart ne t ↦ absurd (ne refl) ]
-
-pub names-other : (m n : ℕ) → (m ≡ n → ⊥) → names (Some m) n ≡ 0
-names-other m n ne = elim (same_or m n) [ same e t ↦ absurd (ne e) | apart _ t ↦ rw t refl ]
-
 module _ {X : Type 0} where
   pub children-once : (at : ℕ → Option (Entry (Kept X))) → IsLinked at → (p x : ℕ) → hits x (children_in (at p)) ≤ 1
-  children-once at l p x = omega (arith, l p x, names-once (parent_in (at x)) p)
+  children-once at l p x = omega (arith, l p x, names-le (parent_in (at x)) p)
 
   -- a slot's children and indices as they were, or held by none
   pub counted-same : (at at' : ℕ → Option (Entry (Kept X))) → ((p : ℕ) → children_in (at' p) ≡ children_in (at p)) → ((p : ℕ) → sure_in (at' p) ≡ sure_in (at p)) → ((p : ℕ) → reach_in (at' p) ≡ reach_in (at p)) → ((p c : ℕ) → 0 < hits c (children_in (at p)) → index_in (at' c) ≡ index_in (at c)) → IsCounted at → IsCounted at'
@@ -427,7 +413,7 @@ module _ {X : Type 0} {a : Arena (Kept X)} (l : IsSound a) (k : IsCounted (entry
       reach_p = assured-reach (indexed mid c i) p s r held_p
 
       listed : (q : ℕ) → b ≡ Some q → 0 < hits q (children_in (entry_at a p))
-      listed q e = omega (arith, l.linked p q, ap (λ o. names o p) (hb q e), names-itself p)
+      listed q e = omega (arith, l.linked p q, ap (λ o. names o p) (hb q e), names-same p)
 
       last : b ≡ None → AtEnd (sure_in (entry_at a p)) (reach_in (entry_at a p)) (length (children_in (entry_at a p))) i s r
       last e = at_end n all (sure_in (entry_at a p)) (reach_in (entry_at a p)) i s r long index_is sure_is reach_is
@@ -538,7 +524,7 @@ module _ {X : Type 0} {a : Arena (Kept X)} (l : IsSound a) (k : IsCounted (entry
           sure_p = ap sure_in (cut_is p) ∙ cut-sure c p (entry_at d p) ∙ ap (λ (b : Arena (Kept X)). sure_in (entry_at b p)) ed ∙ assured-sure a p s r held_p
 
           listed : 0 < hits c (children_in (entry_at a p))
-          listed = omega (arith, l.linked p c, ap (λ o. names o p) e, names-itself p)
+          listed = omega (arith, l.linked p c, ap (λ o. names o p) e, names-same p)
 
   -- a node in a fresh slot
   pub counted-added : (v : Kept X) → entry_at a (next_slot a) ≡ None → IsCounted (entry_at (added a v))

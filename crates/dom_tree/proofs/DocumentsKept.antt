@@ -1,12 +1,9 @@
 -- The node documents of a forest over its changes.
 use Rattle.std.proofs.Common.{◌≡◌, ℕ, ◌+◌, ◌<◌, ◌≤◌, ◌==◌, true, false, if◌then◌else◌, Option, Some, None, IsSome, refl, ap, sym, ◌∙◌, subst, arith}
 use Rattle.std.proofs.lemmas.Bool.{false≢true}
-use Rattle.dom_model.specs.Forests.Arena.{Entry, parent_in, children_in}
-use Rattle.dom_model.specs.Forests.Forest.{Node, Forest, empty, node, Grove, occurs, entry_in, HasNode, parent_of, children_of, beside, tree_at, without, cut, put, with_node, in_document, IsForest}
+use Rattle.dom_model.specs.Definitions.{Entry, parent_in, children_in, Node, Forest, empty, node, Grove, occurs, entry_in, HasNode, parent_of, children_of, beside, tree_at, without, cut, put, with_node, in_document, IsForest}
 use Rattle.dom_model.proofs.PlainLists.Numbers.{same_or, same, apart}
-use Rattle.dom_model.proofs.Forests.Changes.{cut_at, link_at, change_at}
-use Rattle.dom_model.proofs.Forests.Entries.{entry-cut, entry-put, entry_under-absent}
-use Rattle.dom_model.proofs.Forests.ForestsBeside.{entry-older, entry-younger}
+use Rattle.dom_model.proofs.Forests.{Changes.cut_at, Changes.link_at, Changes.change_at, Entries.entry-cut, Entries.entry-put, Entries.entry_under-absent, ForestsBeside.entry-older, ForestsBeside.entry-younger}
 use Rattle.dom_model.proofs.TokenText.AlikeTrees.MergedTrees.{entry-with_node}
 use Rattle.dom_tree.specs.Owned.{document_at, document_in}
 

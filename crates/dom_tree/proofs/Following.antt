@@ -1,27 +1,16 @@
 -- Going along the children of a node from slot to slot: what is left of them, and the numbers of what is left.
-use Rattle.std.proofs.Common.{◌≡◌, ℕ, ◌<◌, ◌==◌, Bool, true, false, if◌then◌else◌, List, [], ◌∷◌, map, Option, Some, None, IsSome, length, refl, ap, sym, ◌∙◌, subst, arith}
+use Rattle.std.proofs.Common.{◌≡◌, ℕ, ◌<◌, ◌==◌, Bool, true, false, if◌then◌else◌, List, [], ◌∷◌, map, Option, Some, None, IsSome, length, refl, ap, sym, ◌∙◌, subst, arith, MatchOption}
 use Rattle.std.proofs.lemmas.Bool.{false≢true}
-use Rattle.std.specs.Prelude.{MatchOption}
 use Rattle.std.specs.Option.{ForSome}
 use denote.RawPtr.{Ptr}
-use Rattle.dom_model.specs.PlainLists.Lists.{hits, head_of, after, from_first}
-use Rattle.dom_model.specs.Forests.Arena.{Arena, Entry, entry_at, names, parent_in, children_in, list_under, siblings_in, next_in, IsLinked, IsHeld, IsSound}
-use Rattle.dom_model.specs.Forests.Forest.{Node, Grove, entry_in, parent_of, children_of}
-use Rattle.dom_model.proofs.PlainLists.Numbers.{same_or, same, apart}
-use Rattle.dom_model.proofs.PlainLists.FromFirst.{from-last, from-after}
-use Rattle.dom_model.proofs.Forests.Changes.{seen, nothing, just}
-use Rattle.dom_model.proofs.Forests.Climbing.{hits-first}
-use Rattle.dom_model.proofs.Forests.PutBack.{hits-head_of, hits-after}
+use Rattle.dom_model.specs.Definitions.{hits, head_of, after, from_first, Arena, Entry, entry_at, names, parent_in, children_in, list_under, siblings_in, next_in, IsLinked, IsHeld, Node, Grove, entry_in, parent_of, children_of}
+use Rattle.dom_model.specs.Forests.Arena.{IsSound}
+use Rattle.dom_model.proofs.PlainLists.{Numbers.same_or, Numbers.same, Numbers.apart, FromFirst.from-last, FromFirst.from-after}
+use Rattle.dom_model.proofs.Forests.{Changes.seen, Changes.nothing, Changes.just, Climbing.hits-first, PutBack.hits-head_of, PutBack.hits-after}
 use Rattle.dom_links.specs.Placed.{Placed, slot_of, slots_of, IsPlaced}
-use Rattle.dom_tree.specs.Following.{HasParent, slots_from, slot_numbers_from, IsChild}
-use Rattle.dom_tree.specs.Slots.{Kept, nodes_alone, IsTree}
-use Rattle.dom_tree.specs.Spelled.{number_in_slot, slot_in, slot_for, numbered, shown, IsKept}
-use Rattle.dom_tree.proofs.Counting.{names-itself, names-other, children-once}
-use Rattle.dom_tree.proofs.Kept.{entry-numbered}
-use Rattle.dom_tree.proofs.Nodes.{children-nodes, siblings-nodes, sound-nodes, held-nodes}
-use Rattle.dom_tree.proofs.Numbering.{same_test, sibling-held, siblings_in-map}
-use Rattle.dom_tree.proofs.Reading.{children-read}
-use Rattle.dom_tree.proofs.Trees.{slot-of_child, parent-there}
+use Rattle.dom_tree.specs.{Following.HasParent, Following.slots_from, Following.slot_numbers_from, Following.IsChild, Slots.Kept, Slots.nodes_alone, Slots.IsTree, Spelled.number_in_slot, Spelled.slot_in, Spelled.slot_for, Spelled.numbered, Spelled.shown, Spelled.IsKept}
+use Rattle.dom_tree.proofs.{Counting.children-once, Kept.entry-numbered, Nodes.children-nodes, Nodes.siblings-nodes, Nodes.sound-nodes, Nodes.held-nodes, Numbering.same_test, Numbering.sibling-held, Numbering.siblings_in-map, Reading.children-read, Trees.slot-of_child, Trees.parent-there}
+use Rattle.dom_links.proofs.Cutting.{names-same, names-other}
 
 -- a list from its head on is the whole of it
 from-head : (c : ℕ) (xs : List ℕ) → head_of xs ≡ Some c → from_first c xs ≡ xs
@@ -81,7 +70,7 @@ module _ {X : Type 0} (at : ℕ → Option (Entry (Kept X))) (l : IsLinked at) w
       elim (seen (parent_in (at s))) [
         | nothing d ↦ absurd (let k = rw d at h in false≢true k)
         | just p d ↦
-            let here : 0 < hits s (children_in (at p)) = omega (arith, l p s, ap (λ o. names o p) d, names-itself p) in
+            let here : 0 < hits s (children_in (at p)) = omega (arith, l p s, ap (λ o. names o p) d, names-same p) in
             rw d (elim (seen (after s (children_in (at p)))) [
               | nothing e ↦ rw e (from-last s (children_in (at p)) here e)
               | just n e ↦

@@ -1,25 +1,10 @@
 -- A tree let go of leaf by leaf.
 use Rattle.std.proofs.Common.{◌≡◌, ℕ, ◌+◌, ◌<◌, ◌≤◌, Bool, true, false, ◌||◌, List, [], ◌∷◌, ◌++◌, length, Option, Some, None, is_some, refl, ap, sym, ◌∙◌, subst, arith, append-nil, ⊎_elim}
 use Rattle.std.proofs.lemmas.Bool.{cases_lt, false≢true}
-use Rattle.dom_model.specs.PlainLists.Lists.{hits, among, last_of, left_out}
-use Rattle.dom_model.specs.Forests.Arena.{Entry, parent_in, children_in}
-use Rattle.dom_model.specs.Forests.Lies.{Lies}
-use Rattle.dom_model.specs.Forests.Forest.{Node, Forest, empty, node, Grove, occurs, one_at, size, tops, numbers, tree_at, without, cut, entry_in, HasNode, parent_of, children_of, ancestors, inclusive_descendants, IsForest}
-use Rattle.dom_model.specs.MutationAlgorithms.Discarding.{is_held_outside}
-use Rattle.dom_model.proofs.PlainLists.Numbers.{same_or, same, apart}
-use Rattle.dom_model.proofs.Forests.Changes.{seen, nothing, just}
-use Rattle.dom_model.proofs.Forests.Totals.{total-tree_at, total-cut, without-absent}
-use Rattle.dom_model.proofs.Forests.Tops.{tops-without, hits-tops}
-use Rattle.dom_model.proofs.Forests.TreeOrder.Flattened.{hits-numbers}
+use Rattle.dom_model.specs.Definitions.{hits, among, last_of, left_out, Entry, parent_in, children_in, Lies, Node, Forest, empty, node, Grove, occurs, one_at, size, tops, numbers, tree_at, without, cut, entry_in, HasNode, parent_of, children_of, ancestors, inclusive_descendants, IsForest, is_held_outside}
+use Rattle.dom_model.proofs.PlainLists.{Numbers.same_or, Numbers.same, Numbers.apart, Members.hits-last_of}
+use Rattle.dom_model.proofs.Forests.{Changes.seen, Changes.nothing, Changes.just, Totals.total-tree_at, Totals.total-cut, Totals.without-absent, Tops.tops-without, Tops.hits-tops, TreeOrder.Flattened.hits-numbers, Paths.parent-path, Paths.root-path, Climbing.hits-ancestors, Climbing.among-hits, Climbing.hits-among, Entries.occurs-HasNode, Entries.HasNode-occurs, Entries.Lies-entry_in, Entries.parent-cut, Entries.children-cut, Undone.without-cut, Rooted.rooted-tops, ToTheRoot.rooted-parent, TreeOrder.Ordering.Lies-tree_at}
 use Rattle.dom_model.proofs.BoundaryPoints.RootsKept.{last_of-behind}
-use Rattle.dom_model.proofs.Forests.Paths.{parent-path, root-path}
-use Rattle.dom_model.proofs.Forests.Climbing.{hits-ancestors, among-hits, hits-among}
-use Rattle.dom_model.proofs.Forests.Entries.{occurs-HasNode, HasNode-occurs, Lies-entry_in, parent-cut, children-cut}
-use Rattle.dom_model.proofs.Forests.Undone.{without-cut}
-use Rattle.dom_model.proofs.PlainLists.Members.{hits-last_of}
-use Rattle.dom_model.proofs.Forests.Rooted.{rooted-tops}
-use Rattle.dom_model.proofs.Forests.ToTheRoot.{rooted-parent}
-use Rattle.dom_model.proofs.Forests.TreeOrder.Ordering.{Lies-tree_at}
 use Rattle.dom_tree.proofs.TreeOrder.{higher, among-self, among-through, among-parent}
 
 module _ {X : Type 0} where

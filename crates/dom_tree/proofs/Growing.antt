@@ -1,16 +1,10 @@
 -- Entries spell one forest at most: the one that grows from them.
 use Rattle.std.proofs.Common.{◌≡◌, ℕ, zero, suc, ◌+◌, ◌*◌, ◌<◌, ◌≤◌, List, Option, Some, None, refl, ap, sym, ◌∙◌, arith, ⊎_elim}
 use Rattle.std.proofs.lemmas.Bool.{cases_lt}
-use Rattle.dom_model.specs.PlainLists.Lists.{hits}
-use Rattle.dom_model.specs.Forests.Arena.{Entry, held}
-use Rattle.dom_model.specs.Forests.Forest.{Node, Forest, empty, node, occurs, one_at, size, tops, entry_in, IsRising}
-use Rattle.dom_model.specs.Forests.Lies.{Lies}
+use Rattle.dom_model.specs.Definitions.{hits, Entry, held, Node, Forest, empty, node, occurs, one_at, size, tops, entry_in, IsRising, Lies}
 use Rattle.dom_tree.specs.Spelled.{Spells, grown, root_first, root_under, roots_from, forest_of}
-use Rattle.dom_model.proofs.PlainLists.Numbers.{same_or, same, apart}
-use Rattle.dom_model.proofs.Forests.Tops.{IsRising-from, hits-tops}
-use Rattle.dom_model.proofs.PlainLists.Rising.{hits-low, rising_same}
-use Rattle.dom_model.proofs.Forests.Rooted.{rootless, rooted, rooted-tops}
-use Rattle.dom_model.proofs.Forests.Entries.{entry_in-Lies}
+use Rattle.dom_model.proofs.PlainLists.{Numbers.same_or, Numbers.same, Numbers.apart, Rising.hits-low, Rising.rising_same}
+use Rattle.dom_model.proofs.Forests.{Tops.IsRising-from, Tops.hits-tops, Rooted.rootless, Rooted.rooted, Rooted.rooted-tops, Entries.entry_in-Lies}
 use Rattle.dom_tree.proofs.Spelling.{held_at_most}
 
 hits-root_under : (n low : ℕ) (p : Option ℕ) (ns : List ℕ) → hits n (root_under p low ns) ≡ rootless p * one_at n low + hits n ns

@@ -1,16 +1,12 @@
 -- Lists of children in blocks: what a block's count says of places, as children come and go.
 use Rattle.std.proofs.Common.{◌≡◌, ℕ, zero, suc, ◌+◌, ◌-◌, ◌*◌, ◌/◌, ◌<◌, ◌≤◌, ◌==◌, nat_lt, nat_le, min, true, false, if◌then◌else◌, List, [], ◌∷◌, ◌++◌, length, slice_get, slice_set, slice_index_or, Option, Some, None, refl, ap, sym, ◌∙◌, subst, arith, add-one, ⊎_elim}
-use Rattle.std.proofs.lemmas.Bool.{cases_lt, lt-ltb, le-ltb}
-use Rattle.std.proofs.lemmas.Bool.Decides.{nat_tests}
-use Rattle.std.proofs.lemmas.List.{length-set}
+use Rattle.std.proofs.lemmas.{Bool.cases_lt, Bool.lt-ltb, Bool.le-ltb, Bool.Decides.nat_tests, List.length-set}
 use Rattle.std.proofs.Math.Nat.{div-add-mod}
 use Rattle.std.proofs.Math.Seq.{get_or-append_seam}
-use Rattle.dom_model.specs.PlainLists.Lists.{hits, is_number, entered, left_out, place_in}
-use Rattle.dom_model.proofs.PlainLists.Numbers.{same_or, same, apart}
-use Rattle.dom_model.proofs.PlainLists.Places.{place_before, place-there, place-left_out, place-entered, place-kept}
+use Rattle.dom_model.specs.Definitions.{hits, is_number, entered, left_out, place_in}
+use Rattle.dom_model.proofs.PlainLists.{Numbers.same_or, Numbers.same, Numbers.apart, Places.place_before, Places.place-there, Places.place-left_out, Places.place-entered, Places.place-kept}
 use Rattle.dom_model.proofs.Forests.Chains.{place-apart}
-use Rattle.dom_tree.specs.Slots.{unknown}
-use Rattle.dom_tree.specs.Blocks.{ahead_of, raised_from, raised, lowered_from, lowered, block_at, run_size, AreFilled, AreRuns, AreRunsOf, Fits}
+use Rattle.dom_tree.specs.{Slots.unknown, Blocks.ahead_of, Blocks.raised_from, Blocks.raised, Blocks.lowered_from, Blocks.lowered, Blocks.block_at, Blocks.run_size, Blocks.AreFilled, Blocks.AreRuns, Blocks.AreRunsOf, Blocks.Fits}
 use Rattle.dom_tree.proofs.Counting.{hits-left_out, hits-entered}
 
 -- The counts ahead.

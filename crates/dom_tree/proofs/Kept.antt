@@ -2,21 +2,11 @@
 use Rattle.std.proofs.Common.{◌≡◌, ℕ, ◌<◌, ◌≤◌, ◌^◌, false, List, length, map, Option, Some, None, option_map, IsSome, refl, ap, sym, ◌∙◌, subst, arith}
 use Rattle.std.proofs.lemmas.Bool.{false≢true}
 use Rattle.std.specs.Option.{ForSome}
-use Rattle.dom_model.specs.PlainLists.Lists.{hits, among, place_in}
-use Rattle.dom_model.specs.Forests.Arena.{Arena, Entry, entry_at, held, parent_in, children_in, siblings_in, next_in, previous_in, unlinked, linked, StandsUnder, itself, below, IsSound}
-use Rattle.dom_model.specs.Forests.Forest.{Node, Forest, occurs, one_at, size, tree_at, without, entry_in, HasNode, parent_of, children_of, next_of, previous_of, index_of, ancestors, cut, put, KindsFit}
-use Rattle.dom_tree.specs.Spelled.{number_in_slot, renumbered, slot_in, slot_for, numbered, shown, Spells, IsTabled, IsKept}
-use Rattle.dom_tree.specs.Standing.{MayStand}
-use Rattle.dom_model.proofs.Forests.Totals.{total-cut, total-put, total-tree_at}
-use Rattle.dom_model.proofs.Forests.Changes.{seen, nothing, just, cut_at, link_at}
-use Rattle.dom_model.proofs.Forests.Lying.{Lies-without_root}
-use Rattle.dom_tree.proofs.Growing.{forest_of-Spells, entry_in-Spells}
-use Rattle.dom_tree.proofs.Spelling.{once_in, Spells-cut, Spells-put}
-use Rattle.dom_model.proofs.Forests.KindsFitting.{KindsFit-cut, KindsFit-without, KindsFit-under, KindsFit-placed_under}
-use Rattle.dom_model.proofs.Forests.Climbing.{hits-ancestors, climbs, hits-self, not_among-hits}
-use Rattle.dom_tree.proofs.Stores.{linked-at, unlinked-at}
-use Rattle.dom_tree.proofs.Numbering.{parent-held, slot-there, by_number-slot, parent_in-map, children_in-map, next_in-map, previous_in-map, place_in-slot}
-use Rattle.dom_tree.proofs.Renumbering.{IsTabled-linked, IsTabled-unlinked, by_number-linked, by_number-unlinked}
+use Rattle.dom_model.specs.Definitions.{hits, among, place_in, Arena, Entry, entry_at, held, parent_in, children_in, siblings_in, next_in, previous_in, unlinked, linked, StandsUnder, Node, Forest, occurs, one_at, size, tree_at, without, entry_in, HasNode, parent_of, children_of, next_of, previous_of, index_of, ancestors, cut, put, KindsFit}
+use Rattle.dom_model.specs.Forests.Arena.{itself, below, IsSound}
+use Rattle.dom_tree.specs.{Spelled.number_in_slot, Spelled.renumbered, Spelled.slot_in, Spelled.slot_for, Spelled.numbered, Spelled.shown, Spelled.Spells, Spelled.IsTabled, Spelled.IsKept, Standing.MayStand}
+use Rattle.dom_model.proofs.Forests.{Totals.total-cut, Totals.total-put, Totals.total-tree_at, Changes.seen, Changes.nothing, Changes.just, Changes.cut_at, Changes.link_at, Lying.Lies-without_root, KindsFitting.KindsFit-cut, KindsFitting.KindsFit-without, KindsFitting.KindsFit-under, KindsFitting.KindsFit-placed_under, Climbing.hits-ancestors, Climbing.climbs, Climbing.hits-self, Climbing.not_among-hits}
+use Rattle.dom_tree.proofs.{Growing.forest_of-Spells, Growing.entry_in-Spells, Spelling.once_in, Spelling.Spells-cut, Spelling.Spells-put, Stores.linked-at, Stores.unlinked-at, Numbering.parent-held, Numbering.slot-there, Numbering.by_number-slot, Numbering.parent_in-map, Numbering.children_in-map, Numbering.next_in-map, Numbering.previous_in-map, Numbering.place_in-slot, Renumbering.IsTabled-linked, Renumbering.IsTabled-unlinked, Renumbering.by_number-linked, Renumbering.by_number-unlinked}
 
 -- a store and a table that spell a forest
 pub record Keeps {X : Type 0} (a : Arena (Node X)) (table : List (Option ℕ)) (live : ℕ) (f : Forest X) : Type 0 where

@@ -2,21 +2,11 @@
 use Rattle.std.proofs.Common.{◌≡◌, ℕ, Bool, true, false, ◌&&◌, List, length, Option, Some, None, IfSome, is_some, ap, sym, ◌∙◌, refl, subst}
 use Rattle.std.proofs.lemmas.Bool.{false≢true}
 use denote.RawPtr.{Ptr}
-use Rattle.dom_model.specs.PlainLists.Lists.{among, head_of}
-use Rattle.dom_model.specs.Forests.Arena.{Entry}
-use Rattle.dom_model.specs.Forests.Forest.{Node, Grove, HasNode, entry_in, ancestors, IsForest}
-use Rattle.dom_model.specs.Forests.Kinds.{may_stand_in}
-use Rattle.dom_model.specs.Forests.Nodes.{entry_has}
+use Rattle.dom_model.specs.Definitions.{among, head_of, Entry, Node, Grove, HasNode, entry_in, ancestors, IsForest, may_stand_in, entry_has}
 use Rattle.dom_model.proofs.Forests.ToTheRoot.{inside-same}
 use Rattle.dom_links.specs.Placed.{Placed}
-use Rattle.dom_tree.specs.Slots.{Kept, nodes_alone}
-use Rattle.dom_tree.specs.Spelled.{slot_in, shown}
-use Rattle.dom_tree.specs.Standing.{takes_leaf, MayStand, IsLeafFor}
-use Rattle.dom_tree.specs.declared.tallies.Tally.{Tally}
-use Rattle.dom_tree.specs.Places.{slots_in, called, Leads, IsSeated}
-use Rattle.dom_tree.proofs.Referring.{inside-alone}
-use Rattle.dom_tree.proofs.Steps.{led, begins}
-use Rattle.dom_tree.proofs.Trees.{holds-read}
+use Rattle.dom_tree.specs.{Slots.Kept, Slots.nodes_alone, Spelled.slot_in, Spelled.shown, Standing.takes_leaf, Standing.MayStand, Standing.IsLeafFor, declared.tallies.Tally.Tally, Places.slots_in, Places.called, Places.Leads, Places.IsSeated}
+use Rattle.dom_tree.proofs.{Referring.inside-alone, Steps.led, Steps.begins, Trees.holds-read}
 
 first_of : (a b : Bool) → (a && b) ≡ true → a ≡ true
 first_of true b e = refl

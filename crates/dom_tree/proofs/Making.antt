@@ -1,20 +1,13 @@
 -- A node made, and a node with other contents.
 use Rattle.std.proofs.Common.{◌≡◌, ℕ, ◌+◌, ◌<◌, ◌≤◌, List, [], ◌∷◌, ◌++◌, length, Option, Some, None, option_map, IfSome, refl, ap, sym, ◌∙◌, subst, arith, ⊎_elim, length-append}
-use Rattle.std.proofs.lemmas.Bool.{cases_lt}
-use Rattle.std.proofs.lemmas.List.{get_or_past, get_or_append_left}
+use Rattle.std.proofs.lemmas.{Bool.cases_lt, List.get_or_past, List.get_or_append_left}
 use Rattle.std.proofs.Math.Seq.{get_or-append_seam}
-use Rattle.dom_model.specs.Forests.Arena.{Arena, Entry, entry_at, alone, added, altered, with_value, next_slot, IsSound}
-use Rattle.dom_model.specs.Forests.Forest.{Node, empty, node, Grove, beside, with_node}
+use Rattle.dom_model.specs.Definitions.{Arena, Entry, entry_at, alone, added, altered, with_value, next_slot, Node, empty, node, Grove, beside, with_node}
+use Rattle.dom_model.specs.Forests.Arena.{IsSound}
 use Rattle.dom_tree.specs.Spelled.{slot_in, numbered, shown, Spells, IsKept}
 use Rattle.dom_model.proofs.PlainLists.Numbers.{same_or, same, apart}
-use Rattle.dom_model.proofs.Forests.Totals.{total-beside}
-use Rattle.dom_model.proofs.Forests.Changes.{change_at}
-use Rattle.dom_model.proofs.Forests.Lying.{total-with_node}
-use Rattle.dom_tree.proofs.Spelling.{Spells-pushed, Spells-with_node}
-use Rattle.dom_model.proofs.Forests.KindsFitting.{KindsFit-beside, KindsFit-with_node}
-use Rattle.dom_tree.proofs.Stores.{altered-at, added-new, added-old}
-use Rattle.dom_tree.proofs.Renumbering.{IsTabled-added, by_number-added, changed_at, IsTabled-changed, by_number-changed}
-use Rattle.dom_tree.proofs.Kept.{Keeps, keeps}
+use Rattle.dom_model.proofs.Forests.{Totals.total-beside, Changes.change_at, Lying.total-with_node, KindsFitting.KindsFit-beside, KindsFitting.KindsFit-with_node}
+use Rattle.dom_tree.proofs.{Spelling.Spells-pushed, Spelling.Spells-with_node, Stores.altered-at, Stores.added-new, Stores.added-old, Renumbering.IsTabled-added, Renumbering.by_number-added, Renumbering.changed_at, Renumbering.IsTabled-changed, Renumbering.by_number-changed, Kept.Keeps, Kept.keeps}
 
 pub slot_in-new : (table : List (Option ℕ)) (k : ℕ) → slot_in (table ++ Some k ∷ []) (length table) ≡ Some k
 slot_in-new table k = get_or-append_seam table (Some k) [] None

@@ -2,9 +2,7 @@
 use Rattle.std.proofs.Common.{◌≡◌, ℕ, ◌==◌, Bool, true, false, cond, if◌then◌else◌, List, [], ◌∷◌, Option, Some, None, refl, ap, sym, ◌∙◌, nat_eq}
 use Rattle.std.specs.Map.{lookup}
 use Rattle.dom_model.proofs.PlainLists.Numbers.{same_or, same, apart}
-use Rattle.dom_tree.specs.declared.tallies.Tally.{Tally}
-use Rattle.dom_tree.specs.Blocks.{counts_of, counts_in}
-use Rattle.dom_tree.specs.Tallies.{tally_in}
+use Rattle.dom_tree.specs.{declared.tallies.Tally.Tally, Blocks.counts_of, Blocks.counts_in, Tallies.tally_in}
 
 -- a way to read what is held for a parent: from what a look-up finds
 pub record Reading (A B : Type 0) : Type 0 where

@@ -1,21 +1,11 @@
 -- A node goes into another document: the steps of that by place.
 use Rattle.std.proofs.Common.{◌≡◌, ℕ, ◌+◌, ◌-◌, ◌<◌, ◌^◌, Bool, false, List, length, Option, Some, refl, ap, sym, ◌∙◌, subst}
 use denote.RawPtr.{Ptr}
-use Rattle.dom_model.specs.Forests.Arena.{entry_at, IsHeld}
-use Rattle.dom_model.specs.Forests.Forest.{Grove, with_node, in_document}
+use Rattle.dom_model.specs.Definitions.{entry_at, IsHeld, Grove, with_node, in_document}
 use Rattle.dom_links.specs.Placed.{Placed, index_of, slot_of, IsPlaced}
-use Rattle.dom_tree.specs.Places.{slots_in, with_arena, Leads, ArePlaced, IsListed, IsSeated}
-use Rattle.dom_tree.specs.Spelled.{slot_in, shown}
-use Rattle.dom_tree.specs.Blocks.{AreBlocked}
-use Rattle.dom_tree.specs.declared.tallies.Tally.{Tally}
-use Rattle.dom_tree.specs.Tallies.{AreTallied}
-use Rattle.dom_tree.specs.Slots.{Kept, nodes_alone, with_owned, with_document, document_in_slot, owned_in, homed, one_more, one_less}
-use Rattle.dom_tree.proofs.Trees.{changed-shown}
-use Rattle.dom_tree.proofs.BlocksKept.{blocked-altered}
-use Rattle.dom_tree.proofs.OwnedTrees.{owning-nodes}
-use Rattle.dom_tree.proofs.TalliesKept.{tallied-kept}
+use Rattle.dom_tree.specs.{Places.slots_in, Places.with_arena, Places.Leads, Places.ArePlaced, Places.IsListed, Places.IsSeated, Spelled.slot_in, Spelled.shown, Blocks.AreBlocked, declared.tallies.Tally.Tally, Tallies.AreTallied, Slots.Kept, Slots.nodes_alone, Slots.with_owned, Slots.with_document, Slots.document_in_slot, Slots.owned_in, Slots.homed, Slots.one_more, Slots.one_less}
+use Rattle.dom_tree.proofs.{Trees.changed-shown, BlocksKept.blocked-altered, OwnedTrees.owning-nodes, TalliesKept.tallied-kept, Places.slot-led, Places.slot-back, Places.placed-still, Places.still-placed, Places.listed-still, Places.seated, Places.same-places}
 use Rattle.dom_tree.proofs.OwnedSteps as owned
-use Rattle.dom_tree.proofs.Places.{slot-led, slot-back, placed-still, still-placed, listed-still, seated, same-places}
 
 module _ {X : Type 0} {s : Placed (Kept X)} {table : List (Option Ptr)} {live : ℕ} {strays : Bool} {blocks : List (ℕ × List ℕ)} {tallies : List (ℕ × Tally)} (k : IsSeated s table live strays blocks tallies) (n : ℕ) {p : Ptr} (lp : Leads s (Some p) (slot_in (slots_in s table) n)) (former d : ℕ) (was : document_in_slot (entry_at s.arena (slot_of s p)) ≡ Some former) (t : Placed (Kept X)) (et : t ≡ with_arena (homed s.arena (slot_of s p) d) s) where
   places_t : t.places ≡ s.places

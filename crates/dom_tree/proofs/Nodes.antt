@@ -2,9 +2,8 @@
 use Rattle.std.proofs.Common.{◌≡◌, ℕ, ◌+◌, nat_lt, if◌then◌else◌, List, [], ◌∷◌, length, map, slice_set, Option, Some, None, option_map, IsSome, refl, ap, sym, ◌∙◌}
 use Rattle.std.proofs.lemmas.List.{length-map, map-set, set-get_or, length-set, map-append}
 use Rattle.std.proofs.Math.ListN.{get_or-map}
-use Rattle.dom_model.specs.PlainLists.Lists.{hits, after, before, entered, left_out}
-use Rattle.dom_model.specs.Forests.Arena.{Arena, Entry, entry_at, held, names, parent_in, children_in, list_under, siblings_in, next_in, previous_in, with_value, with_parent, with_children, alone, altered, linked, unlinked, unlinked_from, added, added_from, taken, next_slot, StandsUnder, itself, below, IsHeld, IsSound}
-use Rattle.dom_model.specs.Forests.Forest.{Node}
+use Rattle.dom_model.specs.Definitions.{hits, after, before, entered, left_out, Arena, Entry, entry_at, held, names, parent_in, children_in, list_under, siblings_in, next_in, previous_in, with_value, with_parent, with_children, alone, altered, linked, unlinked, unlinked_from, added, added_from, taken, next_slot, StandsUnder, IsHeld, Node}
+use Rattle.dom_model.specs.Forests.Arena.{itself, below, IsSound}
 use Rattle.dom_tree.specs.Slots.{Kept, with_index, with_sure, node_entry, nodes_alone, indexed, assured}
 
 module _ {X : Type 0} where

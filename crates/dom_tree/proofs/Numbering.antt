@@ -1,12 +1,9 @@
 -- Entries by number, through a table from numbers to slots.
 use Rattle.std.proofs.Common.{◌≡◌, ℕ, ◌<◌, ◌==◌, map, Option, Some, None, option_map, IsSome, refl, ap, sym, ◌∙◌, arith}
 use Rattle.std.proofs.lemmas.Bool.{ne_eqb, eq-eqb}
-use Rattle.dom_model.specs.PlainLists.Lists.{hits, place_in}
-use Rattle.dom_model.specs.Forests.Arena.{Entry, held, names, parent_in, children_in, siblings_in, list_under, next_in, previous_in, IsLinked}
-use Rattle.dom_model.specs.Forests.Forest.{Node}
+use Rattle.dom_model.specs.Definitions.{hits, place_in, Entry, held, names, parent_in, children_in, siblings_in, list_under, next_in, previous_in, IsLinked, Node}
 use Rattle.dom_tree.specs.Spelled.{number_in_slot, renumbered, entry_in_slot, by_number, IsTabled}
-use Rattle.dom_model.proofs.PlainLists.Numbers.{same_or, same, apart}
-use Rattle.dom_model.proofs.PlainLists.Mapped.{after-map, before_from-map, place_in-map}
+use Rattle.dom_model.proofs.PlainLists.{Numbers.same_or, Numbers.same, Numbers.apart, Mapped.after-map, Mapped.before_from-map, Mapped.place_in-map}
 use Rattle.dom_model.proofs.Forests.Changes.{seen, nothing, just}
 
 module _ {X : Type 0} where

@@ -1,12 +1,9 @@
 -- What a change of the store leaves of the counts of node documents in its slots.
 use Rattle.std.proofs.Common.{◌≡◌, ℕ, ◌+◌, ◌-◌, ◌<◌, ◌==◌, true, false, if◌then◌else◌, Option, Some, None, option_map, IsSome, refl, ap, ◌∙◌, arith}
 use Rattle.std.proofs.lemmas.Bool.{false≢true}
-use Rattle.dom_model.specs.PlainLists.Lists.{entered, left_out}
-use Rattle.dom_model.specs.Forests.Arena.{Arena, Entry, entry_at, parent_in, with_value, with_parent, with_children, altered, linked, unlinked, unlinked_from, IsHeld}
-use Rattle.dom_model.specs.Forests.Forest.{one_at}
+use Rattle.dom_model.specs.Definitions.{entered, left_out, Arena, Entry, entry_at, parent_in, with_value, with_parent, with_children, altered, linked, unlinked, unlinked_from, IsHeld, one_at}
 use Rattle.dom_model.proofs.PlainLists.Numbers.{same_or, same, apart}
-use Rattle.dom_tree.specs.Slots.{Kept, with_index, with_sure, with_owned, with_document, owned_in, indexed, assured, owning, one_more, one_less, homed}
-use Rattle.dom_tree.specs.Numberings.{index_put, sure_put, reach_put, numbered_put, numbered_cut, numbered_cut_from}
+use Rattle.dom_tree.specs.{Slots.Kept, Slots.with_index, Slots.with_sure, Slots.with_owned, Slots.with_document, Slots.owned_in, Slots.indexed, Slots.assured, Slots.owning, Slots.one_more, Slots.one_less, Slots.homed, Numberings.index_put, Numberings.sure_put, Numberings.reach_put, Numberings.numbered_put, Numberings.numbered_cut, Numberings.numbered_cut_from}
 use Rattle.dom_tree.proofs.Stores.{altered-at}
 
 module _ {X : Type 0} where

@@ -1,25 +1,13 @@
 -- The counts of node documents where a node is made, goes into another document, or is taken out.
-use Rattle.std.specs.Prelude.{IfSome}
-use Rattle.std.proofs.Common.{◌≡◌, ℕ, suc, ◌+◌, ◌-◌, ◌<◌, ◌≤◌, ◌^◌, Bool, true, false, not, ◌||◌, nat_eq, if◌then◌else◌, ◌==◌, List, [], ◌∷◌, ◌++◌, length, slice_set, Option, Some, None, option_map, IsSome, is_some, refl, ap, sym, ◌∙◌, subst, arith, ⊎_elim, add-one, length-append}
-use Rattle.std.proofs.lemmas.Bool.{cases_lt, false≢true, eqb-true, not-false}
-use Rattle.std.proofs.lemmas.List.{get_or-set_same, get_or-set_other, length-set}
-use Rattle.dom_model.specs.Forests.Arena.{Arena, Entry, entry_at, names, with_value, added, taken, next_slot, IsHeld, IsSound}
-use Rattle.dom_model.specs.Forests.Forest.{Node, Forest, empty, node, Grove, occurs, one_at, HasNode, parent_of, children_of, beside, without, with_node, in_document, IsForest}
+use Rattle.std.proofs.Common.{IfSome, ◌≡◌, ℕ, suc, ◌+◌, ◌-◌, ◌<◌, ◌≤◌, ◌^◌, Bool, true, false, not, ◌||◌, nat_eq, if◌then◌else◌, ◌==◌, List, [], ◌∷◌, ◌++◌, length, slice_set, Option, Some, None, option_map, IsSome, is_some, refl, ap, sym, ◌∙◌, subst, arith, ⊎_elim, add-one, length-append}
+use Rattle.std.proofs.lemmas.{Bool.cases_lt, Bool.false≢true, Bool.eqb-true, Bool.not-false, List.get_or-set_same, List.get_or-set_other, List.length-set}
+use Rattle.dom_model.specs.Definitions.{Arena, Entry, entry_at, names, with_value, added, taken, next_slot, IsHeld, Node, Forest, empty, node, Grove, occurs, one_at, HasNode, parent_of, children_of, beside, without, with_node, in_document, IsForest}
+use Rattle.dom_model.specs.Forests.Arena.{IsSound}
 use Rattle.dom_model.proofs.PlainLists.Numbers.{same_or, same, apart}
 use Rattle.dom_model.proofs.Forests.Totals.{occurs-without}
-use Rattle.dom_tree.specs.Owned.{IsOwned, document_at, document_in, owned_by}
-use Rattle.dom_tree.specs.Spelled.{renumbered, slot_in, numbered, shown}
-use Rattle.dom_tree.specs.Slots.{Kept, node_entry, nodes_alone, with_owned, with_document, owned_in, document_in_slot, one_more, one_less, homed, Owns, IsTree}
-use Rattle.dom_tree.proofs.Kept.{entry-numbered, entry-slot}
-use Rattle.dom_tree.proofs.Nodes.{entry-nodes, parent-nodes, children-nodes, sound-nodes, taken-nodes}
-use Rattle.dom_tree.proofs.Stores.{altered-at, added-new, added-old, taken-other}
-use Rattle.dom_tree.proofs.Making.{slot_in-new, slot_in-old}
+use Rattle.dom_tree.specs.{Owned.IsOwned, Owned.document_at, Owned.document_in, Owned.owned_by, Spelled.renumbered, Spelled.slot_in, Spelled.numbered, Spelled.shown, Slots.Kept, Slots.node_entry, Slots.nodes_alone, Slots.with_owned, Slots.with_document, Slots.owned_in, Slots.document_in_slot, Slots.one_more, Slots.one_less, Slots.homed, Slots.Owns, Slots.IsTree}
+use Rattle.dom_tree.proofs.{Kept.entry-numbered, Kept.entry-slot, Nodes.entry-nodes, Nodes.parent-nodes, Nodes.children-nodes, Nodes.sound-nodes, Nodes.taken-nodes, Stores.altered-at, Stores.added-new, Stores.added-old, Stores.taken-other, Making.slot_in-new, Making.slot_in-old, OwnedSlots.homed-owned, OwnedSlots.more-at, OwnedSlots.less-at, Owning.names-is, Owning.names-not, Owning.having-few, Owning.having-some, Owning.having-but, Owning.owned-made, Owning.owned-moved, Owning.owned-taken, DocumentsKept.document-HasNode, DocumentsKept.HasNode-document, DocumentsKept.document-none, DocumentsKept.documents-set, DocumentsKept.documents-others, DocumentsKept.documents-root, DocumentsKept.documents-older, OwnedTrees.owning-stays, Trees.Stays, Trees.slot-held, Trees.held-slot, Trees.holds-read, Trees.forest-read, Trees.alter-done, Trees.parent-none, Trees.children-none}
 use Rattle.dom_tree.proofs.Taking as taking
-use Rattle.dom_tree.proofs.OwnedSlots.{homed-owned, more-at, less-at}
-use Rattle.dom_tree.proofs.Owning.{names-is, names-not, having-few, having-some, having-but, owned-made, owned-moved, owned-taken}
-use Rattle.dom_tree.proofs.DocumentsKept.{document-HasNode, HasNode-document, document-none, documents-set, documents-others, documents-root, documents-older}
-use Rattle.dom_tree.proofs.OwnedTrees.{owning-stays}
-use Rattle.dom_tree.proofs.Trees.{Stays, slot-held, held-slot, holds-read, forest-read, alter-done, parent-none, children-none}
 
 module _ {X : Type 0} where
   part-owned : (o : Option (Entry (Kept X))) → IsSome o → (x : Kept X) → IfSome o (λ e. x ≡ e.value) → x.owned ≡ owned_in o

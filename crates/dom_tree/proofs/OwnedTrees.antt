@@ -1,21 +1,9 @@
 -- The counts of node documents over the steps of a tree.
 use Rattle.std.proofs.Common.{◌≡◌, ℕ, Bool, false, List, length, Option, Some, None, refl, ap, sym, ◌∙◌, subst, arith}
-use Rattle.dom_model.specs.PlainLists.Lists.{among}
-use Rattle.dom_model.specs.Forests.Arena.{Arena, Entry, entry_at, with_value, altered, linked, unlinked}
-use Rattle.dom_model.specs.Forests.Forest.{Node, Forest, Grove, occurs, HasNode, parent_of, ancestors, tree_at, cut, put, IsForest}
-use Rattle.dom_model.proofs.Forests.Climbing.{hits-ancestors, not_among-hits}
-use Rattle.dom_model.proofs.Forests.Entries.{occurs-HasNode}
-use Rattle.dom_tree.specs.Owned.{document_in}
-use Rattle.dom_tree.specs.Spelled.{slot_in, shown, IsKept}
-use Rattle.dom_tree.specs.Slots.{Kept, nodes_alone, with_owned, owned_in, owning, IsStored, IsTree}
-use Rattle.dom_tree.specs.Numberings.{numbered_put, numbered_cut}
-use Rattle.dom_tree.specs.Blocks.{IsRenumbered}
-use Rattle.dom_tree.proofs.Nodes.{unaltered-nodes, room-altered}
-use Rattle.dom_tree.proofs.Counting.{counted-altered}
-use Rattle.dom_tree.proofs.OwnedSlots.{altered-owned, linked-owned, unlinked-owned, put-owned, cut-owned}
-use Rattle.dom_tree.proofs.Owning.{owned-same}
-use Rattle.dom_tree.proofs.DocumentsKept.{documents-cut, documents-put, documents-with_node}
-use Rattle.dom_tree.proofs.Trees.{Stays, forest-read, alter-done, numbered-done}
+use Rattle.dom_model.specs.Definitions.{among, Arena, Entry, entry_at, with_value, altered, linked, unlinked, Node, Forest, Grove, occurs, HasNode, parent_of, ancestors, tree_at, cut, put, IsForest}
+use Rattle.dom_model.proofs.Forests.{Climbing.hits-ancestors, Climbing.not_among-hits, Entries.occurs-HasNode}
+use Rattle.dom_tree.specs.{Owned.document_in, Spelled.slot_in, Spelled.shown, Spelled.IsKept, Slots.Kept, Slots.nodes_alone, Slots.with_owned, Slots.owned_in, Slots.owning, Slots.IsStored, Slots.IsTree, Numberings.numbered_put, Numberings.numbered_cut, Blocks.IsRenumbered}
+use Rattle.dom_tree.proofs.{Nodes.unaltered-nodes, Nodes.room-altered, Counting.counted-altered, OwnedSlots.altered-owned, OwnedSlots.linked-owned, OwnedSlots.unlinked-owned, OwnedSlots.put-owned, OwnedSlots.cut-owned, Owning.owned-same, DocumentsKept.documents-cut, DocumentsKept.documents-put, DocumentsKept.documents-with_node, Trees.Stays, Trees.forest-read, Trees.alter-done, Trees.numbered-done}
 
 -- a count written to a slot leaves the rest
 module _ {X : Type 0} where

@@ -1,14 +1,11 @@
 -- How the counts of node documents stay right over the steps of a tree.
 use Rattle.std.proofs.Common.{◌≡◌, ℕ, suc, ◌+◌, ◌<◌, ◌≤◌, Option, Some, None, IsSome, refl, ap, sym, ◌∙◌, subst, arith}
 use Rattle.std.proofs.lemmas.Bool.{false≢true}
-use Rattle.dom_model.specs.Forests.Arena.{names}
+use Rattle.dom_model.specs.Definitions.{names}
 use Rattle.dom_model.proofs.PlainLists.Numbers.{same_or, same, apart}
 use Rattle.dom_tree.specs.Owned.{having, IsOwned}
 use Rattle.dom_tree.proofs.Sums.{below-none, below-few, below-part, below-past, below-but}
-
-pub names-few : (o : Option ℕ) (d : ℕ) → names o d ≤ 1
-names-few None d = omega arith
-names-few (Some n) d = elim (same_or n d) [ same _ t ↦ rw t (omega arith) | apart _ t ↦ rw t (omega arith) ]
+use Rattle.dom_links.proofs.Cutting.{names-le}
 
 pub names-is : (o : Option ℕ) (d : ℕ) → o ≡ Some d → names o d ≡ 1
 names-is o d e = rw e (elim (same_or d d) [ same _ t ↦ rw t refl | apart ne _ ↦ absurd (ne refl) ])
@@ -18,7 +15,7 @@ names-not None d ne = refl
 names-not (Some n) d ne = elim (same_or n d) [ same e _ ↦ absurd (ne (ap Some e)) | apart _ t ↦ rw t refl ]
 
 pub having-few : (document : ℕ → Option ℕ) (d made : ℕ) → having document d made ≤ made
-having-few document d made = below-few (λ n. names (document n) d) made (λ n. names-few (document n) d)
+having-few document d made = below-few (λ n. names (document n) d) made (λ n. names-le (document n) d)
 
 pub having-some : (document : ℕ → Option ℕ) (n d made : ℕ) → document n ≡ Some d → n < made → 0 < having document d made
 having-some document n d made e lt = omega (arith, below-part (λ m. names (document m) d) made n lt, names-is (document n) d e)

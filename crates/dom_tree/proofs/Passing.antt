@@ -1,7 +1,6 @@
 -- What a walk through the nodes inside a node has left.
 use Rattle.std.proofs.Common.{◌≡◌, ℕ, ◌<◌, Option, Some, None, length, ap, arith}
-use Rattle.dom_model.specs.PlainLists.Lists.{after, from_first}
-use Rattle.dom_model.specs.Forests.Forest.{Grove, inclusive_descendants, IsForest}
+use Rattle.dom_model.specs.Definitions.{after, from_first, Grove, inclusive_descendants, IsForest}
 use Rattle.dom_model.proofs.Forests.TreeOrder.InsideWalks.{IsAt, rest-next, rest-end}
 
 module _ {X : Type 0} (g : Grove X) (s : IsForest g) (top : ℕ) where

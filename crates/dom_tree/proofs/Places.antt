@@ -1,24 +1,14 @@
 -- What a tree's table of places says of slots, and how it outlives a change of the store.
-use Rattle.std.proofs.Common.{◌≡◌, ℕ, zero, suc, ◌<◌, Bool, List, [], ◌∷◌, ◌++◌, length, map, slice_set, Option, Some, None, option_map, IsSome, is_some, refl, ap, sym, ◌∙◌, subst, arith}
-use Rattle.std.proofs.lemmas.Bool.{false≢true}
-use Rattle.std.proofs.lemmas.List.{length-map, map-append, map-set}
+use Rattle.std.proofs.Common.{◌≡◌, ℕ, zero, suc, ◌<◌, Bool, List, [], ◌∷◌, ◌++◌, length, map, slice_set, Option, Some, None, option_map, IsSome, is_some, refl, ap, sym, ◌∙◌, subst, arith, slice_index_or}
+use Rattle.std.proofs.lemmas.{Bool.false≢true, List.length-map, List.map-append, List.map-set}
 use Rattle.std.proofs.Math.ListN.{get_or-map}
-use Rattle.std.specs.Prelude.{slice_index_or}
 use Rattle.std.specs.Option.{ForSome}
 use denote.RawPtr.{Ptr}
 use Rattle.dom_pages.specs.Numbered.{item_at}
-use Rattle.dom_model.specs.Forests.Arena.{Entry, entry_at, parent_in, unlinked, IsHeld}
-use Rattle.dom_model.specs.Forests.Forest.{Grove, HasNode, parent_of}
+use Rattle.dom_model.specs.Definitions.{Entry, entry_at, parent_in, unlinked, IsHeld, Grove, HasNode, parent_of}
 use Rattle.dom_links.specs.Placed.{Placed, index_of, slot_of, slots_of, IsPlaced, KeepsPlaces, KeepsPlacesBut}
-use Rattle.dom_tree.specs.Places.{slots_in, called, with_arena, Leads, ArePlaced, IsListed, IsSeated}
-use Rattle.dom_tree.specs.Spelled.{number_in_slot, slot_in, shown}
-use Rattle.dom_tree.specs.Slots.{Kept, nodes_alone, IsStored, IsTree}
-use Rattle.dom_tree.specs.Numberings.{numbered_put}
-use Rattle.dom_tree.specs.Blocks.{AreBlocked}
-use Rattle.dom_tree.specs.declared.tallies.Tally.{Tally}
-use Rattle.dom_tree.specs.Tallies.{AreTallied}
-use Rattle.dom_tree.proofs.Nodes.{held-back}
-use Rattle.dom_tree.proofs.Trees.{slot-held, slot-of_child, made-is}
+use Rattle.dom_tree.specs.{Places.slots_in, Places.called, Places.with_arena, Places.Leads, Places.ArePlaced, Places.IsListed, Places.IsSeated, Spelled.number_in_slot, Spelled.slot_in, Spelled.shown, Slots.Kept, Slots.nodes_alone, Slots.IsStored, Slots.IsTree, Numberings.numbered_put, Blocks.AreBlocked, declared.tallies.Tally.Tally, Tallies.AreTallied}
+use Rattle.dom_tree.proofs.{Nodes.held-back, Trees.slot-held, Trees.slot-of_child, Trees.made-is}
 
 -- where something is mapped, there is something
 pub some-mapped : {A B : Type 0} (f : A → B) (o : Option A) → IsSome (option_map f o) → IsSome o

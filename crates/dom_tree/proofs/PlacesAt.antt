@@ -1,10 +1,8 @@
 -- What stands at a place of a list in which each stands once.
-use Rattle.std.proofs.Common.{◌≡◌, ℕ, zero, suc, ◌+◌, ◌-◌, ◌<◌, ◌≤◌, List, [], ◌∷◌, length, Some, IsSome, refl, ap, arith}
-use Rattle.std.specs.Prelude.{slice_get}
-use Rattle.dom_model.specs.PlainLists.Lists.{hits, place_in}
+use Rattle.std.proofs.Common.{◌≡◌, ℕ, zero, suc, ◌+◌, ◌-◌, ◌<◌, ◌≤◌, List, [], ◌∷◌, length, Some, IsSome, refl, ap, arith, slice_get}
+use Rattle.dom_model.specs.Definitions.{hits, place_in}
 use Rattle.dom_model.proofs.PlainLists.Numbers.{same_or, same, apart}
-use Rattle.dom_model.proofs.Forests.Changes.{seen, nothing, just}
-use Rattle.dom_model.proofs.Forests.Siblings.{hits-get}
+use Rattle.dom_model.proofs.Forests.{Changes.seen, Changes.nothing, Changes.just, Siblings.hits-get}
 
 pub get-place : (l : List ℕ) (i c : ℕ) → ((k : ℕ) → hits k l ≤ 1) → slice_get l i ≡ Some c → place_in c l ≡ i
 get-place [] i c o e = absurd (cc e)

@@ -2,25 +2,12 @@
 use Rattle.std.proofs.Common.{◌≡◌, ℕ, ◌<◌, ◌^◌, Bool, false, List, length, Option, Some, None, IsSome, ap, sym, ◌∙◌, subst}
 use Rattle.std.specs.Option.{ForSome}
 use denote.RawPtr.{Ptr}
-use Rattle.dom_model.specs.PlainLists.Lists.{among}
-use Rattle.dom_model.specs.Forests.Arena.{Arena, entry_at, parent_in, children_in, linked, unlinked, IsSound}
-use Rattle.dom_model.specs.Forests.Forest.{Node, Grove, HasNode, parent_of, ancestors, put}
+use Rattle.dom_model.specs.Definitions.{among, Arena, entry_at, parent_in, children_in, linked, unlinked, Node, Grove, HasNode, parent_of, ancestors, put}
+use Rattle.dom_model.specs.Forests.Arena.{IsSound}
 use Rattle.dom_model.proofs.Forests.Changes.{seen, nothing, just}
 use Rattle.dom_links.specs.Placed.{Placed, index_of, slot_of, slots_of, children_at, linked_at}
-use Rattle.dom_tree.specs.Standing.{MayStand}
-use Rattle.dom_tree.specs.Spelled.{slot_in, slot_for, shown}
-use Rattle.dom_tree.specs.Slots.{Kept, nodes_alone, IsCounted, IsTree}
-use Rattle.dom_tree.specs.Numberings.{numbered_put, numbered_cut}
-use Rattle.dom_tree.specs.Blocks.{raised, counts_in, counts_but, block_put, blocked_put, lowered_at, AreBlocked, IsRenumbered}
-use Rattle.dom_tree.specs.declared.tallies.Tally.{Tally}
-use Rattle.dom_tree.specs.Tallies.{tally_in, tally_put, AreTallied}
-use Rattle.dom_tree.specs.Places.{slots_in, with_arena, Leads, IsSeated}
-use Rattle.dom_tree.specs.Placing.{IsPutAt}
-use Rattle.dom_tree.proofs.BlocksKept.{blocked-put_none, renumbered-put, blocked-cut}
-use Rattle.dom_tree.proofs.OwnedTrees.{put-tree, numbered-tree}
-use Rattle.dom_tree.proofs.Places.{slot-led, put-at, seated, same-places}
-use Rattle.dom_tree.proofs.TalliesKept.{tallied-put}
-use Rattle.dom_tree.proofs.Trees.{Stays, put-nodes, held-slot, parents-held, parent-none, parent-same, put-done, changed-shown, numbered-shown}
+use Rattle.dom_tree.specs.{Standing.MayStand, Spelled.slot_in, Spelled.slot_for, Spelled.shown, Slots.Kept, Slots.nodes_alone, Slots.IsCounted, Slots.IsTree, Numberings.numbered_put, Numberings.numbered_cut, Blocks.raised, Blocks.counts_in, Blocks.counts_but, Blocks.block_put, Blocks.blocked_put, Blocks.lowered_at, Blocks.AreBlocked, Blocks.IsRenumbered, declared.tallies.Tally.Tally, Tallies.tally_in, Tallies.tally_put, Tallies.AreTallied, Places.slots_in, Places.with_arena, Places.Leads, Places.IsSeated, Placing.IsPutAt}
+use Rattle.dom_tree.proofs.{BlocksKept.blocked-put_none, BlocksKept.renumbered-put, BlocksKept.blocked-cut, OwnedTrees.put-tree, OwnedTrees.numbered-tree, Places.slot-led, Places.put-at, Places.seated, Places.same-places, TalliesKept.tallied-put, Trees.Stays, Trees.put-nodes, Trees.held-slot, Trees.parents-held, Trees.parent-none, Trees.parent-same, Trees.put-done, Trees.changed-shown, Trees.numbered-shown}
 
 module _ {X : Type 0} {s : Placed (Kept X)} {table : List (Option Ptr)} {live : ℕ} {strays : Bool} {blocks : List (ℕ × List ℕ)} {tallies : List (ℕ × Tally)} (k : IsSeated s table live strays blocks tallies) {w : Grove X} (v : record { forest = shown (nodes_alone s.arena) (slots_in s table); made = length (slots_in s table) } ≡ w) (l : IsSound s.arena) where
   module _ (np nc : ℕ) (nb : Option ℕ) {above below : Ptr} {next : Option Ptr} (la : Leads s (Some above) (slot_in (slots_in s table) np)) (lb : Leads s (Some below) (slot_in (slots_in s table) nc)) (ln : Leads s next (slot_for (slots_in s table) nb)) (hp : HasNode w.forest np) (hc : HasNode w.forest nc) (root : parent_of w.forest nc ≡ None) (cy : among nc (ancestors np w.forest) ≡ false) (under : ForSome nb (λ b. parent_of w.forest b ≡ Some np)) (may : MayStand w.forest np nc) (d : Placed (Kept X)) (ed : d.arena ≡ linked_at s above below next) (pd : d.places ≡ s.places) (e : Placed (Kept X)) (ee : e ≡ with_arena (numbered_put d.arena (slot_of d above) (slot_of d below) (slots_of d next)) d) where

@@ -2,20 +2,12 @@
 use Rattle.std.proofs.Common.{◌≡◌, ℕ, ◌<◌, true, false, List, length, map, Option, Some, None, option_map, IsSome, is_some, IfSome, refl, ap, sym, ◌∙◌, subst, arith, ⊎_elim}
 use Rattle.std.proofs.lemmas.List.{length-map}
 use Rattle.std.specs.Option.{ForSome}
-use Rattle.dom_model.specs.PlainLists.Lists.{hits, among, head_of, last_of}
-use Rattle.dom_model.specs.Forests.Arena.{Arena, Entry, entry_at, parent_in, children_in, siblings_in, next_in, previous_in, linked, unlinked, altered, with_value, StandsUnder, IsHeld, IsSound}
-use Rattle.dom_model.specs.Forests.Forest.{Node, Forest, Grove, size, entry_in, HasNode, parent_of, children_of, next_of, previous_of, ancestors, cut, put, with_node, IsForest}
-use Rattle.dom_tree.specs.Standing.{MayStand}
-use Rattle.dom_tree.specs.Spelled.{number_in_slot, renumbered, entry_in_slot, slot_in, slot_for, numbered, shown, IsKept}
-use Rattle.dom_model.proofs.Forests.Changes.{seen, nothing, just}
-use Rattle.dom_model.proofs.Forests.Climbing.{not_among-hits}
-use Rattle.dom_model.proofs.Forests.PutBack.{hits-head_of, hits-after}
-use Rattle.dom_tree.proofs.Making.{write-kept, alter-kept}
-use Rattle.dom_tree.proofs.Kept.{Keeps, cut-kept, put-kept, stands-among, entry-numbered, entry-slot, parent-slot, children-slot, next-slot, previous-slot, slot-node, slot-parent, option_map-none, option_map-some}
-use Rattle.dom_tree.proofs.Numbering.{child-held, parent-held, sibling-held, one_slot}
-use Rattle.dom_model.proofs.PlainLists.Members.{hits-before, hits-last_of}
-use Rattle.dom_model.proofs.PlainLists.Mapped.{last_of-map, head_of-map}
-use Rattle.dom_tree.proofs.Spelling.{IsForest-Spells}
+use Rattle.dom_model.specs.Definitions.{hits, among, head_of, last_of, Arena, Entry, entry_at, parent_in, children_in, siblings_in, next_in, previous_in, linked, unlinked, altered, with_value, StandsUnder, IsHeld, Node, Forest, Grove, size, entry_in, HasNode, parent_of, children_of, next_of, previous_of, ancestors, cut, put, with_node, IsForest}
+use Rattle.dom_model.specs.Forests.Arena.{IsSound}
+use Rattle.dom_tree.specs.{Standing.MayStand, Spelled.number_in_slot, Spelled.renumbered, Spelled.entry_in_slot, Spelled.slot_in, Spelled.slot_for, Spelled.numbered, Spelled.shown, Spelled.IsKept}
+use Rattle.dom_model.proofs.Forests.{Changes.seen, Changes.nothing, Changes.just, Climbing.not_among-hits, PutBack.hits-head_of, PutBack.hits-after}
+use Rattle.dom_tree.proofs.{Making.write-kept, Making.alter-kept, Kept.Keeps, Kept.cut-kept, Kept.put-kept, Kept.stands-among, Kept.entry-numbered, Kept.entry-slot, Kept.parent-slot, Kept.children-slot, Kept.next-slot, Kept.previous-slot, Kept.slot-node, Kept.slot-parent, Kept.option_map-none, Kept.option_map-some, Numbering.child-held, Numbering.parent-held, Numbering.sibling-held, Numbering.one_slot, Spelling.IsForest-Spells}
+use Rattle.dom_model.proofs.PlainLists.{Members.hits-before, Members.hits-last_of, Mapped.last_of-map, Mapped.head_of-map}
 
 -- what a reading of the links names is held
 module _ {X : Type 0} {a : Arena (Node X)} (l : IsSound a) where

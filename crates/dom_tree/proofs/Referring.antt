@@ -1,21 +1,11 @@
 -- Whether a tree is named from outside, by a look at each number.
 use Rattle.std.proofs.Common.{◌≡◌, ◌==◌, ℕ, suc, ◌+◌, ◌<◌, ◌≤◌, Bool, true, false, not, ◌&&◌, ◌||◌, List, [], ◌∷◌, ◌++◌, map, Option, Some, None, IsSome, is_some, IfSome, refl, ap, sym, ◌∙◌, arith, ⊎_elim}
-use Rattle.std.proofs.lemmas.Bool.{cases_lt, false≢true}
-use Rattle.std.proofs.lemmas.List.{map-append}
+use Rattle.std.proofs.lemmas.{Bool.cases_lt, Bool.false≢true, List.map-append, Bool.or_right, Bool.or_left}
 use Rattle.std.specs.List.{list_any}
-use Rattle.dom_model.specs.PlainLists.Lists.{hits, among, head_of}
-use Rattle.dom_model.specs.Forests.Arena.{Entry, children_in}
-use Rattle.dom_model.specs.Forests.Lies.{Lies}
-use Rattle.dom_model.specs.Forests.Forest.{Node, Forest, empty, node, Row, Grove, occurs, one_at, tops, rows, numbers, tree_at, without, entry_in, HasNode, parent_of, children_of, inclusive_descendants, IsForest}
-use Rattle.dom_model.specs.MutationAlgorithms.Discarding.{documents, is_held_outside}
+use Rattle.dom_model.specs.Definitions.{hits, among, head_of, Entry, children_in, Lies, Node, Forest, empty, node, Grove, occurs, one_at, tops, rows, numbers, tree_at, without, entry_in, HasNode, parent_of, children_of, inclusive_descendants, IsForest, documents, is_held_outside}
+use Rattle.dom_model.specs.Forests.Forest.{Row}
 use Rattle.dom_model.proofs.PlainLists.Numbers.{same_or, same, apart}
-use Rattle.dom_model.proofs.Forests.Totals.{total-tree_at, tree_at-absent}
-use Rattle.dom_model.proofs.Forests.TreeOrder.Flattened.{hits-numbers}
-use Rattle.dom_model.proofs.Forests.Standing.{Tree, tree_of}
-use Rattle.dom_model.proofs.Forests.Below.{at_itself}
-use Rattle.dom_model.proofs.Forests.Lying.{Lies-without_root}
-use Rattle.dom_model.proofs.Forests.Climbing.{not_among-hits, hits-not_among}
-use Rattle.dom_model.proofs.Forests.Entries.{occurs-HasNode, HasNode-occurs, Lies-entry_in, entry_under-absent}
+use Rattle.dom_model.proofs.Forests.{Totals.total-tree_at, Totals.tree_at-absent, TreeOrder.Flattened.hits-numbers, Standing.Tree, Standing.tree_of, Below.at_itself, Lying.Lies-without_root, Climbing.not_among-hits, Climbing.hits-not_among, Entries.occurs-HasNode, Entries.HasNode-occurs, Entries.Lies-entry_in, Entries.entry_under-absent}
 use Rattle.dom_tree.specs.Outside.{document_passes, refers_from}
 
 pub none-from : (o : Option ℕ) → is_some o ≡ false → o ≡ None
@@ -25,14 +15,6 @@ none-from (Some n) e = absurd (false≢true (sym e))
 any-append : (p : ℕ → Bool) (xs ys : List ℕ) → list_any p (xs ++ ys) ≡ (list_any p xs || list_any p ys)
 any-append p [] ys = refl
 any-append p (x ∷ xs) ys = elim (p x) as (λ v. (v || list_any p (xs ++ ys)) ≡ ((v || list_any p xs) || list_any p ys)) [ true ↦ refl | false ↦ any-append p xs ys ]
-
-or-true : (a b : Bool) → b ≡ true → (a || b) ≡ true
-or-true true b e = refl
-or-true false b e = e
-
-or-first : (a b : Bool) → a ≡ true → (a || b) ≡ true
-or-first true b e = refl
-or-first false b e = absurd (false≢true e)
 
 module _ {X : Type 0} where
   split : (p : ℕ → Bool) (depth : ℕ) (x : Node X) (kids rest : Forest X) → list_any p (map (λ (r : Row X). r.at.document) (rows depth (node x kids rest))) ≡ (p x.document || (list_any p (map (λ (r : Row X). r.at.document) (rows (suc depth) kids)) || list_any p (map (λ (r : Row X). r.at.document) (rows depth rest))))
@@ -58,12 +40,12 @@ module _ {X : Type 0} where
       ∙ elim (same_or x.number m) [
         | same d t ↦
             let k : document_passes p (at x.number) ≡ true = ap (λ n. document_passes p (at n)) d ∙ e in
-            or-first (p x.document) _ (let k2 = rw l.0 at k in k2)
+            or_left (p x.document) _ (let k2 = rw l.0 at k in k2)
         | apart ne t ↦
             let h2 = rw t at h in
-            or-true (p x.document) _ (⊎_elim
-            (λ (lt : 0 < occurs m kids). or-first _ _ (any-documents p at (Some x.number) (suc depth) kids m l.1 lt e))
-            (λ (le : occurs m kids ≤ 0). or-true _ _ (any-documents p at q depth rest m l.2 (omega arith) e))
+            or_right (p x.document) _ (⊎_elim
+            (λ (lt : 0 < occurs m kids). or_left _ _ (any-documents p at (Some x.number) (suc depth) kids m l.1 lt e))
+            (λ (le : occurs m kids ≤ 0). or_right _ _ (any-documents p at q depth rest m l.2 (omega arith) e))
             (cases_lt 0 (occurs m kids)))
       ]
 

@@ -2,22 +2,11 @@
 use Rattle.std.proofs.Common.{◌≡◌, ℕ, ◌+◌, ◌<◌, ◌≤◌, Bool, true, false, not, ◌&&◌, nat_eq, if◌then◌else◌, [], ◌∷◌, length, Option, Some, None, IsSome, IfSome, refl, ap, sym, ◌∙◌, arith, ⊎_elim}
 use Rattle.std.specs.Int.{from_bool}
 use Rattle.std.proofs.lemmas.Bool.{cases_lt, false≢true}
-use Rattle.dom_model.specs.PlainLists.Lists.{hits, among, after, from_first}
-use Rattle.dom_model.specs.Forests.Arena.{Entry, names}
-use Rattle.dom_model.specs.Forests.Forest.{Node, Grove, occurs, one_at, tree_at, entry_in, HasNode, parent_of, ancestors, inclusive_descendants, IsForest}
-use Rattle.dom_model.specs.MutationAlgorithms.Discarding.{is_held_outside}
-use Rattle.dom_model.proofs.PlainLists.Numbers.{same_or, same, apart}
-use Rattle.dom_model.proofs.PlainLists.FromFirst.{from-after, from-last}
-use Rattle.dom_model.proofs.Forests.Totals.{total-tree_at}
-use Rattle.dom_model.proofs.Forests.TreeOrder.Flattened.{hits-numbers}
-use Rattle.dom_model.proofs.Forests.TreeOrder.Stepping.{after-inside}
-use Rattle.dom_model.proofs.Forests.Entries.{HasNode-occurs}
-use Rattle.dom_model.proofs.Forests.ToTheRoot.{inside-among}
-use Rattle.dom_tree.specs.Outside.{document_passes, refers_from}
-use Rattle.dom_tree.specs.Owned.{sum_below, document_at, document_in, owned_by}
-use Rattle.dom_tree.proofs.Sums.{sum_over, below-same, below-plus, below-few, below-part, below-some, over-below, over-none, over-one, over-part, over-among}
-use Rattle.dom_tree.proofs.Adopting.{from-top, top-inside}
-use Rattle.dom_tree.proofs.Referring.{refers-none, refers-one}
+use Rattle.dom_model.specs.Definitions.{hits, among, after, from_first, Entry, names, Node, Grove, occurs, one_at, tree_at, entry_in, HasNode, parent_of, ancestors, inclusive_descendants, IsForest, is_held_outside}
+use Rattle.dom_model.proofs.PlainLists.{Numbers.same_or, Numbers.same, Numbers.apart, FromFirst.from-after, FromFirst.from-last}
+use Rattle.dom_model.proofs.Forests.{Totals.total-tree_at, TreeOrder.Flattened.hits-numbers, TreeOrder.Stepping.after-inside, Entries.HasNode-occurs, ToTheRoot.inside-among}
+use Rattle.dom_tree.specs.{Outside.document_passes, Outside.refers_from, Owned.sum_below, Owned.document_at, Owned.document_in, Owned.owned_by}
+use Rattle.dom_tree.proofs.{Sums.sum_over, Sums.below-same, Sums.below-plus, Sums.below-few, Sums.below-part, Sums.below-some, Sums.over-below, Sums.over-none, Sums.over-one, Sums.over-part, Sums.over-among, Adopting.from-top, Adopting.top-inside, Referring.refers-none, Referring.refers-one}
 
 -- 1 for what holds, 0 for what does not
 abbrev pub one_if : Bool → ℕ

@@ -1,14 +1,11 @@
 -- The entries by number after a link, an unlink, an add or a write by slot.
 use Rattle.std.proofs.Common.{◌≡◌, ℕ, ◌<◌, ◌==◌, true, false, if◌then◌else◌, List, map, Option, Some, None, option_map, IsSome, is_some, refl, ap, sym, ◌∙◌, subst, arith}
 use Rattle.std.proofs.lemmas.Bool.{false≢true}
-use Rattle.dom_model.specs.PlainLists.Lists.{hits, is_number, entered, left_out}
-use Rattle.dom_model.specs.Forests.Arena.{Entry, held, alone, IsLinked}
-use Rattle.dom_model.specs.Forests.Forest.{Node}
+use Rattle.dom_model.specs.Definitions.{hits, is_number, entered, left_out, Entry, held, alone, IsLinked, Node}
 use Rattle.dom_tree.specs.Spelled.{number_in, number_in_slot, renumbered, by_number, IsTabled}
-use Rattle.dom_model.proofs.PlainLists.Numbers.{same_or, same, apart}
+use Rattle.dom_model.proofs.PlainLists.{Numbers.same_or, Numbers.same, Numbers.apart, Mapped.map-same, Mapped.entered-map, Mapped.left_out-map}
 use Rattle.dom_model.proofs.Forests.Changes.{seen, nothing, just, cut_at, link_at, change_at, held-cut_at, held-link_at}
 use Rattle.dom_tree.proofs.Numbering.{child-held, parent-held, same_test}
-use Rattle.dom_model.proofs.PlainLists.Mapped.{map-same, entered-map, left_out-map}
 
 module _ {X : Type 0} where
   -- a table stays right where slots keep their numbers

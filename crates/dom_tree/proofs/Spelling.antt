@@ -1,15 +1,10 @@
 -- A change of the entries spells the changed forest.
 use Rattle.std.proofs.Common.{◌≡◌, ℕ, suc, ◌+◌, ◌<◌, ◌≤◌, Option, Some, None, ap, sym, ◌∙◌, subst, arith, ⊎_elim}
-use Rattle.std.proofs.lemmas.Bool.{cases_lt}
-use Rattle.std.proofs.lemmas.Bool.Decides.{nat_tests}
-use Rattle.dom_model.specs.Forests.Arena.{Entry, held, parent_in, alone}
-use Rattle.dom_model.specs.Forests.Forest.{Node, Forest, empty, node, occurs, one_at, tops, beside, tree_at, without, cut, put, with_node, IsRising, KindsFit, IsForest}
+use Rattle.std.proofs.lemmas.{Bool.cases_lt, Bool.Decides.nat_tests}
+use Rattle.dom_model.specs.Definitions.{Entry, held, parent_in, alone, Node, Forest, empty, node, occurs, one_at, tops, beside, tree_at, without, cut, put, with_node, IsRising, KindsFit, IsForest}
 use Rattle.dom_tree.specs.Spelled.{Spells}
 use Rattle.dom_model.proofs.PlainLists.Numbers.{same_or, same, apart}
-use Rattle.dom_model.proofs.Forests.Totals.{total-beside, total-tree_at, total-cut, total-put, occurs-without}
-use Rattle.dom_model.proofs.Forests.Tops.{IsRising-left_out, IsRising-placed_root, tops-without, tops-placed_under, tops-tree_at, hits-tops}
-use Rattle.dom_model.proofs.Forests.Changes.{cut_at, link_at, change_at, held-cut_at, held-link_at, held-change_at}
-use Rattle.dom_model.proofs.Forests.Lying.{Lies-beside, Lies-kept, Lies-cut, Lies-without_root, Lies-put_top, Lies-placed_under, tops-with_node, total-with_node, Lies-with_node}
+use Rattle.dom_model.proofs.Forests.{Totals.total-beside, Totals.total-tree_at, Totals.total-cut, Totals.total-put, Totals.occurs-without, Tops.IsRising-left_out, Tops.IsRising-placed_root, Tops.tops-without, Tops.tops-placed_under, Tops.tops-tree_at, Tops.hits-tops, Changes.cut_at, Changes.link_at, Changes.change_at, Changes.held-cut_at, Changes.held-link_at, Changes.held-change_at, Lying.Lies-beside, Lying.Lies-kept, Lying.Lies-cut, Lying.Lies-without_root, Lying.Lies-put_top, Lying.Lies-placed_under, Lying.tops-with_node, Lying.total-with_node, Lying.Lies-with_node}
 
 module _ {X : Type 0} where
   pub held_at_most : (o : Option (Entry (Node X))) → held o ≤ 1

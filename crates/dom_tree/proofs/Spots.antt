@@ -1,17 +1,11 @@
 -- What the links say at a place, told of the node that stands there.
 use Rattle.std.proofs.Common.{◌≡◌, List, length, Option, option_map, IfSome, refl, ap, ◌∙◌, subst}
 use denote.RawPtr.{Ptr}
-use Rattle.dom_model.specs.PlainLists.Lists.{head_of, last_of}
-use Rattle.dom_model.specs.Forests.Arena.{entry_at, parent_in, children_in, next_in, previous_in, IsSound}
-use Rattle.dom_model.specs.Forests.Forest.{Node, Grove, HasNode, entry_in, parent_of, children_of, next_of, previous_of}
+use Rattle.dom_model.specs.Definitions.{head_of, last_of, entry_at, parent_in, children_in, next_in, previous_in, Node, Grove, HasNode, entry_in, parent_of, children_of, next_of, previous_of}
+use Rattle.dom_model.specs.Forests.Arena.{IsSound}
 use Rattle.dom_links.specs.Placed.{Placed, slot_of, slots_of}
-use Rattle.dom_tree.specs.Spelled.{shown}
-use Rattle.dom_tree.specs.Slots.{Kept, nodes_alone}
-use Rattle.dom_tree.specs.Places.{slots_in, called, Leads}
-use Rattle.dom_tree.specs.Spots.{Spot, IsSpot}
-use Rattle.dom_tree.proofs.Places.{numbers-led}
-use Rattle.dom_tree.proofs.Steps.{listed, stands}
-use Rattle.dom_tree.proofs.Trees.{value-read, parent-read, first-read, last-read, next-read, previous-read}
+use Rattle.dom_tree.specs.{Spelled.shown, Slots.Kept, Slots.nodes_alone, Places.slots_in, Places.called, Places.Leads, Spots.Spot, Spots.IsSpot}
+use Rattle.dom_tree.proofs.{Places.numbers-led, Steps.listed, Steps.stands, Trees.value-read, Trees.parent-read, Trees.first-read, Trees.last-read, Trees.next-read, Trees.previous-read}
 
 module _ {X : Type 0} {s : Placed (Kept X)} {table : List (Option Ptr)} {p : Ptr} (k : IsSpot s table p) {spot : Spot X} (v : ◌≡◌ {A = Spot X} (record { tree = record { forest = shown (nodes_alone s.arena) (slots_in s table); made = length (slots_in s table) }; node = called s p }) spot) where
   pub tree-is : ◌≡◌ {A = Grove X} (record { forest = shown (nodes_alone s.arena) (slots_in s table); made = length (slots_in s table) }) spot.tree

@@ -1,16 +1,11 @@
 -- A walk from place to place: what each step says of the numbers of the nodes that lie there.
 use Rattle.std.proofs.Common.{◌≡◌, ◌==◌, ℕ, Bool, List, length, Option, Some, None, IsSome, is_some, refl, ap, sym, ◌∙◌, subst}
 use denote.RawPtr.{Ptr}
-use Rattle.dom_model.specs.PlainLists.Lists.{head_of, last_of}
-use Rattle.dom_model.specs.Forests.Arena.{entry_at, parent_in, children_in, list_under, siblings_in, next_in, previous_in, IsSound}
-use Rattle.dom_model.specs.Forests.Forest.{Grove, entry_in, HasNode, parent_of, children_of, next_of, previous_of}
+use Rattle.dom_model.specs.Definitions.{head_of, last_of, entry_at, parent_in, children_in, list_under, siblings_in, next_in, previous_in, Grove, entry_in, HasNode, parent_of, children_of, next_of, previous_of}
+use Rattle.dom_model.specs.Forests.Arena.{IsSound}
 use Rattle.dom_links.specs.Placed.{Placed, slot_of, IsPlaced}
-use Rattle.dom_tree.specs.Places.{called, Leads}
-use Rattle.dom_tree.specs.Spelled.{slot_in, shown}
-use Rattle.dom_tree.specs.Slots.{Kept, nodes_alone, IsTree}
-use Rattle.dom_tree.proofs.Nodes.{held-nodes}
-use Rattle.dom_tree.proofs.Numbering.{one_slot, same_test}
-use Rattle.dom_tree.proofs.Trees.{parent-read, parent-there, parent-same, count-read, first-read, last-read, next-read, previous-read, holds-read}
+use Rattle.dom_tree.specs.{Places.called, Places.Leads, Spelled.slot_in, Spelled.shown, Slots.Kept, Slots.nodes_alone, Slots.IsTree}
+use Rattle.dom_tree.proofs.{Nodes.held-nodes, Numbering.one_slot, Numbering.same_test, Trees.parent-read, Trees.parent-there, Trees.parent-same, Trees.count-read, Trees.first-read, Trees.last-read, Trees.next-read, Trees.previous-read, Trees.holds-read}
 
 module _ {X : Type 0} {s : Placed (Kept X)} where
   -- a link that is another leads where that does

@@ -1,13 +1,11 @@
 -- The entries of a store after a link, an unlink, an add or a write.
 use Rattle.std.proofs.Common.{◌≡◌, ℕ, ◌+◌, ◌<◌, ◌≤◌, ◌==◌, nat_lt, true, false, if◌then◌else◌, List, [], ◌∷◌, ◌++◌, length, slice_set, Option, Some, None, option_map, IsSome, refl, ap, sym, ◌∙◌, arith, ⊎_elim, length-append}
-use Rattle.std.proofs.lemmas.Bool.{cases_lt, le-ltb, false≢true}
-use Rattle.std.proofs.lemmas.List.{get_or-set_same, get_or-set_other, get_or_past, length-set, get_or_append_left}
+use Rattle.std.proofs.lemmas.{Bool.cases_lt, Bool.le-ltb, Bool.false≢true, List.get_or-set_same, List.get_or-set_other, List.get_or_past, List.length-set, List.get_or_append_left}
 use Rattle.std.proofs.Math.Seq.{get_or-append_seam}
-use Rattle.dom_model.specs.PlainLists.Lists.{hits, entered, left_out}
-use Rattle.dom_model.specs.Forests.Arena.{Arena, Entry, entry_at, held, names, parent_in, children_in, with_parent, with_children, altered, linked, unlinked, added, added_from, taken, next_slot, next_from, alone, IsLinked, IsSound}
+use Rattle.dom_model.specs.Definitions.{hits, entered, left_out, Arena, Entry, entry_at, held, names, parent_in, children_in, with_parent, with_children, altered, linked, unlinked, added, added_from, taken, next_slot, next_from, alone, IsLinked}
+use Rattle.dom_model.specs.Forests.Arena.{IsSound}
 use Rattle.dom_model.proofs.PlainLists.Numbers.{same_or, same, apart}
-use Rattle.dom_model.proofs.Forests.Changes.{seen, nothing, just, cut_at, link_at}
-use Rattle.dom_model.proofs.Forests.Lying.{left_out-absent}
+use Rattle.dom_model.proofs.Forests.{Changes.seen, Changes.nothing, Changes.just, Changes.cut_at, Changes.link_at, Lying.left_out-absent}
 
 module _ {T : Type 0} where
   pub altered-at : (f : Entry T → Entry T) (a : Arena T) (n k : ℕ) → entry_at (altered f a n) k ≡ (if k == n then option_map f (entry_at a k) else entry_at a k)

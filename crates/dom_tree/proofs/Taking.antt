@@ -1,20 +1,12 @@
 -- A root without children taken out of its slot and out of the table.
 use Rattle.std.proofs.Common.{◌≡◌, ℕ, ◌+◌, ◌<◌, ◌≤◌, List, [], length, slice_set, Option, Some, None, IsSome, refl, ap, sym, ◌∙◌, subst, arith, ⊎_elim}
-use Rattle.std.proofs.lemmas.Bool.{cases_lt, false≢true}
-use Rattle.std.proofs.lemmas.List.{get_or-set_same, get_or-set_other, get_or_past, length-set}
-use Rattle.dom_model.specs.Forests.Arena.{Arena, Entry, entry_at, held, alone, parent_in, children_in, taken, IsSound}
-use Rattle.dom_model.specs.Forests.Lies.{Lies}
-use Rattle.dom_model.specs.Forests.Forest.{Node, Forest, empty, node, occurs, one_at, size, tops, tree_at, without}
+use Rattle.std.proofs.lemmas.{Bool.cases_lt, Bool.false≢true, List.get_or-set_same, List.get_or-set_other, List.get_or_past, List.length-set}
+use Rattle.dom_model.specs.Definitions.{Arena, Entry, entry_at, held, alone, parent_in, children_in, taken, Lies, Node, Forest, empty, node, occurs, one_at, size, tops, tree_at, without}
+use Rattle.dom_model.specs.Forests.Arena.{IsSound}
 use Rattle.dom_tree.specs.Spelled.{number_in, number_in_slot, slot_in, numbered, shown, Spells, IsTabled, IsKept}
 use Rattle.dom_model.proofs.PlainLists.Numbers.{same_or, same, apart}
-use Rattle.dom_model.proofs.Forests.Totals.{total-tree_at, occurs-without}
-use Rattle.dom_model.proofs.Forests.Tops.{IsRising-left_out, tops-without}
-use Rattle.dom_model.proofs.Forests.Lying.{Lies-kept, Lies-without_root}
-use Rattle.dom_model.proofs.Forests.KindsFitting.{KindsFit-without}
-use Rattle.dom_model.proofs.Forests.TreeOrder.Ordering.{Single, single, tree_at-single, Lies-tree_at}
-use Rattle.dom_tree.proofs.Stores.{taken-here, taken-other}
-use Rattle.dom_tree.proofs.Renumbering.{by_number-added}
-use Rattle.dom_tree.proofs.Kept.{Keeps, keeps}
+use Rattle.dom_model.proofs.Forests.{Totals.total-tree_at, Totals.occurs-without, Tops.IsRising-left_out, Tops.tops-without, Lying.Lies-kept, Lying.Lies-without_root, KindsFitting.KindsFit-without, TreeOrder.Ordering.Single, TreeOrder.Ordering.single, TreeOrder.Ordering.tree_at-single, TreeOrder.Ordering.Lies-tree_at}
+use Rattle.dom_tree.proofs.{Stores.taken-here, Stores.taken-other, Renumbering.by_number-added, Kept.Keeps, Kept.keeps}
 
 module _ {X : Type 0} where
   alone-is : (o : Option (Entry (Node X))) → IsSome o → parent_in o ≡ None → children_in o ≡ [] → (v : Node X) × (o ≡ Some (alone v))

@@ -1,20 +1,13 @@
 -- The counts of elements and doctypes stay right over each change of the store.
 use Rattle.std.proofs.Common.{◌≡◌, ℕ, suc, ◌+◌, ◌-◌, ◌<◌, ◌≤◌, ◌==◌, ◌^◌, Bool, true, false, cond, filter, if◌then◌else◌, List, [], ◌∷◌, length, Option, Some, None, option_map, IsSome, refl, ap, sym, ◌∙◌, subst, arith, ⊎_elim}
-use Rattle.dom_model.specs.declared.Kind.{Kind}
-use Rattle.dom_model.specs.declared.Kind.TheVariants.{Element, Document, DocumentType}
-use Rattle.dom_model.specs.PlainLists.Lists.{hits, is_number, entered, left_out}
-use Rattle.dom_model.specs.Forests.Arena.{Arena, Entry, entry_at, names, parent_in, children_in, with_value, alone, linked, unlinked, altered, added, taken, next_slot, IsSound}
-use Rattle.dom_model.specs.Forests.Forest.{Node}
-use Rattle.dom_model.specs.Forests.Kinds.{is_kind}
-use Rattle.dom_model.specs.Forests.Nodes.{entry_has}
+use Rattle.dom_model.specs.declared.{Kind.Kind, Kind.TheVariants.Element, Kind.TheVariants.Document, Kind.TheVariants.DocumentType}
+use Rattle.dom_model.specs.Definitions.{hits, is_number, entered, left_out, Arena, Entry, entry_at, names, parent_in, children_in, with_value, alone, linked, unlinked, altered, added, taken, next_slot, Node, is_kind, entry_has}
+use Rattle.dom_model.specs.Forests.Arena.{IsSound}
 use Rattle.dom_model.proofs.PlainLists.Numbers.{same_or, same, apart}
-use Rattle.dom_model.proofs.Forests.Changes.{seen, nothing, just, cut_at, link_at}
-use Rattle.dom_model.proofs.Forests.Lying.{left_out-absent}
-use Rattle.dom_tree.specs.declared.tallies.Tally.{Tally}
-use Rattle.dom_tree.specs.Tallies.{tally_in, tally_but, bare, one, raised, lowered, has_in, kind_tally, tally_put, tally_cut, IsTally, AreStarted, AreTallied}
-use Rattle.dom_tree.proofs.Counting.{names-itself, names-other}
-use Rattle.dom_tree.proofs.Stores.{altered-at, linked-at, unlinked-at, added-new, added-old, taken-other}
-use Rattle.dom_tree.proofs.MapTable.{tallies, but-here, but-other}
+use Rattle.dom_model.proofs.Forests.{Changes.seen, Changes.nothing, Changes.just, Changes.cut_at, Changes.link_at, Lying.left_out-absent}
+use Rattle.dom_tree.specs.{declared.tallies.Tally.Tally, Tallies.tally_in, Tallies.tally_but, Tallies.bare, Tallies.one, Tallies.raised, Tallies.lowered, Tallies.has_in, Tallies.kind_tally, Tallies.tally_put, Tallies.tally_cut, Tallies.IsTally, Tallies.AreStarted, Tallies.AreTallied}
+use Rattle.dom_tree.proofs.{Stores.altered-at, Stores.linked-at, Stores.unlinked-at, Stores.added-new, Stores.added-old, Stores.taken-other, MapTable.tallies, MapTable.but-here, MapTable.but-other}
+use Rattle.dom_links.proofs.Cutting.{names-same, names-other}
 
 -- How many of a list pass a test.
 
@@ -208,7 +201,7 @@ module _ {X : Type 0} (a : Arena (Node X)) (table : List (ℕ × Tally)) (k : Ar
         ap (λ m. m + one (has_in (entry_at a) c q))
         (passing-same (λ n. has_in (entry_at (unlinked a c)) n q) (λ n. has_in (entry_at a) n q) (children_in (entry_at (unlinked a c) p)) (λ n _. cut-kind q n)
         ∙ ap (kind_tally q (entry_at a)) (cut-list p))
-        ∙ passing-left_out (λ n. has_in (entry_at a) n q) c (children_in (entry_at a p)) (l.linked p c ∙ ap (λ o. names o p) up ∙ names-itself p)
+        ∙ passing-left_out (λ n. has_in (entry_at a) n q) c (children_in (entry_at a p)) (l.linked p c ∙ ap (λ o. names o p) up ∙ names-same p)
 
     pub tallied-unlinked : AreTallied (entry_at (unlinked a c)) table'
     tallied-unlinked q t e =

@@ -2,23 +2,11 @@
 use Rattle.std.proofs.Common.{◌≡◌, ℕ, suc, ◌<◌, ◌^◌, Bool, true, false, cond, filter, List, [], ◌∷◌, length, map, Option, Some, None, option_map, IsSome, IfSome, refl, ap, sym, ◌∙◌, subst}
 use Rattle.std.proofs.lemmas.Bool.{false≢true}
 use Rattle.dom_model.specs.declared.Kind.{Kind}
-use Rattle.dom_model.specs.Forests.Arena.{Arena, Entry, entry_at, parent_in, children_in, with_value, linked, unlinked, altered, added, taken, next_slot, IsHeld, IsSound}
-use Rattle.dom_model.specs.Forests.Forest.{Node, Grove, entry_in, children_of}
-use Rattle.dom_model.specs.Forests.Kinds.{is_kind}
-use Rattle.dom_model.specs.Forests.Nodes.{entry_has, is_of_kind}
-use Rattle.dom_model.specs.MutationAlgorithms.Checks.{count_kind}
+use Rattle.dom_model.specs.Definitions.{Arena, Entry, entry_at, parent_in, children_in, with_value, linked, unlinked, altered, added, taken, next_slot, IsHeld, Node, Grove, entry_in, children_of, is_kind, entry_has, is_of_kind, count_kind}
+use Rattle.dom_model.specs.Forests.Arena.{IsSound}
 use Rattle.dom_model.proofs.Forests.Changes.{seen, nothing, just}
-use Rattle.dom_tree.specs.declared.tallies.Tally.{Tally}
-use Rattle.dom_tree.specs.Spelled.{number_in_slot, renumbered, slot_in, shown}
-use Rattle.dom_tree.specs.Slots.{Kept, node_entry, nodes_alone, IsTree}
-use Rattle.dom_tree.specs.Numberings.{numbered_cut}
-use Rattle.dom_tree.specs.Tallies.{tally_in, tally_but, has_in, kind_tally, tally_put, tally_cut, AreStarted, AreTallied}
-use Rattle.dom_tree.proofs.Kept.{entry-slot}
-use Rattle.dom_tree.proofs.Numbering.{child-held}
-use Rattle.dom_tree.proofs.Nodes.{entry-nodes, altered-nodes, linked-nodes, unlinked-nodes, added-nodes, taken-nodes, parent-nodes, children-nodes, none-nodes, next_slot-nodes, sound-nodes}
-use Rattle.dom_tree.proofs.Reading.{children-read}
-use Rattle.dom_tree.proofs.Tallied.{passing-same, tallied-altered, tallied-linked, tallied-unlinked, tallied-taken, tallied-added}
-use Rattle.dom_tree.proofs.Trees.{cut-nodes}
+use Rattle.dom_tree.specs.{declared.tallies.Tally.Tally, Spelled.number_in_slot, Spelled.renumbered, Spelled.slot_in, Spelled.shown, Slots.Kept, Slots.node_entry, Slots.nodes_alone, Slots.IsTree, Numberings.numbered_cut, Tallies.tally_in, Tallies.tally_but, Tallies.has_in, Tallies.kind_tally, Tallies.tally_put, Tallies.tally_cut, Tallies.AreStarted, Tallies.AreTallied}
+use Rattle.dom_tree.proofs.{Kept.entry-slot, Numbering.child-held, Nodes.entry-nodes, Nodes.altered-nodes, Nodes.linked-nodes, Nodes.unlinked-nodes, Nodes.added-nodes, Nodes.taken-nodes, Nodes.parent-nodes, Nodes.children-nodes, Nodes.none-nodes, Nodes.next_slot-nodes, Nodes.sound-nodes, Reading.children-read, Tallied.passing-same, Tallied.tallied-altered, Tallied.tallied-linked, Tallied.tallied-unlinked, Tallied.tallied-taken, Tallied.tallied-added, Trees.cut-nodes}
 
 module _ {X : Type 0} where
   -- the contents of a node written over, with its label

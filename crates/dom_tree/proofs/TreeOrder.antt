@@ -1,24 +1,10 @@
 -- Where the nodes of a tree stand in tree order: as one block, its children in their order.
-use Rattle.std.proofs.Common.{◌≡◌, ℕ, zero, suc, ◌+◌, ◌<◌, ◌≤◌, nat_lt, Bool, true, false, [], ◌∷◌, ◌++◌, length, Some, None, refl, ap, sym, ◌∙◌, subst, arith, ◌⊎◌, inl, inr, ⊎_elim, length-append}
-use Rattle.std.proofs.lemmas.Bool.{cases_lt, lt-ltb, le-ltb}
-use Rattle.dom_model.specs.PlainLists.Lists.{hits, among, place_in}
-use Rattle.dom_model.specs.Forests.Arena.{parent_in}
-use Rattle.dom_model.specs.Forests.Lies.{Lies}
-use Rattle.dom_model.specs.Forests.Forest.{Node, Forest, empty, node, Grove, occurs, one_at, size, tops, numbers, tree_at, entry_in, HasNode, parent_of, children_of, index_of, ancestors, IsForest}
-use Rattle.dom_model.proofs.PlainLists.Numbers.{same_or, same, apart}
-use Rattle.dom_model.proofs.Forests.Changes.{seen, nothing, just}
-use Rattle.dom_model.proofs.Forests.Totals.{total-tree_at, tree_at-absent, beside-empty}
-use Rattle.dom_model.proofs.Forests.Tops.{hits-tops}
-use Rattle.dom_model.proofs.Forests.TreeOrder.Flattened.{hits-numbers}
-use Rattle.dom_model.proofs.PlainLists.Places.{place-there}
-use Rattle.dom_model.proofs.Forests.Climbing.{ancestors-there, hits-ancestors, among-hits, hits-among, not_among-hits, hits-self}
-use Rattle.dom_model.proofs.Forests.Paths.{parent-path, root-path}
-use Rattle.dom_model.proofs.Forests.WaysMeeting.{above-apart, above-higher}
+use Rattle.std.proofs.Common.{◌≡◌, ℕ, zero, suc, ◌+◌, ◌<◌, ◌≤◌, nat_lt, true, false, [], ◌∷◌, ◌++◌, length, Some, None, refl, ap, sym, ◌∙◌, subst, arith, ◌⊎◌, inl, inr, ⊎_elim, length-append}
+use Rattle.std.proofs.lemmas.Bool.{cases_lt, lt-ltb, le-ltb, cases_Bool}
+use Rattle.dom_model.specs.Definitions.{hits, among, place_in, parent_in, Lies, Node, Forest, empty, node, Grove, occurs, one_at, size, tops, numbers, tree_at, entry_in, HasNode, parent_of, children_of, index_of, ancestors, IsForest}
+use Rattle.dom_model.proofs.PlainLists.{Numbers.same_or, Numbers.same, Numbers.apart, Places.place-there}
+use Rattle.dom_model.proofs.Forests.{Changes.seen, Changes.nothing, Changes.just, Totals.total-tree_at, Totals.tree_at-absent, Totals.beside-empty, Tops.hits-tops, TreeOrder.Flattened.hits-numbers, Climbing.ancestors-there, Climbing.hits-ancestors, Climbing.among-hits, Climbing.hits-among, Climbing.not_among-hits, Climbing.hits-self, Paths.parent-path, Paths.root-path, WaysMeeting.above-apart, WaysMeeting.above-higher, Indices.child-listed, Indices.index-child, Entries.occurs-HasNode, Entries.HasNode-occurs, Entries.Lies-entry_in, TreeOrder.Ordering.Single, TreeOrder.Ordering.single, TreeOrder.Ordering.tree_at-single, TreeOrder.Ordering.Lies-tree_at, TreeOrder.Preceding.place-front, Listed.place-behind}
 use Rattle.dom_model.proofs.Traversal.IteratorsStay.{tree_at-inside}
-use Rattle.dom_model.proofs.Forests.Indices.{child-listed, index-child}
-use Rattle.dom_model.proofs.Forests.Entries.{occurs-HasNode, HasNode-occurs, Lies-entry_in}
-use Rattle.dom_model.proofs.Forests.TreeOrder.Ordering.{Single, single, tree_at-single, Lies-tree_at}
-use Rattle.dom_model.proofs.Forests.TreeOrder.Preceding.{place-front, place-behind}
 
 module _ {X : Type 0} where
   pub length-numbers : (f : Forest X) → length (numbers f) ≡ size f
@@ -211,10 +197,6 @@ same_order a b c d h k =
     (λ (le : b ≤ a). le-ltb a b le ∙ sym (le-ltb c d (k le)))
     (cases_lt a b)
 
-tested : (b : Bool) → (b ≡ true) ⊎ (b ≡ false)
-tested true = inl refl
-tested false = inr refl
-
 module _ {X : Type 0} {g : Grove X} (s : IsForest g) where
   there : (n : ℕ) → HasNode g.forest n → 0 < occurs n g.forest
   there n h = occurs-HasNode g.forest n h
@@ -346,7 +328,7 @@ module _ {X : Type 0} {g : Grove X} (s : IsForest g) where
 
   not_above : (p q : ℕ) → HasNode g.forest q → (p ≡ q → ⊥) → length (ancestors p g.forest) ≡ length (ancestors q g.forest) → among p (ancestors q g.forest) ≡ false
   not_above p q h ne e =
-      elim (tested (among p (ancestors q g.forest))) [
+      elim (cases_Bool (among p (ancestors q g.forest))) [
         | inl t ↦ absurd (let k = higher p q h t ne in omega arith)
         | inr t ↦ t
       ]
@@ -372,7 +354,7 @@ module _ {X : Type 0} {g : Grove X} (s : IsForest g) where
 
       aside : among l (ancestors b g.forest) ≡ false
       aside =
-          elim (tested (among l (ancestors b g.forest))) [
+          elim (cases_Bool (among l (ancestors b g.forest))) [
             | inl t ↦ absurd (ne (above-apart g.forest s.once l r b (there b hb) (there l hl) (there r hr) (among-hits l (ancestors b g.forest) t) (among-hits r (ancestors b g.forest) rb) level))
             | inr t ↦ t
           ]

@@ -1,24 +1,16 @@
 -- What is read and changed by slot, where a tree keeps indices beside its nodes.
 use Rattle.std.proofs.Common.{◌≡◌, ℕ, ◌+◌, ◌-◌, ◌<◌, ◌≤◌, nat_lt, Bool, false, if◌then◌else◌, List, [], ◌∷◌, ◌++◌, length, slice_set, Option, Some, None, option_map, IsSome, is_some, IfSome, refl, ap, sym, ◌∙◌, subst, arith, ⊎_elim, length-append}
-use Rattle.std.proofs.lemmas.Bool.{cases_lt, le-ltb, false≢true}
-use Rattle.std.proofs.lemmas.List.{length-set, length-map}
+use Rattle.std.proofs.lemmas.{Bool.cases_lt, Bool.le-ltb, Bool.false≢true, List.length-set, List.length-map}
 use Rattle.std.specs.Option.{ForSome}
-use Rattle.dom_model.specs.PlainLists.Lists.{hits, among, head_of, last_of, place_in}
-use Rattle.dom_model.specs.Forests.Arena.{Arena, Entry, entry_at, held, names, parent_in, children_in, list_under, siblings_in, next_in, previous_in, with_value, altered, linked, unlinked, unlinked_from, added, added_from, taken, next_slot, next_from, StandsUnder, IsHeld, IsSound}
-use Rattle.dom_model.specs.Forests.Forest.{Node, Forest, empty, node, Grove, beside, size, entry_in, HasNode, parent_of, children_of, next_of, previous_of, index_of, ancestors, cut, put, without, with_node, IsForest}
+use Rattle.dom_model.specs.Definitions.{hits, among, head_of, last_of, place_in, Arena, Entry, entry_at, held, names, parent_in, children_in, list_under, siblings_in, next_in, previous_in, with_value, altered, linked, unlinked, unlinked_from, added, added_from, taken, next_slot, next_from, StandsUnder, IsHeld, Node, Forest, empty, node, Grove, beside, size, entry_in, HasNode, parent_of, children_of, next_of, previous_of, index_of, ancestors, cut, put, without, with_node, IsForest}
+use Rattle.dom_model.specs.Forests.Arena.{IsSound}
 use Rattle.dom_model.proofs.PlainLists.Numbers.{same_or, same, apart}
 use Rattle.dom_model.proofs.Forests.Changes.{seen, nothing, just}
-use Rattle.dom_tree.specs.Standing.{MayStand}
-use Rattle.dom_tree.specs.Spelled.{number_in_slot, slot_in, slot_for, shown, IsKept}
-use Rattle.dom_tree.specs.Slots.{Kept, node_entry, nodes_alone, indexed, index_in, sure_in, IsCounted, IsStored, IsTree}
-use Rattle.dom_tree.specs.Numberings.{index_put, sure_put, reach_put, numbered_put, numbered_cut_from, numbered_cut}
-use Rattle.dom_tree.specs.Blocks.{IsRenumbered}
-use Rattle.dom_tree.proofs.Kept.{Keeps, index-slot}
+use Rattle.dom_tree.specs.{Standing.MayStand, Spelled.number_in_slot, Spelled.slot_in, Spelled.slot_for, Spelled.shown, Spelled.IsKept, Slots.Kept, Slots.node_entry, Slots.nodes_alone, Slots.indexed, Slots.index_in, Slots.sure_in, Slots.IsCounted, Slots.IsStored, Slots.IsTree, Numberings.index_put, Numberings.sure_put, Numberings.reach_put, Numberings.numbered_put, Numberings.numbered_cut_from, Numberings.numbered_cut, Blocks.IsRenumbered}
+use Rattle.dom_tree.proofs.{Kept.Keeps, Kept.index-slot, Taking.taken-kept, Taking.taken-live, Nodes.entry-nodes, Nodes.parent-nodes, Nodes.children-nodes, Nodes.siblings-nodes, Nodes.next-nodes, Nodes.previous-nodes, Nodes.none-nodes, Nodes.held-back, Nodes.sound-nodes, Nodes.stands-nodes, Nodes.next_slot-nodes, Nodes.altered-nodes, Nodes.indexed-nodes, Nodes.assured-nodes, Nodes.linked-nodes, Nodes.unlinked-nodes, Nodes.added-nodes, Nodes.taken-nodes, Nodes.room-altered, Counting.counted-put, Counting.counted-cut, Counting.counted-added, Counting.counted-taken, Counting.counted-altered, Counting.held-linked}
 use Rattle.dom_tree.proofs.Making as making
 use Rattle.dom_tree.proofs.Reading as reading
-use Rattle.dom_tree.proofs.Taking.{taken-kept, taken-live}
-use Rattle.dom_tree.proofs.Nodes.{entry-nodes, parent-nodes, children-nodes, siblings-nodes, next-nodes, previous-nodes, none-nodes, held-back, sound-nodes, stands-nodes, next_slot-nodes, altered-nodes, indexed-nodes, assured-nodes, linked-nodes, unlinked-nodes, added-nodes, taken-nodes, room-altered}
-use Rattle.dom_tree.proofs.Counting.{counted-put, counted-cut, counted-added, counted-taken, counted-altered, held-linked, names-itself}
+use Rattle.dom_links.proofs.Cutting.{names-same}
 
 -- a store and a table that spell a forest, with indices that are right
 pub record Stays {X : Type 0} (a : Arena (Kept X)) (table : List (Option ℕ)) (live : ℕ) (f : Forest X) : Type 0 where
@@ -158,7 +150,7 @@ module _ {X : Type 0} {a : Arena (Kept X)} {table : List (Option ℕ)} {live : �
   -- a kept index below the parent's count is right
   pub kept-read : IsSound a → (n s p : ℕ) → slot_in table n ≡ Some s → parent_in (entry_at a s) ≡ Some p → (x y z u : Kept X) → z ≡ x → u ≡ y → IfSome (entry_at a s) (λ e. x ≡ e.value) → IfSome (entry_at a p) (λ e. y ≡ e.value) → z.index < u.sure → z.index ≡ index_of w.forest n
   kept-read l n s p i ep x y z u zx uy hx hy lt =
-      let listed : 0 < hits s (children_in (entry_at a p)) = omega (arith, l.linked p s, ap (λ o. names o p) ep, names-itself p) in
+      let listed : 0 < hits s (children_in (entry_at a p)) = omega (arith, l.linked p s, ap (λ o. names o p) ep, names-same p) in
       let c = (k.stored.counted p s listed).0 in
       let place : index_of w.forest n ≡ place_in s (children_in (entry_at a p)) = index-slots l n s i ∙ ap (λ o. place_in s (list_under (entry_at a) o)) ep in
       let zi : z.index ≡ index_in (entry_at a s) = ap (λ (q : Kept X). q.index) zx ∙ index_is (entry_at a s) (held-slot n s i) hx in

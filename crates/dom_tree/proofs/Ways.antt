@@ -1,12 +1,7 @@
 -- A way up from a node, step by step.
 use Rattle.std.proofs.Common.{◌≡◌, ℕ, true, Option, Some, None, refl, subst}
-use Rattle.dom_model.specs.PlainLists.Lists.{among}
-use Rattle.dom_model.specs.Forests.Forest.{Grove, HasNode, parent_of, ancestors, root_of, IsForest}
-use Rattle.dom_model.proofs.Forests.Climbing.{hits-among, among-hits}
-use Rattle.dom_model.proofs.Forests.Indices.{parent-there}
-use Rattle.dom_model.proofs.Forests.Paths.{parent-path}
-use Rattle.dom_model.proofs.Forests.Entries.{occurs-HasNode, HasNode-occurs}
-use Rattle.dom_model.proofs.Forests.WaysMeeting.{above-itself, above-child, above-root}
+use Rattle.dom_model.specs.Definitions.{among, Grove, HasNode, parent_of, ancestors, root_of, IsForest}
+use Rattle.dom_model.proofs.Forests.{Climbing.hits-among, Climbing.among-hits, Indices.parent-there, Paths.parent-path, Entries.occurs-HasNode, Entries.HasNode-occurs, WaysMeeting.above-itself, WaysMeeting.above-child, WaysMeeting.above-root}
 use Rattle.dom_tree.specs.Ways.{CameThrough, IsOnWay}
 use Rattle.dom_tree.proofs.TreeOrder.{among-through, among-parent}
 

@@ -2,12 +2,11 @@
 use Rattle.std.proofs.Common.{◌≡◌, ℕ, ◌+◌, ◌<◌, Option, Some, option_map, ap, sym, ◌∙◌, subst}
 use Rattle.std.specs.Option.{ForSome}
 use denote.RawPtr.{Ptr}
-use Rattle.dom_model.specs.Forests.Arena.{entry_at, next_in, IsHeld, IsSound}
+use Rattle.dom_model.specs.Definitions.{entry_at, next_in, IsHeld}
+use Rattle.dom_model.specs.Forests.Arena.{IsSound}
 use Rattle.dom_links.specs.Placed.{Placed, index_of, slot_of, slots_of, IsPlaced}
-use Rattle.dom_tree.specs.Places.{with_arena}
-use Rattle.dom_tree.specs.Slots.{Kept, indexed}
-use Rattle.dom_tree.proofs.Written.{IsWriting, writing-still, writing-next}
-use Rattle.dom_tree.proofs.Places.{placed-still}
+use Rattle.dom_tree.specs.{Places.with_arena, Slots.Kept, Slots.indexed}
+use Rattle.dom_tree.proofs.{Written.IsWriting, Written.writing-still, Written.writing-next, Places.placed-still}
 
 module _ {X : Type 0} {start now : Placed (Kept X)} (l : IsSound start.arena) (parent : Ptr) {from place until : ℕ} {tell : ℕ → ℕ} {next : Option Ptr} (w : IsWriting start.arena now.arena (slot_of start parent) from place until tell (slots_of start next)) (e : now.places ≡ start.places) (h : ForSome next (IsPlaced now)) (c : Ptr) (ec : next ≡ Some c) (t : Placed (Kept X)) (i : ℕ) (et : t ≡ with_arena (indexed now.arena (slot_of now c) i) now) where
   arena_t : t.arena ≡ indexed now.arena (slot_of start c) i

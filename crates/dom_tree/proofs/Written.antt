@@ -1,22 +1,13 @@
 -- The indices of children written one after another.
-use Rattle.std.proofs.Common.{◌≡◌, ℕ, suc, ◌+◌, ◌-◌, ◌<◌, ◌≤◌, min, max, true, false, List, length, Option, Some, None, IsSome, refl, ap, sym, ◌∙◌, subst, arith, add-one, ⊎_elim}
+use Rattle.std.proofs.Common.{◌≡◌, ℕ, suc, ◌+◌, ◌-◌, ◌<◌, ◌≤◌, min, max, true, false, List, length, Option, Some, None, IsSome, refl, ap, sym, ◌∙◌, subst, arith, add-one, ⊎_elim, slice_get}
 use Rattle.std.proofs.lemmas.Bool.{cases_lt}
-use Rattle.std.specs.Prelude.{slice_get}
-use Rattle.dom_model.specs.PlainLists.Lists.{hits, after, before, place_in}
-use Rattle.dom_model.specs.Forests.Arena.{Arena, Entry, entry_at, names, parent_in, children_in, list_under, siblings_in, next_in, previous_in, IsHeld, IsSound}
-use Rattle.dom_model.specs.Forests.Forest.{Node}
-use Rattle.dom_model.proofs.PlainLists.Numbers.{same_or, same, apart}
-use Rattle.dom_model.proofs.Forests.Changes.{seen, nothing, just}
-use Rattle.dom_model.proofs.PlainLists.Members.{hits-before}
-use Rattle.dom_model.proofs.PlainLists.Places.{place-there}
-use Rattle.dom_model.proofs.Forests.Chains.{place-apart}
-use Rattle.dom_model.proofs.Forests.Siblings.{after-get, hits-get, place-before, place-first}
-use Rattle.dom_tree.specs.Slots.{Kept, with_sure, unknown, Tells, nodes_alone, index_in, sure_in, reach_in, indexed, assured, IsCounted}
-use Rattle.dom_tree.specs.Numberings.{told, IsWritten, IsNumbered}
-use Rattle.dom_tree.proofs.Nodes.{parent-nodes, children-nodes, held-nodes, held-back, indexed-nodes, assured-nodes, room-altered}
-use Rattle.dom_tree.proofs.PlacesAt.{get-place, get-within, place-get}
-use Rattle.dom_tree.proofs.Counting.{children-once, altered-children, names-itself, names-other, indexed-index, indexed-other, indexed-sure, indexed-reach, assured-sure, assured-reach, assured-other, assured-far, assured-index}
-use Rattle.dom_tree.proofs.OwnedSlots.{indexed-owned, assured-owned}
+use Rattle.dom_model.specs.Definitions.{hits, after, before, place_in, Arena, Entry, entry_at, names, parent_in, children_in, list_under, siblings_in, next_in, previous_in, IsHeld, Node}
+use Rattle.dom_model.specs.Forests.Arena.{IsSound}
+use Rattle.dom_model.proofs.PlainLists.{Numbers.same_or, Numbers.same, Numbers.apart, Members.hits-before, Places.place-there}
+use Rattle.dom_model.proofs.Forests.{Changes.seen, Changes.nothing, Changes.just, Chains.place-apart, Siblings.after-get, Siblings.hits-get, Siblings.place-before, Siblings.place-first}
+use Rattle.dom_tree.specs.{Slots.Kept, Slots.with_sure, Slots.unknown, Slots.Tells, Slots.nodes_alone, Slots.index_in, Slots.sure_in, Slots.reach_in, Slots.indexed, Slots.assured, Slots.IsCounted, Numberings.told, Numberings.IsWritten, Numberings.IsNumbered}
+use Rattle.dom_tree.proofs.{Nodes.parent-nodes, Nodes.children-nodes, Nodes.held-nodes, Nodes.held-back, Nodes.indexed-nodes, Nodes.assured-nodes, Nodes.room-altered, PlacesAt.get-place, PlacesAt.get-within, PlacesAt.place-get, Counting.children-once, Counting.altered-children, Counting.indexed-index, Counting.indexed-other, Counting.indexed-sure, Counting.indexed-reach, Counting.assured-sure, Counting.assured-reach, Counting.assured-other, Counting.assured-far, Counting.assured-index, OwnedSlots.indexed-owned, OwnedSlots.assured-owned}
+use Rattle.dom_links.proofs.Cutting.{names-same, names-other}
 
 module _ {X : Type 0} where
   pub children-same : (a b : Arena (Kept X)) → nodes_alone a ≡ nodes_alone b → (n : ℕ) → children_in (entry_at a n) ≡ children_in (entry_at b n)
@@ -70,7 +61,7 @@ module _ {X : Type 0} {start : Arena (Kept X)} (l : IsSound start) (p : ℕ) whe
       ]
 
   pub listed_under : (c : ℕ) → parent_in (entry_at start c) ≡ Some p → 0 < hits c list
-  listed_under c e = omega (arith, l.linked p c, ap (λ o. names o p) e, names-itself p)
+  listed_under c e = omega (arith, l.linked p c, ap (λ o. names o p) e, names-same p)
 
   pub held_under : (c : ℕ) → 0 < hits c list → IsHeld start c
   held_under c listed = go (entry_at start c) (under c listed)

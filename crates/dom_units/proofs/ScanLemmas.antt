@@ -1,10 +1,8 @@
 -- A scan of units that remembers whether the unit before was the first of a pair.
-use Rattle.std.proofs.Common.{◌≡◌, ℕ, Bool, true, false, not, ◌&&◌, List, [], ◌∷◌, refl, arith, inl, inr}
-use Rattle.std.specs.Prelude.{if◌then◌else◌, nat_le, nat_lt}
-use Rattle.std.proofs.lemmas.Bool.{cases_lt}
-use Rattle.std.proofs.lemmas.Bool.Decides.{nat_tests}
+use Rattle.std.proofs.Common.{◌≡◌, ℕ, Bool, true, false, not, ◌&&◌, List, [], ◌∷◌, refl, arith, inl, inr, if◌then◌else◌, nat_le, nat_lt}
+use Rattle.std.proofs.lemmas.{Bool.cases_lt, Bool.Decides.nat_tests}
 use Rattle.std.specs.Char.Utf16.{utf16_chars, is_low_surrogate, is_high_surrogate}
-use Rattle.dom_model.specs.Forests.Texts.{is_well_formed_units}
+use Rattle.dom_model.specs.Definitions.{is_well_formed_units}
 
 -- whether two answers are the same
 abbrev pub same : Bool → Bool → Bool

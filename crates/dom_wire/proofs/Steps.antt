@@ -1,33 +1,14 @@
 -- Steps of the functions of this crate, over plain variables.
-use Rattle.std.proofs.Common.{◌≡◌, ◌≢◌, ℕ, suc, ◌+◌, ◌≤◌, ◌<◌, List, [], ◌∷◌, ◌++◌, length, map, take, Bool, true, false, Option, Some, None, option_and_then, option_map, is_some, Result, Ok, Err, refl, sym, ap, ◌∙◌, append_assoc, append-nil, add-one, cond, true≢false, slice_get, codes, find, filter, bytes_eq, nat_eq, arith}
-use Rattle.std.specs.Prelude.{IsUtf8, Vec}
-use Rattle.std.proofs.lemmas.Bool.Decides.{nat_tests}
-use Rattle.std.proofs.lemmas.Slice.Eq.{bytes_eq-Decides}
-use Rattle.std.specs.declared.alloc.Global.{Global}
-use Rattle.std.proofs.lemmas.List.{take_all}
-use Rattle.std.proofs.lemmas.Option.{slice_get_within, get_or_from_slice_get}
-use Rattle.std.proofs.Math.Seq.{take-suc}
-use Rattle.std.specs.Str.{is_utf8}
-use Rattle.std.proofs.lemmas.Str.{is_utf8-from_IsUtf8, IsUtf8-from_is_utf8}
-use Rattle.json.specs.Token.{Token, begin_array, end_array}
-use Rattle.json.specs.Tree.{items_tokens}
-use Rattle.json.specs.Print.{print}
-use Rattle.json.specs.Written.{Written, Writes}
-use Rattle.serde_json.specs.Data.{Data, null, boolean, number, string, array, object}
-use Rattle.serde_json.specs.Find.{as_array, as_bool, as_str, as_object, get}
-use Rattle.serde_json.specs.Read.{read}
-use Rattle.serde_json.specs.View.{view, items_of, items_view}
-use Rattle.serde_json.specs.declared.value.Value.{Value}
-use Rattle.serde_json.specs.declared.value.Value.TheVariants.{Array}
-use Rattle.serde_json.proofs.Views.{view-Array}
-use Rattle.serde_json.specs.Written.{items_outline, compact_text}
-use Rattle.serde_json.proofs.Texts.{print-outline}
-use Rattle.dom_model.specs.Commands.Line.{list_of, arguments_from, with_argument, json_of, command_in_array, command_among, is_row_of, named_in, rule_from, if_member, list_in, options_in}
-use Rattle.dom_model.specs.MutationObservers.GivenOptions.{GivenOptions}
-use Rattle.dom_model.specs.Commands.Table.{Row, Shape, Arguments}
+use Rattle.std.proofs.Common.{◌≡◌, ◌≢◌, ℕ, suc, ◌+◌, ◌≤◌, List, [], ◌∷◌, ◌++◌, length, map, take, Bool, true, false, Option, Some, None, option_and_then, option_map, is_some, Result, Ok, Err, refl, sym, ap, ◌∙◌, append_assoc, append-nil, add-one, cond, true≢false, slice_get, codes, find, filter, bytes_eq, arith, IsUtf8, Vec}
+use Rattle.std.proofs.lemmas.{Bool.Decides.nat_tests, Slice.Eq.bytes_eq-Decides, List.take_all, Str.is_utf8-from_IsUtf8, Str.IsUtf8-from_is_utf8}
+use Rattle.std.specs.{declared.alloc.Global.Global, Str.is_utf8}
+use Rattle.json.specs.{Token.Token, Token.begin_array, Token.end_array, Tree.items_tokens, Print.print, Written.Written, Written.Writes}
+use Rattle.serde_json.specs.{Data.Data, Data.null, Data.boolean, Data.number, Data.string, Data.array, Data.object, Find.as_array, Find.as_bool, Find.as_str, Find.as_object, Find.get, Read.read, View.view, View.items_of, View.items_view, declared.value.Value.Value, declared.value.Value.TheVariants.Array, Written.items_outline, Written.compact_text}
+use Rattle.serde_json.proofs.{Views.view-Array, Texts.print-outline}
+use Rattle.dom_model.specs.Definitions.{list_of, arguments_from, with_argument, command_in_array, command_among, is_row_of, named_in, rule_from, if_member, list_in, options_in, GivenOptions, Row, Shape, Arguments, json_of}
 use Rattle.dom_model.specs.Commands.Printed as printed
-use Rattle.dom_wire.specs.Rows.{is_of_length}
-use Rattle.dom_wire.specs.Prints.{tokens_of, tokens_of_all, Adds}
+use Rattle.dom_wire.specs.{Rows.is_of_length, Prints.tokens_of, Prints.tokens_of_all, Prints.Adds}
+use Rattle.dom_observe.proofs.Gathered.{take-next}
 
 -- ---- reading
 
@@ -182,11 +163,6 @@ line_of_tokens before line start tokens d is no_text added no_tokens = rw (is, n
 pub map-twice : {A B C : Type 0} (f : B → C) (g : A → B) (xs : List A) → map f (map g xs) ≡ map (λ x. f (g x)) xs
 map-twice f g [] = refl
 map-twice f g (x ∷ xs) = ap (λ ys. f (g x) ∷ ys) (map-twice f g xs)
-
-take-next : {A : Type 0} (xs : List A) (i : ℕ) (a : A) → slice_get xs i ≡ Some a → take (suc i) xs ≡ take i xs ++ a ∷ []
-take-next xs i a here =
-    let within : i < length xs = slice_get_within xs i a here in
-    take-suc xs i a within ∙ ap (λ x. take i xs ++ x ∷ []) (get_or_from_slice_get xs i a a here)
 
 tokens-last : {A : Type 0} (f : A → Data) (xs : List A) (a : A) → tokens_of_all (map f (xs ++ a ∷ [])) ≡ tokens_of_all (map f xs) ++ tokens_of (f a)
 tokens-last f [] a = append-nil (tokens_of (f a))

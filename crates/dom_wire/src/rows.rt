@@ -1,8 +1,7 @@
 //! Rows of a printed tree.
 
-ghost use Rattle.std.specs.Prelude.{◌≡◌, ◌<◌, [], ◌∷◌, map, length, slice_get, Some};
+ghost use Rattle.std.specs.Prelude.{◌≡◌, [], ◌∷◌, map};
 ghost use Rattle.json.specs.Token.{string};
-ghost use Rattle.dom_attrs.specs.Entries.{attribute_at};
 ghost use Rattle.dom_model.specs.Commands.Printed.{attribute_json, row_json, detail_json, list_json};
 ghost use Rattle.dom_wire.specs.Prints.{tokens_of, tokens_of_all, Adds};
 
@@ -60,18 +59,10 @@ fn write_attributes(alloc: Global, body: &Content, writer: &mut Writer) -> Resul
 {
     writer.begin_array()?;
     for index in 0..body.attribute_count() {
-        let (name, value) = pair_at(body, index);
+        let (name, value) = body.pair_at(index);
         write_attribute(alloc, name, value, writer)?;
     }
     writer.end_array()
-}
-
-// The attribute at an index that is below the length.
-fn pair_at(body: &Content, index: usize) -> (&str, &Units)
-    requires { index < length body.now.attributes }
-    ensures { slice_get body.now.attributes index ≡ Some (attribute_at result) }
-{
-    body.attribute_at(index).unwrap()
 }
 
 fn write_attribute(

@@ -1,23 +1,14 @@
 -- What of a forest stays where parents stay: the nodes above a node, and those among its children. DOM Standard, "Interface Range" (surroundContents).
-use Rattle.std.proofs.Common.{◌≡◌, ℕ, zero, suc, ◌<◌, ◌≤◌, ◌==◌, ◌-◌, nat_lt, Bool, true, false, ◌&&◌, if◌then◌else◌, List, [], ◌∷◌, length, Option, Some, None, option_map, slice_index_or, refl, ap, sym, ◌∙◌, subst, arith, ⊎_elim}
+use Rattle.std.proofs.Common.{◌≡◌, ℕ, zero, suc, ◌<◌, ◌≤◌, ◌==◌, ◌-◌, nat_lt, Bool, true, false, ◌&&◌, if◌then◌else◌, List, [], ◌∷◌, length, Option, Some, option_map, refl, ap, sym, ◌∙◌, subst, arith, ⊎_elim}
 use Rattle.std.proofs.lemmas.Bool.{cases_lt}
-use Rattle.dom_model.specs.PlainLists.Lists.{hits, among}
-use Rattle.dom_model.specs.Forests.Forest.{Forest, occurs, tree_at, cut, parent_of, index_of, ancestors, inclusive_descendants}
-use Rattle.dom_model.specs.Worlds.World.{Content, Point, Range, World}
-use Rattle.dom_model.specs.Soundness.Sound.{IsSound}
-use Rattle.dom_model.specs.BoundaryPoints.Points.{after_removal, moved_range, map_ranges}
-use Rattle.dom_model.specs.MutationAlgorithms.Editing.{removed_from, remove}
-use Rattle.dom_model.specs.RangesAndContents.Ranges.{range_at}
+use Rattle.dom_model.specs.Definitions.{hits, among, Forest, occurs, tree_at, cut, parent_of, index_of, ancestors, inclusive_descendants, Content, Point, Range, World, IsSound, after_removal, moved_range, removed_from, remove, range_at}
 use Rattle.dom_model.proofs.PlainLists.Numbers.{same_or, same, apart}
-use Rattle.dom_model.proofs.Forests.Changes.{seen, nothing, just}
-use Rattle.dom_model.proofs.Forests.Totals.{IsOnce}
-use Rattle.dom_model.proofs.Forests.Climbing.{hits-append, hits-among, hits-ancestors, hits-self, ancestors-there}
-use Rattle.dom_model.proofs.Forests.Paths.{up_with, parent-path, root-path, ancestors-cut}
-use Rattle.dom_model.proofs.Forests.TreeOrder.Flattened.{hits-numbers}
-use Rattle.dom_model.proofs.Forests.Indices.{parent-there}
+use Rattle.dom_model.proofs.Forests.{Changes.seen, Changes.nothing, Changes.just, Totals.IsOnce, Climbing.hits-append, Climbing.hits-among, Climbing.hits-ancestors, Climbing.hits-self, Climbing.ancestors-there, Paths.parent-path, Paths.root-path, Paths.ancestors-cut, TreeOrder.Flattened.hits-numbers, Indices.parent-there}
 use Rattle.dom_model.proofs.BoundaryPoints.RemovalOrder.{ancestors-split}
 use Rattle.dom_model.proofs.MutationAlgorithms.Loosened.{forest-remove, loosened-remove}
 use Rattle.dom_model.proofs.RangesAndContents.StartsAhead.{outside_removed}
+use Rattle.dom_model.proofs.TokenText.Contents.DeletedUnits.{moved-at}
+use Rattle.dom_data.proofs.StillBelow.{up_with-clear}
 
 pub none-or-some : (n : ℕ) (ns : List ℕ) {A : Type 0} → (hits n ns ≡ 0 → A) → (0 < hits n ns → A) → A
 none-or-some n ns none some = ⊎_elim (λ (lt : 0 < hits n ns). some lt) (λ (le : hits n ns ≤ 0). none (omega arith)) (cases_lt 0 (hits n ns))
@@ -67,14 +58,6 @@ parent-same f g o og n hf hg alike =
           ]
     ]
 
-up_with-none : (c : ℕ) (ns : List ℕ) → hits c ns ≡ 0 → up_with c ns ≡ ns
-up_with-none c [] h = refl
-up_with-none c (x ∷ xs) h =
-    elim (same_or x c) [
-      | same e t ↦ absurd (let k = rw t at h in omega arith)
-      | apart ne t ↦ (let k = rw t at h in rw t (ap (λ ns. x ∷ ns) (up_with-none c xs (omega arith))))
-    ]
-
 -- a node that stands above another has its own nodes above among those of the other
 pub above-within : (f : Forest Content) → IsOnce f → (n c m : ℕ) → 0 < occurs n f → 0 < hits c (ancestors n f) → 0 < hits m (ancestors c f) → 0 < hits m (ancestors n f)
 above-within f o n c m h i j =
@@ -82,13 +65,6 @@ above-within f o n c m h i j =
     let k = ap (hits m) s.1 in
     let l = hits-append m s.0 (ancestors c f) in
     omega arith
-
--- Live ranges under a map on all ends.
-pub range_at-mapped : (move : Point → Point) (rs : List (Option Range)) (r : ℕ) → slice_index_or (map_ranges move rs) r None ≡ option_map (moved_range move) (slice_index_or rs r None)
-range_at-mapped move [] r = refl
-range_at-mapped move (None ∷ rs) zero = refl
-range_at-mapped move (Some x ∷ rs) zero = refl
-range_at-mapped move (x ∷ rs) (suc r) = range_at-mapped move rs r
 
 -- A child of a node is removed.
 
@@ -114,14 +90,14 @@ module _ (n x r : ℕ) (v : World) (s : IsSound v) (par : parent_of v.forest x �
   pub range_left : range_at out r ≡ Some (moved_range move a)
   range_left =
       ap (λ (o : Option ℕ). range_at (removed_from true x o v) r) par
-      ∙ range_at-mapped move v.ranges r
+      ∙ moved-at move v.ranges r
       ∙ ap (option_map (moved_range move)) e
 
   above_left : hits x (ancestors p.node v.forest) ≡ 0 → ancestors p.node out.forest ≡ ancestors p.node v.forest
   above_left z =
       ap (λ (g : Forest Content). ancestors p.node g) forest_is
       ∙ ancestors-cut v.forest s.forest.once x p.node ha
-      ∙ up_with-none x (ancestors p.node v.forest) z
+      ∙ up_with-clear x (ancestors p.node v.forest) z
 
   stands_by : hits n (ancestors p.node v.forest) ≡ 0 → hits x (ancestors p.node v.forest) ≡ 0
   stands_by z =

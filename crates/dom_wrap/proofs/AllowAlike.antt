@@ -1,43 +1,19 @@
 -- What tells whether an element may come in at a point, in a world and in a later one that looks the same from there. DOM Standard, "Interface Range" (surroundContents).
-use Rattle.std.proofs.Common.{◌≡◌, ℕ, zero, suc, ◌<◌, ◌≤◌, Bool, true, false, not, ◌&&◌, ◌||◌, if◌then◌else◌, List, [], ◌∷◌, take, drop, filter, Option, Some, None, unwrap_or, slice_get, refl, ap, sym, ◌∙◌, subst, arith}
+use Rattle.std.proofs.Common.{◌≡◌, ℕ, ◌<◌, ◌≤◌, Bool, true, false, not, ◌&&◌, ◌||◌, if◌then◌else◌, [], ◌∷◌, drop, filter, Option, Some, None, unwrap_or, slice_get, refl, ap, sym, ◌∙◌, subst, arith}
 use Rattle.std.proofs.lemmas.Bool.{false≢true}
-use Rattle.dom_model.specs.declared.Kind.{Kind}
-use Rattle.dom_model.specs.declared.Kind.TheVariants.{Element, Text, Document, DocumentType}
-use Rattle.dom_model.specs.PlainLists.Lists.{hits, among, head_of, past}
-use Rattle.dom_model.specs.Forests.Kinds.{is_kind, may_be_parent}
-use Rattle.dom_model.specs.Forests.Forest.{Forest, occurs, parent_of, children_of, ancestors}
-use Rattle.dom_model.specs.Worlds.World.{Content, Point, World}
-use Rattle.dom_model.specs.Soundness.Sound.{IsSound}
-use Rattle.dom_model.specs.MutationAlgorithms.Checks.{has_kind, doctype_from, element_refused}
-use Rattle.dom_model.specs.Forests.Nodes.{kind_passes, is_of_kind}
-use Rattle.dom_model.specs.RangesAndContents.Ranges.{common_ancestor}
-use Rattle.dom_model.specs.RangesAndContents.Wrapping.{is_text, reference_at}
+use Rattle.dom_model.specs.declared.{Kind.Kind, Kind.TheVariants.Element, Kind.TheVariants.Text, Kind.TheVariants.Document, Kind.TheVariants.DocumentType}
+use Rattle.dom_model.specs.Definitions.{hits, among, head_of, past, is_kind, may_be_parent, Forest, occurs, parent_of, children_of, ancestors, Content, Point, World, IsSound, has_kind, doctype_from, element_refused, kind_passes, is_of_kind, common_ancestor, is_text, reference_at}
 use Rattle.dom_model.proofs.PlainLists.Numbers.{same_or, same, apart}
-use Rattle.dom_model.proofs.Forests.Changes.{seen, nothing, just}
-use Rattle.dom_model.proofs.Forests.Climbing.{hits-append, hits-among, hits-not_among, hits-self, ancestors-there}
-use Rattle.dom_model.proofs.Forests.Listed.{hits-other}
-use Rattle.dom_model.proofs.Forests.Paths.{parent-path}
-use Rattle.dom_model.proofs.Forests.Indices.{child-once, child-there}
-use Rattle.dom_model.proofs.MutationAlgorithms.RemovalsLike.{hits-past_within}
-use Rattle.dom_model.proofs.RangesAndContents.StartsAhead.{got_place}
+use Rattle.dom_model.proofs.Forests.{Changes.seen, Changes.nothing, Changes.just, Climbing.hits-append, Climbing.hits-among, Climbing.hits-not_among, Climbing.hits-self, Climbing.ancestors-there, Listed.hits-other, Paths.parent-path, Indices.child-once, Indices.child-there}
+use Rattle.dom_model.proofs.RangesAndContents.{StartsAhead.got_place}
 use Rattle.dom_wrap.specs.Allowing.{holder_of, is_refused_at}
-use Rattle.dom_wrap.proofs.AllowAbove.{parent-same}
-use Rattle.dom_wrap.proofs.AllowPlaces.{element-passes, text-passes}
-use Rattle.dom_wrap.proofs.AllowChildren.{any-alike, from-place}
+use Rattle.dom_wrap.proofs.{AllowAbove.parent-same, AllowPlaces.element-passes, AllowPlaces.text-passes, AllowChildren.from-place}
+use Rattle.dom_model.proofs.Traversal.IteratorsStay.{hits-past}
+use Rattle.dom_model.proofs.MutationAlgorithms.ChecksKept.{any-same}
 
 -- an element among the children, or a doctype from the child at an offset on
 pub element-told : (g : Forest Content) (c k : ℕ) → ((m : ℕ) → hits m (children_of g c) ≤ 1) → element_refused g c (slice_get (children_of g c) k) ≡ (has_kind Element g (children_of g c) || has_kind DocumentType g (drop k (children_of g c)))
 element-told g c k once = ap (λ v. has_kind Element g (children_of g c) || v) (from-place g (children_of g c) once k)
-
-pub hits-dropped : (m k : ℕ) (ns : List ℕ) → hits m (drop k ns) ≤ hits m ns
-hits-dropped m zero ns = omega arith
-hits-dropped m (suc k) [] = omega arith
-hits-dropped m (suc k) (x ∷ ns) = let i = hits-dropped m k ns in let l = hits-append m (x ∷ []) ns in omega arith
-
-pub hits-taken : (m k : ℕ) (ns : List ℕ) → hits m (take k ns) ≤ hits m ns
-hits-taken m zero ns = omega arith
-hits-taken m (suc k) [] = omega arith
-hits-taken m (suc k) (x ∷ ns) = let i = hits-taken m k ns in let l = hits-append m (x ∷ []) ns in let j = hits-append m (x ∷ []) (take k ns) in omega arith
 
 -- Where a node stands above the point.
 
@@ -137,14 +113,14 @@ module _ (w v : World) (s : IsSound w) (sv : IsSound v) (p : Point) (hp : 0 < oc
       there m h = child-there w.forest s.forest.once m q h
 
       elements : has_kind Element v.forest (children_of v.forest q) ≡ has_kind Element w.forest (children_of w.forest q)
-      elements = ap (has_kind Element v.forest) kids ∙ any-alike (is_of_kind Element v.forest) (is_of_kind Element w.forest) (children_of w.forest q) (λ m h. kinds (is_kind Element) m (there m h))
+      elements = ap (has_kind Element v.forest) kids ∙ any-same (is_of_kind Element v.forest) (is_of_kind Element w.forest) (children_of w.forest q) (λ m h. kinds (is_kind Element) m (there m h))
 
       behind : (d : ℕ) → 0 < occurs d w.forest → doctype_from v.forest q (Some d) ≡ doctype_from w.forest q (Some d)
       behind d hd =
           ap (λ t. t || has_kind DocumentType v.forest (past d (children_of v.forest q))) (kinds (is_kind DocumentType) d hd)
           ∙ ap (λ t. is_of_kind DocumentType w.forest d || t)
           (ap (λ ns. has_kind DocumentType v.forest (past d ns)) kids
-          ∙ any-alike (is_of_kind DocumentType v.forest) (is_of_kind DocumentType w.forest) (past d (children_of w.forest q)) (λ m h. kinds (is_kind DocumentType) m (there m (let i = hits-past_within m d (children_of w.forest q) in omega arith))))
+          ∙ any-same (is_of_kind DocumentType v.forest) (is_of_kind DocumentType w.forest) (past d (children_of w.forest q)) (λ m h. kinds (is_kind DocumentType) m (there m (let i = hits-past m d (children_of w.forest q) in omega arith))))
 
       reference_there : (d : ℕ) → reference_at w p ≡ Some d → 0 < occurs d w.forest
       reference_there d e = by (is_text w p.node) refl

@@ -2,37 +2,16 @@
 use Rattle.std.proofs.Common.{◌≡◌, ℕ, zero, suc, ◌+◌, ◌-◌, nat_lt, nat_le, slice_index_or, option_map, ◌<◌, ◌≤◌, ◌==◌, Bool, true, false, not, ◌&&◌, ◌||◌, if◌then◌else◌, List, [], ◌∷◌, take, drop, filter, length, Option, Some, None, slice_get, refl, ap, sym, ◌∙◌, subst, arith}
 use Rattle.std.proofs.lemmas.Bool.{false≢true, le-ltb}
 use Rattle.std.specs.List.{list_any}
-use Rattle.dom_model.specs.declared.Kind.{Kind}
-use Rattle.dom_model.specs.declared.Kind.TheVariants.{Element, Text, ProcessingInstruction, Comment, Document, DocumentType, DocumentFragment}
-use Rattle.dom_model.specs.PlainLists.Lists.{hits, among, place_in, left_out, past}
-use Rattle.dom_model.specs.Forests.Kinds.{is_kind, is_character_data}
-use Rattle.dom_model.specs.Forests.Texts.{substring, spliced}
-use Rattle.dom_model.specs.Forests.Forest.{Forest, occurs, tree_at, put, cut, in_document, parent_of, children_of}
-use Rattle.dom_model.specs.Worlds.World.{Content, Range, World}
-use Rattle.dom_model.specs.BoundaryPoints.Points.{after_splice, moved_range}
-use Rattle.dom_model.specs.RangesAndContents.Ranges.{range_at}
-use Rattle.dom_model.specs.Soundness.Sound.{IsSound}
-use Rattle.dom_model.specs.MutationAlgorithms.Checks.{if_given, has_kind}
-use Rattle.dom_model.specs.Forests.Nodes.{kind_passes, is_of_kind}
-use Rattle.dom_model.specs.MutationAlgorithms.Editing.{removed_from, remove, nodes_of, freed, insert_all, insert_nodes, insert, append, node_document}
-use Rattle.dom_model.specs.DataAndCopies.Data.{data_of, with_data, cut_count}
-use Rattle.dom_model.specs.RangesAndContents.Contents.{clone_with, units_into, children_into}
+use Rattle.dom_model.specs.declared.{Kind.TheVariants.Document, Kind.TheVariants.DocumentType, Kind.TheVariants.DocumentFragment}
+use Rattle.dom_model.specs.Definitions.{hits, among, place_in, left_out, past, is_kind, is_character_data, substring, spliced, Forest, occurs, tree_at, put, cut, in_document, parent_of, children_of, Content, Range, World, after_splice, moved_range, range_at, IsSound, if_given, has_kind, kind_passes, is_of_kind, removed_from, remove, nodes_of, freed, insert_all, insert_nodes, insert, append, node_document, data_of, with_data, cut_count, clone_with, units_into, children_into}
 use Rattle.dom_model.proofs.PlainLists.Numbers.{same_or, same, apart}
-use Rattle.dom_model.proofs.Forests.Climbing.{hits-append, hits-first, hits-ancestors}
-use Rattle.dom_model.proofs.Forests.Lying.{left_out-absent}
-use Rattle.dom_model.proofs.Forests.Listed.{hits-other}
-use Rattle.dom_model.proofs.Forests.Paths.{root-path}
-use Rattle.dom_model.proofs.Forests.Entries.{children-cut, children-put}
-use Rattle.dom_model.proofs.Forests.Indices.{child-parent}
-use Rattle.dom_model.proofs.Worlds.SameShape.{with_tree-alike, with_node-alike, children-alike}
-use Rattle.dom_model.proofs.Worlds.Measured.{children-beside}
-use Rattle.dom_model.proofs.MutationAlgorithms.Loosened.{IsLoosened, forest-remove, loosened-remove, parent-remove}
-use Rattle.dom_model.proofs.Soundness.SoundWorlds.{sound-remove}
-use Rattle.dom_model.proofs.Soundness.SoundAppending.{IsHolder, IsPlain, append-plain, holder_stays, plain_stays, IsCopy, clone_with_copy}
-use Rattle.dom_model.proofs.Soundness.SoundDrawing.{new_apart}
-use Rattle.dom_model.proofs.RangesAndContents.Drawing.{passes_too}
+use Rattle.dom_model.proofs.Forests.{Climbing.hits-append, Climbing.hits-first, Climbing.hits-ancestors, Lying.left_out-absent, Listed.hits-other, Paths.root-path, Entries.children-cut, Entries.children-put, Indices.child-parent}
+use Rattle.dom_model.proofs.Worlds.{SameShape.with_tree-alike, SameShape.with_node-alike, SameShape.children-alike, Measured.children-beside}
+use Rattle.dom_model.proofs.MutationAlgorithms.{Loosened.IsLoosened, Loosened.forest-remove, Loosened.loosened-remove, Loosened.parent-remove}
+use Rattle.dom_model.proofs.Soundness.{SoundWorlds.sound-remove, SoundAppending.IsHolder, SoundAppending.IsPlain, SoundAppending.append-plain, SoundAppending.holder_stays, SoundAppending.plain_stays, SoundAppending.IsCopy, SoundAppending.clone_with_copy, SoundDrawing.new_apart, SoundCopies.data_plain, SoundForests.passes-also}
 use Rattle.dom_model.proofs.RangesAndContents.StartsAhead.{got_place}
-use Rattle.dom_wrap.proofs.AllowAbove.{none-or-some, range_at-mapped}
+use Rattle.dom_wrap.proofs.AllowAbove.{none-or-some}
+use Rattle.dom_model.proofs.TokenText.Contents.DeletedUnits.{moved-at}
 
 -- Lists.
 
@@ -134,11 +113,6 @@ any-kept test p ns h = any-filter test p ns ∙ go ns h
     go [] e = refl
     go (l ∷ ls) e = ap (λ b. b || list_any (λ m. test m && p m) ls) (both (test l) (p l) (e l (hits-first l ls))) ∙ ap (λ b. test l || b) (go ls (λ m i. e m (let k = hits-append m (l ∷ []) ls in omega arith)))
 
--- the same test on other nodes
-pub any-alike : (test other : ℕ → Bool) (ns : List ℕ) → ((m : ℕ) → 0 < hits m ns → test m ≡ other m) → list_any test ns ≡ list_any other ns
-any-alike test other [] h = refl
-any-alike test other (x ∷ ns) h = ap (λ b. b || list_any test ns) (h x (hits-first x ns)) ∙ ap (λ b. other x || b) (any-alike test other ns (λ m i. h m (let k = hits-append m (x ∷ []) ns in omega arith)))
-
 -- a doctype from the child at an offset on
 pub from-place : (f : Forest Content) (ks : List ℕ) → ((m : ℕ) → hits m ks ≤ 1) → (k : ℕ) → if_given (λ c. is_of_kind DocumentType f c || has_kind DocumentType f (past c ks)) (slice_get ks k) ≡ has_kind DocumentType f (drop k ks)
 from-place f [] once zero = refl
@@ -210,15 +184,6 @@ children-drawn into (n ∷ ns) u s h plain z m hm other =
 
 -- Units that go into a fragment.
 
-data-kinds : (k : Kind) → is_character_data k ≡ true → (is_kind Document k ≡ false) × (is_kind DocumentType k ≡ false) × (is_kind DocumentFragment k ≡ false)
-data-kinds Text e = (refl, refl, refl)
-data-kinds ProcessingInstruction e = (refl, refl, refl)
-data-kinds Comment e = (refl, refl, refl)
-data-kinds Element e = absurd (false≢true e)
-data-kinds Document e = absurd (false≢true e)
-data-kinds DocumentType e = absurd (false≢true e)
-data-kinds DocumentFragment e = absurd (false≢true e)
-
 module _ (into n offset count : ℕ) (u : World) (s : IsSound u) (h : IsHolder u into) (hn : 0 < occurs n u.forest) (k : kind_passes is_character_data u.forest n ≡ true) where
   abbrev copied : World
   copied = clone_with (substring offset count (data_of u n)) n u
@@ -232,9 +197,9 @@ module _ (into n offset count : ℕ) (u : World) (s : IsSound u) (h : IsHolder u
   plain_copy : IsPlain copied u.made
   plain_copy = record {
     there = copy.there;
-    no_document = copy.kinds (is_kind Document) ∙ passes_too is_character_data (is_kind Document) false (λ x e. (data-kinds x e).0) u.forest n k;
-    no_doctype = copy.kinds (is_kind DocumentType) ∙ passes_too is_character_data (is_kind DocumentType) false (λ x e. (data-kinds x e).1) u.forest n k;
-    no_fragment = copy.kinds (is_kind DocumentFragment) ∙ passes_too is_character_data (is_kind DocumentFragment) false (λ x e. (data-kinds x e).2) u.forest n k;
+    no_document = copy.kinds (is_kind Document) ∙ passes-also is_character_data (is_kind Document) false (λ x e. (data_plain x e).0) u.forest n k;
+    no_doctype = copy.kinds (is_kind DocumentType) ∙ passes-also is_character_data (is_kind DocumentType) false (λ x e. (data_plain x e).1) u.forest n k;
+    no_fragment = copy.kinds (is_kind DocumentFragment) ∙ passes-also is_character_data (is_kind DocumentFragment) false (λ x e. (data_plain x e).2) u.forest n k;
   }
 
   apart_copy : u.made ≡ into → ⊥
@@ -263,7 +228,7 @@ module _ (into n offset count : ℕ) (u : World) (s : IsSound u) (h : IsHolder u
       let cut = cut_count (length (data_of held n)) offset count in
       let move = after_splice n offset cut 0 in (
         moved_range move range,
-        range_at-mapped move held.ranges r ∙ ap (λ (rs : List (Option Range)). option_map (moved_range move) (slice_index_or rs r None)) ranges_appended ∙ ap (option_map (moved_range move)) e,
+        moved-at move held.ranges r ∙ ap (λ (rs : List (Option Range)). option_map (moved_range move) (slice_index_or rs r None)) ranges_appended ∙ ap (option_map (moved_range move)) e,
         stays cut,
       )
     where

@@ -1,19 +1,9 @@
 -- A node loses its children: where a live range then starts, and what stays. DOM Standard, "Mutation algorithms" (replace all).
 use Rattle.std.proofs.Common.{◌≡◌, ℕ, ◌<◌, ◌≤◌, Bool, true, List, [], ◌∷◌, Some, None, refl, ap, sym, ◌∙◌, subst, arith}
 use Rattle.dom_model.specs.declared.Kind.{Kind}
-use Rattle.dom_model.specs.PlainLists.Lists.{hits}
-use Rattle.dom_model.specs.Forests.Forest.{Forest, occurs, parent_of, children_of, ancestors}
-use Rattle.dom_model.specs.Worlds.World.{Content, Point, Range, World}
-use Rattle.dom_model.specs.Soundness.Sound.{IsSound}
-use Rattle.dom_model.specs.BoundaryPoints.Points.{moved_range}
-use Rattle.dom_model.specs.Forests.Nodes.{kind_passes}
-use Rattle.dom_model.specs.MutationAlgorithms.Editing.{remove, remove_all, replaced_record, replace_all}
-use Rattle.dom_model.specs.RangesAndContents.Ranges.{range_at}
+use Rattle.dom_model.specs.Definitions.{hits, Forest, occurs, parent_of, children_of, ancestors, Content, Point, Range, World, IsSound, moved_range, kind_passes, remove, remove_all, replaced_record, replace_all, range_at}
 use Rattle.dom_model.proofs.PlainLists.Numbers.{same_or, same, apart}
-use Rattle.dom_model.proofs.Forests.Climbing.{hits-append, hits-first}
-use Rattle.dom_model.proofs.Forests.Lying.{left_out-absent}
-use Rattle.dom_model.proofs.Forests.Entries.{children-cut}
-use Rattle.dom_model.proofs.Forests.Indices.{child-once, child-parent, parent-there}
+use Rattle.dom_model.proofs.Forests.{Climbing.hits-append, Climbing.hits-first, Lying.left_out-absent, Entries.children-cut, Indices.child-once, Indices.child-parent, Indices.parent-there}
 use Rattle.dom_model.proofs.Soundness.SoundWorlds.{sound-remove}
 use Rattle.dom_model.proofs.MutationAlgorithms.Loosened.{forest-remove, IsLoosened, loosened-remove, parent-remove}
 use Rattle.dom_wrap.proofs.AllowAbove.{none-or-some, move, range_left, start_aside, above_aside, start_inside}

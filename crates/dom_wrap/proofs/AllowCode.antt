@@ -1,40 +1,21 @@
 -- What the walks of the check ahead of surrounding rest on: the children from one on, and the common ancestor. DOM Standard, "Interface Range".
-use Rattle.std.proofs.Common.{◌≡◌, ℕ, zero, suc, ◌+◌, ◌<◌, ◌≤◌, Bool, true, false, not, ◌&&◌, ◌||◌, if◌then◌else◌, List, [], ◌∷◌, ◌++◌, find, drop, Option, Some, None, option_map, option_and_then, unwrap_or, slice_get, is_some, Ok, Err, is_err, refl, ap, sym, ◌∙◌, subst, arith}
+use Rattle.std.proofs.Common.{◌≡◌, ℕ, zero, suc, ◌+◌, ◌<◌, ◌≤◌, Bool, true, false, not, ◌&&◌, ◌||◌, if◌then◌else◌, List, [], ◌∷◌, ◌++◌, find, drop, Option, Some, None, option_map, option_and_then, unwrap_or, slice_get, is_some, Ok, Err, is_err, refl, ap, sym, ◌∙◌, subst, arith, MatchResult, Result}
 use Rattle.std.proofs.lemmas.Bool.{false≢true}
 use Rattle.std.specs.List.{list_any}
-use Rattle.std.specs.Prelude.{MatchResult, Result}
-use Rattle.dom_model.specs.declared.Kind.TheVariants.{Element, Text, Document, DocumentType, DocumentFragment}
-use Rattle.dom_model.specs.declared.DomError.{DomError}
-use Rattle.dom_model.specs.declared.DomError.TheVariants.{HierarchyRequestError, InvalidStateError, InvalidNodeTypeError}
-use Rattle.dom_model.specs.PlainLists.Lists.{hits, among, last_of, place_in, after, is_number}
-use Rattle.dom_model.specs.Forests.Forest.{Forest, HasNode, occurs, numbers, parent_of, children_of, next_of, index_of, ancestors, root_of}
-use Rattle.dom_model.specs.Worlds.World.{Content, Point, Range}
+use Rattle.dom_model.specs.declared.{Kind.TheVariants.Element, Kind.TheVariants.Text, Kind.TheVariants.Document, Kind.TheVariants.DocumentType, Kind.TheVariants.DocumentFragment, DomError.DomError, DomError.TheVariants.HierarchyRequestError, DomError.TheVariants.InvalidStateError, DomError.TheVariants.InvalidNodeTypeError}
+use Rattle.dom_model.specs.Definitions.{hits, among, last_of, place_in, after, is_number, Forest, HasNode, occurs, numbers, parent_of, children_of, next_of, index_of, ancestors, root_of, Content, Point, Range, IsRange, IsSound, if_given, has_kind, check_insert, is_of_kind, point_after, is_partially_contained, common_ancestor, for_range, new_place, common_of, is_text, reference_at, parent_at, check_whole_surround}
 use Rattle.dom_model.specs.Worlds.World as model
-use Rattle.dom_model.specs.Soundness.Sound.{IsRange, IsSound}
-use Rattle.dom_model.specs.MutationAlgorithms.Checks.{if_given, has_kind, check_insert}
-use Rattle.dom_model.specs.Forests.Nodes.{is_of_kind}
-use Rattle.dom_model.specs.RangesAndContents.Ranges.{point_after, is_partially_contained, common_ancestor}
-use Rattle.dom_model.specs.RangesAndContents.Contents.{for_range, new_place, common_of}
-use Rattle.dom_model.specs.RangesAndContents.Wrapping.{is_text, reference_at, parent_at, check_whole_surround}
 use Rattle.dom_model.proofs.PlainLists.Numbers.{same_or, same, apart}
-use Rattle.dom_model.proofs.Forests.Entries.{HasNode-occurs, occurs-HasNode}
-use Rattle.dom_model.proofs.Forests.Climbing.{hits-append, hits-among, ancestors-there}
-use Rattle.dom_model.proofs.Forests.Indices.{child-listed, child-once, index-child}
+use Rattle.dom_model.proofs.Forests.{Entries.HasNode-occurs, Entries.occurs-HasNode, Climbing.hits-append, Climbing.hits-among, Climbing.ancestors-there, Indices.child-listed, Indices.child-once, Indices.index-child}
 use Rattle.dom_model.proofs.Worlds.Parts.{path-there}
 use Rattle.dom_model.proofs.BoundaryPoints.RemovalOrder.{ancestors-split}
 use Rattle.dom_model.proofs.Soundness.SoundExtracting.{common_above}
 use Rattle.dom_model.proofs.RangesAndContents.StartsAhead.{got_place}
 use Rattle.dom_ranges.specs.Tables.{range_in}
-use Rattle.dom_edit.specs.declared.world.World.{World}
-use Rattle.dom_edit.specs.Whole.{IsWhole, unwatched}
-use Rattle.dom_edit.specs.Places.{from_optional, IsAmong}
-use Rattle.dom_edit.proofs.PlacedWorlds.{sound-unwatched}
-use Rattle.dom_edit.proofs.AmongChildren.{next_of-child}
+use Rattle.dom_edit.specs.{declared.world.World.World, Whole.IsWhole, Whole.unwatched, Places.from_optional, Places.IsAmong}
+use Rattle.dom_edit.proofs.{PlacedWorlds.sound-unwatched, AmongChildren.next_of-child}
 use Rattle.dom_wrap.specs.Allowing.{is_near, is_refused_at, is_refused_between, is_unplaceable, is_left_element, first_behind, surround_refusal_of}
-use Rattle.dom_wrap.proofs.AllowPlaces.{insert-told, parent-is}
-use Rattle.dom_wrap.proofs.AllowShape.{near-told}
-use Rattle.dom_wrap.proofs.AllowTold.{told_by}
-use Rattle.dom_wrap.proofs.AllowWhole.{surround-told}
+use Rattle.dom_wrap.proofs.{AllowPlaces.insert-told, AllowPlaces.parent-is, AllowShape.near-told, AllowTold.told_by, AllowWhole.surround-told}
 
 -- Going along a list.
 

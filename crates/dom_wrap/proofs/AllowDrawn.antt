@@ -2,43 +2,15 @@
 -- DOM Standard, "Interface Range" (extract, surroundContents).
 use Rattle.std.proofs.Common.{◌≡◌, ℕ, ◌-◌, ◌<◌, ◌≤◌, ◌==◌, Bool, true, false, not, ◌&&◌, ◌||◌, if◌then◌else◌, List, [], ◌∷◌, filter, reverse, length, Some, None, is_some, unwrap_or, refl, ap, sym, ◌∙◌, subst, arith}
 use Rattle.std.proofs.lemmas.Bool.{false≢true}
-use Rattle.dom_model.specs.declared.Kind.{Kind}
-use Rattle.dom_model.specs.declared.Kind.TheVariants.{Text, DocumentType, DocumentFragment}
-use Rattle.dom_model.specs.declared.DomError.TheVariants.{HierarchyRequestError}
-use Rattle.dom_model.specs.PlainLists.Lists.{hits, among, head_of, up_to, is_same}
-use Rattle.dom_model.specs.Forests.Kinds.{is_kind, is_character_data}
-use Rattle.dom_model.specs.Forests.Forest.{Forest, empty, node, occurs, entry_in, parent_of, children_of, ancestors, root_of}
-use Rattle.dom_model.specs.Worlds.World.{Content, Point, Range, World, no_content}
-use Rattle.dom_model.specs.Soundness.Sound.{IsRange, IsSound}
-use Rattle.dom_model.specs.Worlds.Lengths.{unit_count, node_length}
-use Rattle.dom_model.specs.Worlds.Making.{named}
-use Rattle.dom_model.specs.MutationAlgorithms.Checks.{has_kind}
-use Rattle.dom_model.specs.Forests.Nodes.{kind_passes, is_of_kind, same_root}
-use Rattle.dom_model.specs.MutationAlgorithms.Editing.{node_document}
-use Rattle.dom_model.specs.DataAndCopies.Data.{data_of}
-use Rattle.dom_model.specs.RangesAndContents.Ranges.{is_less, is_before, is_collapsed, collapsed_at, range_at, with_range}
-use Rattle.dom_model.specs.RangesAndContents.Contents.{is_in_one_data, contained_in, new_place, new_fragment, units_into, children_into, tail_into, head_into, path_below, common_of, contained_children, parts_into, contents_drawn, check_draw, extracted}
-use Rattle.dom_model.proofs.Forests.Climbing.{hits-append, hits-first}
-use Rattle.dom_model.proofs.Forests.Entries.{occurs-HasNode}
-use Rattle.dom_model.proofs.Forests.Indices.{child-parent, child-there}
-use Rattle.dom_model.proofs.Worlds.Measured.{entry-beside, children-beside}
-use Rattle.dom_model.proofs.Worlds.Parts.{path-there, ancestors-part, root-part, order-part, length-part, range-from_part}
-use Rattle.dom_model.proofs.Soundness.SoundEditing.{clear}
-use Rattle.dom_model.proofs.Soundness.SoundNormalizing.{filter-passed}
-use Rattle.dom_model.proofs.Soundness.SoundAppending.{IsHolder, IsPlain, IsDrawn, holder_stays, IsFragment, fragment_made}
-use Rattle.dom_model.proofs.Soundness.SoundCopies.{filled_units}
-use Rattle.dom_model.proofs.Soundness.SoundDeleting.{offset_of_start}
-use Rattle.dom_model.proofs.Soundness.SoundDrawing.{drawn_children, new_apart, IsFilled, holder_filled, plain_filled}
-use Rattle.dom_model.proofs.Soundness.SoundExtracting.{none_listed, common_above}
-use Rattle.dom_model.proofs.RangesAndContents.PathsToEnds.{plain_below}
-use Rattle.dom_model.proofs.RangesAndContents.ContainedAside.{start-not_contained}
-use Rattle.dom_model.proofs.RangesAndContents.LiveRangesKept.{live-there}
-use Rattle.dom_model.proofs.TokenText.EditsMade.EditsOfSteps.{range-set}
-use Rattle.dom_model.proofs.TokenText.EditsMade.EditsOfDrawnContents.{live-contents_drawn}
-use Rattle.dom_wrap.proofs.AllowAbove.{none-or-some, ancestors-kept, above-within}
-use Rattle.dom_wrap.proofs.AllowPlaces.{text-passes}
-use Rattle.dom_wrap.proofs.AllowShape.{IsNear, at_it, in_text}
-use Rattle.dom_wrap.proofs.AllowChildren.{without_each, each-passed, children-drawn, children-units, range-units}
+use Rattle.dom_model.specs.declared.{Kind.Kind, Kind.TheVariants.Text, Kind.TheVariants.DocumentType, Kind.TheVariants.DocumentFragment, DomError.TheVariants.HierarchyRequestError}
+use Rattle.dom_model.specs.Definitions.{hits, among, head_of, up_to, is_same, is_kind, is_character_data, Forest, empty, node, occurs, entry_in, parent_of, children_of, ancestors, root_of, Content, Point, Range, World, no_content, IsRange, IsSound, unit_count, node_length, named, has_kind, kind_passes, is_of_kind, same_root, node_document, data_of, is_less, is_before, is_collapsed, collapsed_at, range_at, with_range, is_in_one_data, contained_in, new_place, new_fragment, units_into, children_into, tail_into, head_into, path_below, common_of, contained_children, parts_into, contents_drawn, check_draw, extracted}
+use Rattle.dom_model.proofs.Forests.{Entries.occurs-HasNode, Indices.child-parent, Indices.child-there}
+use Rattle.dom_model.proofs.Worlds.{Measured.entry-beside, Measured.children-beside, Parts.path-there, Parts.ancestors-part, Parts.root-part, Parts.order-part, Parts.length-part, Parts.range-from_part}
+use Rattle.dom_model.proofs.Soundness.{SoundEditing.clear, SoundNormalizing.filter-passed, SoundAppending.IsHolder, SoundAppending.IsPlain, SoundAppending.IsDrawn, SoundAppending.holder_stays, SoundAppending.IsFragment, SoundAppending.fragment_made, SoundCopies.filled_units, SoundDeleting.offset_of_start, SoundDrawing.drawn_children, SoundDrawing.new_apart, SoundDrawing.IsFilled, SoundDrawing.holder_filled, SoundDrawing.plain_filled, SoundExtracting.none_listed, SoundExtracting.common_above}
+use Rattle.dom_model.proofs.RangesAndContents.{PathsToEnds.plain_below, ContainedAside.start-not_contained, LiveRangesKept.live-there}
+use Rattle.dom_model.proofs.TokenText.{EditsMade.EditsOfSteps.range-set, EditsMade.EditsOfDrawnContents.live-contents_drawn}
+use Rattle.dom_wrap.proofs.{AllowAbove.none-or-some, AllowAbove.ancestors-kept, AllowAbove.above-within, AllowPlaces.text-passes, AllowShape.IsNear, AllowShape.at_it, AllowShape.in_text, AllowChildren.without_each, AllowChildren.each-passed, AllowChildren.children-drawn, AllowChildren.children-units, AllowChildren.range-units}
+use Rattle.dom_model.proofs.MutationAlgorithms.ChecksKept.{filter-same}
 
 -- what was there stays, and what stands above a node
 pub record IsTaken (w v : World) (c : ℕ) : Type 0 where
@@ -62,12 +34,6 @@ pub record IsLeft (w v : World) (r c : ℕ) (range : Range) : Type 0 where
   pub next : Range
   pub found : range_at v r ≡ Some next
   pub start : next.start ≡ new_place w.forest range
-
-filter-alike : (p q : ℕ → Bool) (ns : List ℕ) → ((m : ℕ) → 0 < hits m ns → p m ≡ q m) → filter p ns ≡ filter q ns
-filter-alike p q [] h = refl
-filter-alike p q (x ∷ ns) h =
-    let i = filter-alike p q ns (λ m k. h m (let l = hits-append m (x ∷ []) ns in omega arith)) in
-    rw (h x (hits-first x ns), i) refl
 
 -- One end of a range: a Text is cut, or nothing is.
 
@@ -185,7 +151,7 @@ module _ (r : ℕ) (range : Range) (w : World) (s : IsSound w) (e : range_at w r
   contained_same : contained_children made range ≡ contained_children w range
   contained_same =
       ap (filter (contained_in made range)) kids_made
-      ∙ filter-alike (contained_in made range) (contained_in w range) (children_of w.forest c) (λ m k. same_contained m (child-there w.forest s.forest.once m c k))
+      ∙ filter-same (contained_in made range) (contained_in w range) (children_of w.forest c) (λ m k. same_contained m (child-there w.forest s.forest.once m c k))
 
   abbrev ns : List ℕ
   ns = contained_children made range

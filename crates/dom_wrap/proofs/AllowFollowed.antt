@@ -1,50 +1,17 @@
 -- Once an element has come in, the fragment goes into it, and it is selected: neither is refused. DOM Standard, "Interface Range" (surroundContents).
 use Rattle.std.proofs.Common.{◌≡◌, ℕ, ◌+◌, ◌<◌, ◌≤◌, ◌==◌, Bool, true, false, ◌&&◌, if◌then◌else◌, [], ◌∷◌, length, Option, Some, None, is_none, option_map, Ok, refl, ap, sym, ◌∙◌, subst, arith}
 use Rattle.std.proofs.lemmas.Bool.{false≢true}
-use Rattle.dom_model.specs.declared.Kind.{Kind}
-use Rattle.dom_model.specs.declared.Kind.TheVariants.{Element, Text, ProcessingInstruction, Comment, Document, DocumentType, DocumentFragment}
-use Rattle.dom_model.specs.PlainLists.Lists.{hits, among}
-use Rattle.dom_model.specs.Forests.Arena.{Entry}
-use Rattle.dom_model.specs.Forests.Kinds.{is_kind, may_be_parent}
-use Rattle.dom_model.specs.Forests.Forest.{Node, Forest, occurs, entry_in, next_of, parent_of, children_of, index_of, ancestors}
-use Rattle.dom_model.specs.Forests.Texts.{spliced}
-use Rattle.dom_model.specs.Worlds.World.{Content, Point, Range, World}
-use Rattle.dom_model.specs.Soundness.Sound.{IsBoundary, IsSound}
-use Rattle.dom_model.specs.MutationAlgorithms.Checks.{check_insert}
-use Rattle.dom_model.specs.Forests.Nodes.{entry_has, kind_passes, is_of_kind}
-use Rattle.dom_model.specs.MutationAlgorithms.Editing.{remove, insert, reference_child, pre_insert, nodes_of, is_fragment}
-use Rattle.dom_model.specs.RangesAndContents.Ranges.{is_collapsed, range_at, with_range}
-use Rattle.dom_model.specs.DataAndCopies.Data.{data_of, tail_of, with_data, cut_count, split_off, split}
-use Rattle.dom_model.specs.RangesAndContents.Contents.{for_range}
-use Rattle.dom_model.specs.RangesAndContents.Wrapping.{and_then, try_pre_insert, is_text, reference_at, parent_at, check_start, split_at, reference_after, offset_past, end_if_collapsed, inserted_at, insert_node, selected, try_select, refusal_in}
-use Rattle.dom_model.specs.MutationAlgorithms.Insertable.{IsInsertable}
+use Rattle.dom_model.specs.declared.{Kind.Kind, Kind.TheVariants.Element, Kind.TheVariants.Text, Kind.TheVariants.ProcessingInstruction, Kind.TheVariants.Comment, Kind.TheVariants.Document, Kind.TheVariants.DocumentType, Kind.TheVariants.DocumentFragment}
+use Rattle.dom_model.specs.Definitions.{hits, among, Entry, is_kind, may_be_parent, Node, Forest, occurs, entry_in, next_of, parent_of, children_of, index_of, ancestors, spliced, Content, Point, Range, World, IsBoundary, IsSound, check_insert, entry_has, kind_passes, is_of_kind, remove, insert, reference_child, pre_insert, nodes_of, is_fragment, is_collapsed, range_at, with_range, data_of, tail_of, with_data, cut_count, split_off, split, for_range, and_then, try_pre_insert, is_text, reference_at, parent_at, check_start, split_at, reference_after, offset_past, end_if_collapsed, inserted_at, insert_node, selected, try_select, refusal_in, IsInsertable}
 use Rattle.dom_model.proofs.PlainLists.Numbers.{same_or, same, apart}
-use Rattle.dom_model.proofs.Forests.Changes.{seen, nothing, just}
-use Rattle.dom_model.proofs.Forests.Entries.{HasNode-occurs, occurs-HasNode}
-use Rattle.dom_model.proofs.Forests.Climbing.{hits-first, hits-self, hits-not_among}
-use Rattle.dom_model.proofs.Forests.Paths.{parent-path}
-use Rattle.dom_model.proofs.Forests.Listed.{hits-other}
-use Rattle.dom_model.proofs.Forests.Totals.{IsOnce}
-use Rattle.dom_model.proofs.Worlds.SameShape.{IsAlike, with_node-alike, kind-alike, parent-alike}
-use Rattle.dom_model.proofs.Worlds.Measured.{kind-beside, parent-beside}
-use Rattle.dom_model.proofs.Worlds.Parts.{path-there}
-use Rattle.dom_model.proofs.MutationAlgorithms.Loosened.{IsLoosened, loosened-remove}
-use Rattle.dom_model.proofs.MutationAlgorithms.Extending.{IsPut, put_by_insert}
-use Rattle.dom_model.proofs.MutationAlgorithms.ChecksKept.{allowed, refusal-head}
-use Rattle.dom_model.proofs.Soundness.SoundData.{length-data}
-use Rattle.dom_model.proofs.Soundness.SoundWorlds.{sound-remove}
-use Rattle.dom_model.proofs.Soundness.SoundPlacing.{parent_placed}
-use Rattle.dom_model.proofs.Soundness.SoundEditing.{checks_insert, insertable, sound-pre_insert}
-use Rattle.dom_model.proofs.Soundness.SoundSplitting.{text_has_data, made, sm, parted, there-old, hp, placeable, split_off_is, forest_is, kind-parted, sound-split}
-use Rattle.dom_model.proofs.Soundness.SoundPlacedNode.{Gives}
-use Rattle.dom_model.proofs.Soundness.SoundInsertedNode.{insert-next}
-use Rattle.dom_model.proofs.Forests.Indices.{child-parent}
+use Rattle.dom_model.proofs.Forests.{Changes.seen, Changes.nothing, Changes.just, Entries.HasNode-occurs, Entries.occurs-HasNode, Climbing.hits-first, Climbing.hits-self, Climbing.hits-not_among, Paths.parent-path, Listed.hits-other, Totals.IsOnce, Indices.child-parent}
+use Rattle.dom_model.proofs.Worlds.{SameShape.IsAlike, SameShape.with_node-alike, SameShape.kind-alike, SameShape.parent-alike, Measured.kind-beside, Measured.parent-beside, Parts.path-there}
+use Rattle.dom_model.proofs.MutationAlgorithms.{Loosened.IsLoosened, Loosened.loosened-remove, Extending.IsPut, Extending.put_by_insert, ChecksKept.allowed, ChecksKept.refusal-head}
+use Rattle.dom_model.proofs.Soundness.{SoundData.length-data, SoundWorlds.sound-remove, SoundPlacing.parent_placed, SoundEditing.checks_insert, SoundEditing.insertable, SoundEditing.sound-pre_insert, SoundSplitting.text_has_data, SoundSplitting.made, SoundSplitting.sm, SoundSplitting.parted, SoundSplitting.there-old, SoundSplitting.hp, SoundSplitting.placeable, SoundSplitting.split_off_is, SoundSplitting.forest_is, SoundSplitting.kind-parted, SoundSplitting.sound-split, SoundPlacedNode.Gives, SoundInsertedNode.insert-next}
 use Rattle.dom_model.proofs.BoundaryPoints.SplitEnds.{split_parts}
 use Rattle.dom_model.proofs.RangesAndContents.InsertAllowed.{insert-allowed}
 use Rattle.dom_wrap.specs.Allowing.{holder_of, is_refused_at}
-use Rattle.dom_wrap.proofs.InsertedNode.{unless-none, placed-is}
-use Rattle.dom_wrap.proofs.AllowAbove.{none-or-some, ancestors-kept}
-use Rattle.dom_wrap.proofs.AllowPlaces.{element-passes, parent-is}
+use Rattle.dom_wrap.proofs.{InsertedNode.unless-none, InsertedNode.placed-is, AllowAbove.none-or-some, AllowAbove.ancestors-kept, AllowPlaces.element-passes, AllowPlaces.parent-is}
 
 -- what was there stays, with its parents
 record IsApart (u v : World) : Type 0 where

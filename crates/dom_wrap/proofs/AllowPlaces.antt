@@ -1,29 +1,14 @@
 -- An element that comes in at the start of a live range: refused by one test, or by none. DOM Standard, "Interface Range" (insert).
 use Rattle.std.proofs.Common.{◌≡◌, ℕ, ◌<◌, ◌==◌, Bool, true, false, not, ◌&&◌, ◌||◌, if◌then◌else◌, [], ◌∷◌, Option, Some, None, is_none, unwrap_or, slice_get, refl, ap, sym, ◌∙◌}
-use Rattle.std.proofs.lemmas.Bool.{false≢true}
-use Rattle.dom_model.specs.declared.Kind.{Kind}
-use Rattle.dom_model.specs.declared.Kind.TheVariants.{Element, Text, ProcessingInstruction, Comment, Document, DocumentType, DocumentFragment}
-use Rattle.dom_model.specs.declared.DomError.{DomError}
-use Rattle.dom_model.specs.declared.DomError.TheVariants.{HierarchyRequestError, NotFoundError}
-use Rattle.dom_model.specs.PlainLists.Lists.{among, is_number, or_else, first_refusal}
-use Rattle.dom_model.specs.Forests.Arena.{Entry}
-use Rattle.dom_model.specs.Forests.Kinds.{is_kind, may_be_parent}
-use Rattle.dom_model.specs.Forests.Forest.{Node, Forest, occurs, entry_in, parent_of, children_of, ancestors}
-use Rattle.dom_model.specs.Worlds.World.{Content, Point, World}
-use Rattle.dom_model.specs.Soundness.Sound.{IsSound}
-use Rattle.dom_model.specs.MutationAlgorithms.Checks.{if_given, document_refuses, is_misplaced, kind_refuses, check_insert}
-use Rattle.dom_model.specs.Forests.Nodes.{entry_has, kind_passes, is_of_kind}
-use Rattle.dom_model.specs.RangesAndContents.Wrapping.{Outcome, and_then, unless, is_text, reference_at, parent_by, parent_at, check_start, inserted_at, refusal_in}
+use Rattle.std.proofs.lemmas.Bool.{false≢true, not-false}
+use Rattle.dom_model.specs.declared.{Kind.Kind, Kind.TheVariants.Element, Kind.TheVariants.Text, Kind.TheVariants.ProcessingInstruction, Kind.TheVariants.Comment, Kind.TheVariants.Document, Kind.TheVariants.DocumentType, Kind.TheVariants.DocumentFragment, DomError.DomError, DomError.TheVariants.HierarchyRequestError, DomError.TheVariants.NotFoundError}
+use Rattle.dom_model.specs.Definitions.{among, is_number, or_else, first_refusal, Entry, is_kind, may_be_parent, Node, Forest, occurs, entry_in, parent_of, children_of, ancestors, Content, Point, World, IsSound, if_given, document_refuses, is_misplaced, kind_refuses, check_insert, entry_has, kind_passes, is_of_kind, Outcome, and_then, unless, is_text, reference_at, parent_by, parent_at, check_start, inserted_at, refusal_in}
 use Rattle.dom_model.proofs.PlainLists.Numbers.{same_or, same, apart}
-use Rattle.dom_model.proofs.Forests.Changes.{seen, nothing, just}
-use Rattle.dom_model.proofs.Forests.Entries.{HasNode-occurs}
-use Rattle.dom_model.proofs.Forests.Climbing.{hits-among, hits-self}
-use Rattle.dom_model.proofs.Forests.Indices.{child-once, child-parent}
+use Rattle.dom_model.proofs.Forests.{Changes.seen, Changes.nothing, Changes.just, Entries.HasNode-occurs, Climbing.hits-among, Climbing.hits-self, Indices.child-once, Indices.child-parent}
 use Rattle.dom_model.proofs.MutationAlgorithms.ChecksKept.{or_first, or_second}
-use Rattle.dom_model.proofs.RangesAndContents.Drawing.{passes_too}
-use Rattle.dom_model.proofs.RangesAndContents.StartsAhead.{got_place}
-use Rattle.dom_model.proofs.RangesAndContents.InsertAllowed.{insert-done}
+use Rattle.dom_model.proofs.RangesAndContents.{StartsAhead.got_place, InsertAllowed.insert-done}
 use Rattle.dom_wrap.specs.Allowing.{holder_of, is_refused_at}
+use Rattle.dom_model.proofs.Soundness.SoundForests.{passes-also}
 
 -- Kinds.
 
@@ -55,7 +40,7 @@ text-alone other DocumentFragment e = absurd (false≢true e)
 
 -- what is asked of the kind of a Text
 pub text-passes : (f : Forest Content) (n : ℕ) (test : Kind → Bool) → is_of_kind Text f n ≡ true → kind_passes test f n ≡ test Text
-text-passes f n test h = passes_too (is_kind Text) test (test Text) (text-alone test) f n h
+text-passes f n test h = passes-also (is_kind Text) test (test Text) (text-alone test) f n h
 
 holds-no_data : (k : Kind) → may_be_parent k ≡ true → (is_kind ProcessingInstruction k || is_kind Comment k) ≡ false
 holds-no_data Element e = refl
@@ -98,10 +83,6 @@ start-told false false false = refl
 refused-anyway : (a c rest : Option DomError) (v : Bool) → a ≡ (if v then Some HierarchyRequestError else None) → c ≡ Some HierarchyRequestError → or_else a (or_else c rest) ≡ Some HierarchyRequestError
 refused-anyway a c rest true e d = rw e refl
 refused-anyway a c rest false e d = rw (e, d) refl
-
-turned : (v : Bool) → not v ≡ false → v ≡ true
-turned true h = refl
-turned false h = absurd (false≢true (sym h))
 
 module _ (u : World) (s : IsSound u) (p : Point) where
   abbrev f : Forest Content
@@ -180,7 +161,7 @@ module _ (u : World) (s : IsSound u) (p : Point) where
         let y : is_of_kind DocumentType f n ≡ false = element-passes f n (is_kind DocumentType) element in
         let m : is_misplaced f q n ≡ false = rw (x, y) refl in
         conditions-told (not (kind_passes may_be_parent f q)) (among n (ancestors q f)) (if_given (λ c. not (is_number (parent_of f c) q)) child) (is_of_kind Document f n) (is_misplaced f q n) (kind_refuses refuses f q n)
-        (λ h. found (turned (kind_passes may_be_parent f q) h)) d m
+        (λ h. found (not-false (kind_passes may_be_parent f q) h)) d m
         ∙ ap (λ z. if not (kind_passes may_be_parent f q) || (among n (ancestors q f) || (is_of_kind Document f q && z)) then Some HierarchyRequestError else None) (element-passes f n refuses element)
 
     -- where that is not refused, no more is the start
@@ -188,7 +169,7 @@ module _ (u : World) (s : IsSound u) (p : Point) where
     start-passes t = start-told (is_of_kind ProcessingInstruction f p.node || is_of_kind Comment f p.node) (is_text u p.node && is_none (parent_of f p.node)) (p.node == n) ∙ (rw (passes (is_text u p.node) refl) refl)
       where
         holds : kind_passes may_be_parent f q ≡ true
-        holds = turned (kind_passes may_be_parent f q) (or_first (not (kind_passes may_be_parent f q)) _ t)
+        holds = not-false (kind_passes may_be_parent f q) (or_first (not (kind_passes may_be_parent f q)) _ t)
 
         outside : among n (ancestors q f) ≡ false
         outside = or_first (among n (ancestors q f)) _ (or_second (not (kind_passes may_be_parent f q)) _ t)

@@ -1,34 +1,17 @@
 -- Where no node but a Text is partially contained: each end stands in the deepest common ancestor, or in a Text that is a child of it.
 -- DOM Standard, "Interface Range" (surroundContents).
 use Rattle.std.proofs.Common.{◌≡◌, ℕ, ◌+◌, ◌<◌, ◌≤◌, ◌==◌, Bool, true, false, not, ◌&&◌, List, [], ◌∷◌, ◌++◌, Option, Some, None, refl, ap, sym, ◌∙◌, subst, arith}
-use Rattle.std.proofs.lemmas.Bool.{false≢true}
+use Rattle.std.proofs.lemmas.Bool.{false≢true, not-false}
 use Rattle.std.specs.List.{list_any}
 use Rattle.dom_model.specs.declared.Kind.TheVariants.{Text}
-use Rattle.dom_model.specs.PlainLists.Lists.{hits, among, is_number, up_to}
-use Rattle.dom_model.specs.Forests.Kinds.{may_be_parent}
-use Rattle.dom_model.specs.Forests.Forest.{Forest, occurs, one_at, numbers, parent_of, ancestors}
-use Rattle.dom_model.specs.Worlds.World.{Content, Range}
-use Rattle.dom_model.specs.Soundness.Sound.{IsRange}
-use Rattle.dom_model.specs.Forests.Nodes.{is_of_kind}
-use Rattle.dom_model.specs.RangesAndContents.Ranges.{is_partially_contained, common_ancestor}
-use Rattle.dom_model.specs.RangesAndContents.Contents.{path_below}
-use Rattle.dom_model.specs.Forests.Ways.{IsWay}
+use Rattle.dom_model.specs.Definitions.{hits, among, is_number, up_to, may_be_parent, Forest, occurs, one_at, numbers, parent_of, ancestors, Content, Range, IsRange, is_of_kind, is_partially_contained, common_ancestor, path_below, IsWay}
 use Rattle.dom_model.proofs.PlainLists.Numbers.{same_or, same, apart}
-use Rattle.dom_model.proofs.Forests.Entries.{occurs-HasNode}
-use Rattle.dom_model.proofs.Forests.Totals.{IsOnce}
-use Rattle.dom_model.proofs.Forests.Climbing.{hits-append, hits-reverse, hits-among, among-hits, hits-not_among, hits-self, ancestors-there}
-use Rattle.dom_model.proofs.Forests.Paths.{parent-path}
-use Rattle.dom_model.proofs.Forests.Indices.{parent-there}
-use Rattle.dom_model.proofs.Forests.TreeOrder.Flattened.{hits-numbers}
+use Rattle.dom_model.proofs.Forests.{Entries.occurs-HasNode, Totals.IsOnce, Climbing.hits-append, Climbing.hits-reverse, Climbing.hits-among, Climbing.among-hits, Climbing.hits-not_among, Climbing.hits-self, Climbing.ancestors-there, Paths.parent-path, Indices.parent-there, TreeOrder.Flattened.hits-numbers}
 use Rattle.dom_model.proofs.BoundaryPoints.RemovalOrder.{ancestors-split}
-use Rattle.dom_model.proofs.Soundness.SoundForests.{IsWood}
-use Rattle.dom_model.proofs.Soundness.SoundExtracting.{none_listed}
-use Rattle.dom_model.proofs.RangesAndContents.PathsApart.{along, along-ancestors}
-use Rattle.dom_model.proofs.RangesAndContents.PathsToEnds.{holders_above, common-above}
-use Rattle.dom_model.proofs.RangesAndContents.WaysBelow.{IsFork, fork}
+use Rattle.dom_model.proofs.Soundness.{SoundForests.IsWood, SoundExtracting.none_listed}
+use Rattle.dom_model.proofs.RangesAndContents.{PathsApart.along, PathsApart.along-ancestors, PathsToEnds.holders_above, PathsToEnds.common-above, WaysBelow.IsFork, WaysBelow.fork}
 use Rattle.dom_wrap.specs.Allowing.{is_near}
-use Rattle.dom_wrap.proofs.AllowAbove.{none-or-some, above-within}
-use Rattle.dom_wrap.proofs.AllowPlaces.{text-passes}
+use Rattle.dom_wrap.proofs.{AllowAbove.none-or-some, AllowAbove.above-within, AllowPlaces.text-passes}
 
 -- an end stands in the common ancestor, or in a Text that is a child of it
 pub data IsNear (f : Forest Content) (c n : ℕ) : Type 0 where
@@ -118,11 +101,7 @@ module _ {f : Forest Content} {made : ℕ} (s : IsWood f made) (range : Range) (
     only_text m hm p =
         let k = none_listed (λ x. is_partially_contained f range x && not (is_of_kind Text f x)) (numbers f) m shallow (let i = hits-numbers m f in omega arith) in
         let j = rw p at k in
-        turned (is_of_kind Text f m) j
-      where
-        turned : (v : Bool) → not v ≡ false → v ≡ true
-        turned true i = refl
-        turned false i = absurd (false≢true (sym i))
+        not-false (is_of_kind Text f m) j
 
     first_hit : (m : ℕ) (path : List ℕ) (n : ℕ) → 0 < occurs n f → IsWay f c path n → 0 < occurs m f → parent_of f m ≡ Some c → 0 < hits m path → path_below f c n ≡ path → 0 < hits m (ancestors n f)
     first_hit m path n hn w hm e i d =

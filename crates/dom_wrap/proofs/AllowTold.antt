@@ -2,45 +2,16 @@
 use Rattle.std.proofs.Common.{◌≡◌, ℕ, ◌<◌, Bool, true, false, not, ◌&&◌, ◌||◌, if◌then◌else◌, List, [], ◌∷◌, take, drop, filter, Option, Some, None, unwrap_or, slice_get, Ok, Err, refl, ap, sym, ◌∙◌, subst, arith}
 use Rattle.std.proofs.lemmas.Bool.{false≢true}
 use Rattle.std.specs.List.{list_any}
-use Rattle.dom_model.specs.declared.Kind.{Kind}
-use Rattle.dom_model.specs.declared.Kind.TheVariants.{Element, Text, Document, DocumentType, DocumentFragment}
-use Rattle.dom_model.specs.declared.DomError.{DomError}
-use Rattle.dom_model.specs.declared.DomError.TheVariants.{HierarchyRequestError}
-use Rattle.dom_model.specs.PlainLists.Lists.{hits, among}
-use Rattle.dom_model.specs.Forests.Arena.{Entry}
-use Rattle.dom_model.specs.Forests.Kinds.{is_kind, may_be_parent}
-use Rattle.dom_model.specs.Forests.Forest.{Node, occurs, entry_in, parent_of, children_of, index_of, ancestors}
-use Rattle.dom_model.specs.Worlds.World.{Content, Point, Range, World}
-use Rattle.dom_model.specs.Soundness.Sound.{IsRange, IsSound}
-use Rattle.dom_model.specs.MutationAlgorithms.Checks.{has_kind, element_refused}
-use Rattle.dom_model.specs.Forests.Nodes.{entry_has, kind_passes, is_of_kind}
-use Rattle.dom_model.specs.MutationAlgorithms.Editing.{replace_all}
-use Rattle.dom_model.specs.RangesAndContents.Ranges.{is_collapsed, range_at}
-use Rattle.dom_model.specs.RangesAndContents.Contents.{for_range, is_in_one_data, contained_in, new_place, common_of, contained_children, check_draw, extracted}
-use Rattle.dom_model.specs.RangesAndContents.Wrapping.{Outcome, and_then, try_pre_insert, is_text, reference_at, inserted_at, insert_node, try_select, refusal_in}
+use Rattle.dom_model.specs.declared.{Kind.Kind, Kind.TheVariants.Element, Kind.TheVariants.Text, Kind.TheVariants.Document, Kind.TheVariants.DocumentType, Kind.TheVariants.DocumentFragment, DomError.DomError, DomError.TheVariants.HierarchyRequestError}
+use Rattle.dom_model.specs.Definitions.{hits, among, Entry, is_kind, may_be_parent, Node, occurs, entry_in, parent_of, children_of, index_of, ancestors, Content, Point, Range, World, IsRange, IsSound, has_kind, element_refused, entry_has, kind_passes, is_of_kind, replace_all, is_collapsed, range_at, for_range, is_in_one_data, contained_in, new_place, common_of, contained_children, check_draw, extracted, Outcome, and_then, try_pre_insert, is_text, reference_at, inserted_at, insert_node, try_select, refusal_in}
 use Rattle.dom_model.proofs.PlainLists.Numbers.{same_or, same, apart}
-use Rattle.dom_model.proofs.Forests.Entries.{occurs-HasNode}
-use Rattle.dom_model.proofs.Forests.Climbing.{among-hits, hits-among, hits-not_among, hits-self}
-use Rattle.dom_model.proofs.Forests.Indices.{child-once, child-parent, child-there, index-child}
+use Rattle.dom_model.proofs.Forests.{Entries.occurs-HasNode, Climbing.among-hits, Climbing.hits-among, Climbing.hits-not_among, Climbing.hits-self, Indices.child-once, Indices.child-parent, Indices.child-there, Indices.index-child}
 use Rattle.dom_model.proofs.Worlds.Parts.{path-there}
-use Rattle.dom_model.proofs.MutationAlgorithms.ChecksKept.{or_second}
-use Rattle.dom_model.proofs.Soundness.SoundDeleting.{not_contained}
-use Rattle.dom_model.proofs.Soundness.SoundContents.{sound-extracted}
-use Rattle.dom_model.proofs.Soundness.SoundEditing.{clear, sound-replace_all}
-use Rattle.dom_model.proofs.Soundness.SoundNormalizing.{filter-passed}
-use Rattle.dom_model.proofs.Soundness.SoundExtracting.{none_listed, common_above}
-use Rattle.dom_model.proofs.Soundness.SoundRangeSteps.{live_range}
-use Rattle.dom_model.proofs.Soundness.SoundWorlds.{IsLive}
-use Rattle.dom_model.proofs.RangesAndContents.PlacesLeft.{IsNewPlace, place_is}
+use Rattle.dom_model.proofs.MutationAlgorithms.ChecksKept.{or_second, any-same}
+use Rattle.dom_model.proofs.Soundness.{SoundDeleting.not_contained, SoundContents.sound-extracted, SoundEditing.clear, SoundEditing.sound-replace_all, SoundNormalizing.filter-passed, SoundExtracting.none_listed, SoundExtracting.common_above, SoundRangeSteps.live_range, SoundWorlds.IsLive}
+use Rattle.dom_model.proofs.RangesAndContents.{PlacesLeft.IsNewPlace, PlacesLeft.place_is, DrawnPaths.hits-drop, DrawnPaths.hits-take}
 use Rattle.dom_wrap.specs.Allowing.{holder_of, is_refused_at, is_full, is_refused_between}
-use Rattle.dom_wrap.proofs.AllowAbove.{none-or-some}
-use Rattle.dom_wrap.proofs.AllowCleared.{IsEmptied, emptied}
-use Rattle.dom_wrap.proofs.AllowPlaces.{text-passes, start-passes, insert-passes, inserted-told}
-use Rattle.dom_wrap.proofs.AllowShape.{IsNear}
-use Rattle.dom_wrap.proofs.AllowChildren.{among-filter, place-taken, drop-filter, any-filter, any-kept, any-alike}
-use Rattle.dom_wrap.proofs.AllowDrawn.{IsTaken, IsStill, IsLeft, extracted-still, extracted-left}
-use Rattle.dom_wrap.proofs.AllowFollowed.{followed}
-use Rattle.dom_wrap.proofs.AllowAlike.{element-told, hits-dropped, hits-taken, refused-above, holder-outside, holder-above, refused-alike, common-self}
+use Rattle.dom_wrap.proofs.{AllowAbove.none-or-some, AllowCleared.IsEmptied, AllowCleared.emptied, AllowPlaces.text-passes, AllowPlaces.start-passes, AllowPlaces.insert-passes, AllowPlaces.inserted-told, AllowShape.IsNear, AllowChildren.among-filter, AllowChildren.place-taken, AllowChildren.drop-filter, AllowChildren.any-filter, AllowChildren.any-kept, AllowDrawn.IsTaken, AllowDrawn.IsStill, AllowDrawn.IsLeft, AllowDrawn.extracted-still, AllowDrawn.extracted-left, AllowFollowed.followed, AllowAlike.element-told, AllowAlike.refused-above, AllowAlike.holder-outside, AllowAlike.holder-above, AllowAlike.refused-alike, AllowAlike.common-self}
 
 -- the steps from the emptied parent on
 abbrev pub steps_from : ℕ → ℕ → ℕ → World → Outcome
@@ -257,7 +228,7 @@ module _ (r : ℕ) (range : Range) (w : World) (s : IsSound w) (n : ℕ) (hn : 0
     -- what is ahead of the place stays
     ahead_stays : (m : ℕ) → 0 < hits m (take place.offset kids) → stays m ≡ true
     ahead_stays m k =
-        let i : 0 < hits m kids = (let x = hits-taken m place.offset kids in omega arith) in
+        let i : 0 < hits m kids = (let x = hits-take m place.offset kids in omega arith) in
         let par : parent_of w.forest m ≡ Some c = child-parent w.forest s.forest.once m c i in
         let lt : index_of w.forest m < place.offset = (let x = place-taken m place.offset kids k in let y = index-child w.forest m c par in omega arith) in
         ap not (not_contained w range m (at_place.ahead m (par ∙ ap (λ x. Some x) (sym at_place.common)) lt))
@@ -284,13 +255,13 @@ module _ (r : ℕ) (range : Range) (w : World) (s : IsSound w) (n : ℕ) (hn : 0
           element-told bare.forest c place.offset (λ m. child-once bare.forest su_left.forest.once m c)
           ∙ ap (λ ns. has_kind Element bare.forest ns || has_kind DocumentType bare.forest (drop place.offset ns)) kids_left
           ∙ ap (λ t. t || has_kind DocumentType bare.forest (drop place.offset (filter (λ m. not (contained_in w range m)) kids)))
-          (any-alike (is_of_kind Element bare.forest) (is_of_kind Element w.forest) (filter (λ m. not (contained_in w range m)) kids) (λ m i. kinds_left (is_kind Element) m (kept_there m i))
+          (any-same (is_of_kind Element bare.forest) (is_of_kind Element w.forest) (filter (λ m. not (contained_in w range m)) kids) (λ m i. kinds_left (is_kind Element) m (kept_there m i))
           ∙ any-filter (is_of_kind Element w.forest) stays kids)
           ∙ ap (λ t. list_any (λ m. is_of_kind Element w.forest m && not (contained_in w range m)) kids || t)
-          (any-alike (is_of_kind DocumentType bare.forest) (is_of_kind DocumentType w.forest) (drop place.offset (filter (λ m. not (contained_in w range m)) kids))
-          (λ m i. kinds_left (is_kind DocumentType) m (kept_there m (let x = hits-dropped m place.offset (filter (λ m. not (contained_in w range m)) kids) in omega arith)))
+          (any-same (is_of_kind DocumentType bare.forest) (is_of_kind DocumentType w.forest) (drop place.offset (filter (λ m. not (contained_in w range m)) kids))
+          (λ m i. kinds_left (is_kind DocumentType) m (kept_there m (let x = hits-drop m place.offset (filter (λ m. not (contained_in w range m)) kids) in omega arith)))
           ∙ ap (has_kind DocumentType w.forest) (drop-filter stays place.offset kids ahead_stays)
-          ∙ any-kept (is_of_kind DocumentType w.forest) stays (drop place.offset kids) (λ m i t. doctype_stays m (let x = hits-dropped m place.offset kids in omega arith) t))
+          ∙ any-kept (is_of_kind DocumentType w.forest) stays (drop place.offset kids) (λ m i t. doctype_stays m (let x = hits-drop m place.offset kids in omega arith) t))
 
       outside_left : among n (ancestors c bare.forest) ≡ false
       outside_left = hits-not_among n (ancestors c bare.forest) (ap (hits n) (above_u drawn sound_drawn left.next left.found node_left left.taken k) ∙ k)

@@ -1,54 +1,17 @@
 -- The refusal to surround is told by the world before the first step. DOM Standard, "Interface Range" (surroundContents).
-use Rattle.std.proofs.Common.{◌≡◌, ℕ, zero, suc, ◌+◌, ◌<◌, ◌≤◌, ◌==◌, nat_lt, Bool, true, false, not, ◌&&◌, ◌||◌, if◌then◌else◌, List, [], ◌∷◌, take, drop, Option, Some, None, is_none, Ok, refl, ap, sym, ◌∙◌, subst, arith, ◌⊎◌, inl, inr, ⊎_elim}
-use Rattle.std.proofs.lemmas.Bool.{cases_lt, false≢true}
-use Rattle.std.specs.List.{list_any}
-use Rattle.std.specs.Ordering.{nat_cmp}
-use Rattle.std.specs.declared.cmp.Ordering.TheVariants.{Less, Greater}
-use Rattle.std.specs.Cmp.Lexicographic.{slice_cmp}
-use Rattle.dom_model.specs.declared.Kind.{Kind}
-use Rattle.dom_model.specs.declared.Kind.TheVariants.{Element, Text, ProcessingInstruction, Comment, Document, DocumentType, DocumentFragment}
-use Rattle.dom_model.specs.declared.DomError.{DomError}
-use Rattle.dom_model.specs.declared.DomError.TheVariants.{HierarchyRequestError, InvalidStateError, InvalidNodeTypeError, NotFoundError}
-use Rattle.dom_model.specs.PlainLists.Lists.{hits, among, is_number, or_else, first_refusal}
-use Rattle.dom_model.specs.Forests.Arena.{Entry}
-use Rattle.dom_model.specs.Forests.Kinds.{is_kind, may_be_parent, may_stand_in, is_character_data}
-use Rattle.dom_model.specs.Forests.Forest.{Node, Forest, occurs, entry_in, numbers, parent_of, children_of, index_of, ancestors}
-use Rattle.dom_model.specs.Worlds.World.{Content, Point, Range, World}
-use Rattle.dom_model.specs.Soundness.Sound.{IsRange, IsSound}
-use Rattle.dom_model.specs.Worlds.Lengths.{unit_count, node_length}
-use Rattle.dom_model.specs.BoundaryPoints.Points.{place_of, order_of}
-use Rattle.dom_model.specs.MutationAlgorithms.Checks.{if_given, has_kind, is_misplaced, kind_refuses, document_refuses, check_insert}
-use Rattle.dom_model.specs.Forests.Nodes.{entry_has, kind_passes, is_of_kind, same_root}
-use Rattle.dom_model.specs.MutationAlgorithms.Editing.{pre_insert, replace_all}
-use Rattle.dom_model.specs.RangesAndContents.Ranges.{is_less, is_before, is_collapsed, is_partially_contained, range_at}
-use Rattle.dom_model.specs.RangesAndContents.Contents.{for_range, is_in_one_data, contained_in, new_place, common_of, contained_children, check_draw, check_extract, extracted, extract}
-use Rattle.dom_model.specs.RangesAndContents.Wrapping.{Outcome, and_then, unless, try_pre_insert, is_text, reference_at, parent_at, check_start, inserted_at, insert_node, check_surround, try_extract, try_select, surrounded, refusal_in, check_whole_surround}
+use Rattle.std.proofs.Common.{◌≡◌, ℕ, zero, suc, ◌+◌, ◌<◌, ◌≤◌, ◌==◌, nat_lt, Bool, true, false, not, ◌&&◌, ◌||◌, if◌then◌else◌, List, [], ◌∷◌, take, drop, Option, Some, None, is_none, Ok, refl, ap, sym, ◌∙◌, subst, arith, ◌⊎◌, inl, inr, ⊎_elim, Less, Greater}
+use Rattle.std.proofs.lemmas.Bool.{cases_lt, false≢true, not-false}
+use Rattle.std.specs.{List.list_any, Ordering.nat_cmp, Cmp.Lexicographic.slice_cmp}
+use Rattle.dom_model.specs.declared.{Kind.Kind, Kind.TheVariants.Element, Kind.TheVariants.Text, Kind.TheVariants.ProcessingInstruction, Kind.TheVariants.Comment, Kind.TheVariants.Document, Kind.TheVariants.DocumentType, Kind.TheVariants.DocumentFragment, DomError.DomError, DomError.TheVariants.HierarchyRequestError, DomError.TheVariants.InvalidStateError, DomError.TheVariants.InvalidNodeTypeError, DomError.TheVariants.NotFoundError}
+use Rattle.dom_model.specs.Definitions.{hits, among, is_number, or_else, first_refusal, Entry, is_kind, may_be_parent, may_stand_in, is_character_data, Node, Forest, occurs, entry_in, numbers, parent_of, children_of, index_of, ancestors, Content, Point, Range, World, IsRange, IsSound, unit_count, node_length, place_of, order_of, if_given, has_kind, is_misplaced, kind_refuses, document_refuses, check_insert, entry_has, kind_passes, is_of_kind, same_root, pre_insert, replace_all, is_less, is_before, is_collapsed, is_partially_contained, range_at, for_range, is_in_one_data, contained_in, new_place, common_of, contained_children, check_draw, check_extract, extracted, extract, Outcome, and_then, unless, try_pre_insert, is_text, reference_at, parent_at, check_start, inserted_at, insert_node, check_surround, try_extract, try_select, surrounded, refusal_in, check_whole_surround}
 use Rattle.dom_model.proofs.PlainLists.Numbers.{same_or, same, apart}
-use Rattle.dom_model.proofs.Forests.Entries.{occurs-HasNode}
-use Rattle.dom_model.proofs.Forests.Climbing.{hits-append, hits-first}
-use Rattle.dom_model.proofs.Forests.Indices.{child-parent, child-there, index-child, path-child}
-use Rattle.dom_model.proofs.Forests.Paths.{parent-path}
+use Rattle.dom_model.proofs.Forests.{Entries.occurs-HasNode, Climbing.hits-append, Climbing.hits-first, Indices.child-parent, Indices.child-there, Indices.index-child, Indices.path-child, Paths.parent-path}
 use Rattle.dom_model.proofs.BoundaryPoints.PointOrder.{nat_cmp-same, nat_cmp-greater, order-above}
 use Rattle.dom_model.proofs.MutationAlgorithms.ChecksKept.{or_first, or_second}
-use Rattle.dom_model.proofs.Soundness.SoundForests.{entry_there, child-fits, data-childless}
-use Rattle.dom_model.proofs.Soundness.SoundDeleting.{not_contained}
-use Rattle.dom_model.proofs.Soundness.SoundContents.{sound-extracted}
-use Rattle.dom_model.proofs.Soundness.SoundEditing.{sound-replace_all}
-use Rattle.dom_model.proofs.Soundness.SoundNormalizing.{filter-passed}
-use Rattle.dom_model.proofs.Soundness.SoundExtracting.{none_listed}
-use Rattle.dom_model.proofs.Soundness.SoundRangeSteps.{live_range}
-use Rattle.dom_model.proofs.Soundness.SoundWorlds.{IsLive}
+use Rattle.dom_model.proofs.Soundness.{SoundForests.entry_there, SoundForests.child-fits, SoundForests.data-childless, SoundDeleting.not_contained, SoundContents.sound-extracted, SoundEditing.sound-replace_all, SoundNormalizing.filter-passed, SoundExtracting.none_listed, SoundRangeSteps.live_range, SoundWorlds.IsLive}
 use Rattle.dom_model.proofs.RangesAndContents.PlacesLeft.{place_is}
 use Rattle.dom_wrap.specs.Allowing.{is_refused_between, is_unplaceable, surround_refusal_of, surround_refusal}
-use Rattle.dom_wrap.proofs.AllowAbove.{none-or-some}
-use Rattle.dom_wrap.proofs.AllowCleared.{emptied}
-use Rattle.dom_wrap.proofs.AllowPlaces.{start-told, refusal-unless, parent-is, found}
-use Rattle.dom_wrap.proofs.AllowShape.{start_near, end_near}
-use Rattle.dom_wrap.proofs.AllowChildren.{place-taken}
-use Rattle.dom_wrap.proofs.AllowDrawn.{IsTaken, extracted-still, extracted-left}
-use Rattle.dom_wrap.proofs.AllowFollowed.{third, inserted_is, kind_third}
-use Rattle.dom_wrap.proofs.AllowAlike.{common-self}
-use Rattle.dom_wrap.proofs.AllowTold.{steps_from, told_by, refused-first, told-still, told-left}
+use Rattle.dom_wrap.proofs.{AllowAbove.none-or-some, AllowCleared.emptied, AllowPlaces.start-told, AllowPlaces.refusal-unless, AllowPlaces.parent-is, AllowPlaces.found, AllowShape.start_near, AllowShape.end_near, AllowChildren.place-taken, AllowDrawn.IsTaken, AllowDrawn.extracted-still, AllowDrawn.extracted-left, AllowFollowed.third, AllowFollowed.inserted_is, AllowFollowed.kind_third, AllowAlike.common-self, AllowTold.steps_from, AllowTold.told_by, AllowTold.refused-first, AllowTold.told-still, AllowTold.told-left}
 
 any-some : (p : ℕ → Bool) (ns : List ℕ) → list_any p ns ≡ true → (m : ℕ) × (0 < hits m ns) × (p m ≡ true)
 any-some p [] e = absurd (false≢true e)
@@ -262,10 +225,6 @@ conditions-either false false z d m k f = rw (f refl) (rest d m k)
     rest false false true = inr refl
     rest false false false = inl refl
 
-turned : (v : Bool) → not v ≡ false → v ≡ true
-turned true h = refl
-turned false h = absurd (false≢true (sym h))
-
 module _ (u : World) (s : IsSound u) (n : ℕ) (hn : 0 < occurs n u.forest) (childless : kind_passes may_be_parent u.forest n ≡ false) (r : ℕ) (range : Range) (e : range_at u r ≡ Some range) (b : IsRange u.forest range) (into : ℕ) where
   abbrev p : Point
   p = range.start
@@ -280,7 +239,7 @@ module _ (u : World) (s : IsSound u) (n : ℕ) (hn : 0 < occurs n u.forest) (chi
       (λ k.
       let same_parent = parent-is u s p in
       ap (λ x. if_given (λ y. not (is_number (parent_of u.forest y) x)) (reference_at u p)) same_parent
-      ∙ found u s p (ap (kind_passes may_be_parent u.forest) (sym same_parent) ∙ turned (kind_passes may_be_parent u.forest q) k))
+      ∙ found u s p (ap (kind_passes may_be_parent u.forest) (sym same_parent) ∙ not-false (kind_passes may_be_parent u.forest q) k))
 
   place_is_refused : refusal_in (inserted_at r n p u) ≡ Some HierarchyRequestError → refusal_in (steps_from r n into u) ≡ told_by true
   place_is_refused i =

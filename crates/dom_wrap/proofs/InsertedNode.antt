@@ -1,58 +1,19 @@
 -- What an insertion at the start of a live range needs, and what it leaves. DOM Standard, "Interface Range" (insertNode).
-use Rattle.std.proofs.Common.{◌≡◌, ℕ, ◌<◌, Bool, true, false, ◌&&◌, not, if◌then◌else◌, List, [], ◌∷◌, Option, Some, None, IfSome, slice_get, slice_index_or, slice_set, length, ◌≤◌, Ok, Err, refl, ap, sym, ◌∙◌, subst, arith, ⊎_elim}
-use Rattle.std.specs.Prelude.{unwrap_or, is_none, nat_lt, Result, OnOk}
-use Rattle.std.specs.Option.{ForSome}
-use Rattle.std.proofs.lemmas.Bool.{cases_lt, false≢true}
-use Rattle.std.specs.Ordering.{nat_cmp}
-use Rattle.std.specs.declared.cmp.Ordering.{Ordering}
-use Rattle.std.specs.declared.cmp.Ordering.TheVariants.{Less, Equal, Greater}
-use Rattle.std.specs.Cmp.Lexicographic.{slice_cmp}
+use Rattle.std.proofs.Common.{◌≡◌, ℕ, ◌<◌, Bool, true, false, ◌&&◌, not, if◌then◌else◌, List, [], ◌∷◌, Option, Some, None, IfSome, slice_get, slice_index_or, slice_set, length, ◌≤◌, Ok, Err, refl, ap, sym, ◌∙◌, subst, arith, ⊎_elim, unwrap_or, is_none, nat_lt, Result, OnOk, Ordering, Less, Equal, Greater}
+use Rattle.std.specs.{Option.ForSome, Ordering.nat_cmp, Cmp.Lexicographic.slice_cmp}
+use Rattle.std.proofs.lemmas.{Bool.cases_lt, Bool.false≢true, Bool.Decides.nat_tests, List.get_or_past, List.get_or-set_same, List.length-set, Bool.cond-true, Bool.cond-false}
 use Rattle.dom_model.specs.declared.DomError.{DomError}
-use Rattle.dom_model.specs.Forests.Forest.{Forest, HasNode, occurs, parent_of, children_of, root_of}
+use Rattle.dom_model.specs.Definitions.{Forest, HasNode, occurs, parent_of, children_of, root_of, Content, Point, Range, IsBoundary, IsRange, IsSound, place_of, order_of, check_insert, is_same, remove, pre_insert, reference_child, is_less, is_before, end_set, check_point, range_at, with_range, is_collapsed, same_root, for_range, Outcome, and_then, unless, is_text, reference_at, parent_by, parent_at, check_start, split_at, reference_after, offset_past, end_if_collapsed, placed_at, inserted_at, insert_node, refusal_in, data_of, split, unit_count, node_length}
 use Rattle.dom_model.specs.Worlds.World as model
-use Rattle.dom_model.specs.Worlds.World.{Content, Point, Range}
-use Rattle.dom_model.specs.Soundness.Sound.{IsBoundary, IsRange, IsSound}
-use Rattle.dom_model.specs.BoundaryPoints.Points.{place_of, order_of}
-use Rattle.dom_model.specs.MutationAlgorithms.Checks.{check_insert}
-use Rattle.dom_model.specs.PlainLists.Lists.{is_same}
-use Rattle.dom_model.specs.MutationAlgorithms.Editing.{remove, pre_insert, reference_child}
-use Rattle.dom_model.specs.RangesAndContents.Ranges.{is_less, is_before, end_set, check_point, range_at, with_range, is_collapsed}
-use Rattle.dom_model.specs.Forests.Nodes.{same_root}
-use Rattle.dom_model.specs.RangesAndContents.Contents.{for_range}
-use Rattle.dom_model.specs.RangesAndContents.Wrapping.{Outcome, and_then, unless, is_text, reference_at, parent_by, parent_at, check_start, split_at, reference_after, offset_past, end_if_collapsed, placed_at, inserted_at, insert_node, refusal_in}
-use Rattle.dom_model.proofs.PlainLists.Numbers.{same_or, same, apart}
-use Rattle.dom_model.proofs.Forests.Entries.{HasNode-occurs, occurs-HasNode}
-use Rattle.dom_model.proofs.Forests.Indices.{child-there, child-once, child-parent}
-use Rattle.dom_model.proofs.BoundaryPoints.PointOrder.{nat_cmp-same, nat_cmp-greater}
-use Rattle.dom_model.proofs.RangesAndContents.StartsAhead.{got_place}
-use Rattle.dom_model.proofs.RangesAndContents.InsertAllowed.{insert-allowed, insert-done}
-use Rattle.dom_model.proofs.Soundness.SoundPlacedNode.{Gives}
-use Rattle.dom_model.proofs.Soundness.SoundInsertedNode.{insert-next}
-use Rattle.dom_model.specs.DataAndCopies.Data.{data_of, split}
-use Rattle.dom_model.specs.Worlds.Lengths.{unit_count, node_length}
-use Rattle.std.proofs.lemmas.Bool.Decides.{nat_tests}
-use Rattle.dom_edit.proofs.Leaving.{parent-held}
-use Rattle.dom_model.proofs.Forests.Changes.{seen, nothing, just}
+use Rattle.dom_model.proofs.Forests.{Entries.HasNode-occurs, Entries.occurs-HasNode, Indices.child-there, Indices.child-once, Indices.child-parent, Changes.seen, Changes.nothing, Changes.just}
+use Rattle.dom_model.proofs.BoundaryPoints.{PointOrder.nat_cmp-same, PointOrder.nat_cmp-greater, SplitEnds.split_parts}
+use Rattle.dom_model.proofs.RangesAndContents.{StartsAhead.got_place, InsertAllowed.insert-allowed, InsertAllowed.insert-done, RangesSet.same-itself}
+use Rattle.dom_model.proofs.Soundness.{SoundPlacedNode.Gives, SoundInsertedNode.insert-next, SoundData.length-data, SoundSplitting.text_has_data, SoundRangeSteps.live_range, SoundWorlds.IsLive}
+use Rattle.dom_edit.proofs.{Leaving.parent-held, Following.keeps-unwatched, Following.follows-then, Following.whole-sound, PlacedWorlds.sound-unwatched, InsertedNodes.follows-as, InsertedNodes.forest-after}
 use Rattle.dom_model.proofs.MutationAlgorithms.ChecksKept.{refusal-head}
-use Rattle.dom_model.proofs.BoundaryPoints.SplitEnds.{split_parts}
-use Rattle.dom_model.proofs.Soundness.SoundData.{length-data}
-use Rattle.dom_model.proofs.Soundness.SoundSplitting.{text_has_data}
-use Rattle.dom_model.proofs.Soundness.SoundRangeSteps.{live_range}
-use Rattle.dom_model.proofs.Soundness.SoundWorlds.{IsLive}
-use Rattle.std.proofs.lemmas.List.{get_or_past, get_or-set_same, length-set}
 use Rattle.dom_ranges.specs.Tables.{RangeTable, range_in, refused}
-use Rattle.dom_edit.specs.declared.world.World.{World}
-use Rattle.dom_edit.specs.Whole.{AreCovered, IsWhole, Keeps, Follows, unwatched}
-use Rattle.dom_edit.proofs.Following.{keeps-unwatched, follows-then, whole-sound}
-use Rattle.dom_edit.proofs.PlacedWorlds.{sound-unwatched}
-use Rattle.dom_edit.proofs.InsertedNodes.{follows-as, forest-after}
+use Rattle.dom_edit.specs.{declared.world.World.World, Whole.AreCovered, Whole.IsWhole, Whole.Keeps, Whole.Follows, Whole.unwatched}
 use Rattle.dom_wrap.specs.Outcomes.{left_by, LeavesSound, IsPlaceable, MayEndAt, MayTake}
-
-pub if_so : {A : Type 0} (t : Bool) (x y : A) → t ≡ true → (if t then x else y) ≡ x
-if_so t x y e = rw e refl
-
-if_not : {A : Type 0} (t : Bool) (x y : A) → t ≡ false → (if t then x else y) ≡ y
-if_not t x y e = rw e refl
 
 -- Where a node comes in.
 
@@ -66,10 +27,10 @@ module _ (v : World) (h : IsWhole v) (p : Point) (held : HasNode v.tree.forest p
       (child-parent f h.forest.once c p.node g.1, HasNode-occurs f c (child-there f h.forest.once c p.node g.1))
 
   reference-text : is_text (unwatched v) p.node ≡ true → reference_at (unwatched v) p ≡ Some p.node
-  reference-text e = if_so (is_text (unwatched v) p.node) (Some p.node) (slice_get (children_of f p.node) p.offset) e
+  reference-text e = cond-true (is_text (unwatched v) p.node) (Some p.node) (slice_get (children_of f p.node) p.offset) e
 
   reference-child : is_text (unwatched v) p.node ≡ false → reference_at (unwatched v) p ≡ slice_get (children_of f p.node) p.offset
-  reference-child e = if_not (is_text (unwatched v) p.node) (Some p.node) (slice_get (children_of f p.node) p.offset) e
+  reference-child e = cond-false (is_text (unwatched v) p.node) (Some p.node) (slice_get (children_of f p.node) p.offset) e
 
   -- what comes after the point is there
   pub reference-held : (o : Option ℕ) → o ≡ reference_at (unwatched v) p → ForSome o (λ c. HasNode f c)
@@ -112,10 +73,6 @@ later (x ∷ xs) (y ∷ ys) g =
     (cases_lt y x))
     (cases_lt x y)
 
-is_same-same : (o : Option ℕ) → is_same o o ≡ true
-is_same-same None = refl
-is_same-same (Some x) = elim (same_or x x) [ same _ t ↦ t | apart ne t ↦ absurd (ne refl) ]
-
 not-before : (f : Forest Content) (p q : Point) → (order_of f q p ≡ Greater → ⊥) → not (is_before f p q) ≡ true
 not-before f p q h = go (order_of f p q) refl
   where
@@ -127,9 +84,9 @@ not-before f p q h = go (order_of f p q) refl
 -- the end alone moves, where that leaves the range in order
 pub end-alone : (f : Forest Content) (p : Point) (r : Range) → IsRange f (record r { end = p }) → end_set f p r ≡ record r { end = p }
 end-alone f p r h =
-    let root : same_root f p.node r.start.node ≡ true = ap (is_same (root_of f p.node)) h.one_root ∙ is_same-same (root_of f p.node) in
+    let root : same_root f p.node r.start.node ≡ true = ap (is_same (root_of f p.node)) h.one_root ∙ same-itself (root_of f p.node) in
     let after = not-before f p r.start h.in_order in
-    ap (λ (s : Point). record { start = s; end = p }) (if_so (same_root f p.node r.start.node && not (is_before f p r.start)) r.start p (rw (root, after) refl))
+    ap (λ (s : Point). record { start = s; end = p }) (cond-true (same_root f p.node r.start.node && not (is_before f p r.start)) r.start p (rw (root, after) refl))
 
 module _ (v : World) (h : IsWhole v) (r : ℕ) (p : Point) (range : Range) (e : range_in v.ranges r ≡ Some range) where
   abbrev grown : Range
@@ -142,7 +99,7 @@ module _ (v : World) (h : IsWhole v) (r : ℕ) (p : Point) (range : Range) (e : 
   range-shown w k = ap (λ (rs : List (Option Range)). slice_index_or rs r None) k.ranges ∙ e
 
   to-end : (w : model.World) → Keeps v w → is_collapsed range ≡ true → end_if_collapsed r p w ≡ with_range r grown w
-  to-end w k c = ap (end_of_range w) (range-shown w k) ∙ if_so (is_collapsed range) (with_range r grown w) w c
+  to-end w k c = ap (end_of_range w) (range-shown w k) ∙ cond-true (is_collapsed range) (with_range r grown w) w c
 
   in-range : r < length v.ranges.ranges
   in-range =
@@ -362,9 +319,9 @@ module _ (a mid : World) (h : IsWhole a) (r n : ℕ) (p : Point) (range : Range)
       live = subst (IsLive a.tree.forest) e (live_range u (sound-unwatched a h) r)
 
       go : (t : Bool) → is_text u p.node ≡ t → 0 < occurs n (split_at p u).forest
-      go false t = subst (λ (x : model.World). 0 < occurs n x.forest) (sym (if_not (is_text u p.node) (split p.node p.offset u) u t)) hn
+      go false t = subst (λ (x : model.World). 0 < occurs n x.forest) (sym (cond-false (is_text u p.node) (split p.node p.offset u) u t)) hn
       go true t =
-          subst (λ (x : model.World). 0 < occurs n x.forest) (sym (if_so (is_text u p.node) (split p.node p.offset u) u t))
+          subst (λ (x : model.World). 0 < occurs n x.forest) (sym (cond-true (is_text u p.node) (split p.node p.offset u) u t))
           (elim (seen (parent_of a.tree.forest p.node)) [
             | nothing d ↦ absurd (let k : (is_text u p.node && is_none (parent_of a.tree.forest p.node)) ≡ false = (refusal-head _ _ _ (refusal-head _ _ _ start).1).0 in let j = rw (t, d) at k in false≢true (sym j))
             | just q d ↦ (split_parts p.node q p.offset u (sound-unwatched a h) (occurs-HasNode a.tree.forest p.node start-held) t d (text-within live t)).there n hn

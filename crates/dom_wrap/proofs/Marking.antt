@@ -1,19 +1,12 @@
 -- What is put into and around a live range puts each marker where the end of its live range then stands.
-use Rattle.std.proofs.Common.{◌≡◌, ℕ, None}
-use Rattle.std.specs.Prelude.{IsSome}
-use Rattle.dom_model.specs.Forests.Forest.{HasNode}
-use Rattle.dom_model.specs.RangesAndContents.Wrapping.{insert_node, surround, refusal_in, check_whole_surround}
-use Rattle.dom_model.specs.TokenText.Edits.{insert_node_edits, surround_edits}
+use Rattle.std.proofs.Common.{◌≡◌, ℕ, None, IsSome}
+use Rattle.dom_model.specs.Definitions.{HasNode, insert_node, surround, refusal_in, check_whole_surround, insert_node_edits, surround_edits}
 use Rattle.dom_model.proofs.Forests.Entries.{occurs-HasNode}
 use Rattle.dom_model.proofs.Soundness.SoundContents.{sound-extract}
-use Rattle.dom_model.proofs.TokenText.EditsMade.EditsOfInsertedNodes.{sound-inserted, leave-insert_node}
-use Rattle.dom_model.proofs.TokenText.EditsMade.EditsOfSurrounding.{KeepSound, leave-surround}
+use Rattle.dom_model.proofs.TokenText.{EditsMade.EditsOfInsertedNodes.sound-inserted, EditsMade.EditsOfInsertedNodes.leave-insert_node, EditsMade.EditsOfSurrounding.KeepSound, EditsMade.EditsOfSurrounding.leave-surround}
 use Rattle.dom_ranges.specs.Tables.{range_in}
-use Rattle.dom_edit.specs.declared.world.World.{World}
-use Rattle.dom_edit.specs.Whole.{IsWhole, Follows, unwatched}
-use Rattle.dom_edit.specs.Markers.{StandByEdits}
-use Rattle.dom_edit.proofs.Following.{sound-unwatched}
-use Rattle.dom_edit.proofs.Marking.{stand-by_edits}
+use Rattle.dom_edit.specs.{declared.world.World.World, Whole.IsWhole, Whole.Follows, Whole.unwatched, Markers.StandByEdits}
+use Rattle.dom_edit.proofs.{Following.sound-unwatched, Marking.stand-by_edits}
 use Rattle.dom_wrap.specs.Outcomes.{left_by}
 use Rattle.dom_wrap.proofs.SurroundingSteps.{ok-left}
 

@@ -2,34 +2,16 @@
 -- "Mutation algorithms" (insert).
 use Rattle.std.proofs.Common.{◌≡◌, ℕ, zero, suc, ◌+◌, ◌<◌, ◌≤◌, Bool, true, false, if◌then◌else◌, List, [], ◌∷◌, ◌++◌, length, Option, Some, None, refl, ap, sym, ◌∙◌, subst, arith, length-append}
 use Rattle.dom_model.specs.declared.DomError.TheVariants.{HierarchyRequestError}
-use Rattle.dom_model.specs.PlainLists.Lists.{hits}
-use Rattle.dom_model.specs.Forests.Forest.{Forest, empty, node, occurs, size, numbers, parent_of, children_of}
+use Rattle.dom_model.specs.Definitions.{hits, Forest, occurs, size, numbers, parent_of, children_of, Content, check_insert, kind_refuses, document_refuses, is_fragment, nodes_of, offset_past}
 use Rattle.dom_model.specs.Worlds.World as model
-use Rattle.dom_model.specs.Worlds.World.{Content}
-use Rattle.dom_model.specs.MutationAlgorithms.Checks.{check_insert, kind_refuses, document_refuses}
-use Rattle.dom_model.specs.MutationAlgorithms.Editing.{is_fragment, nodes_of}
-use Rattle.dom_model.specs.RangesAndContents.Wrapping.{offset_past}
-use Rattle.dom_model.proofs.PlainLists.Numbers.{same_or, same, apart}
-use Rattle.dom_model.proofs.PlainLists.Places.{place-there}
-use Rattle.dom_model.proofs.Forests.Climbing.{ancestors-there, hits-append, hits-first}
-use Rattle.dom_model.proofs.Forests.Indices.{child-listed, child-once, child-parent, child-there, index-child, parent-there}
-use Rattle.dom_model.proofs.Forests.Paths.{parent-path}
-use Rattle.dom_model.proofs.Forests.TreeOrder.Flattened.{hits-numbers}
+use Rattle.dom_model.proofs.PlainLists.{Numbers.same_or, Numbers.same, Numbers.apart, Places.place-there}
+use Rattle.dom_model.proofs.Forests.{Climbing.ancestors-there, Climbing.hits-append, Climbing.hits-first, Indices.child-listed, Indices.child-once, Indices.child-parent, Indices.child-there, Indices.index-child, Indices.parent-there, Paths.parent-path, TreeOrder.Flattened.hits-numbers}
 use Rattle.dom_model.proofs.Worlds.Measured.{length-parent}
 use Rattle.dom_model.proofs.Soundness.SoundEditing.{IsChecked, checks}
-use Rattle.dom_model.proofs.RangesAndContents.Drawing.{passes_there}
-use Rattle.dom_model.proofs.RangesAndContents.PlacesLeft.{length_within}
-use Rattle.dom_edit.specs.declared.world.World.{World}
-use Rattle.dom_edit.specs.Whole.{IsWhole, unwatched}
+use Rattle.dom_model.proofs.RangesAndContents.{Drawing.passes_there, PlacesLeft.length_within}
+use Rattle.dom_edit.specs.{declared.world.World.World, Whole.IsWhole, Whole.unwatched}
 use Rattle.dom_wrap.specs.Outcomes.{index_before}
-
-length-numbers : (f : Forest Content) → length (numbers f) ≡ size f
-length-numbers empty = refl
-length-numbers (node x kids rest) =
-    let a = length-append (numbers kids) (numbers rest) in
-    let b = length-numbers kids in
-    let c = length-numbers rest in
-    omega arith
+use Rattle.dom_edit.proofs.PlacedRoots.{length-numbers}
 
 -- the offset is the sum of an index and a count
 pub offset-sum : (w : model.World) (parent : ℕ) (reference : Option ℕ) (n : ℕ) → offset_past w parent reference n ≡ index_before w parent reference + length (nodes_of w n)

@@ -1,24 +1,14 @@
 -- The room that surrounding the contents of a live range needs is room for each of its steps. DOM Standard, "Interface Range" (surroundContents).
 use Rattle.std.proofs.Common.{◌≡◌, ℕ, ◌+◌, ◌<◌, ◌≤◌, Bool, true, false, if◌then◌else◌, List, [], Option, Some, None, is_some, slice_index_or, Ok, Err, refl, ap, sym, ◌∙◌, subst, arith}
-use Rattle.dom_model.specs.declared.Kind.TheVariants.{Text}
-use Rattle.dom_model.specs.declared.DomError.{DomError}
-use Rattle.dom_model.specs.Forests.Forest.{Forest, parent_of, next_of}
+use Rattle.std.proofs.lemmas.Bool.{cond-true}
+use Rattle.dom_model.specs.declared.{Kind.TheVariants.Text, DomError.DomError}
+use Rattle.dom_model.specs.Definitions.{Forest, parent_of, next_of, Content, Point, Range, made_node, named, with_text, check_insert, remove, pre_insert, replace_all, reference_child, node_document, tail_of, split_off, split, is_collapsed, around, range_at, with_range, for_range, check_extract, extract, Outcome, and_then, unless, is_text, try_pre_insert, check_start, parent_at, reference_at, reference_after, split_at, offset_past, end_if_collapsed, placed_at, inserted_at, insert_node, check_surround, try_extract, selected, try_select, surrounded, surround, refusal_in, check_whole_surround}
 use Rattle.dom_model.specs.Worlds.World as model
-use Rattle.dom_model.specs.Worlds.World.{Content, Point, Range}
-use Rattle.dom_model.specs.Worlds.Making.{made_node, named, with_text}
-use Rattle.dom_model.specs.MutationAlgorithms.Checks.{check_insert}
-use Rattle.dom_model.specs.MutationAlgorithms.Editing.{remove, pre_insert, replace_all, reference_child, node_document}
-use Rattle.dom_model.specs.DataAndCopies.Data.{tail_of, split_off, split}
-use Rattle.dom_model.specs.RangesAndContents.Ranges.{is_collapsed, around, range_at, with_range}
-use Rattle.dom_model.specs.RangesAndContents.Contents.{for_range, check_extract, extract}
-use Rattle.dom_model.specs.RangesAndContents.Wrapping.{Outcome, and_then, unless, is_text, try_pre_insert, check_start, parent_at, reference_at, reference_after, split_at, offset_past, end_if_collapsed, placed_at, inserted_at, insert_node, check_surround, try_extract, selected, try_select, surrounded, surround, refusal_in, check_whole_surround}
-use Rattle.dom_model.proofs.Counting.CountsKept.{remove-kept, insert-kept, pre_insert-kept, replace_all-kept}
-use Rattle.dom_model.proofs.Counting.CountsOfExtraction.{IsGrownTo, insert_node-to}
+use Rattle.dom_model.proofs.Counting.{CountsKept.remove-kept, CountsKept.insert-kept, CountsKept.pre_insert-kept, CountsKept.replace_all-kept, CountsOfExtraction.IsGrownTo, CountsOfExtraction.insert_node-to}
 use Rattle.dom_model.proofs.RangesAndContents.LiveRangesKept.{live-there}
-use Rattle.dom_edit.specs.declared.world.World.{World}
-use Rattle.dom_edit.specs.Whole.{Keeps, unwatched}
+use Rattle.dom_edit.specs.{declared.world.World.World, Whole.Keeps, Whole.unwatched}
 use Rattle.dom_wrap.specs.Outcomes.{left_by, HasRoom, put_around}
-use Rattle.dom_wrap.proofs.InsertedNode.{if_so, unless-none, unless-allows}
+use Rattle.dom_wrap.proofs.InsertedNode.{unless-none, unless-allows}
 
 -- Steps that make so many nodes or more, where they are not refused.
 
@@ -88,7 +78,7 @@ inserted_at-least : (r n : ℕ) (p : Point) (w : model.World) → is_text w p.no
 inserted_at-least r n p w t =
     let apart = split_at p w in
     let reference = reference_child apart n (reference_after w p) in
-    let more : w.made + 1 ≤ apart.made = subst (λ (v : model.World). w.made + 1 ≤ v.made) (sym (if_so (is_text w p.node) (split p.node p.offset w) w t)) (split-least p.node p.offset w) in
+    let more : w.made + 1 ≤ apart.made = subst (λ (v : model.World). w.made + 1 ≤ v.made) (sym (cond-true (is_text w p.node) (split p.node p.offset w) w t)) (split-least p.node p.offset w) in
     least-unless 1 (check_start w p n) w _
     (least-unless 1 (check_insert w.forest (parent_at w p) n (reference_at w p)) w _
     (least-after 1 w apart (placed_at r n (parent_at w p) reference apart) more (placed_at-least r n (parent_at w p) reference apart)))

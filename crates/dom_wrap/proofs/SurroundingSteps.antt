@@ -1,38 +1,16 @@
 -- The steps that surround the contents of a live range, and what is there between them. DOM Standard, "Interface Range" (surroundContents).
-use Rattle.std.proofs.Common.{◌≡◌, ℕ, ◌+◌, ◌<◌, Bool, true, false, ◌||◌, if◌then◌else◌, List, [], ◌∷◌, Option, Some, None, IfSome, option_map, slice_index_or, slice_set, is_some, is_none, Ok, Err, refl, ap, sym, ◌∙◌, subst}
-use Rattle.std.specs.Prelude.{IsSome, Result, OnOk}
-use Rattle.dom_model.specs.declared.DomError.{DomError}
-use Rattle.dom_model.specs.declared.DomError.TheVariants.{InvalidNodeTypeError}
-use Rattle.dom_model.specs.PlainLists.Lists.{first_refusal}
-use Rattle.dom_model.specs.Forests.Forest.{Forest, HasNode, occurs, parent_of, children_of, index_of, IsForest}
+use Rattle.std.proofs.Common.{◌≡◌, ℕ, ◌+◌, ◌<◌, Bool, true, false, ◌||◌, if◌then◌else◌, List, [], ◌∷◌, Option, Some, None, IfSome, option_map, slice_index_or, slice_set, is_some, is_none, Ok, Err, refl, ap, sym, ◌∙◌, subst, IsSome, Result, OnOk}
+use Rattle.dom_model.specs.declared.{DomError.DomError, DomError.TheVariants.InvalidNodeTypeError}
+use Rattle.dom_model.specs.Definitions.{first_refusal, Forest, HasNode, occurs, parent_of, children_of, index_of, IsForest, Content, Range, IsRange, IsSound, check_insert, pre_insert, append, remove_all, replaced_record, replace_all, is_collapsed, collapsed_at, around, check_parent, range_at, with_range, for_range, is_in_one_data, new_place, contents_drawn, check_extract, extracted, extract, Outcome, and_then, unless, try_pre_insert, check_start, parent_at, reference_at, inserted_at, insert_node, check_surround, try_extract, selected, try_select, surrounded, surround, refusal_in, check_whole_surround}
 use Rattle.dom_model.specs.Worlds.World as model
-use Rattle.dom_model.specs.Worlds.World.{Content, Range}
-use Rattle.dom_model.specs.Soundness.Sound.{IsRange, IsSound}
-use Rattle.dom_model.specs.MutationAlgorithms.Checks.{check_insert}
-use Rattle.dom_model.specs.MutationAlgorithms.Editing.{pre_insert, append, remove_all, replaced_record, replace_all}
-use Rattle.dom_model.specs.RangesAndContents.Ranges.{is_collapsed, collapsed_at, around, check_parent, range_at, with_range}
-use Rattle.dom_model.specs.RangesAndContents.Contents.{for_range, is_in_one_data, new_place, contents_drawn, check_extract, extracted, extract}
-use Rattle.dom_model.specs.RangesAndContents.Wrapping.{Outcome, and_then, unless, try_pre_insert, check_start, parent_at, reference_at, inserted_at, insert_node, check_surround, try_extract, selected, try_select, surrounded, surround, refusal_in, check_whole_surround}
-use Rattle.dom_model.proofs.Forests.Changes.{seen, nothing, just}
-use Rattle.dom_model.proofs.Forests.Entries.{HasNode-occurs, occurs-HasNode}
-use Rattle.dom_model.proofs.Forests.Indices.{child-there}
-use Rattle.dom_model.proofs.MutationAlgorithms.Loosened.{loosened-remove_all}
-use Rattle.dom_model.proofs.MutationAlgorithms.Extending.{put_by_insert}
-use Rattle.dom_model.proofs.RangesAndContents.InsertAllowed.{insert-done}
-use Rattle.dom_model.proofs.RangesAndContents.LiveRangesKept.{is_live, live-there, append-live, replace_all-live, with_range-live}
-use Rattle.dom_model.proofs.RangesAndContents.RangesSet.{range_selected}
-use Rattle.dom_model.proofs.Soundness.SoundEditing.{checks_insert, insertable}
-use Rattle.dom_model.proofs.Soundness.SoundRangeSteps.{sound-with_range}
-use Rattle.dom_model.proofs.TokenText.EditsMade.EditsOfDrawnContents.{sound-range, check-range, there-contents_drawn, fragment-contents_drawn, live-contents_drawn}
-use Rattle.dom_model.proofs.TokenText.EditsMade.EditsOfInsertedNodes.{kept-insert_node}
+use Rattle.dom_model.proofs.Forests.{Changes.seen, Changes.nothing, Changes.just, Entries.HasNode-occurs, Entries.occurs-HasNode, Indices.child-there}
+use Rattle.dom_model.proofs.MutationAlgorithms.{Loosened.loosened-remove_all, Extending.put_by_insert}
+use Rattle.dom_model.proofs.RangesAndContents.{InsertAllowed.insert-done, LiveRangesKept.is_live, LiveRangesKept.live-there, LiveRangesKept.append-live, LiveRangesKept.replace_all-live, LiveRangesKept.with_range-live, RangesSet.range_selected}
+use Rattle.dom_model.proofs.Soundness.{SoundEditing.checks_insert, SoundEditing.insertable, SoundRangeSteps.sound-with_range}
+use Rattle.dom_model.proofs.TokenText.{EditsMade.EditsOfDrawnContents.sound-range, EditsMade.EditsOfDrawnContents.check-range, EditsMade.EditsOfDrawnContents.there-contents_drawn, EditsMade.EditsOfDrawnContents.fragment-contents_drawn, EditsMade.EditsOfDrawnContents.live-contents_drawn, EditsMade.EditsOfInsertedNodes.kept-insert_node}
 use Rattle.dom_ranges.specs.Tables.{RangeTable, range_in}
-use Rattle.dom_edit.specs.declared.world.World.{World}
-use Rattle.dom_edit.specs.Keeping.{present}
-use Rattle.dom_edit.specs.Whole.{AreCovered, IsWhole, Keeps, Follows, unwatched}
-use Rattle.dom_edit.proofs.Following.{keeps-unwatched, follows-then, whole-sound}
-use Rattle.dom_edit.proofs.Leaving.{sound-unwatched, it_is}
-use Rattle.dom_edit.proofs.InsertedNodes.{follows-as}
-use Rattle.dom_edit.proofs.WatchersKept.{present-set}
+use Rattle.dom_edit.specs.{declared.world.World.World, Keeping.present, Whole.AreCovered, Whole.IsWhole, Whole.Keeps, Whole.Follows, Whole.unwatched}
+use Rattle.dom_edit.proofs.{Following.keeps-unwatched, Following.follows-then, Following.whole-sound, Leaving.sound-unwatched, Leaving.it_is, InsertedNodes.follows-as, WatchersKept.present-set}
 use Rattle.dom_wrap.specs.Outcomes.{left_by, Passes, MayTake, put_around}
 use Rattle.dom_wrap.proofs.InsertedNode.{unless-none, unless-allows, left-alike, start-alike, parent-alike, reference-alike}
 

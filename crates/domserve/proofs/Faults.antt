@@ -1,9 +1,6 @@
 -- What a fault's status says of the reader and of the writer.
 use Rattle.std.proofs.Common.{◌≡◌, ◌≢◌, ℕ, Bool, false, Err, refl, inl, inr, arith}
-use Rattle.dom_serve.specs.declared.fault.Fault.{Fault}
-use Rattle.dom_serve.specs.declared.fault.Fault.TheVariants.{Read, Write, Memory, InputTooLong}
-use Rattle.dom_serve.specs.declared.fault.Summary.{Summary}
-use Rattle.dom_serve.specs.Tells.{is_read_fault, is_write}
+use Rattle.dom_serve.specs.{declared.fault.Fault.Fault, declared.fault.Fault.TheVariants.Read, declared.fault.Fault.TheVariants.Write, declared.fault.Fault.TheVariants.Memory, declared.fault.Fault.TheVariants.InputTooLong, declared.fault.Summary.Summary, Tells.is_read_fault, Tells.is_write}
 use Rattle.domserve.specs.Statuses.{status_of, TellsFailure}
 
 pub reader-told : (fault : Fault) (status : ℕ) (calls : Bool → Type 0) → status ≡ status_of fault → calls (is_read_fault {T = Summary} (Err fault)) → TellsFailure status calls

@@ -1,11 +1,8 @@
 -- What is said of a fault.
-use Rattle.std.proofs.Common.{◌≡◌, ℕ, true, false, List, [], ◌∷◌, ◌++◌, Result, Ok, Err, is_err, sym, ap, ◌∙◌, append_assoc, inl, inr}
-use Rattle.std.specs.Prelude.{OnOk}
+use Rattle.std.proofs.Common.{◌≡◌, ℕ, true, false, List, [], ◌∷◌, ◌++◌, Result, Ok, Err, is_err, sym, ap, ◌∙◌, append_assoc, inl, inr, OnOk}
 use Rattle.std.specs.Io.KnownBytes.{Appends}
 use Rattle.std.proofs.KnownBytes.{Appends-trans}
-use Rattle.dom_serve.specs.Streams.{Writing}
-use Rattle.dom_serve.specs.Calls.{IsWritten}
-use Rattle.dom_serve.specs.Writes.{AppendsFront, Writes}
+use Rattle.dom_serve.specs.{Streams.Writing, Calls.IsWritten, Writes.AppendsFront, Writes.Writes}
 use Rattle.dom_serve.proofs.Calls.{IsCalled-more}
 use Rattle.domserve.specs.Statuses.{SaysLine}
 

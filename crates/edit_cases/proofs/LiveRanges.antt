@@ -1,14 +1,7 @@
 -- Two points that pass their checks make a live range.
-use Rattle.std.proofs.Common.{◌≡◌, true, Option, Some, None, refl}
-use Rattle.std.specs.Prelude.{is_ok}
-use Rattle.std.specs.declared.cmp.Ordering.TheVariants.{Greater}
+use Rattle.std.proofs.Common.{◌≡◌, true, Option, Some, None, refl, is_ok, Greater}
 use Rattle.dom_model.specs.declared.DomError.{DomError}
-use Rattle.dom_model.specs.Forests.Forest.{Forest, HasNode, root_of}
-use Rattle.dom_model.specs.Worlds.World.{Content, Point, Range}
-use Rattle.dom_model.specs.Worlds.Lengths.{unit_count}
-use Rattle.dom_model.specs.BoundaryPoints.Points.{order_of}
-use Rattle.dom_model.specs.RangesAndContents.Ranges.{check_point}
-use Rattle.dom_model.specs.Soundness.Sound.{IsBoundary, IsRange}
+use Rattle.dom_model.specs.Definitions.{Forest, HasNode, root_of, Content, Point, Range, unit_count, order_of, check_point, IsBoundary, IsRange}
 use Rattle.dom_model.proofs.Forests.Entries.{occurs-HasNode}
 use Rattle.dom_model.proofs.RangesAndContents.RangesSet.{boundary_checked}
 use Rattle.dom_ranges.specs.Tables.{IsBoundaryIn, IsRangeIn, refused}

@@ -1,16 +1,8 @@
 -- Where few numbers were given out, and few nodes are held, there is room for copies.
 use Rattle.std.proofs.Common.{ℕ, ◌+◌, ◌*◌, ◌<◌, ◌≤◌, Bool, Ok, Err, arith}
-use Rattle.dom_model.specs.Forests.Forest.{Forest, size}
-use Rattle.dom_model.specs.Worlds.World.{Content}
-use Rattle.dom_model.specs.DataAndCopies.Clones.{original}
-use Rattle.dom_model.specs.RangesAndContents.Contents.{extract, clone_contents}
-use Rattle.dom_model.specs.RangesAndContents.Wrapping.{Outcome, surround}
-use Rattle.dom_model.proofs.Counting.CountsOfContents.{size-original}
-use Rattle.dom_model.proofs.Counting.CountsOfExtraction.{IsGrownTo, extract-grown, surround-to}
-use Rattle.dom_model.proofs.Counting.CopiesOfContents.{clone_contents-grown}
-use Rattle.dom_model.proofs.Counting.NumbersKept.{in_order}
-use Rattle.dom_edit.specs.declared.world.World.{World}
-use Rattle.dom_edit.specs.Whole.{IsWhole, unwatched}
+use Rattle.dom_model.specs.Definitions.{Forest, size, Content, original, extract, clone_contents, Outcome, surround}
+use Rattle.dom_model.proofs.Counting.{CountsOfContents.size-original, CountsOfExtraction.IsGrownTo, CountsOfExtraction.extract-grown, CountsOfExtraction.surround-to, CopiesOfContents.clone_contents-grown, NumbersKept.in_order}
+use Rattle.dom_edit.specs.{declared.world.World.World, Whole.IsWhole, Whole.unwatched}
 use Rattle.dom_edit.proofs.Leaving.{sound-unwatched}
 use Rattle.dom_wrap.specs.Outcomes.{left_by}
 

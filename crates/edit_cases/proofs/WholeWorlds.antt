@@ -1,13 +1,10 @@
 -- A world stays whole where an observer watches a node more.
 use Rattle.std.proofs.Common.{◌≡◌, ℕ, true, [], ◌∷◌, subst}
-use Rattle.dom_model.specs.PlainLists.Lists.{among}
-use Rattle.dom_model.specs.Forests.Forest.{HasNode}
+use Rattle.dom_model.specs.Definitions.{among, HasNode}
 use Rattle.dom_model.proofs.PlainLists.Numbers.{same_or, same, apart}
-use Rattle.dom_observe.specs.Held.{NamesOnly}
+use Rattle.dom_observe.specs.{Held.NamesOnly, Watchers.Watchers}
 use Rattle.dom_observe.proofs.HeldNames.{held-after}
-use Rattle.dom_observe.specs.Watchers.{Watchers}
-use Rattle.dom_edit.specs.declared.world.World.{World}
-use Rattle.dom_edit.specs.Whole.{IsWhole}
+use Rattle.dom_edit.specs.{declared.world.World.World, Whole.IsWhole}
 
 module _ (v : World) (whole : IsWhole v) where
   pub whole-watched : (n : ℕ) (o : Watchers) → HasNode v.tree.forest n → NamesOnly (n ∷ []) v.observers o → IsWhole (record v { observers = o })

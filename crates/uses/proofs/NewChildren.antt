@@ -1,15 +1,8 @@
 -- A root that is made and put last under a parent: what the call asks of the forest, and what is told of both afterwards.
-use Rattle.std.proofs.Common.{◌≡◌, ℕ, ◌<◌, true, false, List, [], ◌∷◌, ◌++◌, Some, None, refl, ap, sym, ◌∙◌, arith}
-use Rattle.std.specs.Prelude.{IfSome}
-use Rattle.dom_model.specs.PlainLists.Lists.{among, entered}
-use Rattle.dom_model.specs.Forests.Forest.{Node, Forest, empty, node, HasNode, occurs, tree_at, put, entry_in, parent_of, children_of, ancestors}
-use Rattle.dom_model.specs.Forests.Kinds.{may_stand_in}
+use Rattle.std.proofs.Common.{◌≡◌, ℕ, ◌<◌, true, false, List, [], ◌∷◌, ◌++◌, Some, None, refl, ap, sym, ◌∙◌, arith, IfSome}
+use Rattle.dom_model.specs.Definitions.{among, entered, Node, Forest, empty, node, HasNode, occurs, tree_at, put, entry_in, parent_of, children_of, ancestors, may_stand_in}
 use Rattle.dom_model.proofs.PlainLists.Numbers.{same_or, same, apart}
-use Rattle.dom_model.proofs.Forests.Totals.{IsOnce}
-use Rattle.dom_model.proofs.Forests.Entries.{HasNode-occurs, occurs-HasNode, parent-put, children-put}
-use Rattle.dom_model.proofs.Forests.Climbing.{hits-ancestors, hits-not_among}
-use Rattle.dom_model.proofs.Forests.ForestsBeside.{tree_at-younger}
-use Rattle.dom_model.proofs.Forests.OneMoreRoot.{more, more-once, more-there, new-there, entry-more, entry-new, parent-new, children-more}
+use Rattle.dom_model.proofs.Forests.{Totals.IsOnce, Entries.HasNode-occurs, Entries.occurs-HasNode, Entries.parent-put, Entries.children-put, Climbing.hits-ancestors, Climbing.hits-not_among, ForestsBeside.tree_at-younger, OneMoreRoot.more, OneMoreRoot.more-once, OneMoreRoot.more-there, OneMoreRoot.new-there, OneMoreRoot.entry-more, OneMoreRoot.entry-new, OneMoreRoot.parent-new, OneMoreRoot.children-more}
 
 -- a child without a sibling to stand before comes last
 pub entered-last : (c : ℕ) (xs : List ℕ) → entered None c xs ≡ xs ++ c ∷ []

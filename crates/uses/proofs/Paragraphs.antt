@@ -1,15 +1,9 @@
 -- A world that is made step by step: what it keeps after each.
-use Rattle.std.proofs.Common.{◌≡◌, ℕ, List, [], subst}
-use Rattle.std.specs.Prelude.{codes}
+use Rattle.std.proofs.Common.{◌≡◌, ℕ, List, [], subst, codes}
 use Rattle.dom_model.specs.declared.Kind.TheVariants.{Element, Text}
-use Rattle.dom_model.specs.Forests.Kinds.{Label}
-use Rattle.dom_model.specs.Forests.Forest.{Forest}
-use Rattle.dom_model.specs.Worlds.World.{Content, first_world}
+use Rattle.dom_model.specs.Definitions.{Label, Forest, Content, first_world, made_node, named, with_text, append}
 use Rattle.dom_model.specs.Worlds.World as model
-use Rattle.dom_model.specs.Worlds.Making.{made_node, named, with_text}
-use Rattle.dom_model.specs.MutationAlgorithms.Editing.{append}
-use Rattle.dom_edit.specs.declared.world.World.{World}
-use Rattle.dom_edit.specs.Whole.{Keeps, Follows}
+use Rattle.dom_edit.specs.{declared.world.World.World, Whole.Keeps, Whole.Follows}
 use Rattle.uses.specs.Paragraph.{empty_paragraph, paragraph}
 
 -- what holds of the forest of a world that is kept

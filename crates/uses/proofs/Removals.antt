@@ -1,19 +1,12 @@
 -- A live range with all the data of a paragraph's Text: that it is one, that the world stays whole, and where its ends stand once the Text is removed.
-use Rattle.std.proofs.Common.{◌≡◌, ℕ, zero, suc, false, List, [], ◌∷◌, ◌++◌, length, Option, Some, refl, ap, sym, ◌∙◌, subst, arith}
-use Rattle.std.specs.Prelude.{IfSome}
-use Rattle.std.specs.declared.cmp.Ordering.TheVariants.{Greater}
+use Rattle.std.proofs.Common.{◌≡◌, ℕ, zero, suc, false, List, [], ◌∷◌, ◌++◌, length, Option, Some, refl, ap, sym, ◌∙◌, subst, arith, IfSome, Greater}
 use Rattle.std.specs.Ordering.{nat_cmp}
 use Rattle.std.proofs.lemmas.List.Elements.{All-nil, All-cons}
-use Rattle.dom_model.specs.Forests.Forest.{Forest, entry_in}
-use Rattle.dom_model.specs.Worlds.World.{Content, Range}
+use Rattle.dom_model.specs.Definitions.{Forest, entry_in, Content, Range, IsRange, remove, length_of}
 use Rattle.dom_model.specs.Worlds.World as model
-use Rattle.dom_model.specs.Soundness.Sound.{IsRange}
-use Rattle.dom_model.specs.MutationAlgorithms.Editing.{remove}
 use Rattle.dom_model.proofs.BoundaryPoints.PointOrder.{nat_cmp-same, nat_cmp-less, order-one_node}
-use Rattle.dom_model.specs.Worlds.Lengths.{length_of}
 use Rattle.dom_ranges.specs.Tables.{RangeTable, IsRangeIn, range_in}
-use Rattle.dom_edit.specs.declared.world.World.{World}
-use Rattle.dom_edit.specs.Whole.{IsWhole, Keeps, Follows}
+use Rattle.dom_edit.specs.{declared.world.World.World, Whole.IsWhole, Whole.Keeps, Whole.Follows}
 use Rattle.uses.specs.Paragraph.{paragraph}
 use Rattle.uses.proofs.Paragraphs.{of_kept}
 

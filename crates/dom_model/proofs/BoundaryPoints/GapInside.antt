@@ -1,22 +1,11 @@
 -- The points inside a tree that is put keep their order: the way to each of them gets one and the same beginning.
 use Rattle.std.proofs.Common.{◌≡◌, ℕ, ◌+◌, ◌*◌, ◌<◌, ◌≤◌, ◌==◌, true, false, List, [], ◌∷◌, ◌++◌, map, reverse, drop, length, Option, Some, None, refl, ap, sym, ◌∙◌, subst, arith, append_assoc}
 use Rattle.std.proofs.lemmas.List.{reverse-append, drop-append-le, length-reverse, map-append}
-use Rattle.std.specs.Ordering.{nat_cmp}
-use Rattle.std.specs.Cmp.Lexicographic.{slice_cmp}
-use Rattle.dom_model.specs.PlainLists.Lists.{hits, among}
-use Rattle.dom_model.specs.Forests.Forest.{Forest, occurs, one_at, tree_at, put, parent_of, index_of, ancestors}
-use Rattle.dom_model.specs.BoundaryPoints.Points.{place_of, order_of}
-use Rattle.dom_model.specs.Forests.Ways.{IsWay}
+use Rattle.std.specs.{Ordering.nat_cmp, Cmp.Lexicographic.slice_cmp}
+use Rattle.dom_model.specs.Definitions.{hits, among, Forest, occurs, one_at, tree_at, put, parent_of, index_of, ancestors, place_of, order_of, IsWay}
 use Rattle.dom_model.proofs.PlainLists.Numbers.{same_or, same, apart}
-use Rattle.dom_model.proofs.Forests.Totals.{total-tree_at, occurs-without}
-use Rattle.dom_model.proofs.Forests.Climbing.{hits-among, hits-ancestors, ancestors-there}
-use Rattle.dom_model.proofs.Forests.Paths.{parent-path, root-path, ancestors-put}
-use Rattle.dom_model.proofs.Forests.Indices.{index-put}
-use Rattle.dom_model.proofs.BoundaryPoints.PointOrder.{slice_cmp-ahead}
-use Rattle.dom_model.proofs.Forests.Chains.{way_to, way}
-use Rattle.dom_model.proofs.BoundaryPoints.WaysKept.{place_by}
-use Rattle.dom_model.proofs.BoundaryPoints.RemovalOrder.{ancestors-split}
-use Rattle.dom_model.proofs.BoundaryPoints.RootsKept.{root-among}
+use Rattle.dom_model.proofs.Forests.{Totals.total-tree_at, Totals.occurs-without, Climbing.hits-among, Climbing.hits-ancestors, Climbing.ancestors-there, Paths.parent-path, Paths.root-path, Paths.ancestors-put, Indices.index-put, Chains.way_to, Chains.way}
+use Rattle.dom_model.proofs.BoundaryPoints.{PointOrder.slice_cmp-ahead, WaysKept.place_by, RemovalOrder.ancestors-split, RootsKept.root-among}
 
 module _ {X : Type 0} (f : Forest X) (o : (m : ℕ) → occurs m f ≤ 1) (p c : ℕ) (b : Option ℕ) (hp : 0 < occurs p f) (hc : 0 < occurs c f) (r : parent_of f c ≡ None) (z : occurs p (tree_at c f) ≡ 0) where
   in_forest : (n : ℕ) → 0 < occurs n (tree_at c f) → 0 < occurs n f

@@ -1,75 +1,43 @@
 -- A put with the gap that it makes keeps the order of the points of each root.
-use Rattle.std.proofs.Common.{◌≡◌, ℕ, ◌+◌, ◌<◌, ◌≤◌, ◌==◌, nat_lt, nat_le, Bool, true, false, ◌&&◌, if◌then◌else◌, reverse, drop, Option, Some, None, refl, ap, sym, ◌∙◌, subst, arith, append-nil}
-use Rattle.std.specs.Ordering.{nat_cmp}
-use Rattle.std.specs.Cmp.Lexicographic.{slice_cmp}
-use Rattle.std.proofs.lemmas.Bool.Decides.{nat_tests}
-use Rattle.dom_model.specs.PlainLists.Lists.{among}
-use Rattle.dom_model.specs.Forests.Forest.{Forest, occurs, tree_at, put, parent_of, children_of, index_of, ancestors, root_of}
-use Rattle.dom_model.specs.Worlds.World.{Point}
-use Rattle.dom_model.specs.BoundaryPoints.Points.{place_of, order_of, after_gap}
-use Rattle.dom_model.specs.Forests.Ways.{IsWay}
-use Rattle.dom_model.proofs.Forests.Climbing.{among-hits, hits-ancestors}
-use Rattle.dom_model.proofs.Forests.Paths.{parent-path, ancestors-put, then_above}
+use Rattle.std.proofs.Common.{◌≡◌, ℕ, ◌+◌, ◌<◌, ◌≤◌, ◌==◌, nat_lt, nat_le, Bool, false, if◌then◌else◌, reverse, drop, Option, Some, None, ap, sym, ◌∙◌, subst, arith, append-nil}
+use Rattle.std.specs.{Ordering.nat_cmp, Cmp.Lexicographic.slice_cmp}
+use Rattle.std.proofs.lemmas.{Bool.cases_Bool, Bool.Decides.nat_tests}
+use Rattle.dom_model.specs.Definitions.{among, Forest, occurs, tree_at, put, parent_of, children_of, index_of, ancestors, root_of, Point, place_of, order_of, after_gap, IsWay}
+use Rattle.dom_model.proofs.Forests.{Climbing.among-hits, Climbing.hits-ancestors, Paths.parent-path, Paths.ancestors-put, Indices.index-put, Chains.way_to, Chains.way}
 use Rattle.dom_model.proofs.PlainLists.Places.{place_before}
-use Rattle.dom_model.proofs.Forests.Indices.{index-put}
-use Rattle.dom_model.proofs.Forests.Chains.{way_to, way}
 use Rattle.dom_model.proofs.BoundaryPoints.WaysKept.{place_by, ways-kept}
 
 -- two gaps at one place are one
 pub gap-more : (parent index count more : ℕ) (p : Point) → after_gap parent (index + count) more (after_gap parent index count p) ≡ after_gap parent index (count + more) p
-gap-more parent index count more p = go (p.node == parent) refl
-  where
-    go : (v : Bool) → (p.node == parent) ≡ v → after_gap parent (index + count) more (after_gap parent index count p) ≡ after_gap parent index (count + more) p
-    go false e = rw e (rw e refl)
-    go true e = past (nat_lt index p.offset) refl
-      where
-        past : (w : Bool) → nat_lt index p.offset ≡ w → after_gap parent (index + count) more (after_gap parent index count p) ≡ after_gap parent index (count + more) p
-        past true h =
-            let k : nat_lt (index + count) (p.offset + count) ≡ true = grind (arith, nat_tests) in
-            let s : p.offset + count + more ≡ p.offset + (count + more) = omega arith in
-            rw (e, h) (rw (e, k) (ap (λ x. record { node = p.node; offset = x }) s))
-        past false h =
-            let k : nat_lt (index + count) p.offset ≡ false = grind (arith, nat_tests) in
-            rw (e, h) (rw (e, k) refl)
+gap-more parent index count more p = grind (arith, nat_tests)
 
 less-kept : (v : Bool) (k x y x' y' : ℕ) → x' ≡ x + (if v then (if nat_le k x then 1 else 0) else 0) → y' ≡ y + (if v then (if nat_le k y then 1 else 0) else 0) → x < y → x' < y'
-less-kept true k x y x' y' d e h = grind (arith, nat_tests)
-less-kept false k x y x' y' d e h = omega arith
+less-kept v k x y x' y' d e h = grind (arith, nat_tests, cases_Bool)
 
 offsets-kept : (v : Bool) (k a d : ℕ) → a < d → (if v then a + (if nat_lt k a then 1 else 0) else a) < (if v then d + (if nat_lt k d then 1 else 0) else d)
-offsets-kept true k a d h = grind (arith, nat_tests)
-offsets-kept false k a d h = h
+offsets-kept v k a d h = grind (arith, nat_tests, cases_Bool)
 
 between-kept : (v : Bool) (k a x x' : ℕ) → x' ≡ x + (if v then (if nat_le k x then 1 else 0) else 0) → a ≤ x → (if v then a + (if nat_lt k a then 1 else 0) else a) ≤ x'
-between-kept true k a x x' e h = grind (arith, nat_tests)
-between-kept false k a x x' e h = omega arith
+between-kept v k a x x' e h = grind (arith, nat_tests, cases_Bool)
 
 beyond-kept : (v : Bool) (k a x x' : ℕ) → x' ≡ x + (if v then (if nat_le k x then 1 else 0) else 0) → x < a → x' < (if v then a + (if nat_lt k a then 1 else 0) else a)
-beyond-kept true k a x x' e h = grind (arith, nat_tests)
-beyond-kept false k a x x' e h = omega arith
+beyond-kept v k a x x' e h = grind (arith, nat_tests, cases_Bool)
 
 module _ {X : Type 0} (f : Forest X) (o : (m : ℕ) → occurs m f ≤ 1) (p c : ℕ) (b : Option ℕ) (hp : 0 < occurs p f) (hc : 0 < occurs c f) (r : parent_of f c ≡ None) (z : occurs p (tree_at c f) ≡ 0) where
   abbrev opened : ℕ → ℕ → ℕ
   opened u a = if u == p then a + (if nat_lt (place_before b (children_of f p)) a then 1 else 0) else a
 
   gap-point : (n a : ℕ) → after_gap p (place_before b (children_of f p)) 1 (record { node = n; offset = a }) ≡ record { node = n; offset = opened n a }
-  gap-point n a = go (n == p) (nat_lt (place_before b (children_of f p)) a)
-    where
-      go : (v w : Bool) → ◌≡◌ {A = Point} (if v && w then record { node = n; offset = a + 1 } else record { node = n; offset = a }) (record { node = n; offset = if v then a + (if w then 1 else 0) else a })
-      go true true = refl
-      go true false = ap {B = Point} (λ x. record { node = n; offset = x }) (omega arith)
-      go false true = refl
-      go false false = refl
+  gap-point n a = grind (arith, nat_tests)
 
   moves : (m u : ℕ) → 0 < occurs m f → parent_of f m ≡ Some u → index_of (put p c b f) m ≡ index_of f m + (if u == p then (if nat_le (place_before b (children_of f p)) (index_of f m) then 1 else 0) else 0)
   moves m u h e = index-put f o p c b hp hc r z m u h (parent-path f o m u h e).0 e
 
   outside-way : (n : ℕ) → 0 < occurs n f → occurs n (tree_at c f) ≡ 0 → way_to (put p c b f) n ≡ way_to f n
-  outside-way n h out = ap (λ ns. drop 1 (reverse ns)) (ancestors-put f o p c b hp hc r z n h ∙ go (among c (ancestors n f)) refl)
-    where
-      go : (v : Bool) → among c (ancestors n f) ≡ v → then_above c (ancestors n f) (ancestors p f) ≡ ancestors n f
-      go true e = absurd (let i = among-hits c (ancestors n f) e in let j = hits-ancestors c n f o in omega arith)
-      go false e = rw e (append-nil (ancestors n f))
+  outside-way n h out =
+      let far : among c (ancestors n f) ≡ false = grind (arith, cases_Bool, among-hits c (ancestors n f), hits-ancestors c n f o) in
+      let e : ancestors n (put p c b f) ≡ ancestors n f = ancestors-put f o p c b hp hc r z n h ∙ (rw far (append-nil (ancestors n f))) in
+      ap (λ ns. drop 1 (reverse ns)) e
 
   -- points of one root, outside the tree that is put, keep their order
   pub gap-order_kept : (n m a d : ℕ) → 0 < occurs n f → 0 < occurs m f → occurs n (tree_at c f) ≡ 0 → occurs m (tree_at c f) ≡ 0 → root_of f n ≡ root_of f m →

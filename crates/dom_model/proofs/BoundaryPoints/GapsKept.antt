@@ -1,26 +1,14 @@
 -- An insertion of a root leaves the point ahead of what it comes in before, and all that comes in stands behind it.
-use Rattle.std.proofs.Common.{◌≡◌, ℕ, ◌<◌, ◌≤◌, ◌==◌, nat_lt, Bool, true, false, ◌&&◌, if◌then◌else◌, List, [], ◌∷◌, Option, Some, None, IfSome, refl, ap, sym, ◌∙◌, subst, arith, ◌⊎◌, inl, inr, ⊎_elim}
-use Rattle.std.proofs.lemmas.Bool.{cases_lt, le-ltb}
-use Rattle.std.specs.Ordering.{nat_cmp}
-use Rattle.std.specs.declared.cmp.Ordering.TheVariants.{Greater}
-use Rattle.std.specs.Cmp.Lexicographic.{slice_cmp}
-use Rattle.dom_model.specs.PlainLists.Lists.{hits, place_in}
-use Rattle.dom_model.specs.Forests.Forest.{Forest, occurs, parent_of, children_of, index_of}
-use Rattle.dom_model.specs.Worlds.World.{Content, Point, World}
-use Rattle.dom_model.specs.MutationAlgorithms.Editing.{tree_record, tree_record_unless, remove, remove_all, is_fragment, nodes_of, emptied_fragment, insert_all, insert_nodes, insert}
-use Rattle.dom_model.specs.Soundness.Sound.{IsSound}
-use Rattle.dom_model.specs.MutationAlgorithms.Insertable.{IsChildOf, IsInsertable}
-use Rattle.dom_model.proofs.Forests.Climbing.{hits-append, hits-first, ancestors-there}
-use Rattle.dom_model.proofs.Forests.Lying.{left_out-absent}
-use Rattle.dom_model.proofs.Forests.Entries.{children-cut}
+use Rattle.std.proofs.Common.{◌≡◌, ℕ, ◌<◌, ◌==◌, nat_lt, Bool, true, false, ◌&&◌, if◌then◌else◌, List, [], ◌∷◌, Option, Some, None, IfSome, refl, ap, sym, ◌∙◌, subst, arith, ◌⊎◌, inl, inr}
+use Rattle.std.proofs.lemmas.{Bool.le-ltb, Bool.Decides.nat_tests}
+use Rattle.std.proofs.Math.Bool.{and-false}
+use Rattle.std.specs.{Ordering.nat_cmp, declared.cmp.Ordering.TheVariants.Greater, Cmp.Lexicographic.slice_cmp}
+use Rattle.dom_model.specs.Definitions.{hits, place_in, Forest, occurs, parent_of, children_of, index_of, Content, Point, World, tree_record, tree_record_unless, remove, remove_all, is_fragment, nodes_of, emptied_fragment, insert_all, insert_nodes, insert, IsSound, IsChildOf, IsInsertable}
+use Rattle.dom_model.proofs.Forests.{Climbing.hits-append, Climbing.hits-first, Climbing.ancestors-there, Lying.left_out-absent, Entries.children-cut, Indices.child-listed, Indices.child-parent, Indices.child-there, Indices.index-child}
 use Rattle.dom_model.proofs.PlainLists.Places.{place_before}
-use Rattle.dom_model.proofs.Forests.Indices.{child-listed, child-parent, child-there, index-child}
-use Rattle.dom_model.proofs.BoundaryPoints.PointOrder.{nat_cmp-same, nat_cmp-less, nat_cmp-greater}
-use Rattle.dom_model.proofs.Soundness.SoundWorlds.{child_there, sound-remove, sound-remove_all}
+use Rattle.dom_model.proofs.BoundaryPoints.{MovedPoints.map_ranges-none, MovedPoints.KeepsPoint, MovedPoints.keeps-then, MovedPoints.keeps-same, MovedPoints.keeps_remove_all, MovedPoints.IsAheadOf, MovedPoints.keeps_record, MovedPoints.keeps_insert_all, SplitEnds.keeps_insert_root}
+use Rattle.dom_model.proofs.Soundness.{SoundWorlds.child_there, SoundWorlds.sound-remove, SoundWorlds.sound-remove_all, SoundInserting.child_outside}
 use Rattle.dom_model.proofs.MutationAlgorithms.Loosened.{loosened-remove, forest-remove}
-use Rattle.dom_model.proofs.Soundness.SoundInserting.{child_outside}
-use Rattle.dom_model.proofs.BoundaryPoints.MovedPoints.{map_ranges-none, KeepsPoint, keeps-then, keeps-same, keeps_remove_all, IsAheadOf, keeps_record, keeps_insert_all}
-use Rattle.dom_model.proofs.BoundaryPoints.SplitEnds.{keeps_insert_root}
 
 -- of three places, where the first comes after the last, it comes after the middle one or the middle one after the last
 pub between : (xs ys zs : List ℕ) → slice_cmp nat_cmp xs zs ≡ Greater → (slice_cmp nat_cmp xs ys ≡ Greater) ⊎ (slice_cmp nat_cmp ys zs ≡ Greater)
@@ -28,27 +16,7 @@ between [] ys [] g = absurd (cc g)
 between [] ys (z ∷ zs) g = absurd (cc g)
 between (x ∷ xs) [] zs g = inl refl
 between (x ∷ xs) (y ∷ ys) [] g = inr refl
-between (x ∷ xs) (y ∷ ys) (z ∷ zs) g =
-    ⊎_elim
-    (λ (lt : y < x). inl (rw (nat_cmp-greater x y lt) refl))
-    (λ (le : x ≤ y).
-    ⊎_elim
-    (λ (gt : z < y). inr (rw (nat_cmp-greater y z gt) refl))
-    (λ (ge : y ≤ z).
-    ⊎_elim
-    (λ (less : x < z). absurd (let k = rw (nat_cmp-less x z less) at g in cc k))
-    (λ (more : z ≤ x).
-    let e : x ≡ y = omega arith in
-    let d : y ≡ z = omega arith in
-    equal e d (between xs ys zs))
-    (cases_lt x z))
-    (cases_lt z y))
-    (cases_lt y x)
-  where
-    equal : x ≡ y → y ≡ z → (slice_cmp nat_cmp xs zs ≡ Greater → (slice_cmp nat_cmp xs ys ≡ Greater) ⊎ (slice_cmp nat_cmp ys zs ≡ Greater)) → (slice_cmp nat_cmp (x ∷ xs) (y ∷ ys) ≡ Greater) ⊎ (slice_cmp nat_cmp (y ∷ ys) (z ∷ zs) ≡ Greater)
-    equal e d more =
-        let k = rw (e, d, nat_cmp-same z) at g in
-        rw (e, d, nat_cmp-same z) (more k)
+between (x ∷ xs) (y ∷ ys) (z ∷ zs) g = grind (arith, nat_tests, between xs ys zs)
 
 children_after : (ns : List ℕ) (w : World) (parent : ℕ) → IsSound w → ((m : ℕ) → 0 < hits m ns → (0 < occurs m w.forest) × (hits m (children_of w.forest parent) ≡ 0)) → children_of (remove_all ns w).forest parent ≡ children_of w.forest parent
 children_after [] w parent s each = refl
@@ -75,22 +43,15 @@ module _ (n parent : ℕ) (child : Option ℕ) (w : World) (s : IsSound w) (root
 
   pub other_parent : parent ≡ n → ⊥
   other_parent e =
-      let a = ancestors-there parent w.forest k.parent_there in
-      let i = ap (hits n) a.1 in
-      let j = hits-first parent a.0 in
-      let l : 0 < hits n (parent ∷ a.0) = subst (λ x. 0 < hits x (parent ∷ a.0)) e j in
+      let i = ap (hits n) (ancestors-there parent w.forest k.parent_there).1 in
       let o = k.outside in
-      omega arith
+      grind (arith, nat_tests)
 
   pub fragment_child : (m : ℕ) → 0 < hits m (children_of w.forest n) → hits m (children_of w.forest parent) ≡ 0
   fragment_child m h =
-      ⊎_elim
-      (λ (lt : 0 < hits m (children_of w.forest parent)).
-      let a = child-parent w.forest s.forest.once m n h in
-      let b = child-parent w.forest s.forest.once m parent lt in
-      absurd (other_parent (let u : Some parent ≡ Some n = sym b ∙ a in cc u)))
-      (λ (le : hits m (children_of w.forest parent) ≤ 0). omega arith)
-      (cases_lt 0 (hits m (children_of w.forest parent)))
+      let no : 0 < hits m (children_of w.forest parent) → ⊥ = λ lt.
+      other_parent (let u : Some parent ≡ Some n = sym (child-parent w.forest s.forest.once m parent lt) ∙ child-parent w.forest s.forest.once m n h in cc u) in
+      omega arith
 
   is_ahead : (v : World) → children_of v.forest parent ≡ children_of w.forest parent → ((c : ℕ) → child ≡ Some c → parent_of v.forest c ≡ Some parent) → IsAheadOf v parent child ahead
   is_ahead v e par = go child refl
@@ -100,11 +61,7 @@ module _ (n parent : ℕ) (child : Option ℕ) (w : World) (s : IsSound w) (root
       go (Some c) d =
           let i = index-child v.forest c parent (par c d) ∙ ap (place_in c) e in
           let j : position ≡ place_in c (children_of w.forest parent) = ap (λ b. place_before b (children_of w.forest parent)) d in
-          rw (le-ltb (index_of v.forest c) position (omega arith)) (both (parent == parent))
-        where
-          both : (x : Bool) → (x && false) ≡ false
-          both true = refl
-          both false = refl
+          rw (le-ltb (index_of v.forest c) position (omega arith)) (and-false (parent == parent))
 
   child_under : (c : ℕ) → child ≡ Some c → parent_of w.forest c ≡ Some parent
   child_under c d = subst (λ b. IsChildOf w.forest parent b) d k.before_child

@@ -1,20 +1,11 @@
 -- A Text joined to the one before it puts no point after one that it was not after.
 use Rattle.std.proofs.Common.{◌≡◌, ℕ, ◌+◌, ◌*◌, ◌<◌, ◌≤◌, ◌==◌, Bool, true, false, ◌&&◌, if◌then◌else◌, List, [], ◌∷◌, ◌++◌, map, Some, refl, ap, sym, ◌∙◌, subst, arith}
-use Rattle.std.specs.Ordering.{nat_cmp}
-use Rattle.std.specs.declared.cmp.Ordering.TheVariants.{Greater}
-use Rattle.std.specs.Cmp.Lexicographic.{slice_cmp}
-use Rattle.std.proofs.lemmas.Bool.{false≢true, le-ltb}
-use Rattle.dom_model.specs.Forests.Forest.{Forest, occurs, cut, inclusive_descendants, parent_of, children_of, index_of, root_of}
-use Rattle.dom_model.specs.Worlds.World.{Point}
-use Rattle.dom_model.specs.BoundaryPoints.Points.{place_of, order_of, after_merge, after_removal, after_splice}
-use Rattle.dom_model.specs.Forests.Ways.{IsWay}
+use Rattle.std.specs.{Ordering.nat_cmp, declared.cmp.Ordering.TheVariants.Greater, Cmp.Lexicographic.slice_cmp}
+use Rattle.std.proofs.lemmas.{Bool.Decides.nat_tests, Bool.eqb-true, Bool.and_parts, Bool.eq-eqb}
+use Rattle.dom_model.specs.Definitions.{Forest, occurs, cut, inclusive_descendants, parent_of, children_of, index_of, root_of, Point, place_of, order_of, after_merge, after_removal, after_splice, IsWay}
 use Rattle.dom_model.proofs.PlainLists.Numbers.{same_or, same, apart}
-use Rattle.dom_model.proofs.Forests.Indices.{child-listed}
-use Rattle.dom_model.proofs.Forests.Paths.{parent-path}
-use Rattle.dom_model.proofs.Forests.Chains.{way_to, way, way-child, root-child, childless-last}
-use Rattle.dom_model.proofs.BoundaryPoints.WaysKept.{place_by, place-last}
-use Rattle.dom_model.proofs.BoundaryPoints.RemovalOrder.{removal-order_kept}
-use Rattle.dom_model.proofs.BoundaryPoints.MergeInPlace.{place_merged, ways-merged}
+use Rattle.dom_model.proofs.Forests.{Indices.child-listed, Paths.parent-path, Chains.way_to, Chains.way, Chains.way-child, Chains.root-child, Chains.childless-last}
+use Rattle.dom_model.proofs.BoundaryPoints.{WaysKept.place_by, WaysKept.place-last, RemovalOrder.removal-order_kept, MergeInPlace.place_merged, MergeInPlace.ways-merged}
 
 -- where a point goes as the Text `from` of (parent, index) is joined to another, whose length was `base`
 abbrev pub merge_point : List ℕ → ℕ → ℕ → ℕ → ℕ → ℕ → Point → Point
@@ -22,11 +13,7 @@ merge_point inside from into base parent index q = after_removal inside parent i
 
 -- the data that is joined moves no point that was within the first Text's
 pub joined-settled : (into base added n a : ℕ) → (n ≡ into → a ≤ base) → after_splice into base 0 added (record { node = n; offset = a }) ≡ record { node = n; offset = a }
-joined-settled into base added n a within =
-    elim (same_or n into) [
-      | same e t ↦ rw (t, le-ltb base a (within e)) refl
-      | apart ne t ↦ rw t refl
-    ]
+joined-settled into base added n a within = grind (arith, nat_tests)
 
 module _ {X : Type 0} (f : Forest X) (o : (m : ℕ) → occurs m f ≤ 1) (p into from base : ℕ) (hinto : 0 < occurs into f) (hfrom : 0 < occurs from f) (pinto : parent_of f into ≡ Some p) (pfrom : parent_of f from ≡ Some p) (next : index_of f from ≡ index_of f into + 1) (bare : children_of f into ≡ []) (bare_from : children_of f from ≡ []) where
   abbrev merged : List ℕ → ℕ → ℕ → List ℕ
@@ -41,19 +28,11 @@ module _ {X : Type 0} (f : Forest X) (o : (m : ℕ) → occurs m f ≤ 1) (p int
 
   place-clear : (u : ℕ) (ms : List ℕ) (n a : ℕ) → IsWay f u ms n → (n ≡ from → ⊥) → merged ms n a ≡ steps ms ++ merged [] n a
   place-clear u [] n a w ne = refl
-  place-clear u (m ∷ ms) n a w ne =
-      elim (same_or m from) [
-        | same e t ↦ absurd (not_through m n ms ne w.2 e)
-        | apart _ t ↦ rw t (ap (λ xs. (2 * index_of f m + 1) ∷ xs) (place-clear m ms n a w.2 ne))
-      ]
+  place-clear u (m ∷ ms) n a w ne = grind (arith, nat_tests, not_through m n ms ne w.2, place-clear m ms n a w.2 ne)
 
   place-from : (u : ℕ) (ms : List ℕ) (a : ℕ) → IsWay f u ms p → (p ≡ from → ⊥) → merged (ms ++ from ∷ []) from a ≡ steps ms ++ (2 * index_of f into + 1) ∷ (2 * (base + a)) ∷ []
-  place-from u [] a w ne = elim (same_or from from) [ same e t ↦ rw t refl | apart far t ↦ absurd (far refl) ]
-  place-from u (m ∷ ms) a w ne =
-      elim (same_or m from) [
-        | same e t ↦ absurd (not_through m p ms ne w.2 e)
-        | apart _ t ↦ rw t (ap (λ xs. (2 * index_of f m + 1) ∷ xs) (place-from m ms a w.2 ne))
-      ]
+  place-from u [] a w ne = rw (eq-eqb from from refl) refl
+  place-from u (m ∷ ms) a w ne = grind (arith, nat_tests, not_through m p ms ne w.2, place-from m ms a w.2 ne)
 
   from-apart : p ≡ from → ⊥
   from-apart e = let h = rw (ap (children_of f) e ∙ bare_from) at (child-listed f o from p hfrom pfrom) in omega arith
@@ -78,14 +57,7 @@ module _ {X : Type 0} (f : Forest X) (o : (m : ℕ) → occurs m f ≤ 1) (p int
       others ne =
           let w = way f o n h in
           let s = sym (place-clear w.0 (way_to f n) n a w.2 ne) in
-          elim (same_or n p) [
-            | same e t ↦
-                elim (same_or a (index_of f from)) [
-                  | same d u ↦ rw (t, u) (place-into base ∙ ap (λ k. steps (way_to f k) ++ (2 * index_of f into + 1) ∷ (2 * base) ∷ []) (sym e) ∙ rw (t, u) at s)
-                  | apart far u ↦ rw (t, u) (rw (t, u) at s)
-                ]
-            | apart far t ↦ rw t (rw t at s)
-          ]
+          grind (arith, nat_tests, place-into base)
 
   -- before the second Text leaves, no point comes after one that it was not after
   pub merge-in_place : (n m a d : ℕ) → 0 < occurs n f → 0 < occurs m f → (n ≡ into → a ≤ base) → (m ≡ into → d ≤ base) → root_of f n ≡ root_of f m →
@@ -111,11 +83,7 @@ module _ {X : Type 0} (f : Forest X) (o : (m : ℕ) → occurs m f ≤ 1) (p int
       root_into = root-child f o into p hinto pinto
 
       of_parent : (w : Bool) → (n == p) && w ≡ true → n ≡ p
-      of_parent w e =
-          elim (same_or n p) [
-            | same d t ↦ d
-            | apart ne t ↦ absurd (false≢true (rw t at e))
-          ]
+      of_parent w e = eqb-true n p (and_parts (n == p) w e).0
 
       others : (v : Bool) → ((n == p) && (a == index_of f from)) ≡ v → (0 < occurs (if◌then◌else◌ {A = Point} v (record { node = into; offset = base }) (record { node = n; offset = a })).node f) × (root_of f (if◌then◌else◌ {A = Point} v (record { node = into; offset = base }) (record { node = n; offset = a })).node ≡ root_of f n)
       others true e = (hinto, root_into ∙ ap (root_of f) (sym (of_parent (a == index_of f from) e)))

@@ -1,16 +1,7 @@
 -- The world that a merge of two Texts leaves: no point comes after one that it was not after.
-use Rattle.std.proofs.Common.{◌≡◌, ℕ, ◌+◌, ◌<◌, ◌≤◌, [], length, Some, refl, ap, sym, ◌∙◌, subst, arith}
-use Rattle.std.specs.declared.cmp.Ordering.TheVariants.{Greater}
-use Rattle.dom_model.specs.Forests.Forest.{Forest, occurs, one_at, cut, with_node, inclusive_descendants, parent_of, children_of, index_of, root_of}
-use Rattle.dom_model.specs.Worlds.World.{Content, Point, World}
-use Rattle.dom_model.specs.BoundaryPoints.Points.{order_of, after_merge, after_removal, after_splice, map_ranges}
-use Rattle.dom_model.specs.Forests.Texts.{spliced}
-use Rattle.dom_model.specs.DataAndCopies.Data.{data_of, with_data}
-use Rattle.dom_model.specs.TokenText.Tokens.{point, Merge}
-use Rattle.dom_model.specs.TokenText.Edits.{merge_from, on_world}
-use Rattle.dom_model.proofs.BoundaryPoints.NestedAlike.{IsNestedAs, order-nested, nested-with_node, total-nested, parent-nested, children-nested, index-nested, root-nested}
-use Rattle.dom_model.proofs.BoundaryPoints.MergeOrder.{merge_point, joined-settled, merge-order_kept}
-use Rattle.dom_model.proofs.BoundaryPoints.PointOrder.{map_ranges-twice}
+use Rattle.std.proofs.Common.{◌≡◌, ℕ, ◌+◌, ◌<◌, ◌≤◌, [], length, Some, refl, ap, sym, ◌∙◌, subst, arith, Greater}
+use Rattle.dom_model.specs.Definitions.{Forest, occurs, one_at, cut, with_node, inclusive_descendants, parent_of, children_of, index_of, root_of, Content, Point, World, order_of, after_merge, after_removal, after_splice, map_ranges, spliced, data_of, with_data, point, Merge, merge_from, on_world}
+use Rattle.dom_model.proofs.BoundaryPoints.{NestedAlike.IsNestedAs, NestedAlike.order-nested, NestedAlike.nested-with_node, NestedAlike.total-nested, NestedAlike.parent-nested, NestedAlike.children-nested, NestedAlike.index-nested, NestedAlike.root-nested, MergeOrder.merge_point, MergeOrder.joined-settled, MergeOrder.merge-order_kept, PointOrder.map_ranges-twice}
 
 -- a merge in a forest whose nodes may have got other data
 module _ (f g : Forest Content) (alike : IsNestedAs f g) (o : (m : ℕ) → occurs m f ≤ 1) (n next parent base added : ℕ) (hn : 0 < occurs n f) (hnext : 0 < occurs next f) (par : parent_of f n ≡ Some parent) (par_next : parent_of f next ≡ Some parent) (after_it : index_of f next ≡ index_of f n + 1) (bare : children_of f n ≡ []) (bare_next : children_of f next ≡ []) where

@@ -1,17 +1,10 @@
 -- A step moves the ends of live ranges by a map of points that does not depend on the ranges.
 use Rattle.std.proofs.Common.{◌≡◌, ℕ, ◌<◌, ◌≤◌, ◌==◌, nat_lt, Bool, true, false, ◌&&◌, List, [], ◌∷◌, length, Option, Some, None, IfSome, option_map, refl, ap, sym, ◌∙◌, subst, arith}
 use Rattle.std.proofs.Math.ListN.{get_or-map}
-use Rattle.std.proofs.lemmas.List.Elements.{All-nil, All-cons, All-head}
-use Rattle.dom_model.specs.PlainLists.Lists.{hits, among}
-use Rattle.dom_model.specs.Forests.Forest.{occurs, tree_at, parent_of, ancestors, inclusive_descendants, index_of, previous_of, next_of}
-use Rattle.dom_model.specs.Worlds.World.{Point, Range, World}
-use Rattle.dom_model.specs.BoundaryPoints.Points.{moved_range, map_ranges, after_gap, after_removal}
-use Rattle.dom_model.specs.MutationAlgorithms.Editing.{tree_record_unless, taken_out, transients_made, removed_from, remove, remove_all, put_in, put_all, gap_before, previous_to, insert_all}
-use Rattle.dom_model.specs.RangesAndContents.Ranges.{range_at}
-use Rattle.dom_model.specs.Soundness.Sound.{IsRange, IsSound}
+use Rattle.std.proofs.lemmas.{Bool.ne_eqb, List.Elements.All-nil, List.Elements.All-cons, List.Elements.All-head}
+use Rattle.dom_model.specs.Definitions.{hits, among, occurs, tree_at, parent_of, ancestors, inclusive_descendants, index_of, previous_of, next_of, Point, Range, World, moved_range, map_ranges, after_gap, after_removal, tree_record_unless, taken_out, transients_made, removed_from, remove, remove_all, put_in, put_all, gap_before, previous_to, insert_all, range_at, IsRange, IsSound}
 use Rattle.dom_model.proofs.PlainLists.Numbers.{same_or, same, apart}
-use Rattle.dom_model.proofs.Forests.Climbing.{hits-append, hits-first, hits-ancestors, hits-not_among}
-use Rattle.dom_model.proofs.Forests.TreeOrder.Flattened.{hits-numbers}
+use Rattle.dom_model.proofs.Forests.{Climbing.hits-append, Climbing.hits-first, Climbing.hits-ancestors, Climbing.hits-not_among, TreeOrder.Flattened.hits-numbers}
 use Rattle.dom_model.proofs.BoundaryPoints.PointOrder.{map_ranges-twice}
 use Rattle.dom_model.proofs.Soundness.SoundWorlds.{IsLive, sound-remove}
 use Rattle.dom_model.proofs.MutationAlgorithms.Loosened.{loosened-remove, parent-remove}
@@ -85,12 +78,9 @@ keeps_remove suppressed n w q o out far = record { by = moves_remove suppressed 
     outside : among q.node (inclusive_descendants w.forest n) ≡ false
     outside = hits-not_among q.node (inclusive_descendants w.forest n) (hits-numbers q.node (tree_at n w.forest) ∙ sym (hits-ancestors n q.node w.forest o) ∙ out)
 
-    elsewhere : (p : ℕ) → (q.node ≡ p → ⊥) → (q.node == p) ≡ false
-    elsewhere p ne = elim (same_or q.node p) [ same e t ↦ absurd (ne e) | apart _ t ↦ t ]
-
     go : (p : Option ℕ) → parent_of w.forest n ≡ p → leaves_by p w n q ≡ q
     go None e = refl
-    go (Some p) e = rw (outside, elsewhere p (far p e)) refl
+    go (Some p) e = rw (outside, ne_eqb q.node p (far p e)) refl
 
 pub leaves-remove : (suppressed : Bool) (n : ℕ) (w : World) (q : Point) → (moves_remove suppressed n w).moves q ≡ leaves_by (parent_of w.forest n) w n q
 unfolding moves_remove

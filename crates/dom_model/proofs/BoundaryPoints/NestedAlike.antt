@@ -1,12 +1,7 @@
 -- Forests that nest alike have the same order of points: changes of nodes that keep their numbers, as of data or of the node document.
 use Rattle.std.proofs.Common.{◌≡◌, ℕ, ◌+◌, ◌*◌, ◌==◌, Bool, true, false, if◌then◌else◌, List, [], ◌∷◌, ◌++◌, map, reverse, drop, Option, Some, None, option_map, refl, ap, sym, ◌∙◌}
-use Rattle.std.specs.Ordering.{nat_cmp}
-use Rattle.std.specs.Cmp.Lexicographic.{slice_cmp}
-use Rattle.dom_model.specs.PlainLists.Lists.{last_of, or_else, place_in}
-use Rattle.dom_model.specs.Forests.Arena.{Entry, parent_in, children_in, list_under}
-use Rattle.dom_model.specs.Forests.Forest.{Node, Forest, empty, node, total, tops, root_of, map_nodes, in_document, with_node, adopted, entry_under, entry_in, parent_of, children_of, index_of, ancestors}
-use Rattle.dom_model.specs.Worlds.World.{Point}
-use Rattle.dom_model.specs.BoundaryPoints.Points.{place_of, order_of}
+use Rattle.std.specs.{Ordering.nat_cmp, Cmp.Lexicographic.slice_cmp}
+use Rattle.dom_model.specs.Definitions.{last_of, or_else, place_in, Entry, parent_in, children_in, list_under, Node, Forest, empty, node, total, tops, root_of, map_nodes, in_document, with_node, adopted, entry_under, entry_in, parent_of, children_of, index_of, ancestors, Point, place_of, order_of}
 use Rattle.dom_model.proofs.PlainLists.Numbers.{same_or, same, apart}
 
 -- the parts of a node's parent and children
@@ -32,21 +27,18 @@ module _ {X : Type 0} where
 
   tops-nested : (f g : Forest X) → IsNestedAs f g → tops f ≡ tops g
   tops-nested empty empty h = refl
-  tops-nested empty (node y l s) h = absurd h
-  tops-nested (node x k r) empty h = absurd h
   tops-nested (node x k r) (node y l s) h = rw (h.0, tops-nested r s h.2) refl
+  tops-nested f g h = absurd h
 
   pub ancestors-nested : (n : ℕ) (f g : Forest X) → IsNestedAs f g → ancestors n f ≡ ancestors n g
   ancestors-nested n empty empty h = refl
-  ancestors-nested n empty (node y l s) h = absurd h
-  ancestors-nested n (node x k r) empty h = absurd h
   ancestors-nested n (node x k r) (node y l s) h = rw (h.0, ancestors-nested n k l h.1, ancestors-nested n r s h.2) refl
+  ancestors-nested n f g h = absurd h
 
   pub total-nested : (w : ℕ → ℕ) (f g : Forest X) → IsNestedAs f g → total w f ≡ total w g
   total-nested w empty empty h = refl
-  total-nested w empty (node y l s) h = absurd h
-  total-nested w (node x k r) empty h = absurd h
   total-nested w (node x k r) (node y l s) h = rw (h.0, total-nested w k l h.1, total-nested w r s h.2) refl
+  total-nested w f g h = absurd h
 
   links-else : (a b : Option (Entry (Node X))) → links (or_else a b) ≡ or_else (links a) (links b)
   links-else None b = refl
@@ -113,10 +105,6 @@ module _ {X : Type 0} where
     -- points stand in one order in both
     pub order-nested : (p q : Point) → order_of f p q ≡ order_of g p q
     order-nested p q = ap (λ ns. slice_cmp nat_cmp ns (place_of f q)) (place-nested p) ∙ ap (slice_cmp nat_cmp (place_of g p)) (place-nested q)
-
-  pub nested-self : (f : Forest X) → IsNestedAs f f
-  nested-self empty = tt
-  nested-self (node x k r) = (refl, nested-self k, nested-self r)
 
   nested-map : (h : Node X → Node X) → ((x : Node X) → (h x).number ≡ x.number) → (f : Forest X) → IsNestedAs f (map_nodes h f)
   nested-map h keeps empty = tt

@@ -1,20 +1,9 @@
 -- The world that a parting of a Text leaves: the points of each root stand in the order in which they stood.
 use Rattle.std.proofs.Common.{◌≡◌, ℕ, ◌+◌, ◌<◌, ◌≤◌, List, [], length, Some, slice_get, refl, ap, sym, ◌∙◌, subst, arith}
+use Rattle.dom_model.specs.Definitions.{Node, Forest, occurs, put, with_node, adopted, parent_of, children_of, next_of, index_of, root_of, Content, Point, World, order_of, after_gap, after_split, after_splice, map_ranges, node_document, named, with_text, tail_of, with_data, point, Parting, parting_from, on_world}
 use Rattle.dom_model.specs.declared.Kind.TheVariants.{Text}
-use Rattle.dom_model.specs.Forests.Forest.{Node, Forest, occurs, put, with_node, adopted, parent_of, children_of, next_of, index_of, root_of}
-use Rattle.dom_model.specs.Worlds.World.{Content, Point, World}
-use Rattle.dom_model.specs.BoundaryPoints.Points.{order_of, after_gap, after_split, after_splice, map_ranges}
-use Rattle.dom_model.specs.MutationAlgorithms.Editing.{node_document}
-use Rattle.dom_model.specs.Worlds.Making.{named, with_text}
-use Rattle.dom_model.specs.DataAndCopies.Data.{tail_of, with_data}
-use Rattle.dom_model.specs.TokenText.Tokens.{point, Parting}
-use Rattle.dom_model.specs.TokenText.Edits.{parting_from, on_world}
-use Rattle.dom_model.proofs.Forests.Indices.{child-listed}
-use Rattle.dom_model.proofs.Forests.Siblings.{next-child}
-use Rattle.dom_model.proofs.BoundaryPoints.NestedAlike.{order-nested, nested-with_node, nested-adopted}
-use Rattle.dom_model.proofs.Forests.OneMoreRoot.{more, more-once, more-there, new-there, parent-new, children-new, parent-more, children-more, root-more, index-more, order-more}
-use Rattle.dom_model.proofs.BoundaryPoints.SplitOrder.{split_point, tail-settled, split-order_kept}
-use Rattle.dom_model.proofs.BoundaryPoints.PointOrder.{map_ranges-twice}
+use Rattle.dom_model.proofs.Forests.{Indices.child-listed, Siblings.next-child, OneMoreRoot.more, OneMoreRoot.more-once, OneMoreRoot.more-there, OneMoreRoot.new-there, OneMoreRoot.parent-new, OneMoreRoot.children-new, OneMoreRoot.parent-more, OneMoreRoot.children-more, OneMoreRoot.root-more, OneMoreRoot.index-more, OneMoreRoot.order-more}
+use Rattle.dom_model.proofs.BoundaryPoints.{NestedAlike.order-nested, NestedAlike.nested-with_node, NestedAlike.nested-adopted, SplitOrder.split_point, SplitOrder.tail-settled, SplitOrder.split-order_kept, PointOrder.map_ranges-twice}
 
 -- where a point goes as a Text is parted, and its tail leaves it
 abbrev pub parted : World → ℕ → ℕ → ℕ → ℕ → Point → Point

@@ -1,20 +1,11 @@
 -- The roots of points and of references after a cut and a put, and after a step of an iterator.
-use Rattle.std.proofs.Common.{◌≡◌, ℕ, ◌<◌, ◌≤◌, ◌==◌, nat_lt, Bool, true, false, ◌&&◌, if◌then◌else◌, List, [], ◌∷◌, ◌++◌, reverse, Option, Some, None, refl, ap, sym, ◌∙◌, subst, arith, append-nil}
-use Rattle.std.specs.Prelude.{find}
-use Rattle.std.proofs.lemmas.Bool.{false≢true}
-use Rattle.dom_model.specs.PlainLists.Lists.{hits, among, last_of, past, up_to}
-use Rattle.dom_model.specs.Forests.Forest.{Forest, occurs, one_at, tree_at, inclusive_descendants, cut, put, parent_of, index_of, ancestors, root_of}
-use Rattle.dom_model.specs.Worlds.World.{Iterator}
-use Rattle.dom_model.specs.BoundaryPoints.Points.{after_removal}
-use Rattle.dom_model.specs.Traversal.Iterators.{from_reference, back_from_reference, iterator_moved, next_found, previous_found, moved_to_next, moved_to_previous}
-use Rattle.dom_model.specs.Traversal.Filters.{accepts}
-use Rattle.dom_model.proofs.PlainLists.Numbers.{same_or, same, apart}
-use Rattle.dom_model.proofs.Forests.Totals.{total-put, total-tree_at}
-use Rattle.dom_model.proofs.Forests.Climbing.{among-hits, not_among-hits, hits-append, hits-reverse, hits-ancestors, ancestors-there, hits-first}
-use Rattle.dom_model.proofs.Forests.Paths.{parent-path, root-path, ancestors-cut, ancestors-put}
-use Rattle.dom_model.proofs.Forests.TreeOrder.Flattened.{hits-numbers}
+use Rattle.std.proofs.Common.{◌≡◌, ℕ, ◌<◌, ◌≤◌, ◌==◌, nat_lt, Bool, true, false, ◌&&◌, if◌then◌else◌, List, [], ◌∷◌, ◌++◌, reverse, Option, Some, None, refl, ap, sym, ◌∙◌, arith, append-nil, find}
+use Rattle.std.proofs.lemmas.{Bool.false≢true, Bool.cases_Bool, Bool.Decides.nat_tests}
+use Rattle.dom_model.specs.Definitions.{hits, among, last_of, past, up_to, Forest, occurs, one_at, tree_at, inclusive_descendants, cut, put, parent_of, index_of, ancestors, root_of, Iterator, after_removal, from_reference, back_from_reference, iterator_moved, next_found, previous_found, moved_to_next, moved_to_previous, accepts}
+use Rattle.dom_model.proofs.Forests.{Totals.total-put, Totals.total-tree_at, Climbing.among-hits, Climbing.not_among-hits, Climbing.hits-append, Climbing.hits-reverse, Climbing.hits-ancestors, Climbing.ancestors-there, Paths.parent-path, Paths.root-path, Paths.ancestors-cut, Paths.ancestors-put, TreeOrder.Flattened.hits-numbers, Climbing.hits-among}
 use Rattle.dom_model.proofs.BoundaryPoints.RemovalOrder.{ancestors-split, up_with-clear, no_cycle}
 use Rattle.dom_model.proofs.Traversal.IteratorsStay.{IsInRoot, hits-past}
+use Rattle.dom_model.proofs.PlainLists.Members.{hits-last_of}
 
 pub last_of-behind : (xs : List ℕ) (y : ℕ) (ys : List ℕ) → last_of (xs ++ y ∷ ys) ≡ last_of (y ∷ ys)
 last_of-behind [] y ys = refl
@@ -23,30 +14,15 @@ last_of-behind (x ∷ z ∷ xs) y ys = last_of-behind (z ∷ xs) y ys
 
 pub hits-up_to : (x n : ℕ) (xs : List ℕ) → hits x (up_to n xs) ≤ hits x xs
 hits-up_to x n [] = omega arith
-hits-up_to x n (y ∷ xs) =
-    elim (same_or y n) [
-      | same e t ↦ rw t (omega arith)
-      | apart ne t ↦ rw t (let i = hits-up_to x n xs in omega arith)
-    ]
+hits-up_to x n (y ∷ xs) = grind (arith, nat_tests, hits-up_to x n xs)
 
 pub hits-found : (p : ℕ → Bool) (xs : List ℕ) (x : ℕ) → find p xs ≡ Some x → 0 < hits x xs
 hits-found p [] x e = absurd (cc e)
-hits-found p (y ∷ xs) x e = go (p y) refl (hits-found p xs x)
-  where
-    go : (v : Bool) → p y ≡ v → (find p xs ≡ Some x → 0 < hits x xs) → 0 < hits x (y ∷ xs)
-    go true h below =
-        let k = rw h at e in
-        let d : y ≡ x = (let u : Some y ≡ Some x = k in cc u) in
-        subst (λ z. 0 < hits z (y ∷ xs)) d (hits-first y xs)
-    go false h below = (let k = rw h at e in let i = below k in omega arith)
+hits-found p (y ∷ xs) x e = grind (arith, nat_tests, cases_Bool, hits-found p xs x)
 
 -- what is among the reference and a part of a list was in the list
 hits-with : (x r : ℕ) (part all : List ℕ) → hits x part ≤ hits x all → 0 < hits r all → 0 < hits x (r ∷ part) → 0 < hits x all
-hits-with x r part all h k e =
-    elim (same_or r x) [
-      | same d t ↦ subst (λ z. 0 < hits z all) d k
-      | apart ne t ↦ (let j = rw t at e in omega arith)
-    ]
+hits-with x r part all h k e = grind (arith, nat_tests)
 
 module _ {X : Type 0} where
   -- A step of an iterator.
@@ -92,11 +68,6 @@ module _ {X : Type 0} where
         let a = root-path f o c hc r in
         ap last_of (i.1 ∙ ap (λ ns. i.0 ++ ns) a) ∙ last_of-behind i.0 c []
 
-    pub last-among : (c : ℕ) (ns : List ℕ) → last_of ns ≡ Some c → among c ns ≡ true
-    last-among c [] e = absurd (cc e)
-    last-among c (x ∷ []) e = elim (same_or x c) [ same d t ↦ rw t refl | apart ne t ↦ absurd (ne (let u : Some x ≡ Some c = e in cc u)) ]
-    last-among c (x ∷ y ∷ ns) e = elim (same_or x c) [ same d t ↦ rw t refl | apart ne t ↦ rw t (last-among c (y ∷ ns) e) ]
-
     -- nodes of one root have one root after the put
     pub one_root-put : (n m : ℕ) → 0 < occurs n f → 0 < occurs m f → root_of f n ≡ root_of f m → root_of (put p c b f) n ≡ root_of (put p c b f) m
     one_root-put n m hn hm e = root-put n hn ∙ go (among c (ancestors n f)) refl (among c (ancestors m f)) refl ∙ sym (root-put m hm)
@@ -104,8 +75,8 @@ module _ {X : Type 0} where
         go : (v : Bool) → among c (ancestors n f) ≡ v → (w : Bool) → among c (ancestors m f) ≡ w → (if v then root_of f p else root_of f n) ≡ (if w then root_of f p else root_of f m)
         go true a true d = refl
         go false a false d = e
-        go true a false d = absurd (false≢true (sym d ∙ last-among c (ancestors m f) (sym e ∙ root-among n hn a)))
-        go false a true d = absurd (false≢true (sym a ∙ last-among c (ancestors n f) (e ∙ root-among m hm d)))
+        go true a false d = absurd (false≢true (sym d ∙ hits-among c (ancestors m f) (hits-last_of (ancestors m f) c (sym e ∙ root-among n hn a))))
+        go false a true d = absurd (false≢true (sym a ∙ hits-among c (ancestors n f) (hits-last_of (ancestors n f) c (e ∙ root-among m hm d))))
 
     -- an iterator's reference stays in its root
     pub reference-put : (i : Iterator) → 0 < occurs i.reference f → IsInRoot f i → IsInRoot (put p c b f) i

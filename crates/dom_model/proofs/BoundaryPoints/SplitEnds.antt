@@ -1,22 +1,12 @@
 -- What a split leaves of the forest, and that it leaves the point at which a Text is split. DOM Standard, "Interface Text": split.
 use Rattle.std.proofs.Common.{◌≡◌, ℕ, ◌+◌, ◌<◌, ◌≤◌, ◌==◌, nat_lt, true, false, ◌&&◌, [], ◌∷◌, length, Option, Some, None, refl, ap, sym, ◌∙◌, subst, arith}
-use Rattle.std.proofs.lemmas.Bool.{le-ltb}
+use Rattle.std.proofs.Math.Bool.{and-false}
+use Rattle.std.proofs.lemmas.Bool.{le-ltb, ne_eqb}
+use Rattle.dom_model.specs.Definitions.{is_kind, Forest, occurs, parent_of, children_of, next_of, index_of, spliced, Content, Point, World, after_split, after_splice, map_ranges, entry_has, is_of_kind, made_node, named, with_text, is_fragment, node_document, insert_all, insert, data_of, with_data, cut_count, replace_data, tail_of, split_off, split, IsSound}
 use Rattle.dom_model.specs.declared.Kind.TheVariants.{Text, DocumentFragment}
-use Rattle.dom_model.specs.Forests.Kinds.{is_kind}
-use Rattle.dom_model.specs.Forests.Forest.{Forest, occurs, parent_of, children_of, next_of, index_of}
-use Rattle.dom_model.specs.Forests.Texts.{spliced}
-use Rattle.dom_model.specs.Worlds.World.{Content, Point, World}
-use Rattle.dom_model.specs.BoundaryPoints.Points.{after_split, after_splice, map_ranges}
-use Rattle.dom_model.specs.Forests.Nodes.{entry_has, is_of_kind}
-use Rattle.dom_model.specs.Worlds.Making.{made_node, named, with_text}
-use Rattle.dom_model.specs.MutationAlgorithms.Editing.{is_fragment, node_document, insert_all, insert}
-use Rattle.dom_model.specs.DataAndCopies.Data.{data_of, with_data, cut_count, replace_data, tail_of, split_off, split}
-use Rattle.dom_model.specs.Soundness.Sound.{IsSound}
-use Rattle.dom_model.proofs.PlainLists.Numbers.{same_or, same, apart}
 use Rattle.dom_model.proofs.Forests.Indices.{child-listed}
 use Rattle.dom_model.proofs.Worlds.SameShape.{IsAlike, with_node-alike, occurs-alike, parent-alike, kind-alike, index-alike}
-use Rattle.dom_model.proofs.Soundness.SoundForests.{data-childless}
-use Rattle.dom_model.proofs.Soundness.SoundSplitting.{insert-root, text_has_data, entry-new, root-new, forest_is, kind-parted, text-made, par-parted, par-new, index-after, split_off_is, there-parted, there-old, made, parted}
+use Rattle.dom_model.proofs.Soundness.{SoundForests.data-childless, SoundSplitting.insert-root, SoundSplitting.text_has_data, SoundSplitting.entry-new, SoundSplitting.root-new, SoundSplitting.forest_is, SoundSplitting.kind-parted, SoundSplitting.text-made, SoundSplitting.par-parted, SoundSplitting.par-new, SoundSplitting.index-after, SoundSplitting.split_off_is, SoundSplitting.there-parted, SoundSplitting.there-old, SoundSplitting.made, SoundSplitting.parted}
 use Rattle.dom_model.proofs.BoundaryPoints.MovedPoints.{map_ranges-none, KeepsPoint, keeps-then, keeps-same, IsAheadOf, keeps_insert_all}
 
 -- a root that is no fragment is inserted
@@ -68,10 +58,7 @@ module _ (n parent offset : ℕ) (w : World) (s : IsSound w) (hn : 0 < occurs n 
 
   not_parent : (n == parent) ≡ false
   not_parent =
-      elim (same_or n parent) [
-        | same d t ↦ absurd (let i = child-listed w.forest s.forest.once n parent hn e in let j = rw (ap (children_of w.forest) (sym d) ∙ data-childless s.forest n (text_has_data w n text)) at i in omega arith)
-        | apart ne t ↦ t
-      ]
+      ne_eqb n parent (λ d. let j = rw (ap (children_of w.forest) (sym d) ∙ data-childless s.forest n (text_has_data w n text)) at (child-listed w.forest s.forest.once n parent hn e) in omega arith)
 
   keeps_making : KeepsPoint (made_node (node_document w n) (named Text []) (with_text (tail_of w n offset))) w point
   keeps_making =
@@ -95,21 +82,15 @@ module _ (n parent offset : ℕ) (w : World) (s : IsSound w) (hn : 0 < occurs n 
   keeps_division v =
       record {
         by = record { moves = after_split n offset w.made parent (index_of v.forest n); acts = λ rs. refl };
-        kept = here;
+        kept = rw (le-ltb offset offset (omega arith), not_parent) (rw (and-false (n == n)) refl);
       }
-    where
-      here : after_split n offset w.made parent (index_of v.forest n) point ≡ point
-      here = elim (same_or n n) [ same _ t ↦ rw (t, le-ltb offset offset (omega arith), not_parent) refl | apart ne t ↦ absurd (ne refl) ]
 
   keeps_cut : (v : World) → KeepsPoint (replace_data n offset (length (tail_of w n offset)) []) v point
   keeps_cut v =
       record {
         by = record { moves = after_splice n offset (cut_count (length (data_of v n)) offset (length (tail_of w n offset))) 0; acts = λ rs. refl };
-        kept = here (cut_count (length (data_of v n)) offset (length (tail_of w n offset)));
+        kept = rw (le-ltb offset offset (omega arith), and-false (n == n)) refl;
       }
-    where
-      here : (count : ℕ) → after_splice n offset count 0 point ≡ point
-      here count = elim (same_or n n) [ same _ t ↦ rw (t, le-ltb offset offset (omega arith)) refl | apart ne t ↦ absurd (ne refl) ]
 
   pub keeps_split : KeepsPoint (split n offset) w point
   keeps_split =

@@ -1,23 +1,10 @@
 -- A split of a Text, with the new Text that comes in after it, keeps the order of the points of each root.
-use Rattle.std.proofs.Common.{◌≡◌, ℕ, zero, suc, ◌+◌, ◌-◌, ◌<◌, ◌≤◌, ◌==◌, nat_le, Bool, true, false, ◌&&◌, if◌then◌else◌, List, [], ◌∷◌, length, Option, Some, None, refl, ap, sym, ◌∙◌, subst, arith, ⊎_elim}
-use Rattle.std.proofs.lemmas.Bool.{cases_lt, lt-ltb, le-ltb}
-use Rattle.std.proofs.lemmas.Bool.Decides.{nat_tests}
-use Rattle.dom_model.specs.PlainLists.Lists.{hits, is_number, place_in, entered}
-use Rattle.dom_model.specs.Forests.Forest.{Forest, occurs, tree_at, put, parent_of, children_of, next_of, index_of, ancestors, root_of}
-use Rattle.dom_model.specs.Worlds.World.{Point}
-use Rattle.dom_model.specs.BoundaryPoints.Points.{order_of, after_gap, after_split, after_splice}
-use Rattle.dom_model.proofs.PlainLists.Numbers.{same_or, same, apart}
-use Rattle.dom_model.proofs.Forests.Changes.{seen, nothing, just}
-use Rattle.dom_model.proofs.Forests.Climbing.{hits-ancestors, ancestors-there}
-use Rattle.dom_model.proofs.Forests.Entries.{parent-put, children-put}
-use Rattle.dom_model.proofs.Forests.Paths.{parent-path, root-path, put-once, put-there}
+use Rattle.std.proofs.Common.{◌≡◌, ℕ, zero, suc, ◌+◌, ◌<◌, ◌≤◌, ◌==◌, true, false, [], length, Option, Some, None, refl, ap, sym, ◌∙◌, subst, arith}
+use Rattle.std.proofs.lemmas.{Bool.Decides.nat_tests, Bool.eq-eqb, Bool.ne_eqb}
+use Rattle.dom_model.specs.Definitions.{hits, is_number, place_in, Forest, occurs, tree_at, put, parent_of, children_of, next_of, index_of, ancestors, root_of, Point, order_of, after_gap, after_split, after_splice}
 use Rattle.dom_model.proofs.PlainLists.Places.{place_before, place-entered}
-use Rattle.dom_model.proofs.Forests.Indices.{child-listed, child-parent, index-child, index-put}
-use Rattle.dom_model.proofs.BoundaryPoints.PointOrder.{gap-node}
-use Rattle.dom_model.proofs.BoundaryPoints.GapOrder.{gap-order_kept}
-use Rattle.dom_model.proofs.BoundaryPoints.RootsKept.{one_root-put}
-use Rattle.dom_model.proofs.Forests.Siblings.{place-next, next-listed}
-use Rattle.dom_model.proofs.BoundaryPoints.SplitInPlace.{split-in_place}
+use Rattle.dom_model.proofs.Forests.{Changes.seen, Changes.nothing, Changes.just, Climbing.hits-ancestors, Climbing.ancestors-there, Entries.parent-put, Entries.children-put, Paths.parent-path, Paths.root-path, Paths.put-once, Paths.put-there, Indices.child-listed, Indices.child-parent, Indices.index-child, Indices.index-put, Siblings.place-next, Siblings.next-listed}
+use Rattle.dom_model.proofs.BoundaryPoints.{PointOrder.gap-node, GapOrder.gap-order_kept, RootsKept.one_root-put, SplitInPlace.split-in_place}
 
 -- where a point goes as the Text `at` of (parent, index) is split
 abbrev pub split_point : ℕ → ℕ → ℕ → ℕ → ℕ → Point → Point
@@ -25,64 +12,31 @@ split_point at offset new parent index q = after_split at offset new parent inde
 
 -- no point goes to the gap that comes in
 gap-free : (p index n a : ℕ) → (n == p) ≡ true → (after_gap p index 1 (record { node = n; offset = a })).offset ≡ index + 1 → ⊥
-gap-free p index n a t e =
-    ⊎_elim
-    (λ (lt : index < a). let k = rw (t, lt-ltb index a lt) at e in omega arith)
-    (λ (le : a ≤ index). let k = rw (t, le-ltb index a le) at e in omega arith)
-    (cases_lt index a)
+gap-free p index n a t e = grind (arith, nat_tests)
 
 -- the tail that then leaves the Text moves no point
 pub tail-settled : (at offset new parent index count : ℕ) → (new ≡ at → ⊥) → (parent ≡ at → ⊥) → (q : Point) → after_splice at offset count 0 (split_point at offset new parent index q) ≡ split_point at offset new parent index q
-tail-settled at offset new parent index count far above q = settled (after_gap parent (index + 1) 1 q)
-  where
-    apart_from : (m k : ℕ) → (m ≡ at → ⊥) → after_splice at offset count 0 (record { node = m; offset = k }) ≡ record { node = m; offset = k }
-    apart_from m k ne = elim (same_or m at) [ same e t ↦ absurd (ne e) | apart _ t ↦ rw t refl ]
-
-    beside_text : (r : Point) → (r.node ≡ at → ⊥) → (v : Bool) → after_splice at offset count 0 (if v then record r { offset = index + 2 } else r) ≡ (if v then record r { offset = index + 2 } else r)
-    beside_text r ne true = apart_from r.node (index + 2) ne
-    beside_text r ne false = apart_from r.node r.offset ne
-
-    settled : (r : Point) → after_splice at offset count 0 (after_split at offset new parent index r) ≡ after_split at offset new parent index r
-    settled r =
-        elim (same_or r.node at) [
-          | same e t ↦
-              ⊎_elim
-              (λ (lt : offset < r.offset). rw (t, lt-ltb offset r.offset lt) (apart_from new (r.offset - offset) far))
-              (λ (le : r.offset ≤ offset).
-              elim (same_or r.node parent) [
-                | same d u ↦ absurd (above (sym d ∙ e))
-                | apart ne u ↦ rw (t, le-ltb offset r.offset le, u) (rw (t, le-ltb offset r.offset le) refl)
-              ])
-              (cases_lt offset r.offset)
-          | apart ne t ↦ rw t (beside_text r ne ((r.node == parent) && (r.offset == index + 1)))
-        ]
+tail-settled at offset new parent index count far above q = grind (arith, nat_tests)
 
 module _ {X : Type 0} where
   -- the tree of a node without children is the node
   pub inside-childless : (f : Forest X) → ((m : ℕ) → occurs m f ≤ 1) → (c n : ℕ) → children_of f c ≡ [] → 0 < occurs n f → (n ≡ c → ⊥) → occurs n (tree_at c f) ≡ 0
   inside-childless f o c n bare h ne =
-      ⊎_elim
-      (λ (lt : 0 < hits c (ancestors n f)). absurd (go (length (ancestors n f)) n (omega arith) h ne lt))
-      (λ (le : hits c (ancestors n f) ≤ 0). let i = hits-ancestors c n f o in omega arith)
-      (cases_lt 0 (hits c (ancestors n f)))
+      let no : 0 < hits c (ancestors n f) → ⊥ = λ lt. go (length (ancestors n f)) n (omega arith) h ne lt in
+      omega (arith, hits-ancestors c n f o)
     where
       go : (k m : ℕ) → length (ancestors m f) ≤ k → 0 < occurs m f → (m ≡ c → ⊥) → 0 < hits c (ancestors m f) → ⊥
       go zero m l hm far hits_c = (let i = ancestors-there m f hm in let j = rw i.1 at l in omega arith)
       go (suc k) m l hm far hits_c =
           elim (seen (parent_of f m)) [
-            | nothing e ↦ at_root m far (rw (root-path f o m hm e) at hits_c)
+            | nothing e ↦ (let j = rw (root-path f o m hm e) at hits_c in grind (arith, nat_tests))
             | just q e ↦
                 let i = parent-path f o m q hm e in
                 let s = rw i.1 at l in
-                let there : q ≡ c → ⊥ = λ d. let j = rw (ap (children_of f) d ∙ bare) at (child-listed f o m q hm e) in omega arith in
-                go k q (omega arith) i.0 there (above m far (ancestors q f) (rw i.1 at hits_c))
+                let j = rw i.1 at hits_c in
+                let there : q ≡ c → ⊥ = λ d. let x = rw (ap (children_of f) d ∙ bare) at (child-listed f o m q hm e) in omega arith in
+                go k q (omega arith) i.0 there (grind (arith, nat_tests))
           ]
-        where
-          at_root : (m : ℕ) → (m ≡ c → ⊥) → 0 < hits c (m ∷ []) → ⊥
-          at_root m ne h = elim (same_or m c) [ same d t ↦ ne d | apart _ t ↦ (let j = rw t at h in omega arith) ]
-
-          above : (m : ℕ) → (m ≡ c → ⊥) → (ns : List ℕ) → 0 < hits c (m ∷ ns) → 0 < hits c ns
-          above m ne ns h = elim (same_or m c) [ same d t ↦ absurd (ne d) | apart _ t ↦ (let j = rw t at h in omega arith) ]
 
   module _ (f : Forest X) (o : (m : ℕ) → occurs m f ≤ 1) (p at c offset : ℕ) (hat : 0 < occurs at f) (hc : 0 < occurs c f) (pat : parent_of f at ≡ Some p) (root : parent_of f c ≡ None) (bare : children_of f at ≡ []) (bare_new : children_of f c ≡ []) where
     hp : 0 < occurs p f
@@ -95,62 +49,41 @@ module _ {X : Type 0} where
     z = inside-childless f o c p bare_new hp with_child
 
     not_listed : hits c (children_of f p) ≡ 0
-    not_listed =
-        ⊎_elim
-        (λ (lt : 0 < hits c (children_of f p)). absurd (let w : None ≡ Some p = sym root ∙ child-parent f o c p lt in cc w))
-        (λ (le : hits c (children_of f p) ≤ 0). omega arith)
-        (cases_lt 0 (hits c (children_of f p)))
+    not_listed = let no : 0 < hits c (children_of f p) → ⊥ = λ lt. let w : None ≡ Some p = sym root ∙ child-parent f o c p lt in cc w in omega arith
 
     other : is_number (next_of f at) c ≡ false
     other = go (next_of f at) (next-listed f o at p hat pat)
       where
         go : (b : Option ℕ) → ((m : ℕ) → b ≡ Some m → 0 < hits m (children_of f p)) → is_number b c ≡ false
         go None there = refl
-        go (Some m) there =
-            elim (same_or m c) [
-              | same e t ↦ absurd (let h = there m refl in let k : hits m (children_of f p) ≡ 0 = ap (λ x. hits x (children_of f p)) e ∙ not_listed in omega arith)
-              | apart ne t ↦ t
-            ]
+        go (Some m) there = ne_eqb m c (λ e. let h = there m refl in let k : hits m (children_of f p) ≡ 0 = ap (λ x. hits x (children_of f p)) e ∙ not_listed in omega arith)
 
     here : place_before (next_of f at) (children_of f p) ≡ index_of f at + 1
     here = place-next f o at p hat pat
 
     far : (at == c) ≡ false
-    far = elim (same_or at c) [ same e t ↦ absurd (let w : Some p ≡ None = sym pat ∙ ap (parent_of f) e ∙ root in cc w) | apart ne t ↦ t ]
+    far = ne_eqb at c (λ e. let w : Some p ≡ None = sym pat ∙ ap (parent_of f) e ∙ root in cc w)
 
     -- the Text keeps its index, and the new one has the next
     pub index-split : index_of (put p c (next_of f at) f) at ≡ index_of f at
-    index-split = index-put f o p c (next_of f at) hp hc root z at p hat hp pat ∙ go (p == p) (place_before (next_of f at) (children_of f p)) here
-      where
-        go : (v : Bool) (k : ℕ) → k ≡ index_of f at + 1 → index_of f at + (if v then (if nat_le k (index_of f at) then 1 else 0) else 0) ≡ index_of f at
-        go true k e = grind (arith, nat_tests)
-        go false k e = omega arith
+    index-split = index-put f o p c (next_of f at) hp hc root z at p hat hp pat ∙ (rw (eq-eqb p p refl, here) (grind (arith, nat_tests)))
 
     parent-text : parent_of (put p c (next_of f at) f) at ≡ Some p
     parent-text = parent-put f o p c (next_of f at) hp hc root z at hat ∙ (rw (far, pat) refl)
 
     parent-new : parent_of (put p c (next_of f at) f) c ≡ Some p
-    parent-new = parent-put f o p c (next_of f at) hp hc root z c hc ∙ go
-      where
-        go : (if c == c then Some p else parent_of f c) ≡ Some p
-        go = elim (same_or c c) [ same e t ↦ rw t refl | apart ne t ↦ absurd (ne refl) ]
+    parent-new = parent-put f o p c (next_of f at) hp hc root z c hc ∙ (rw (eq-eqb c c refl) refl)
 
     pub index-new : index_of (put p c (next_of f at) f) c ≡ index_of (put p c (next_of f at) f) at + 1
     index-new =
         index-child (put p c (next_of f at) f) c p parent-new
-        ∙ ap (place_in c) (children-put f o p c (next_of f at) hp hc root z p hp ∙ itself)
+        ∙ ap (place_in c) (children-put f o p c (next_of f at) hp hc root z p hp ∙ (rw (eq-eqb p p refl) refl))
         ∙ place-entered (next_of f at) c (children_of f p) not_listed other
         ∙ here
         ∙ ap (λ k. k + 1) (sym index-split)
-      where
-        itself : (if p == p then entered (next_of f at) c (children_of f p) else children_of f p) ≡ entered (next_of f at) c (children_of f p)
-        itself = elim (same_or p p) [ same e t ↦ rw t refl | apart ne t ↦ absurd (ne refl) ]
 
     children-kept : (n : ℕ) → 0 < occurs n f → (n ≡ p → ⊥) → children_of f n ≡ [] → children_of (put p c (next_of f at) f) n ≡ []
-    children-kept n h ne e = children-put f o p c (next_of f at) hp hc root z n h ∙ go
-      where
-        go : (if n == p then entered (next_of f at) c (children_of f n) else children_of f n) ≡ []
-        go = elim (same_or n p) [ same d t ↦ absurd (ne d) | apart _ t ↦ rw t e ]
+    children-kept n h ne e = children-put f o p c (next_of f at) hp hc root z n h ∙ (rw (ne_eqb n p ne) e)
 
     not_parent : at ≡ p → ⊥
     not_parent d = let j = rw (ap (children_of f) (sym d) ∙ bare) at (child-listed f o at p hat pat) in omega arith

@@ -1,19 +1,10 @@
 -- Bytes are cut into lines by themselves after a newline; and the commands among lines tell the world that the lines leave.
-use Rattle.std.proofs.Common.{◌≡◌, ◌≢◌, ℕ, ◌==◌, Bool, true, false, if◌then◌else◌, List, [], ◌∷◌, ◌++◌, map, length, Result, Ok, Err, refl, ap, sym, ◌∙◌, append_assoc}
-use Rattle.std.proofs.lemmas.Bool.{false≢true}
-use Rattle.std.specs.Prelude.{remove}
+use Rattle.std.proofs.Common.{◌≡◌, ◌≢◌, ℕ, ◌==◌, Bool, true, false, if◌then◌else◌, List, [], ◌∷◌, ◌++◌, map, length, Result, Ok, Err, refl, ap, ◌∙◌, arith, append_assoc, remove}
+use Rattle.std.proofs.lemmas.Bool.Decides.{nat_tests}
+use Rattle.dom_model.specs.Definitions.{World, first_world, Command, is_refusal, Bounds, world_past, commands_among, Row, onto_first, onto_last, lines_of, step_of, line_step, world_after, answer}
 use Rattle.dom_model.specs.declared.OwnError.{OwnError}
-use Rattle.dom_model.specs.Worlds.World.{World, first_world}
-use Rattle.dom_model.specs.Commands.Command.{Command}
-use Rattle.dom_model.specs.Commands.Reply.{is_refusal}
-use Rattle.dom_model.specs.Commands.Guards.{Bounds}
-use Rattle.dom_model.specs.TokenText.CommandEdits.{world_past, commands_among}
-use Rattle.dom_model.specs.Commands.Table.{Row}
-use Rattle.dom_model.specs.Commands.Line.{command_within}
-use Rattle.dom_model.specs.Commands.Output.{onto_first, onto_last, whole_lines, last_piece, line_if_any, lines_of, step_of, line_step, replies_from, world_after, due}
-use Rattle.dom_model.specs.Commands.Answer.{answer}
-use Rattle.dom_model.proofs.Commands.ReplyLines.{IsOneLine, whole_lines-newline, last_piece-newline}
-use Rattle.dom_model.proofs.Commands.RefusalsDropped.{refused_line-dropped}
+use Rattle.dom_model.specs.{Commands.Line.command_within, Commands.Output.whole_lines, Commands.Output.last_piece, Commands.Output.due}
+use Rattle.dom_model.proofs.Commands.{ReplyLines.IsOneLine, ReplyLines.whole_lines-newline, ReplyLines.last_piece-newline, RefusalsDropped.refused_line-dropped}
 
 -- a piece that is empty at the end, and lines after it
 record ArePieces (bytes rest : List ℕ) : Type 0 where
@@ -40,11 +31,7 @@ pieces [] rest e = record { whole = refl; last = refl }
 pieces (b ∷ bytes) rest e = let i = one_byte b bytes rest (b == 10) e (pieces bytes rest) in record { whole = i.0; last = i.1 }
 
 pub lines-after : (bytes rest : List ℕ) → last_piece bytes ≡ [] → lines_of (bytes ++ rest) ≡ whole_lines bytes ++ lines_of rest
-lines-after bytes rest e =
-    let i = pieces bytes rest e in
-    ap (λ (ls : List (List ℕ)). ls ++ line_if_any (last_piece (bytes ++ rest))) i.whole
-    ∙ ap (λ (p : List ℕ). (whole_lines bytes ++ whole_lines rest) ++ line_if_any p) i.last
-    ∙ append_assoc (whole_lines bytes) (whole_lines rest) (line_if_any (last_piece rest))
+lines-after bytes rest e = let i = pieces bytes rest e in simp (i.whole, i.last, append_assoc)
 
 -- no newline is among the bytes, where they have no whole line
 one-line : (line : List ℕ) → whole_lines line ≡ [] → IsOneLine line
@@ -54,23 +41,17 @@ one-line (b ∷ line) e = go (whole_lines line) (one-line line) (b == 10) refl e
   where
     go : (lines : List (List ℕ)) → (lines ≡ [] → IsOneLine line) → (v : Bool) → (b == 10) ≡ v → (if v then [] ∷ lines else onto_first b lines) ≡ [] → (b ≢ 10) × IsOneLine line
     go lines more true t k = absurd (cc k)
-    go [] more false t k = ((λ d. false≢true (sym t ∙ ap (λ x. x == 10) d)), more refl)
+    go [] more false t k = (grind (arith, nat_tests), more refl)
     go (l ∷ ls) more false t k = absurd (cc k)
 
 pub lines-first : (line rest : List ℕ) → whole_lines line ≡ [] → lines_of (line ++ 10 ∷ rest) ≡ line ∷ lines_of rest
-lines-first line rest e =
-    let h = one-line line e in
-    ap (λ (ls : List (List ℕ)). ls ++ line_if_any (last_piece (line ++ 10 ∷ rest))) (whole_lines-newline line rest h)
-    ∙ ap (λ (p : List ℕ). (line ∷ whole_lines rest) ++ line_if_any p) (last_piece-newline line rest h)
+lines-first line rest e = let h = one-line line e in simp (whole_lines-newline line rest h, last_piece-newline line rest h)
 
 -- A line that is refused goes from the input, and its reply goes from the output.
 pub refused_bytes-dropped : (table : List Row) (b : Bounds) (front line rest : List ℕ) → last_piece front ≡ [] → whole_lines line ≡ [] → is_refusal (line_step table b (world_after table b first_world (whole_lines front)) line).reply ≡ true → due table b (front ++ rest) true ≡ remove (due table b (front ++ (line ++ 10 ∷ rest)) true) (length (whole_lines front))
 unfolding due
 refused_bytes-dropped table b front line rest e f h =
-    ap (replies_from table b first_world) (lines-after front rest e)
-    ∙ refused_line-dropped table b (whole_lines front) line (lines_of rest) h
-    ∙ ap (λ (ls : List (List ℕ)). remove (replies_from table b first_world ls) (length (whole_lines front)))
-    (sym (lines-after front (line ++ 10 ∷ rest) e ∙ ap (λ (ls : List (List ℕ)). whole_lines front ++ ls) (lines-first line rest f)))
+    simp (lines-after front rest e, lines-after front (line ++ 10 ∷ rest) e, lines-first line rest f) (refused_line-dropped table b (whole_lines front) line (lines_of rest) h)
 
 -- The lines leave the world that the commands among them leave: a line whose form is refused leaves it as it is.
 pub lines-past : (table : List Row) (b : Bounds) (w : World) (lines : List (List ℕ)) → world_after table b w lines ≡ world_past b w (commands_among (map (command_within table b.line) lines))

@@ -1,20 +1,9 @@
 -- Notify, made of commands: what takes the pending observers, then for each of them, in order, what tells it; and then every transient registration that is
 -- left goes. DOM Standard, "notify mutation observers".
-use Rattle.std.proofs.Common.{◌≡◌, ℕ, true, List, [], ◌∷◌, map, refl, ap, sym, ◌∙◌}
-use Rattle.std.specs.Prelude.{filter}
-use Rattle.dom_model.specs.PlainLists.Lists.{among}
-use Rattle.dom_model.specs.Worlds.World.{World}
-use Rattle.dom_model.specs.Commands.Command.{Notify, TakePending, TellObserver}
-use Rattle.dom_model.specs.Commands.Reply.{Reply, Done, Records, Notified}
-use Rattle.dom_model.specs.MutationObservers.Record.{Told}
-use Rattle.dom_model.specs.MutationObservers.Records.{has_observer, queue_of, pending_of, has_records, pending_taken, observer_told, told_in_turn, answers_in_turn, transients_ended}
-use Rattle.dom_model.specs.Commands.Guards.{Bounds, Step, answers}
-use Rattle.dom_model.specs.Commands.AnswerObserving.{with_observing}
-use Rattle.dom_model.specs.Commands.Answer.{answer}
-use Rattle.dom_model.specs.TokenText.CommandEdits.{world_past}
-use Rattle.dom_model.specs.Erasure.Erasing.{replies_to}
-use Rattle.dom_model.proofs.MutationObservers.Queues.{among-first, among-later, there-taken, pending-there}
-use Rattle.dom_model.proofs.MutationObservers.InTurn.{notify-in_turn, told-in_turn}
+use Rattle.std.proofs.Common.{◌≡◌, ℕ, true, List, [], ◌∷◌, map, refl, ap, sym, ◌∙◌, filter}
+use Rattle.dom_model.specs.Definitions.{among, World, Notify, TakePending, TellObserver, Reply, Done, Records, Notified, Told, has_observer, queue_of, pending_of, has_records, pending_taken, observer_told, told_in_turn, answers_in_turn, transients_ended, Bounds, Step, answers, with_observing, answer, world_past, replies_to}
+use Rattle.dom_model.proofs.MutationObservers.{Queues.among-later, Queues.there-taken, Queues.pending-there, InTurn.notify-in_turn, InTurn.told-in_turn}
+use Rattle.dom_model.proofs.PlainLists.Heads.{among-first}
 
 module _ (b : Bounds) where
   tells : (w : World) (o : ℕ) → has_observer w.observing o ≡ true → answer b w (TellObserver o) ≡ answers (Records (queue_of o w.observing)) (with_observing (observer_told o w.observing) w)

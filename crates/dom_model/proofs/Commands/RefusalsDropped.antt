@@ -1,18 +1,7 @@
 -- Without a command that is refused every other reply stays as it is, and so without a line that is refused. Ours.
-use Rattle.std.proofs.Common.{◌≡◌, ℕ, true, List, [], ◌∷◌, ◌++◌, length, Result, Ok, Err, refl, ap, sym}
-use Rattle.std.specs.Prelude.{remove}
+use Rattle.std.proofs.Common.{◌≡◌, ℕ, true, List, [], ◌∷◌, ◌++◌, length, Result, Ok, Err, refl, ap, sym, remove}
+use Rattle.dom_model.specs.Definitions.{World, first_world, Reply, is_refusal, Command, Bounds, answer, world_past, replies_to, reply_line, Row, step_of, line_step, replies_from, world_after, command_within}
 use Rattle.dom_model.specs.declared.OwnError.{OwnError}
-use Rattle.dom_model.specs.Worlds.World.{World, first_world}
-use Rattle.dom_model.specs.Commands.Reply.{Reply, is_refusal}
-use Rattle.dom_model.specs.Commands.Command.{Command}
-use Rattle.dom_model.specs.Commands.Guards.{Bounds}
-use Rattle.dom_model.specs.Commands.Answer.{answer}
-use Rattle.dom_model.specs.TokenText.CommandEdits.{world_past}
-use Rattle.dom_model.specs.Erasure.Erasing.{replies_to}
-use Rattle.dom_model.specs.Commands.Printed.{reply_line}
-use Rattle.dom_model.specs.Commands.Table.{Row}
-use Rattle.dom_model.specs.Commands.Line.{command_within}
-use Rattle.dom_model.specs.Commands.Output.{step_of, line_step, replies_from, world_after}
 use Rattle.dom_model.proofs.Commands.RefusalsLeave.{refused-leaves}
 
 -- from any world, in any list

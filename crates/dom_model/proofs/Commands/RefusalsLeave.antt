@@ -1,12 +1,7 @@
 -- A refused command leaves the world, and what the limit asks for is always enough. Ours.
 use Rattle.std.proofs.Common.{◌≡◌, true}
-use Rattle.dom_model.specs.Worlds.World.{World}
-use Rattle.dom_model.specs.Commands.Reply.{is_refusal}
-use Rattle.dom_model.specs.Commands.Command.{Command}
-use Rattle.dom_model.specs.Commands.Counts.{counts_of, plus, of_each, asked, AreAtMost}
-use Rattle.dom_model.specs.Commands.Answer.{Bounds, answer}
-use Rattle.dom_model.proofs.Counting.StepsCounted.{counted-leaves, counted-never_fall, counted-at_most, counted-within}
-use Rattle.dom_model.proofs.Counting.CommandsCounted.{command-counted, Needed}
+use Rattle.dom_model.specs.Definitions.{World, is_refusal, Command, counts_of, plus, of_each, asked, AreAtMost, Bounds, answer}
+use Rattle.dom_model.proofs.Counting.{StepsCounted.counted-leaves, StepsCounted.counted-never_fall, StepsCounted.counted-at_most, StepsCounted.counted-within, CommandsCounted.command-counted, CommandsCounted.Needed}
 
 -- a refusal leaves the world
 pub refused-leaves : (b : Bounds) (w : World) (c : Command) → is_refusal (answer b w c).reply ≡ true → (answer b w c).world ≡ w

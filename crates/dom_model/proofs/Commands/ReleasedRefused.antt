@@ -1,17 +1,8 @@
 -- A command that asks for an iterator, a walker, a static range or an observer that is not there, as it was never made or was released, is refused, and
 -- leaves the world. What was released is refused so after any further commands.
 use Rattle.std.proofs.Common.{◌≡◌, ℕ, ◌<◌, List, length, Some, None, refl, ap, ◌∙◌}
+use Rattle.dom_model.specs.Definitions.{World, Command, DescribeIterator, NextNode, PreviousNode, ReleaseIterator, DescribeWalker, SetCurrent, Walk, ReleaseWalker, DescribeStaticRange, ReleaseStaticRange, Observe, Disconnect, TakeRecords, ReleaseObserver, TellObserver, Own, static_at, taken_up_to, Bounds, refused, iterator_at, walker_at, answer, iterator_asked, walker_asked, static_range_asked, observer_asked, world_past}
 use Rattle.dom_model.specs.declared.OwnError.TheVariants.{NoSuchObject}
-use Rattle.dom_model.specs.Worlds.World.{World}
-use Rattle.dom_model.specs.Commands.Command.{Command, DescribeIterator, NextNode, PreviousNode, ReleaseIterator, DescribeWalker, SetCurrent, Walk, ReleaseWalker, DescribeStaticRange, ReleaseStaticRange, Observe, Disconnect, TakeRecords, ReleaseObserver, TellObserver}
-use Rattle.dom_model.specs.Commands.Reply.{Own}
-use Rattle.dom_model.specs.RangesAndContents.StaticRanges.{static_at}
-use Rattle.dom_model.specs.MutationObservers.Records.{taken_up_to}
-use Rattle.dom_model.specs.Commands.Guards.{Bounds, refused}
-use Rattle.dom_model.specs.Commands.AnswerTraversal.{iterator_at, walker_at}
-use Rattle.dom_model.specs.Commands.Answer.{answer}
-use Rattle.dom_model.specs.Commands.AskedFor.{iterator_asked, walker_asked, static_range_asked, observer_asked}
-use Rattle.dom_model.specs.TokenText.CommandEdits.{world_past}
 use Rattle.dom_model.proofs.Counting.NumbersStay.{iterator-stays_released, walker-stays_released, static_range-stays_released, observer-stays_released}
 
 module _ (b : Bounds) (w : World) where

@@ -1,18 +1,10 @@
 -- A printed reply has its newline at its end and nowhere else, so the output has one line for each line of the input.
-use Rattle.std.proofs.Common.{◌≡◌, ◌≢◌, ℕ, zero, suc, ◌+◌, ◌/◌, ◌%◌, ◌==◌, pos, negsuc, List, [], ◌∷◌, ◌++◌, length, Bool, true, false, cond, decimal, refl, sym, ap, ◌∙◌, arith, append_assoc, true≢false}
-use Rattle.std.specs.Prelude.{◌||◌, nat_lt, flat_map}
-use Rattle.std.proofs.lemmas.Bool.{eqb-true}
-use Rattle.std.specs.Char.{digit_char}
-use Rattle.std.specs.Fmt.{digits, digits_onto, digit_glyph}
+use Rattle.std.proofs.Common.{◌≡◌, ◌≢◌, ℕ, zero, suc, ◌/◌, ◌%◌, ◌==◌, pos, negsuc, List, [], ◌∷◌, ◌++◌, length, Bool, true, false, decimal, refl, ap, ◌∙◌, arith, append_assoc}
+use Rattle.std.specs.{Prelude.nat_lt, Prelude.flat_map, Char.digit_char, Fmt.digits, Fmt.digits_onto, Fmt.digit_glyph}
+use Rattle.std.proofs.lemmas.{Bool.ne_eqb, Bool.cond_both, Bool.Decides.nat_tests}
 use Rattle.json.specs.Print.{escape_letter, escape_byte, escape, quoted}
-use Rattle.serde_json.specs.Data.{Num, unsigned, negative, float, Data, null, boolean, number, string, array, object, Items, no_items, item, Members, no_members, member}
-use Rattle.serde_json.specs.Written.{number_text, comma_if, compact_text, items_text, members_text}
-use Rattle.dom_model.specs.Worlds.World.{World}
-use Rattle.dom_model.specs.Commands.Reply.{Reply}
-use Rattle.dom_model.specs.Commands.Printed.{reply_json, reply_line}
-use Rattle.dom_model.specs.Commands.Table.{Row}
-use Rattle.dom_model.specs.Commands.Answer.{Bounds}
-use Rattle.dom_model.specs.Commands.Output.{whole_lines, last_piece, onto_first, lines_of, line_step, replies_from, due, joined, output_of}
+use Rattle.serde_json.specs.{Data.Num, Data.unsigned, Data.negative, Data.float, Data.Data, Data.null, Data.boolean, Data.number, Data.string, Data.array, Data.object, Data.Items, Data.no_items, Data.item, Data.Members, Data.no_members, Data.member, Written.number_text, Written.comma_if, Written.compact_text, Written.items_text, Written.members_text}
+use Rattle.dom_model.specs.Definitions.{World, Reply, reply_json, reply_line, Row, Bounds, onto_first, lines_of, line_step, replies_from, joined, output_of, whole_lines, last_piece, due}
 
 -- no byte is a newline
 abbrev pub IsOneLine : List ℕ → Type 0
@@ -23,38 +15,23 @@ pub IsOneLine-append : (xs ys : List ℕ) → IsOneLine xs → IsOneLine ys → 
 IsOneLine-append [] ys first rest = rest
 IsOneLine-append (x ∷ xs) ys first rest = (first.0, IsOneLine-append xs ys first.1 rest)
 
-IsOneLine-cond : (b : Bool) (xs ys : List ℕ) → (b ≡ true → IsOneLine xs) → (b ≡ false → IsOneLine ys) → IsOneLine (cond b xs ys)
-IsOneLine-cond true xs ys first second = first refl
-IsOneLine-cond false xs ys first second = second refl
-
 IsOneLine-flat_map : (f : ℕ → List ℕ) → ((x : ℕ) → IsOneLine (f x)) → (xs : List ℕ) → IsOneLine (flat_map f xs)
 IsOneLine-flat_map f each [] = tt
 IsOneLine-flat_map f each (x ∷ xs) = IsOneLine-append (f x) (flat_map f xs) (each x) (IsOneLine-flat_map f each xs)
 
--- a byte is not 10 where a test tells the two apart
-differs : (test : ℕ → Bool) (b : ℕ) → test b ≡ false → test 10 ≡ true → b ≢ 10
-differs test b fails holds same = true≢false (sym holds ∙ sym (ap test same) ∙ fails)
-
-differs_so : (test : ℕ → Bool) (b : ℕ) → test b ≡ true → test 10 ≡ false → b ≢ 10
-differs_so test b holds fails same = true≢false (sym holds ∙ ap test same ∙ fails)
-
 other : (b : ℕ) → (b == 10) ≡ false → b ≢ 10
-other b fails = differs (λ x. x == 10) b fails refl
-
-either_other : (b : Bool) (m n : ℕ) → (b ≡ true → m ≢ 10) → (b ≡ false → n ≢ 10) → cond b m n ≢ 10
-either_other true m n first second = first refl
-either_other false m n first second = second refl
+other b fails = grind (arith, nat_tests)
 
 -- ---- numbers
 
 digit_glyph_other : (d : ℕ) → digit_glyph false d ≢ 10
-digit_glyph_other d = either_other (nat_lt d 10) (48 + d) (87 + d) (λ _. omega arith) (λ _. omega arith)
+digit_glyph_other d = grind (arith, nat_tests)
 
 digits_onto_one_line : (k n : ℕ) (acc : List ℕ) → IsOneLine acc → IsOneLine (digits_onto k 10 false n acc)
 digits_onto_one_line zero n acc h = h
 digits_onto_one_line (suc k) n acc h =
     let more : IsOneLine (digit_glyph false (n % 10) ∷ acc) = (digit_glyph_other (n % 10), h) in
-    IsOneLine-cond (n / 10 == 0) (digit_glyph false (n % 10) ∷ acc) _ (λ _. more) (λ _. digits_onto_one_line k (n / 10) (digit_glyph false (n % 10) ∷ acc) more)
+    cond_both (n / 10 == 0) (digit_glyph false (n % 10) ∷ acc) _ IsOneLine (λ _. more) (λ _. digits_onto_one_line k (n / 10) (digit_glyph false (n % 10) ∷ acc) more)
 
 pub IsOneLine-decimal : (n : ℕ) → IsOneLine (decimal n)
 unfolding digits
@@ -69,24 +46,18 @@ IsOneLine-number_text (float x) = tt
 -- ---- strings
 
 letter_other : (x : ℕ) → escape_letter x ≢ 10
-letter_other x =
-    either_other ((x == 34) || (x == 92)) x _ (λ holds. differs_so (λ y. (y == 34) || (y == 92)) x holds refl) (λ _.
-    either_other (x == 8) 98 _ (λ _. other 98 refl) (λ _.
-    either_other (x == 12) 102 _ (λ _. other 102 refl) (λ _.
-    either_other (x == 10) 110 _ (λ _. other 110 refl) (λ _.
-    either_other (x == 13) 114 _ (λ _. other 114 refl) (λ _.
-    either_other (x == 9) 116 0 (λ _. other 116 refl) (λ _. other 0 refl))))))
+letter_other x = grind (arith, nat_tests)
 
 digit_char_other : (d : ℕ) → digit_char d ≢ 10
-digit_char_other d = either_other (nat_lt d 10) (48 + d) (87 + d) (λ _. omega arith) (λ _. omega arith)
+digit_char_other d = grind (arith, nat_tests)
 
 escape_byte_one_line : (x : ℕ) → IsOneLine (escape_byte x)
 unfolding escape_byte
 escape_byte_one_line x =
-    IsOneLine-cond (nat_lt 0 (escape_letter x)) _ _ (λ _. (other 92 refl, (letter_other x, tt))) (λ _.
-    IsOneLine-cond (nat_lt x 32) _ (x ∷ [])
+    cond_both (nat_lt 0 (escape_letter x)) _ _ IsOneLine (λ _. (other 92 refl, (letter_other x, tt))) (λ _.
+    cond_both (nat_lt x 32) _ (x ∷ []) IsOneLine
     (λ _. (other 92 refl, (other 117 refl, (other 48 refl, (other 48 refl, (digit_char_other (x / 16), (digit_char_other (x % 16), tt)))))))
-    (λ high. (differs (λ y. nat_lt y 32) x high refl, tt)))
+    (λ high. (grind (arith, nat_tests), tt)))
 
 pub IsOneLine-quoted : (s : List ℕ) → IsOneLine (quoted s)
 IsOneLine-quoted s = (other 34 refl, IsOneLine-append (escape s) (34 ∷ []) (IsOneLine-flat_map escape_byte escape_byte_one_line s) (other 34 refl, tt))
@@ -120,23 +91,16 @@ mutual
 
 -- ---- lines
 
-decided : (v : Bool) → (v ≡ true → ⊥) → v ≡ false
-decided true fails = absurd (fails refl)
-decided false fails = refl
-
-is_other : (b : ℕ) → b ≢ 10 → (b == 10) ≡ false
-is_other b fails = decided (b == 10) (λ holds. fails (eqb-true b 10 holds))
-
 -- a line and its newline, ahead of more
 pub whole_lines-newline : (xs rest : List ℕ) → IsOneLine xs → whole_lines (xs ++ 10 ∷ rest) ≡ xs ∷ whole_lines rest
 unfolding whole_lines
 whole_lines-newline [] rest h = refl
-whole_lines-newline (b ∷ xs) rest h = rw (is_other b h.0) (ap (onto_first b) (whole_lines-newline xs rest h.1))
+whole_lines-newline (b ∷ xs) rest h = rw (ne_eqb b 10 h.0) (ap (onto_first b) (whole_lines-newline xs rest h.1))
 
 pub last_piece-newline : (xs rest : List ℕ) → IsOneLine xs → last_piece (xs ++ 10 ∷ rest) ≡ last_piece rest
 unfolding last_piece
 last_piece-newline [] rest h = refl
-last_piece-newline (b ∷ xs) rest h = rw (is_other b h.0, whole_lines-newline xs rest h.1) (last_piece-newline xs rest h.1)
+last_piece-newline (b ∷ xs) rest h = rw (ne_eqb b 10 h.0, whole_lines-newline xs rest h.1) (last_piece-newline xs rest h.1)
 
 -- what is printed for a reply, before its newline
 abbrev pub reply_text : Reply → List ℕ

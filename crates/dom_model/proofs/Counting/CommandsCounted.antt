@@ -1,46 +1,10 @@
 -- Each command leaves the world where it is refused, and else takes no more numbers than it asks for.
-use Rattle.std.proofs.Common.{◌≡◌, ℕ, ◌+◌, ◌*◌, nat_lt, Bool, false, not, List, [], ◌∷◌, ◌++◌, length, Option, Some, None, refl, ap, arith, length-append}
-use Rattle.std.proofs.lemmas.Bool.{ltb-false}
-use Rattle.std.proofs.lemmas.List.{length-set}
-use Rattle.dom_model.specs.Forests.Arena.{Entry}
-use Rattle.dom_model.specs.Forests.Forest.{Node, size, entry_in, parent_of}
-use Rattle.dom_model.specs.declared.Kind.TheVariants.{Element, Text, Document}
-use Rattle.dom_model.specs.declared.DomError.TheVariants.{NotFoundError, NotSupportedError, InvalidCharacterError}
-use Rattle.dom_model.specs.declared.OwnError.TheVariants.{InUse}
-use Rattle.dom_model.specs.PlainLists.Lists.{is_number}
-use Rattle.dom_model.specs.Forests.Kinds.{is_kind, is_character_data, may_be_parent}
-use Rattle.dom_model.specs.Forests.Names.{is_element_name, is_attribute_name, is_doctype_name}
-use Rattle.dom_model.specs.Worlds.Lengths.{length_at, unit_count}
-use Rattle.dom_model.specs.Worlds.World.{Content, Point, Range, Iterator, Walker, World}
-use Rattle.dom_model.specs.Commands.Reply.{Answer, Reply, Own}
-use Rattle.dom_model.specs.MutationAlgorithms.Checks.{check_insert, check_replace}
-use Rattle.dom_model.specs.Forests.Nodes.{is_of_kind}
-use Rattle.dom_model.specs.DataAndCopies.Data.{check_offset}
-use Rattle.dom_model.specs.RangesAndContents.Ranges.{range_at, start_set, end_set, point_before, point_after, around, check_point, check_contents, check_compare, check_point_against, check_point_in, collapsed, with_range, released}
-use Rattle.dom_model.specs.RangesAndContents.Contents.{check_extract}
-use Rattle.dom_model.specs.RangesAndContents.Wrapping.{insert_node, surround}
-use Rattle.dom_model.specs.RangesAndContents.StaticRanges.{check_static, static_at, made_static, released_static}
-use Rattle.dom_model.specs.MutationObservers.Records.{options_refusal, pending_of, with_observer, released_observer}
-use Rattle.dom_model.specs.Commands.Counts.{no_numbers, node_numbers, numbers_for_copies, asked}
-use Rattle.dom_model.specs.Commands.Guards.{Bounds, Step, guarded, answers, does, no_node, no_node_given, wrong_kind, no_room, no_room_for_copies, bad_name, throws}
-use Rattle.dom_model.specs.Commands.Command.{Command, NewDocument, CreateElement, CreateText, CreateComment, CreatePI, CreateDoctype, CreateFragment, InsertBefore, AppendChild, AdoptNode, ReplaceChild, RemoveChild, Remove, ReplaceChildren, ImportNode, CloneNode, Normalize, DescribeNode, Children, Index, Length, Root, IsContaining, IsEqual, ComparePosition, TextContent, SetTextContent, Tree, GetData, SetData, AppendData, InsertData, DeleteData, ReplaceData, SubstringData, SplitText, SetAttribute, GetAttribute, HasAttribute, RemoveAttribute, ToggleAttribute, AttributeNames, CreateRange, CloneRange, DescribeRange, SetStart, SetEnd, SetStartBefore, SetStartAfter, SetEndBefore, SetEndAfter, Collapse, SelectNode, SelectNodeContents, CompareBoundaryPoints, ComparePoint, IsPointInRange, IntersectsNode, CommonAncestor, RangeText, DeleteContents, ExtractContents, CloneContents, InsertNode, SurroundContents, ReleaseRange, CreateIterator, CreateWalker, DescribeIterator, NextNode, PreviousNode, DescribeWalker, SetCurrent, Walk, CreateObserver, Observe, Disconnect, TakeRecords, Notify, Pending, Discard, CreateStaticRange, DescribeStaticRange, ReleaseIterator, ReleaseWalker, ReleaseStaticRange, ReleaseObserver, TakePending, TellObserver}
-use Rattle.dom_model.specs.Commands.AnswerTree.{is_child_node, described, check_replace_children}
-use Rattle.dom_model.specs.Commands.AnswerRanges.{no_range, makes_range, on_range, sets_start, sets_end}
-use Rattle.dom_model.specs.Commands.AnswerTraversal.{iterator_at, walker_at, with_iterator, with_walker, released_iterator, released_walker}
-use Rattle.dom_model.specs.Commands.AnswerObserving.{observers_made, no_observer, with_observing}
-use Rattle.dom_model.specs.Commands.AnswerMaking.{closes_instruction}
-use Rattle.dom_model.specs.MutationAlgorithms.Discarding.{is_in_use}
-use Rattle.dom_model.specs.Commands.AnswerStatic.{no_static, static_told}
-use Rattle.dom_model.specs.Commands.Answer.{answer}
-use Rattle.dom_model.proofs.Counting.NumbersGone.{IsLiveAt, none-without, live-of, live-moved, live-set, pushed-released, none-set}
+use Rattle.std.proofs.Common.{◌≡◌, ℕ, ◌+◌, ◌*◌, nat_lt, Bool, false, not, List, [], ◌∷◌, ◌++◌, length, Option, Some, None, refl, ap, arith, rules, length-append}
+use Rattle.std.proofs.lemmas.{Bool.Decides.nat_tests, List.length-set}
+use Rattle.dom_model.specs.Definitions.{Entry, Node, size, entry_in, parent_of, is_number, is_kind, is_character_data, may_be_parent, is_element_name, is_attribute_name, is_doctype_name, length_at, unit_count, Content, Point, Range, Iterator, Walker, World, Answer, Reply, Own, check_insert, check_replace, is_of_kind, check_offset, range_at, start_set, end_set, point_before, point_after, around, check_point, check_contents, check_compare, check_point_against, check_point_in, collapsed, with_range, released, check_extract, insert_node, surround, check_static, static_at, made_static, released_static, options_refusal, pending_of, with_observer, released_observer, no_numbers, node_numbers, numbers_for_copies, asked, Bounds, Step, guarded, answers, does, no_node, no_node_given, wrong_kind, no_room, no_room_for_copies, bad_name, throws, Command, NewDocument, CreateElement, CreateText, CreateComment, CreatePI, CreateDoctype, CreateFragment, InsertBefore, AppendChild, AdoptNode, ReplaceChild, RemoveChild, Remove, ReplaceChildren, ImportNode, CloneNode, Normalize, DescribeNode, Children, Index, Length, Root, IsContaining, IsEqual, ComparePosition, TextContent, SetTextContent, Tree, GetData, SetData, AppendData, InsertData, DeleteData, ReplaceData, SubstringData, SplitText, SetAttribute, GetAttribute, HasAttribute, RemoveAttribute, ToggleAttribute, AttributeNames, CreateRange, CloneRange, DescribeRange, SetStart, SetEnd, SetStartBefore, SetStartAfter, SetEndBefore, SetEndAfter, Collapse, SelectNode, SelectNodeContents, CompareBoundaryPoints, ComparePoint, IsPointInRange, IntersectsNode, CommonAncestor, RangeText, DeleteContents, ExtractContents, CloneContents, InsertNode, SurroundContents, ReleaseRange, CreateIterator, CreateWalker, DescribeIterator, NextNode, PreviousNode, DescribeWalker, SetCurrent, Walk, CreateObserver, Observe, Disconnect, TakeRecords, Notify, Pending, Discard, CreateStaticRange, DescribeStaticRange, ReleaseIterator, ReleaseWalker, ReleaseStaticRange, ReleaseObserver, TakePending, TellObserver, is_child_node, described, check_replace_children, no_range, makes_range, on_range, sets_start, sets_end, iterator_at, walker_at, with_iterator, with_walker, released_iterator, released_walker, observers_made, no_observer, with_observing, closes_instruction, is_in_use, no_static, static_told, answer}
+use Rattle.dom_model.specs.declared.{Kind.TheVariants.Element, Kind.TheVariants.Text, Kind.TheVariants.Document, DomError.TheVariants.NotFoundError, DomError.TheVariants.NotSupportedError, DomError.TheVariants.InvalidCharacterError, OwnError.TheVariants.InUse}
+use Rattle.dom_model.proofs.Counting.{NumbersGone.IsLiveAt, NumbersGone.none-without, NumbersGone.live-of, NumbersGone.live-moved, NumbersGone.live-set, NumbersGone.pushed-released, NumbersGone.none-set, CountsKept.observing-kept, CountsKept.forest-kept, CountsKept.remove-kept, CountsKept.pre_insert-kept, CountsKept.append-kept, CountsKept.replace-kept, CountsKept.replace_all-kept, CountsKept.adopt-kept, CountsOfData.made_node-grown, CountsOfData.replace_data-kept, CountsOfData.set_data-kept, CountsOfData.split-grown, CountsOfData.normalize-kept, CountsOfData.set_text_content-grown, CountsOfData.set_attribute-kept, CountsOfData.remove_attribute-kept, CountsOfData.toggle_attribute-kept, CountsOfContents.clone-grown, CountsOfContents.import-grown, CountsOfContents.with_range-kept, CountsOfContents.delete_contents-kept, CopiesGrow.clone_contents-grows, CopiesOfContents.clone_contents-grown, CopiesOfContents.IsInOrder, CountsOfExtraction.extract-grown, CountsOfExtraction.insert_node-to, CountsOfExtraction.surround-to, StepsCounted.IsCounted, StepsCounted.leaves, StepsCounted.takes, StepsCounted.guarded-counted, StepsCounted.checked-counted, StepsCounted.on_range-counted, StepsCounted.at_point-counted, StepsCounted.at_ends-counted, StepsCounted.object-counted, StepsCounted.object_there-counted, StepsCounted.outcome-counted, StepsCounted.keeps, StepsCounted.grows, StepsCounted.grows-in_order}
 use Rattle.dom_model.proofs.MutationObservers.Queues.{pending-there, length-moved}
-use Rattle.dom_model.proofs.Counting.CountsKept.{observing-kept, forest-kept, remove-kept, pre_insert-kept, append-kept, replace-kept, replace_all-kept, adopt-kept}
-use Rattle.dom_model.proofs.Counting.CountsOfData.{made_node-grown, replace_data-kept, set_data-kept, split-grown, normalize-kept, set_text_content-grown, set_attribute-kept, remove_attribute-kept, toggle_attribute-kept}
-use Rattle.dom_model.proofs.Counting.CountsOfContents.{clone-grown, import-grown, with_range-kept, delete_contents-kept}
-use Rattle.dom_model.proofs.Counting.CopiesGrow.{clone_contents-grows}
-use Rattle.dom_model.proofs.Counting.CopiesOfContents.{clone_contents-grown, IsInOrder}
-use Rattle.dom_model.proofs.Counting.CountsOfExtraction.{extract-grown, insert_node-to, surround-to}
-use Rattle.dom_model.proofs.Counting.StepsCounted.{IsCounted, leaves, takes, guarded-counted, checked-counted, on_range-counted, at_point-counted, at_ends-counted, object-counted, object_there-counted, outcome-counted, keeps, grows, grows-in_order}
 
 -- what a command needs to take no more numbers than it asks for: a copy of contents wants the world in order, any other nothing
 abbrev pub Needed : World → Command → Type 0
@@ -55,112 +19,45 @@ module _ (b : Bounds) (w : World) where
   -- Objects of the other kinds: one more of them.
 
   range-counted : {needs : Type 0} → (range : Range) → nat_lt b.numbers (length w.ranges + 1) ≡ false → IsCounted b (record no_numbers { ranges = 1 }) needs w (makes_range range w)
-  range-counted range room =
-      let l = length-append w.ranges (Some range ∷ []) in
-      let r = ltb-false b.numbers (length w.ranges + 1) room in
-      takes refl
-      (λ h. record { nodes = omega (arith, h.nodes); ranges = r; iterators = omega (arith, h.iterators); walkers = omega (arith, h.walkers); observers = omega (arith, h.observers); static_ranges = omega (arith, h.static_ranges) })
-      (record { nodes = omega arith; ranges = omega arith; iterators = omega arith; walkers = omega arith; observers = omega arith; static_ranges = omega arith })
-      (λ o. record { nodes = omega arith; ranges = omega arith; iterators = omega arith; walkers = omega arith; observers = omega arith; static_ranges = omega arith })
-      (record { nodes = λ n l e. e; ranges = pushed-released w.ranges (Some range ∷ []); iterators = λ r l e. e; walkers = λ r l e. e; observers = λ r l e. e; static_ranges = λ r l e. e })
+  range-counted range room = takes refl (λ h. grind (arith, nat_tests)) (grind (arith, length-append)) (λ o. grind (arith, length-append)) (search (rules, pushed-released))
 
   iterator-counted : {needs : Type 0} → (it : Iterator) (a : Answer) → nat_lt b.numbers (length w.iterators + 1) ≡ false → IsCounted b (record no_numbers { iterators = 1 }) needs w (answers a (record w { iterators = w.iterators ++ Some it ∷ [] }))
-  iterator-counted it a room =
-      let l = length-append w.iterators (Some it ∷ []) in
-      let r = ltb-false b.numbers (length w.iterators + 1) room in
-      takes refl
-      (λ h. record { nodes = omega (arith, h.nodes); ranges = omega (arith, h.ranges); iterators = r; walkers = omega (arith, h.walkers); observers = omega (arith, h.observers); static_ranges = omega (arith, h.static_ranges) })
-      (record { nodes = omega arith; ranges = omega arith; iterators = omega arith; walkers = omega arith; observers = omega arith; static_ranges = omega arith })
-      (λ o. record { nodes = omega arith; ranges = omega arith; iterators = omega arith; walkers = omega arith; observers = omega arith; static_ranges = omega arith })
-      (record { nodes = λ n l e. e; ranges = λ r l e. e; iterators = pushed-released w.iterators (Some it ∷ []); walkers = λ r l e. e; observers = λ r l e. e; static_ranges = λ r l e. e })
+  iterator-counted it a room = takes refl (λ h. grind (arith, nat_tests)) (grind (arith, length-append)) (λ o. grind (arith, length-append)) (search (rules, pushed-released))
 
   walker-counted : {needs : Type 0} → (k : Walker) (a : Answer) → nat_lt b.numbers (length w.walkers + 1) ≡ false → IsCounted b (record no_numbers { walkers = 1 }) needs w (answers a (record w { walkers = w.walkers ++ Some k ∷ [] }))
-  walker-counted k a room =
-      let l = length-append w.walkers (Some k ∷ []) in
-      let r = ltb-false b.numbers (length w.walkers + 1) room in
-      takes refl
-      (λ h. record { nodes = omega (arith, h.nodes); ranges = omega (arith, h.ranges); iterators = omega (arith, h.iterators); walkers = r; observers = omega (arith, h.observers); static_ranges = omega (arith, h.static_ranges) })
-      (record { nodes = omega arith; ranges = omega arith; iterators = omega arith; walkers = omega arith; observers = omega arith; static_ranges = omega arith })
-      (λ o. record { nodes = omega arith; ranges = omega arith; iterators = omega arith; walkers = omega arith; observers = omega arith; static_ranges = omega arith })
-      (record { nodes = λ n l e. e; ranges = λ r l e. e; iterators = λ r l e. e; walkers = pushed-released w.walkers (Some k ∷ []); observers = λ r l e. e; static_ranges = λ r l e. e })
+  walker-counted k a room = takes refl (λ h. grind (arith, nat_tests)) (grind (arith, length-append)) (λ o. grind (arith, length-append)) (search (rules, pushed-released))
 
   observer-counted : {needs : Type 0} → (a : Answer) → nat_lt b.numbers (length w.observing.places + 1) ≡ false → IsCounted b (record no_numbers { observers = 1 }) needs w (answers a (with_observing (with_observer w.observing) w))
-  observer-counted a room =
-      let l = length-append w.observing.places (Some (length w.observing.mutations) ∷ []) in
-      let r = ltb-false b.numbers (length w.observing.places + 1) room in
-      takes refl
-      (λ h. record { nodes = omega (arith, h.nodes); ranges = omega (arith, h.ranges); iterators = omega (arith, h.iterators); walkers = omega (arith, h.walkers); observers = r; static_ranges = omega (arith, h.static_ranges) })
-      (record { nodes = omega arith; ranges = omega arith; iterators = omega arith; walkers = omega arith; observers = omega arith; static_ranges = omega arith })
-      (λ o. record { nodes = omega arith; ranges = omega arith; iterators = omega arith; walkers = omega arith; observers = omega arith; static_ranges = omega arith })
-      (record { nodes = λ n l e. e; ranges = λ r l e. e; iterators = λ r l e. e; walkers = λ r l e. e; observers = pushed-released w.observing.places (Some (length w.observing.mutations) ∷ []); static_ranges = λ r l e. e })
+  observer-counted a room = takes refl (λ h. grind (arith, nat_tests)) (grind (arith, length-append)) (λ o. grind (arith, length-append)) (search (rules, pushed-released))
 
   static-counted : {needs : Type 0} → (range : Range) (a : Answer) → nat_lt b.numbers (length w.static_ranges + 1) ≡ false → IsCounted b (record no_numbers { static_ranges = 1 }) needs w (answers a (made_static range w))
-  static-counted range a room =
-      let l = length-append w.static_ranges (Some range ∷ []) in
-      let r = ltb-false b.numbers (length w.static_ranges + 1) room in
-      takes refl
-      (λ h. record { nodes = omega (arith, h.nodes); ranges = omega (arith, h.ranges); iterators = omega (arith, h.iterators); walkers = omega (arith, h.walkers); observers = omega (arith, h.observers); static_ranges = r })
-      (record { nodes = omega arith; ranges = omega arith; iterators = omega arith; walkers = omega arith; observers = omega arith; static_ranges = omega arith })
-      (λ o. record { nodes = omega arith; ranges = omega arith; iterators = omega arith; walkers = omega arith; observers = omega arith; static_ranges = omega arith })
-      (record { nodes = λ n l e. e; ranges = λ r l e. e; iterators = λ r l e. e; walkers = λ r l e. e; observers = λ r l e. e; static_ranges = pushed-released w.static_ranges (Some range ∷ []) })
+  static-counted range a room = takes refl (λ h. grind (arith, nat_tests)) (grind (arith, length-append)) (λ o. grind (arith, length-append)) (search (rules, pushed-released))
 
   -- Changes that take no number.
 
   with_iterator-counted : {needs : Type 0} → (i : ℕ) (it : Iterator) (a : Answer) → IsLiveAt w.iterators i → IsCounted b no_numbers needs w (answers a (with_iterator i it w))
-  with_iterator-counted i it a there =
-      keeps b w (with_iterator i it w) a (record { least = omega arith; most = omega arith; ranges = refl; iterators = length-set w.iterators i (Some it); walkers = refl; observers = refl; static_ranges = refl; gone = λ n l e. e; live = record { ranges = λ r. refl; iterators = live-set w.iterators i it there; walkers = λ r. refl; observers = λ r. refl; static_ranges = λ r. refl } })
+  with_iterator-counted i it a there = keeps b w _ a (search (rules, length-set, live-set))
 
   with_walker-counted : {needs : Type 0} → (i : ℕ) (k : Walker) (a : Answer) → IsLiveAt w.walkers i → IsCounted b no_numbers needs w (answers a (with_walker i k w))
-  with_walker-counted i k a there =
-      keeps b w (with_walker i k w) a (record { least = omega arith; most = omega arith; ranges = refl; iterators = refl; walkers = length-set w.walkers i (Some k); observers = refl; static_ranges = refl; gone = λ n l e. e; live = record { ranges = λ r. refl; iterators = λ r. refl; walkers = live-set w.walkers i k there; observers = λ r. refl; static_ranges = λ r. refl } })
+  with_walker-counted i k a there = keeps b w _ a (search (rules, length-set, live-set))
 
   sets-counted : {needs : Type 0} → (r : ℕ) → IsLiveAt w.ranges r → (o : Option Range) (set : Range → Range) → IsCounted b no_numbers needs w (on_range o w (λ range. does (with_range r (set range) w)))
   sets-counted r live o set = on_range-counted b no_numbers o w _ (λ range. keeps b w _ _ (with_range-kept r (set range) w live))
 
   released-counted : {needs : Type 0} → (r : ℕ) → IsCounted b no_numbers needs w (does (released r w))
-  released-counted r =
-      let l = length-set w.ranges r None in
-      takes refl
-      (λ h. record { nodes = omega (arith, h.nodes); ranges = omega (arith, h.ranges); iterators = omega (arith, h.iterators); walkers = omega (arith, h.walkers); observers = omega (arith, h.observers); static_ranges = omega (arith, h.static_ranges) })
-      (record { nodes = omega arith; ranges = omega arith; iterators = omega arith; walkers = omega arith; observers = omega arith; static_ranges = omega arith })
-      (λ o. record { nodes = omega arith; ranges = omega arith; iterators = omega arith; walkers = omega arith; observers = omega arith; static_ranges = omega arith })
-      (record { nodes = λ n l e. e; ranges = λ q l e. none-set w.ranges r q e; iterators = λ r l e. e; walkers = λ r l e. e; observers = λ r l e. e; static_ranges = λ r l e. e })
+  released-counted r = takes refl (λ h. grind (arith, length-set)) (grind (arith, length-set)) (λ h. grind (arith, length-set)) (search (rules, none-set))
 
   released_iterator-counted : {needs : Type 0} → (i : ℕ) → IsCounted b no_numbers needs w (does (released_iterator i w))
-  released_iterator-counted i =
-      let l = length-set w.iterators i None in
-      takes refl
-      (λ h. record { nodes = omega (arith, h.nodes); ranges = omega (arith, h.ranges); iterators = omega (arith, h.iterators); walkers = omega (arith, h.walkers); observers = omega (arith, h.observers); static_ranges = omega (arith, h.static_ranges) })
-      (record { nodes = omega arith; ranges = omega arith; iterators = omega arith; walkers = omega arith; observers = omega arith; static_ranges = omega arith })
-      (λ o. record { nodes = omega arith; ranges = omega arith; iterators = omega arith; walkers = omega arith; observers = omega arith; static_ranges = omega arith })
-      (record { nodes = λ n l e. e; ranges = λ r l e. e; iterators = λ q l e. none-set w.iterators i q e; walkers = λ r l e. e; observers = λ r l e. e; static_ranges = λ r l e. e })
+  released_iterator-counted i = takes refl (λ h. grind (arith, length-set)) (grind (arith, length-set)) (λ h. grind (arith, length-set)) (search (rules, none-set))
 
   released_walker-counted : {needs : Type 0} → (k : ℕ) → IsCounted b no_numbers needs w (does (released_walker k w))
-  released_walker-counted k =
-      let l = length-set w.walkers k None in
-      takes refl
-      (λ h. record { nodes = omega (arith, h.nodes); ranges = omega (arith, h.ranges); iterators = omega (arith, h.iterators); walkers = omega (arith, h.walkers); observers = omega (arith, h.observers); static_ranges = omega (arith, h.static_ranges) })
-      (record { nodes = omega arith; ranges = omega arith; iterators = omega arith; walkers = omega arith; observers = omega arith; static_ranges = omega arith })
-      (λ o. record { nodes = omega arith; ranges = omega arith; iterators = omega arith; walkers = omega arith; observers = omega arith; static_ranges = omega arith })
-      (record { nodes = λ n l e. e; ranges = λ r l e. e; iterators = λ r l e. e; walkers = λ q l e. none-set w.walkers k q e; observers = λ r l e. e; static_ranges = λ r l e. e })
+  released_walker-counted k = takes refl (λ h. grind (arith, length-set)) (grind (arith, length-set)) (λ h. grind (arith, length-set)) (search (rules, none-set))
 
   released_observer-counted : {needs : Type 0} → (o : ℕ) → IsCounted b no_numbers needs w (does (with_observing (released_observer o w.observing) w))
-  released_observer-counted o =
-      let l = length-set w.observing.places o None in
-      takes refl
-      (λ h. record { nodes = omega (arith, h.nodes); ranges = omega (arith, h.ranges); iterators = omega (arith, h.iterators); walkers = omega (arith, h.walkers); observers = omega (arith, h.observers); static_ranges = omega (arith, h.static_ranges) })
-      (record { nodes = omega arith; ranges = omega arith; iterators = omega arith; walkers = omega arith; observers = omega arith; static_ranges = omega arith })
-      (λ o. record { nodes = omega arith; ranges = omega arith; iterators = omega arith; walkers = omega arith; observers = omega arith; static_ranges = omega arith })
-      (record { nodes = λ n l e. e; ranges = λ r l e. e; iterators = λ r l e. e; walkers = λ r l e. e; observers = λ q l e. none-set w.observing.places o q e; static_ranges = λ r l e. e })
+  released_observer-counted o = takes refl (λ h. grind (arith, length-set)) (grind (arith, length-set)) (λ h. grind (arith, length-set)) (search (rules, none-set))
 
   released_static-counted : {needs : Type 0} → (u : ℕ) → IsCounted b no_numbers needs w (does (released_static u w))
-  released_static-counted u =
-      let l = length-set w.static_ranges u None in
-      takes refl
-      (λ h. record { nodes = omega (arith, h.nodes); ranges = omega (arith, h.ranges); iterators = omega (arith, h.iterators); walkers = omega (arith, h.walkers); observers = omega (arith, h.observers); static_ranges = omega (arith, h.static_ranges) })
-      (record { nodes = omega arith; ranges = omega arith; iterators = omega arith; walkers = omega arith; observers = omega arith; static_ranges = omega arith })
-      (λ o. record { nodes = omega arith; ranges = omega arith; iterators = omega arith; walkers = omega arith; observers = omega arith; static_ranges = omega arith })
-      (record { nodes = λ n l e. e; ranges = λ r l e. e; iterators = λ r l e. e; walkers = λ r l e. e; observers = λ r l e. e; static_ranges = λ q l e. none-set w.static_ranges u q e })
+  released_static-counted u = takes refl (λ h. grind (arith, length-set)) (grind (arith, length-set)) (λ h. grind (arith, length-set)) (search (rules, none-set))
 
   sets_start-counted : {needs : Type 0} → (r n : ℕ) (p : Option Point) → IsCounted b no_numbers needs w (sets_start r n p w)
   sets_start-counted r n p =

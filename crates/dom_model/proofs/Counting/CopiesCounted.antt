@@ -1,33 +1,21 @@
 -- How many numbers the copies of the parts of a range take, told by the forest before the first of them.
-use Rattle.std.proofs.Common.{◌≡◌, ℕ, zero, suc, ◌+◌, ◌-◌, ◌<◌, ◌≤◌, Bool, true, false, if◌then◌else◌, List, [], ◌∷◌, length, take, drop, None, ap, ◌∙◌, arith}
-use Rattle.dom_model.specs.Forests.Arena.{children_in}
-use Rattle.dom_model.specs.Forests.Kinds.{is_character_data}
-use Rattle.dom_model.specs.Forests.Forest.{Forest, empty, size, tree_at, map_nodes, children_of}
-use Rattle.dom_model.specs.Forests.Texts.{substring}
-use Rattle.dom_model.specs.Worlds.World.{Content, World}
-use Rattle.dom_model.specs.PlainLists.Lists.{past, up_to}
-use Rattle.dom_model.specs.Forests.Nodes.{kind_passes}
-use Rattle.dom_model.specs.MutationAlgorithms.Editing.{node_document, append}
-use Rattle.dom_model.specs.DataAndCopies.Data.{data_of, with_data}
-use Rattle.dom_model.specs.DataAndCopies.Clones.{original, document_of_clone, clone_node}
-use Rattle.dom_model.specs.RangesAndContents.Contents.{new_fragment, clone_with, units_into, children_into, copy_into, tail_into, head_into}
-use Rattle.dom_model.proofs.PlainLists.Numbers.{same_or, same, apart}
-use Rattle.dom_model.proofs.Forests.Totals.{total-beside}
+use Rattle.std.proofs.Common.{◌≡◌, ℕ, zero, suc, ◌+◌, ◌-◌, ◌<◌, ◌≤◌, ◌==◌, Bool, true, false, if◌then◌else◌, List, [], ◌∷◌, length, take, drop, None, ap, ◌∙◌, arith}
+use Rattle.std.proofs.lemmas.Bool.{cond_both}
+use Rattle.dom_model.specs.Definitions.{children_in, is_character_data, Forest, empty, size, tree_at, map_nodes, children_of, substring, Content, World, past, up_to, kind_passes, node_document, append, data_of, with_data, original, document_of_clone, clone_node, new_fragment, clone_with, units_into, children_into, copy_into, tail_into, head_into}
+use Rattle.dom_model.proofs.Forests.{Totals.total-beside, ForestsBeside.EachOf, ForestsBeside.AreUnder, ForestsBeside.IsBelow, ForestsBeside.absent-from, ForestsBeside.under-below, ForestsBeside.children-each, ForestsBeside.entry-older, ForestsBeside.tree_at-older}
 use Rattle.dom_model.proofs.RangesAndContents.PathsApart.{along}
-use Rattle.dom_model.proofs.Forests.ForestsBeside.{EachOf, AreUnder, IsBelow, absent-from, under-below, children-each, entry-older, tree_at-older}
 use Rattle.dom_model.proofs.DataAndCopies.CopiesBeside.{StandsBeside, append-beside, copies-beside, made-beside}
-use Rattle.dom_model.proofs.Counting.CountsKept.{IsGrown, grown-then, grown-more, kept-same, append-kept}
-use Rattle.dom_model.proofs.Counting.CountsOfContents.{with_copies-grown, clone_alone-grown, units_into-grown, new_fragment-grown}
+use Rattle.dom_model.proofs.Counting.{CountsKept.IsGrown, CountsKept.grown-then, CountsKept.grown-more, CountsKept.kept-same, CountsKept.append-kept, CountsOfContents.with_copies-grown, CountsOfContents.clone_alone-grown, CountsOfContents.units_into-grown, CountsOfContents.new_fragment-grown}
 
 -- Parts of a list.
 
 each-past : (P : ℕ → Type 0) (n : ℕ) (ns : List ℕ) → EachOf P ns → EachOf P (past n ns)
 each-past P n [] h = tt
-each-past P n (m ∷ ns) h = elim (same_or m n) [ same e t ↦ rw t h.1 | apart ne t ↦ rw t (each-past P n ns h.1) ]
+each-past P n (m ∷ ns) h = cond_both (m == n) _ _ (EachOf P) (λ _. h.1) (λ _. each-past P n ns h.1)
 
 each-up_to : (P : ℕ → Type 0) (n : ℕ) (ns : List ℕ) → EachOf P ns → EachOf P (up_to n ns)
 each-up_to P n [] h = tt
-each-up_to P n (m ∷ ns) h = elim (same_or m n) [ same e t ↦ rw t tt | apart ne t ↦ rw t (h.0, each-up_to P n ns h.1) ]
+each-up_to P n (m ∷ ns) h = cond_both (m == n) _ _ (EachOf P) (λ _. tt) (λ _. (h.0, each-up_to P n ns h.1))
 
 each-drop : (P : ℕ → Type 0) (k : ℕ) (ns : List ℕ) → EachOf P ns → EachOf P (drop k ns)
 each-drop P zero ns h = h

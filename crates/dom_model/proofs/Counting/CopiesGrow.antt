@@ -1,23 +1,13 @@
 -- A copy of a range's contents takes back no number, whatever the world.
 use Rattle.std.proofs.Common.{ℕ, ◌+◌, ◌-◌, Bool, true, false, if◌then◌else◌, List, [], ◌∷◌, length, take, drop, Option, Some, None}
-use Rattle.dom_model.specs.Forests.Kinds.{is_character_data}
-use Rattle.dom_model.specs.Forests.Forest.{children_of}
-use Rattle.dom_model.specs.Worlds.World.{Range, World}
-use Rattle.dom_model.specs.PlainLists.Lists.{past, up_to}
-use Rattle.dom_model.specs.Forests.Nodes.{kind_passes}
-use Rattle.dom_model.specs.MutationAlgorithms.Editing.{append, node_document}
-use Rattle.dom_model.specs.RangesAndContents.Ranges.{is_collapsed, range_at}
-use Rattle.dom_model.specs.DataAndCopies.Data.{data_of}
-use Rattle.dom_model.specs.DataAndCopies.Clones.{clone_node}
-use Rattle.dom_model.specs.RangesAndContents.Contents.{for_range, is_in_one_data, new_fragment, children_into, copy_into, tail_into, head_into, path_below, common_of, contained_children, parts_into, contents_drawn, clone_contents}
-use Rattle.dom_model.proofs.Counting.CountsKept.{IsGrown, grown-then, kept-same, append-kept}
-use Rattle.dom_model.proofs.Counting.CountsOfContents.{clone-grown, clone_alone-grown, units_into-grown, new_fragment-grown}
+use Rattle.dom_model.specs.Definitions.{is_character_data, children_of, Range, World, past, up_to, kind_passes, append, node_document, is_collapsed, range_at, data_of, clone_node, for_range, is_in_one_data, new_fragment, children_into, copy_into, tail_into, head_into, path_below, common_of, contained_children, parts_into, contents_drawn, clone_contents}
+use Rattle.dom_model.proofs.Counting.{CountsKept.IsGrown, CountsKept.grown-then, CountsKept.kept-same, CountsKept.append-kept, CountsOfContents.clone-grown, CountsOfContents.clone_alone-grown, CountsOfContents.units_into-grown, CountsOfContents.new_fragment-grown}
 
 -- some numbers of nodes are given out, and no others
 abbrev pub Grows : World → World → Type 0
 Grows w v = (more : ℕ) × IsGrown more w v
 
-grows-then : {u v w : World} → Grows u v → Grows v w → Grows u w
+pub grows-then : {u v w : World} → Grows u v → Grows v w → Grows u w
 grows-then g h = (g.0 + h.0, grown-then g.0 h.0 g.1 h.1)
 
 children-grow : (into : ℕ) (ns : List ℕ) (w : World) → Grows w (children_into false into ns w)
@@ -26,7 +16,7 @@ children-grow into (n ∷ ns) w =
     let copied = clone_node true n w in
     grows-then (grows-then (_, clone-grown true n w) (0, append-kept w.made into copied)) (children-grow into ns (append w.made into copied))
 
-copy-grows : (into n : ℕ) (fill : ℕ → World → World) (w : World) → ((inner : ℕ) (v : World) → Grows v (fill inner v)) → Grows w (copy_into into n fill w)
+pub copy-grows : (into n : ℕ) (fill : ℕ → World → World) (w : World) → ((inner : ℕ) (v : World) → Grows v (fill inner v)) → Grows w (copy_into into n fill w)
 copy-grows into n fill w h =
     let copied = clone_node false n w in
     let held = append w.made into copied in
@@ -34,7 +24,7 @@ copy-grows into n fill w h =
     grows-then (grows-then (grows-then (1, clone_alone-grown n w) (0, append-kept w.made into copied)) (1, new_fragment-grown (node_document w n) held))
     (grows-then (h held.made begun) (0, append-kept held.made w.made (fill held.made begun)))
 
-grows-if : (b : Bool) (w u v : World) → Grows w u → Grows w v → Grows w (if b then u else v)
+pub grows-if : (b : Bool) (w u v : World) → Grows w u → Grows w v → Grows w (if b then u else v)
 grows-if true w u v g h = g
 grows-if false w u v g h = h
 

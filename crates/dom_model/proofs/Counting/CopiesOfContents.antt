@@ -1,32 +1,12 @@
 -- How many numbers a copy of a range's contents takes: at most twice the nodes in use, and two.
-use Rattle.std.proofs.Common.{◌≡◌, ℕ, ◌+◌, ◌*◌, ◌-◌, ◌<◌, ◌≤◌, Bool, true, false, List, [], ◌∷◌, reverse, Option, Some, None, refl, ap, sym, ◌∙◌, arith, ⊎_elim}
-use Rattle.std.specs.Prelude.{filter, cond, unwrap_or}
-use Rattle.std.proofs.lemmas.Bool.{cases_lt, false≢true}
+use Rattle.std.proofs.Common.{◌≡◌, ℕ, ◌+◌, ◌*◌, ◌-◌, ◌<◌, ◌≤◌, Bool, false, List, [], ◌∷◌, reverse, Option, Some, None, refl, ap, sym, ◌∙◌, arith, filter, unwrap_or}
+use Rattle.std.proofs.lemmas.{Bool.false≢true, Bool.cond_both, Bool.Decides.nat_tests}
+use Rattle.dom_model.specs.Definitions.{hits, among, head_of, up_to, Forest, empty, node, occurs, one_at, size, tree_at, children_of, ancestors, root_of, HasNode, KindsFit, IsForest, Content, Range, World, no_content, named, node_document, unit_count, node_length, length_in, is_collapsed, common_ancestor, range_at, for_range, is_in_one_data, contained_in, new_fragment, children_into, tail_into, path_below, common_of, contained_children, parts_into, contents_drawn, clone_contents, IsWay}
 use Rattle.dom_model.specs.declared.Kind.TheVariants.{DocumentFragment}
-use Rattle.dom_model.specs.PlainLists.Lists.{hits, among, head_of, up_to}
-use Rattle.dom_model.specs.Forests.Forest.{Forest, empty, node, occurs, one_at, size, tree_at, children_of, ancestors, root_of, HasNode, KindsFit, IsForest}
-use Rattle.dom_model.specs.Worlds.World.{Content, Range, World, no_content}
-use Rattle.dom_model.specs.Worlds.Making.{named}
-use Rattle.dom_model.specs.MutationAlgorithms.Editing.{node_document}
-use Rattle.dom_model.specs.Worlds.Lengths.{unit_count, node_length, length_in}
-use Rattle.dom_model.specs.RangesAndContents.Ranges.{is_collapsed, common_ancestor, range_at}
-use Rattle.dom_model.specs.RangesAndContents.Contents.{for_range, is_in_one_data, contained_in, new_fragment, children_into, tail_into, path_below, common_of, contained_children, parts_into, contents_drawn, clone_contents}
-use Rattle.dom_model.specs.Forests.Ways.{IsWay}
-use Rattle.dom_model.proofs.PlainLists.Numbers.{same_or, same, apart}
-use Rattle.dom_model.proofs.Forests.Totals.{IsOnce, beside-empty, total-beside}
-use Rattle.dom_model.proofs.Forests.Climbing.{hits-first, hits-among}
-use Rattle.dom_model.proofs.Forests.Entries.{occurs-HasNode}
-use Rattle.dom_model.proofs.Forests.Indices.{child-listed}
-use Rattle.dom_model.proofs.RangesAndContents.PathsApart.{along}
-use Rattle.dom_model.proofs.Forests.OneMoreRoot.{more-once, root-kinds}
-use Rattle.dom_model.proofs.Forests.ForestsBeside.{AreUnder, IsBelow, absent-from, ancestors-older, entry-older}
+use Rattle.dom_model.proofs.Forests.{Totals.IsOnce, Totals.beside-empty, Totals.total-beside, Climbing.hits-first, Climbing.hits-among, Entries.occurs-HasNode, Indices.child-listed, OneMoreRoot.more-once, OneMoreRoot.root-kinds, ForestsBeside.AreUnder, ForestsBeside.IsBelow, ForestsBeside.absent-from, ForestsBeside.ancestors-older, ForestsBeside.entry-older}
+use Rattle.dom_model.proofs.RangesAndContents.{PathsApart.along, WaysBelow.way-above, WaysBelow.IsFork, WaysBelow.fork, ContainedAside.start-not_contained, ContainedAside.end-not_contained}
 use Rattle.dom_model.proofs.DataAndCopies.CopiesBeside.{StandsBeside, made-beside}
-use Rattle.dom_model.proofs.Counting.CopiesCounted.{tree_sizes, tail_cost, head_cost, IsCopied, copied-then, kids-same, kids-under, children-copied, tail-copied, head-copied}
-use Rattle.dom_model.proofs.Counting.TreesOfChildren.{kids-within, tail-within, head-within}
-use Rattle.dom_model.proofs.RangesAndContents.WaysBelow.{way-above, IsFork, fork}
-use Rattle.dom_model.proofs.RangesAndContents.ContainedAside.{start-not_contained, end-not_contained}
-use Rattle.dom_model.proofs.Counting.CountsKept.{IsGrown, grown-then, grown-more, grown-if, kept-same}
-use Rattle.dom_model.proofs.Counting.CountsOfContents.{size-tree_at, new_fragment-grown, units_into-grown}
+use Rattle.dom_model.proofs.Counting.{CopiesCounted.tree_sizes, CopiesCounted.tail_cost, CopiesCounted.head_cost, CopiesCounted.IsCopied, CopiesCounted.copied-then, CopiesCounted.kids-same, CopiesCounted.kids-under, CopiesCounted.children-copied, CopiesCounted.tail-copied, CopiesCounted.head-copied, TreesOfChildren.kids-within, TreesOfChildren.tail-within, TreesOfChildren.head-within, CountsKept.IsGrown, CountsKept.grown-then, CountsKept.grown-more, CountsKept.grown-if, CountsKept.kept-same, CountsOfContents.size-tree_at, CountsOfContents.new_fragment-grown, CountsOfContents.units_into-grown}
 
 -- a range as live ranges are: both ends in one tree, and the end within its node
 pub record HasEnds (f : Forest Content) (r : Range) : Type 0 where
@@ -45,51 +25,15 @@ pub record IsInOrder (w : World) : Type 0 where
 module _ (weight : ℕ → ℕ) (q : ℕ → Bool) where
   none_out : (xs : List ℕ) → along weight (filter q xs) ≤ along weight xs
   none_out [] = omega arith
-  none_out (x ∷ xs) = go (q x) (none_out xs)
-    where
-      go : (v : Bool) → along weight (filter q xs) ≤ along weight xs → along weight (cond v (x ∷ filter q xs) (filter q xs)) ≤ along weight (x ∷ xs)
-      go true h = omega arith
-      go false h = omega arith
+  none_out (x ∷ xs) = grind (arith, none_out xs)
 
   one_out : (xs : List ℕ) (t : ℕ) → 0 < hits t xs → q t ≡ false → along weight (filter q xs) + weight t ≤ along weight xs
   one_out [] t h e = absurd (omega arith)
-  one_out (x ∷ xs) t h e =
-      elim (same_or x t) [
-        | same d v ↦ (let out : q x ≡ false = ap q d ∙ e in let w = ap weight d in rw out (omega (arith, none_out xs)))
-        | apart ne v ↦ (let k = rw v at h in go (q x) (one_out xs t (omega arith) e))
-      ]
-    where
-      go : (v : Bool) → along weight (filter q xs) + weight t ≤ along weight xs → along weight (cond v (x ∷ filter q xs) (filter q xs)) + weight t ≤ along weight (x ∷ xs)
-      go true h = omega arith
-      go false h = omega arith
+  one_out (x ∷ xs) t h e = grind (arith, nat_tests, none_out xs, one_out xs t)
 
   two_out : (xs : List ℕ) (t u : ℕ) → (t ≡ u → ⊥) → 0 < hits t xs → 0 < hits u xs → q t ≡ false → q u ≡ false → along weight (filter q xs) + weight t + weight u ≤ along weight xs
   two_out [] t u ne h k e d = absurd (omega arith)
-  two_out (x ∷ xs) t u ne h k e d =
-      elim (same_or x t) [
-        | same s v ↦
-            elim (same_or x u) [
-              | same s2 v2 ↦ absurd (ne (sym s ∙ s2))
-              | apart n2 v2 ↦
-                  let j = rw v2 at k in
-                  let out : q x ≡ false = ap q s ∙ e in
-                  let w = ap weight s in
-                  rw out (omega (arith, one_out xs u (omega arith) d))
-            ]
-        | apart n1 v ↦
-            let i = rw v at h in
-            elim (same_or x u) [
-              | same s2 v2 ↦
-                  let out : q x ≡ false = ap q s2 ∙ d in
-                  let w = ap weight s2 in
-                  rw out (omega (arith, one_out xs t (omega arith) e))
-              | apart n2 v2 ↦ (let j = rw v2 at k in go (q x) (two_out xs t u ne (omega arith) (omega arith) e d))
-            ]
-      ]
-    where
-      go : (v : Bool) → along weight (filter q xs) + weight t + weight u ≤ along weight xs → along weight (cond v (x ∷ filter q xs) (filter q xs)) + weight t + weight u ≤ along weight (x ∷ xs)
-      go true h = omega arith
-      go false h = omega arith
+  two_out (x ∷ xs) t u ne h k e d = grind (arith, nat_tests, one_out xs t, one_out xs u, two_out xs t u)
 
 module _ (f : Forest Content) (o : IsOnce f) (n m a : ℕ) (hn : 0 < occurs n f) (hm : 0 < occurs m f) (ha : 0 < occurs a f) (q : ℕ → Bool) (above_first : (x : ℕ) → 0 < hits x (ancestors n f) → q x ≡ false) (above_second : (x : ℕ) → 0 < hits x (ancestors m f) → q x ≡ false) where
   kids-size : tree_sizes f (children_of f a) ≤ size f
@@ -140,11 +84,7 @@ module _ (w : World) (in_order : IsInOrder w) (r : Range) (ends : HasEnds w.fore
       (record { others = empty; spelled = sym (beside-empty f); from = tt; made = omega arith })
 
   under : (n : ℕ) → 0 < occurs n f → n < low
-  under n h =
-      ⊎_elim
-      (λ (lt : n < low). lt)
-      (λ (le : low ≤ n). absurd (let z = below n le in omega arith))
-      (cases_lt n low)
+  under n h = grind (arith, below n)
 
   same_ancestors : (n : ℕ) → 0 < occurs n f → ancestors n made.forest ≡ ancestors n f
   same_ancestors n h = ap (ancestors n) begun.spelled ∙ ancestors-older n f begun.others (absent-from low n begun.others begun.from (under n h))
@@ -206,11 +146,7 @@ module _ (w : World) (in_order : IsInOrder w) (r : Range) (ends : HasEnds w.fore
 
   each-filter : (q : ℕ → Bool) (ns : List ℕ) → AreUnder low ns → AreUnder low (filter q ns)
   each-filter q [] h = tt
-  each-filter q (n ∷ ns) h = go (q n) (each-filter q ns h.1)
-    where
-      go : (v : Bool) → AreUnder low (filter q ns) → AreUnder low (cond v (n ∷ filter q ns) (filter q ns))
-      go true k = (h.0, k)
-      go false k = k
+  each-filter q (n ∷ ns) h = cond_both (q n) _ _ (AreUnder low) (λ _. (h.0, each-filter q ns h.1)) (λ _. each-filter q ns h.1)
 
   abbrev parts-cost : ℕ
   parts-cost = tail_cost f r.start.offset first + tree_sizes f (filter (contained_in made r) (children_of f common)) + head_cost f r.end.offset second

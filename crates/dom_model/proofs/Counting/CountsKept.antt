@@ -1,12 +1,7 @@
 -- How many numbers the steps on a world give out, and that none comes back.
-use Rattle.std.proofs.Common.{◌≡◌, ℕ, ◌+◌, ◌<◌, ◌≤◌, Bool, true, false, if◌then◌else◌, List, [], ◌∷◌, length, Option, Some, None, refl, ◌∙◌, arith}
+use Rattle.std.proofs.Common.{◌≡◌, ℕ, ◌+◌, ◌<◌, ◌≤◌, Bool, true, false, if◌then◌else◌, List, [], ◌∷◌, length, Option, Some, None, refl, arith, rules, option_map}
 use Rattle.std.proofs.lemmas.List.{length-map}
-use Rattle.std.specs.Prelude.{option_map}
-use Rattle.dom_model.specs.Forests.Forest.{Forest, occurs, parent_of, children_of}
-use Rattle.dom_model.specs.Worlds.World.{Content, Point, Range, Iterator, Observing, World}
-use Rattle.dom_model.specs.BoundaryPoints.Points.{map_ranges, moved_range}
-use Rattle.dom_model.specs.MutationAlgorithms.PreRemoval.{pre_removed}
-use Rattle.dom_model.specs.MutationAlgorithms.Editing.{tree_record_unless, taken_out, transients_made, removed_from, remove, remove_all, freed, emptied_fragment, is_fragment, put_in, put_all, gap_before, insert_all, insert_nodes, insert, pre_insert, append, replace, insert_if_any, replaced_record, replace_all, adopt, nodes_of, node_document, reference_child, added_by}
+use Rattle.dom_model.specs.Definitions.{Forest, occurs, parent_of, children_of, Content, Point, Range, Observing, World, map_ranges, moved_range, tree_record_unless, taken_out, transients_made, removed_from, remove, remove_all, freed, emptied_fragment, is_fragment, put_in, put_all, gap_before, insert_all, insert_nodes, insert, pre_insert, append, replace, insert_if_any, replaced_record, replace_all, adopt, nodes_of, node_document, reference_child, added_by}
 use Rattle.dom_model.proofs.Counting.NumbersGone.{NoneComes, none-cut, none-placed, none-adopted, AreLiveAlike, live-mapped, live-map}
 
 -- of each kind but nodes, the same ones are there
@@ -16,15 +11,6 @@ pub record AreThereAlike (w v : World) : Type 0 where
   pub walkers : AreLiveAlike w.walkers v.walkers
   pub observers : AreLiveAlike w.observing.places v.observing.places
   pub static_ranges : AreLiveAlike w.static_ranges v.static_ranges
-
-pub there-then : {u v w : World} → AreThereAlike u v → AreThereAlike v w → AreThereAlike u w
-there-then g h = record {
-  ranges = λ r. h.ranges r ∙ g.ranges r;
-  iterators = λ r. h.iterators r ∙ g.iterators r;
-  walkers = λ r. h.walkers r ∙ g.walkers r;
-  observers = λ r. h.observers r ∙ g.observers r;
-  static_ranges = λ r. h.static_ranges r ∙ g.static_ranges r;
-}
 
 -- v has at most `more` node numbers more than w, and as many of every other kind; a node that is gone stays so, and of every other kind
 -- the same ones are there
@@ -40,36 +26,16 @@ pub record IsGrown (more : ℕ) (w v : World) : Type 0 where
   pub live : AreThereAlike w v
 
 pub grown-then : {u v w : World} (j k : ℕ) → IsGrown j u v → IsGrown k v w → IsGrown (j + k) u w
-grown-then j k g h = record {
-  least = omega (arith, g.least, h.least);
-  most = omega (arith, g.most, h.most);
-  ranges = h.ranges ∙ g.ranges;
-  iterators = h.iterators ∙ g.iterators;
-  walkers = h.walkers ∙ g.walkers;
-  observers = h.observers ∙ g.observers;
-  static_ranges = h.static_ranges ∙ g.static_ranges;
-  gone = λ n l e. h.gone n (omega (arith, l, g.least)) (g.gone n l e);
-  live = there-then g.live h.live;
-}
+grown-then j k g h = grind arith
 
 pub grown-more : {u v : World} (j k : ℕ) → j ≤ k → IsGrown j u v → IsGrown k u v
-grown-more j k l g = record {
-  least = g.least;
-  most = omega (arith, g.most);
-  ranges = g.ranges;
-  iterators = g.iterators;
-  walkers = g.walkers;
-  observers = g.observers;
-  static_ranges = g.static_ranges;
-  gone = g.gone;
-  live = g.live;
-}
+grown-more j k l g = grind arith
 
 pub kept-then : {u v w : World} → IsGrown 0 u v → IsGrown 0 v w → IsGrown 0 u w
 kept-then g h = grown-then 0 0 g h
 
 pub kept-same : (w : World) → IsGrown 0 w w
-kept-same w = record { least = omega arith; most = omega arith; ranges = refl; iterators = refl; walkers = refl; observers = refl; static_ranges = refl; gone = λ n l e. e; live = record { ranges = λ r. refl; iterators = λ r. refl; walkers = λ r. refl; observers = λ r. refl; static_ranges = λ r. refl } }
+kept-same w = search rules
 
 pub length-map_ranges : (move : Point → Point) (rs : List (Option Range)) → length (map_ranges move rs) ≡ length rs
 length-map_ranges move rs = length-map rs (λ (r : Option Range). option_map (moved_range move) r)
@@ -85,15 +51,15 @@ kept-if b w u v g h = grown-if 0 b w u v g h
 
 -- another observing part with as many observers, of which the same ones are there
 pub observing-kept : (w : World) (x : Observing) → length x.places ≡ length w.observing.places → AreLiveAlike w.observing.places x.places → IsGrown 0 w (record w { observing = x })
-observing-kept w x e live = record { least = omega arith; most = omega arith; ranges = refl; iterators = refl; walkers = refl; observers = e; static_ranges = refl; gone = λ n l d. d; live = record { ranges = λ r. refl; iterators = λ r. refl; walkers = λ r. refl; observers = live; static_ranges = λ r. refl } }
+observing-kept w x e live = search rules
 
 -- a forest without further numbers
 pub forest-kept : (w : World) (f : Forest Content) → NoneComes w.forest f → IsGrown 0 w (record w { forest = f })
-forest-kept w f none = record { least = omega arith; most = omega arith; ranges = refl; iterators = refl; walkers = refl; observers = refl; static_ranges = refl; gone = λ n l e. none n e; live = record { ranges = λ r. refl; iterators = λ r. refl; walkers = λ r. refl; observers = λ r. refl; static_ranges = λ r. refl } }
+forest-kept w f none = search rules
 
 -- as many ranges, and the same ones live
 pub ranges-kept : (w : World) (rs : List (Option Range)) → length rs ≡ length w.ranges → AreLiveAlike w.ranges rs → IsGrown 0 w (record w { ranges = rs })
-ranges-kept w rs e live = record { least = omega arith; most = omega arith; ranges = e; iterators = refl; walkers = refl; observers = refl; static_ranges = refl; gone = λ n l d. d; live = record { ranges = live; iterators = λ r. refl; walkers = λ r. refl; observers = λ r. refl; static_ranges = λ r. refl } }
+ranges-kept w rs e live = search rules
 
 pub moved-kept : (w : World) (move : Point → Point) → IsGrown 0 w (record w { ranges = map_ranges move w.ranges })
 moved-kept w move = ranges-kept w _ (length-map_ranges move w.ranges) (live-map move w.ranges)
@@ -103,17 +69,7 @@ tree_record-kept true n xs ys p q w = kept-same w
 tree_record-kept false n xs ys p q w = observing-kept w _ refl (λ r. refl)
 
 taken_out-kept : (n parent : ℕ) (w : World) → IsGrown 0 w (taken_out n parent w)
-taken_out-kept n parent w = record {
-  least = omega arith;
-  most = omega arith;
-  ranges = length-map_ranges _ w.ranges;
-  iterators = length-map w.iterators (λ (i : Option Iterator). option_map (pre_removed w.forest n) i);
-  walkers = refl;
-  observers = refl;
-  static_ranges = refl;
-  gone = λ m l e. none-cut n w.forest m e;
-  live = record { ranges = live-map _ w.ranges; iterators = live-mapped (pre_removed w.forest n) w.iterators; walkers = λ r. refl; observers = λ r. refl; static_ranges = λ r. refl };
-}
+taken_out-kept n parent w = search (rules, length-map, none-cut, live-map, live-mapped)
 
 transients-kept : (n parent : ℕ) (w : World) → IsGrown 0 w (transients_made n parent w)
 transients-kept n parent w = observing-kept w _ refl (λ r. refl)

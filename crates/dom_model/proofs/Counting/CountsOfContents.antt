@@ -1,35 +1,15 @@
 -- How many numbers copies and the contents of a range take.
-use Rattle.std.proofs.Common.{◌≡◌, ℕ, ◌+◌, ◌*◌, ◌-◌, ◌≤◌, Bool, true, false, List, [], ◌∷◌, length, take, drop, Option, Some, None, refl, ◌∙◌, arith}
+use Rattle.std.proofs.Common.{◌≡◌, ℕ, ◌+◌, ◌*◌, ◌-◌, ◌≤◌, Bool, true, false, List, [], ◌∷◌, length, take, drop, Option, Some, None, refl, ◌∙◌, arith, rules}
 use Rattle.std.proofs.lemmas.List.{length-set}
-use Rattle.dom_model.specs.Forests.Kinds.{is_character_data}
-use Rattle.dom_model.specs.Forests.Forest.{Node, Forest, empty, node, size, map_nodes, children_of, tree_at}
-use Rattle.dom_model.specs.Forests.Texts.{substring}
-use Rattle.dom_model.specs.Worlds.World.{Content, Range, World, no_content}
-use Rattle.dom_model.specs.PlainLists.Lists.{past, up_to}
-use Rattle.dom_model.specs.Forests.Nodes.{kind_passes}
-use Rattle.dom_model.specs.MutationAlgorithms.Editing.{append, node_document}
-use Rattle.dom_model.specs.RangesAndContents.Ranges.{with_range, collapsed_at, is_collapsed, range_at}
-use Rattle.dom_model.specs.DataAndCopies.Data.{data_of, with_data, remove_each}
-use Rattle.dom_model.specs.DataAndCopies.Clones.{alone_of, original, renumbered, with_copies, document_of_clone, clone_node, import_node}
-use Rattle.dom_model.specs.RangesAndContents.Contents.{for_range, is_in_one_data, cut_from, cut_up_to, contained_tops, new_place, deleted_between, deleted, delete_contents, new_fragment, clone_with, cut_if, units_into, children_into, copy_into, tail_into, head_into}
-use Rattle.dom_model.proofs.Counting.CountsKept.{IsGrown, grown-then, grown-more, kept-then, kept-same, grown-if, kept-if, ranges-kept, append-kept}
-use Rattle.dom_model.proofs.Counting.CountsOfData.{made_node-grown, replace_data-kept, remove_each-kept}
+use Rattle.dom_model.specs.Definitions.{is_character_data, Node, Forest, empty, node, size, map_nodes, children_of, tree_at, substring, Content, Range, World, no_content, past, up_to, kind_passes, append, node_document, with_range, collapsed_at, is_collapsed, range_at, data_of, with_data, remove_each, alone_of, original, renumbered, with_copies, document_of_clone, clone_node, import_node, for_range, is_in_one_data, cut_from, cut_up_to, contained_tops, new_place, deleted_between, deleted, delete_contents, new_fragment, clone_with, cut_if, units_into, children_into, copy_into, tail_into, head_into}
+use Rattle.dom_model.proofs.Counting.{CountsKept.IsGrown, CountsKept.grown-then, CountsKept.grown-more, CountsKept.kept-then, CountsKept.kept-same, CountsKept.grown-if, CountsKept.kept-if, CountsKept.ranges-kept, CountsKept.append-kept, CountsOfData.made_node-grown, CountsOfData.replace_data-kept, CountsOfData.remove_each-kept, NumbersGone.IsLiveAt, NumbersGone.none-beside, NumbersGone.live-of, NumbersGone.live-set}
 use Rattle.dom_model.proofs.Forests.Totals.{total-tree_at}
 use Rattle.dom_model.proofs.Soundness.SoundMaking.{once-renumbered}
-use Rattle.dom_model.proofs.Counting.NumbersGone.{IsLiveAt, none-beside, live-of, live-set}
 
 pub with_copies-grown : (document : ℕ) (copied : Forest Content) (w : World) → IsGrown (size copied) w (with_copies document copied w)
-with_copies-grown document copied w = record {
-  least = omega arith;
-  most = omega arith;
-  ranges = refl;
-  iterators = refl;
-  walkers = refl;
-  observers = refl;
-  static_ranges = refl;
-  gone = none-beside w.made w.forest (renumbered document w.made copied) (λ n l. (once-renumbered document w.made copied n).1 l);
-  live = record { ranges = λ r. refl; iterators = λ r. refl; walkers = λ r. refl; observers = λ r. refl; static_ranges = λ r. refl };
-}
+with_copies-grown document copied w =
+    let gone = none-beside w.made w.forest (renumbered document w.made copied) (λ n l. (once-renumbered document w.made copied n).1 l) in
+    search rules
 
 module _ {X : Type 0} where
   pub size-alone : (f : Forest X) → size (alone_of f) ≤ 1

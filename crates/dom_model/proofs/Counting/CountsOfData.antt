@@ -1,29 +1,20 @@
 -- How many numbers the steps on data, Texts and attributes give out: at most one, for a node.
 -- DOM Standard, "Interface CharacterData", "Interface Text", "Interface Node", "Interface Element".
-use Rattle.std.proofs.Common.{◌≡◌, ℕ, ◌+◌, ◌<◌, ◌≤◌, ◌==◌, Bool, true, false, List, [], ◌∷◌, length, Option, Some, None, refl, arith}
-use Rattle.dom_model.specs.declared.Kind.{Kind}
-use Rattle.dom_model.specs.declared.Kind.TheVariants.{Element, Text, ProcessingInstruction, Comment, Document, DocumentType, DocumentFragment}
-use Rattle.dom_model.specs.Forests.Kinds.{Label}
-use Rattle.dom_model.specs.Forests.Arena.{Entry}
-use Rattle.dom_model.specs.Forests.Forest.{Node, Forest, empty, node, occurs, with_node, parent_of, entry_in, next_of}
-use Rattle.dom_model.specs.Worlds.World.{Content, World}
-use Rattle.dom_model.specs.Worlds.Making.{made_node, named, with_text}
-use Rattle.dom_model.specs.MutationAlgorithms.Editing.{remove, insert, node_document}
-use Rattle.dom_model.specs.BoundaryPoints.Points.{map_ranges, after_splice}
-use Rattle.dom_model.specs.DataAndCopies.Data.{data_of, tail_of, data_record, replace_units, replace_data, set_data, split_off, split, following_texts, joined_data, merged_ends, merge_ends, remove_each, join_following, normalize_text, is_descendant, text_descendants, normalize_each, normalize, by_kind, string_replace_all, set_text_content_by, set_text_content, attribute_record, set_attribute, has_attribute, remove_attribute_if, remove_attribute, is_toggled_on, toggled, toggle_attribute}
-use Rattle.dom_model.proofs.PlainLists.Numbers.{same_or, same, apart}
+use Rattle.std.proofs.Common.{◌≡◌, ℕ, ◌+◌, ◌<◌, ◌≤◌, ◌==◌, Bool, true, false, List, [], ◌∷◌, length, Option, Some, None, refl, arith, rules}
+use Rattle.dom_model.specs.Definitions.{Label, Entry, Node, Forest, empty, node, occurs, with_node, parent_of, entry_in, next_of, Content, World, made_node, named, with_text, remove, insert, node_document, map_ranges, after_splice, data_of, tail_of, data_record, replace_units, replace_data, set_data, split_off, split, following_texts, joined_data, merged_ends, merge_ends, remove_each, join_following, normalize_text, is_descendant, text_descendants, normalize_each, normalize, by_kind, string_replace_all, set_text_content_by, set_text_content, attribute_record, set_attribute, has_attribute, remove_attribute_if, remove_attribute, is_toggled_on, toggled, toggle_attribute}
+use Rattle.dom_model.specs.declared.{Kind.Kind, Kind.TheVariants.Element, Kind.TheVariants.Document, Kind.TheVariants.DocumentType, Kind.TheVariants.DocumentFragment, Kind.TheVariants.Text}
+use Rattle.std.proofs.lemmas.Bool.Decides.{nat_tests}
 use Rattle.dom_model.proofs.Worlds.SameShape.{bare_node, with_node-alike}
-use Rattle.dom_model.proofs.Counting.NumbersGone.{none-alike, none-beside}
-use Rattle.dom_model.proofs.Counting.CountsKept.{IsGrown, grown-then, grown-more, kept-then, kept-same, kept-if, observing-kept, forest-kept, moved-kept, remove-kept, insert-kept, replace_all-kept}
+use Rattle.dom_model.proofs.Counting.{NumbersGone.none-alike, NumbersGone.none-beside, CountsKept.IsGrown, CountsKept.grown-then, CountsKept.grown-more, CountsKept.kept-then, CountsKept.kept-same, CountsKept.kept-if, CountsKept.observing-kept, CountsKept.forest-kept, CountsKept.moved-kept, CountsKept.remove-kept, CountsKept.insert-kept, CountsKept.replace_all-kept}
 
 pub made_node-grown : (document : ℕ) (label : Label) (body : Content) (w : World) → IsGrown 1 w (made_node document label body w)
-made_node-grown document label body w = record { least = omega arith; most = omega arith; ranges = refl; iterators = refl; walkers = refl; observers = refl; static_ranges = refl; gone = none-beside w.made w.forest new later; live = record { ranges = λ r. refl; iterators = λ r. refl; walkers = λ r. refl; observers = λ r. refl; static_ranges = λ r. refl } }
+made_node-grown document label body w = let gone = none-beside w.made w.forest new later in search rules
   where
     new : Forest Content
     new = node (record { number = w.made; document = document; label = label; body = body }) empty empty
 
     later : (n : ℕ) → n < w.made → occurs n new ≡ 0
-    later n l = elim (same_or w.made n) [ same e t ↦ absurd (omega arith) | apart ne t ↦ rw t refl ]
+    later n l = grind (arith, nat_tests)
 
 -- a node with other data or attributes
 changed-kept : (change : Node Content → Node Content) → ((x : Node Content) → bare_node (change x) ≡ bare_node x) → (n : ℕ) (w : World) → IsGrown 0 w (record w { forest = with_node n change w.forest })
@@ -98,12 +89,10 @@ string_replace_all-grown (u ∷ us) n w = grown-then 1 0 (made_node-grown _ _ _ 
 
 set_text_content_by-grown : (k : Kind) (n : ℕ) (text : List ℕ) (w : World) → IsGrown 1 w (set_text_content_by k n text w)
 set_text_content_by-grown Element n text w = string_replace_all-grown text n w
-set_text_content_by-grown Text n text w = grown-more 0 1 (omega arith) (set_data-kept n text w)
-set_text_content_by-grown ProcessingInstruction n text w = grown-more 0 1 (omega arith) (set_data-kept n text w)
-set_text_content_by-grown Comment n text w = grown-more 0 1 (omega arith) (set_data-kept n text w)
+set_text_content_by-grown DocumentFragment n text w = string_replace_all-grown text n w
 set_text_content_by-grown Document n text w = grown-more 0 1 (omega arith) (kept-same w)
 set_text_content_by-grown DocumentType n text w = grown-more 0 1 (omega arith) (kept-same w)
-set_text_content_by-grown DocumentFragment n text w = string_replace_all-grown text n w
+set_text_content_by-grown k n text w = grown-more 0 1 (omega arith) (set_data-kept n text w)
 
 pub set_text_content-grown : (n : ℕ) (text : List ℕ) (w : World) → IsGrown 1 w (set_text_content n text w)
 set_text_content-grown n text w = go (entry_in w.forest n)

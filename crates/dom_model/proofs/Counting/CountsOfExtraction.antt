@@ -1,20 +1,10 @@
 -- How many numbers an extraction, an insertion into a range and a surrounding take. DOM Standard, "Interface Range".
-use Rattle.std.proofs.Common.{◌≡◌, ℕ, ◌+◌, ◌*◌, ◌-◌, ◌≤◌, ◌||◌, true, false, length, Option, Some, None, refl, arith}
-use Rattle.std.specs.Prelude.{Ok, Err}
+use Rattle.std.proofs.Common.{◌≡◌, ℕ, ◌+◌, ◌*◌, ◌-◌, ◌≤◌, ◌||◌, true, false, length, Option, Some, None, refl, arith, Ok, Err}
+use Rattle.dom_model.specs.Definitions.{size, Point, Range, World, check_insert, remove, pre_insert, replace_all, reference_child, node_document, is_collapsed, collapsed_at, around, range_at, for_range, is_in_one_data, new_place, new_fragment, children_into, tail_into, path_below, common_of, contained_children, parts_into, contents_drawn, check_extract, extracted, extract, Outcome, and_then, unless, try_pre_insert, is_text, check_start, parent_at, reference_at, reference_after, split_at, offset_past, end_if_collapsed, placed_at, inserted_at, insert_node, check_surround, try_extract, selected, try_select, surrounded, surround}
 use Rattle.dom_model.specs.declared.DomError.{DomError}
-use Rattle.dom_model.specs.Forests.Forest.{size}
-use Rattle.dom_model.specs.Worlds.World.{Point, Range, World}
-use Rattle.dom_model.specs.MutationAlgorithms.Checks.{check_insert}
-use Rattle.dom_model.specs.MutationAlgorithms.Editing.{remove, pre_insert, replace_all, reference_child, node_document}
-use Rattle.dom_model.specs.RangesAndContents.Ranges.{is_collapsed, collapsed_at, around, range_at}
-use Rattle.dom_model.specs.RangesAndContents.Contents.{for_range, is_in_one_data, new_place, new_fragment, children_into, tail_into, path_below, common_of, contained_children, parts_into, contents_drawn, check_extract, extracted, extract}
-use Rattle.dom_model.specs.RangesAndContents.Wrapping.{Outcome, and_then, unless, try_pre_insert, is_text, check_start, parent_at, reference_at, reference_after, split_at, offset_past, end_if_collapsed, placed_at, inserted_at, insert_node, check_surround, try_extract, selected, try_select, surrounded, surround}
 use Rattle.dom_model.proofs.Forests.Totals.{total-beside}
 use Rattle.dom_model.proofs.RangesAndContents.PathsApart.{paths-apart}
-use Rattle.dom_model.proofs.Counting.NumbersGone.{IsLiveAt, live-of}
-use Rattle.dom_model.proofs.Counting.CountsKept.{IsGrown, grown-then, grown-more, grown-if, kept-same, kept-if, remove-kept, pre_insert-kept, replace_all-kept}
-use Rattle.dom_model.proofs.Counting.CountsOfData.{split-grown}
-use Rattle.dom_model.proofs.Counting.CountsOfContents.{new_fragment-grown, units_into-grown, children_moved-kept, tail_moved-grown, head_moved-grown, with_range-kept, live-then, for_range-grown}
+use Rattle.dom_model.proofs.Counting.{NumbersGone.IsLiveAt, NumbersGone.live-of, CountsKept.IsGrown, CountsKept.grown-then, CountsKept.grown-more, CountsKept.grown-if, CountsKept.kept-same, CountsKept.kept-if, CountsKept.remove-kept, CountsKept.pre_insert-kept, CountsKept.replace_all-kept, CountsOfData.split-grown, CountsOfContents.new_fragment-grown, CountsOfContents.units_into-grown, CountsOfContents.children_moved-kept, CountsOfContents.tail_moved-grown, CountsOfContents.head_moved-grown, CountsOfContents.with_range-kept, CountsOfContents.live-then, CountsOfContents.for_range-grown}
 
 pub size-new_fragment : (document : ℕ) (w : World) → size (new_fragment document w).forest ≡ size w.forest + 1
 size-new_fragment document w = total-beside (λ _. 1) w.forest _

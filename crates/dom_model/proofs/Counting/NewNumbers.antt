@@ -1,38 +1,11 @@
 -- The new number that a command answers is the next of its kind.
 use Rattle.std.proofs.Common.{◌≡◌, ℕ, ◌+◌, ◌<◌, ◌≤◌, Bool, true, false, if◌then◌else◌, List, [], ◌∷◌, length, Option, Some, None, is_none, refl, ap, sym, ◌∙◌, subst, arith, length-append}
-use Rattle.std.proofs.lemmas.Bool.{false≢true}
-use Rattle.dom_model.specs.declared.Kind.TheVariants.{Text, Document}
-use Rattle.dom_model.specs.declared.DomError.{DomError}
-use Rattle.dom_model.specs.declared.DomError.TheVariants.{NotSupportedError, InvalidCharacterError}
-use Rattle.dom_model.specs.Forests.Kinds.{is_kind}
-use Rattle.dom_model.specs.Forests.Names.{is_element_name, is_doctype_name}
-use Rattle.dom_model.specs.Forests.Forest.{Forest, empty, node, occurs, one_at, size, tree_at}
-use Rattle.dom_model.specs.Forests.Nodes.{is_of_kind}
-use Rattle.dom_model.specs.Worlds.World.{Content, Range, World}
-use Rattle.dom_model.specs.MutationAlgorithms.Editing.{node_document}
-use Rattle.dom_model.specs.DataAndCopies.Data.{check_offset}
-use Rattle.dom_model.specs.DataAndCopies.Clones.{alone_of, original}
-use Rattle.dom_model.specs.RangesAndContents.Ranges.{is_collapsed, range_at}
-use Rattle.dom_model.specs.RangesAndContents.Contents.{for_range, is_in_one_data, new_fragment, contents_drawn, check_extract, extracted, extract, clone_contents}
-use Rattle.dom_model.specs.RangesAndContents.StaticRanges.{check_static}
-use Rattle.dom_model.specs.Traversal.Iterators.{new_iterator}
-use Rattle.dom_model.specs.Traversal.Walks.{new_walker}
-use Rattle.dom_model.specs.Commands.Command.{Command, NewDocument, CreateElement, CreateText, CreateComment, CreatePI, CreateDoctype, CreateFragment, ImportNode, CloneNode, SplitText, CreateRange, CloneRange, ExtractContents, CloneContents, CreateIterator, CreateWalker, CreateObserver, CreateStaticRange}
-use Rattle.dom_model.specs.Commands.Reply.{Number, Reply, Done, is_refusal}
-use Rattle.dom_model.specs.Commands.Guards.{Bounds, Step, refused, guarded, checked, no_node, wrong_kind, no_room, no_room_for_copies, bad_name, throws}
-use Rattle.dom_model.specs.Commands.AnswerMaking.{closes_instruction}
-use Rattle.dom_model.specs.Commands.AnswerRanges.{no_range, on_range, makes_range}
-use Rattle.dom_model.specs.Commands.AnswerObserving.{observers_made}
-use Rattle.dom_model.specs.Commands.Answer.{answer}
-use Rattle.dom_model.specs.Commands.NewNumbers.{Numbered, Nodes, Ranges, Iterators, Walkers, Observers, StaticRanges, count_of, made_by, IsNext}
+use Rattle.std.proofs.lemmas.Bool.{false≢true, cond_both}
+use Rattle.dom_model.specs.Definitions.{is_kind, is_element_name, is_doctype_name, Forest, empty, node, occurs, one_at, size, tree_at, is_of_kind, Content, Range, World, node_document, check_offset, alone_of, original, is_collapsed, range_at, for_range, is_in_one_data, new_fragment, contents_drawn, check_extract, extracted, extract, clone_contents, check_static, new_iterator, new_walker, Command, NewDocument, CreateElement, CreateText, CreateComment, CreatePI, CreateDoctype, CreateFragment, ImportNode, CloneNode, SplitText, CreateRange, CloneRange, ExtractContents, CloneContents, CreateIterator, CreateWalker, CreateObserver, CreateStaticRange, Number, Reply, Done, is_refusal, Bounds, Step, guarded, checked, no_node, wrong_kind, no_room, no_room_for_copies, bad_name, throws, closes_instruction, no_range, on_range, makes_range, observers_made, answer, Numbered, Nodes, Ranges, Iterators, Walkers, Observers, StaticRanges, count_of, made_by, IsNext}
+use Rattle.dom_model.specs.declared.{Kind.TheVariants.Text, Kind.TheVariants.Document, DomError.DomError, DomError.TheVariants.NotSupportedError, DomError.TheVariants.InvalidCharacterError}
 use Rattle.dom_model.proofs.Forests.Totals.{total-tree_at, occurs-without}
 use Rattle.dom_model.proofs.Soundness.SoundGuards.{there_unless}
-use Rattle.dom_model.proofs.Counting.NumbersGone.{IsLiveAt}
-use Rattle.dom_model.proofs.Counting.CountsOfData.{split-least}
-use Rattle.dom_model.proofs.Counting.CountsOfContents.{units_into-grown}
-use Rattle.dom_model.proofs.Counting.CopiesGrow.{parts-grow}
-use Rattle.dom_model.proofs.Counting.CountsOfExtraction.{parts_moved-grown}
-use Rattle.dom_model.proofs.Counting.StepsCounted.{NoneHolds}
+use Rattle.dom_model.proofs.Counting.{NumbersGone.IsLiveAt, CountsOfData.split-least, CountsOfContents.units_into-grown, CopiesGrow.parts-grow, CountsOfExtraction.parts_moved-grown, StepsCounted.NoneHolds}
 
 -- a number that a step answers is the next of its kind
 abbrev pub AnswersNext : Option Numbered → World → Step → Type 0
@@ -47,11 +20,10 @@ AllRefuse (c ∷ cs) = (is_refusal c.1 ≡ true) × AllRefuse cs
 
 next-guarded : (kind : Numbered) (cs : List (Bool × Reply)) (w : World) (s : Step) → AllRefuse cs → (NoneHolds cs → AnswersNext (Some kind) w s) → AnswersNext (Some kind) w (guarded cs w s)
 next-guarded kind [] w s r h = h tt
-next-guarded kind (c ∷ cs) w s r h = go c.0 refl (λ e. next-guarded kind cs w s r.1 (λ k. h (e, k)))
-  where
-    go : (v : Bool) → c.0 ≡ v → (c.0 ≡ false → AnswersNext (Some kind) w (guarded cs w s)) → AnswersNext (Some kind) w (if v then refused c.1 w else guarded cs w s)
-    go true e later = λ n d. absurd (false≢true (sym (ap (λ (q : Reply). is_refusal q) d) ∙ r.0))
-    go false e later = later e
+next-guarded kind (c ∷ cs) w s r h =
+    cond_both c.0 _ _ (AnswersNext (Some kind) w)
+    (λ _ n d. absurd (false≢true (sym (ap (λ (q : Reply). is_refusal q) d) ∙ r.0)))
+    (λ e. next-guarded kind cs w s r.1 (λ k. h (e, k)))
 
 next-checked : (kind : Numbered) (o : Option DomError) (w : World) (s : Step) → AnswersNext (Some kind) w s → AnswersNext (Some kind) w (checked o w s)
 next-checked kind None w s h = h
@@ -74,18 +46,13 @@ original-filled : (deep : Bool) (n : ℕ) (f : Forest Content) → 0 < occurs n 
 original-filled deep n f h =
     let t = total-tree_at (one_at n) n f in
     let z = occurs-without n f in
-    let there : 0 < occurs n (tree_at n f) = omega arith in
-    go deep (filled n (tree_at n f) there)
-  where
-    go : (v : Bool) → (0 < size (tree_at n f)) × (0 < size (alone_of (tree_at n f))) → 0 < size (original v n f)
-    go true k = k.0
-    go false k = k.1
+    let k = filled n (tree_at n f) (omega arith) in
+    elim deep as (λ v. 0 < size (original v n f)) [ true ↦ k.0 | false ↦ k.1 ]
 
 -- Contents.
 
 later-if : (k : ℕ) (v : Bool) (u w : World) → k ≤ u.made → k ≤ w.made → k ≤ (if v then u else w).made
-later-if k true u w l m = l
-later-if k false u w l m = m
+later-if k v u w l m = cond_both v u w (λ x. k ≤ x.made) (λ _. l) (λ _. m)
 
 drawn-later : (moves : Bool) (r : Range) (w : World) → w.made + 1 ≤ (contents_drawn moves r w).made
 drawn-later true r w =

@@ -1,18 +1,13 @@
 -- A number that stands nowhere in a forest comes into none as trees are cut, put, changed or taken away; and a live range, an iterator, a walker
 -- or an observer that is moved or set stays there, as a released one stays released.
-use Rattle.std.proofs.Common.{◌≡◌, ℕ, ◌<◌, ◌≤◌, true, false, List, [], ◌∷◌, ◌++◌, length, map, Option, Some, None, is_none, option_map, slice_index_or, slice_set, refl, ap, sym, ◌∙◌, subst, arith, ⊎_elim}
+use Rattle.std.proofs.Common.{◌≡◌, ℕ, ◌<◌, true, false, List, [], ◌∷◌, ◌++◌, length, map, Option, Some, None, is_none, option_map, slice_index_or, slice_set, refl, ap, ◌∙◌, arith}
 use Rattle.std.proofs.Math.ListN.{get_or-map}
-use Rattle.std.proofs.lemmas.Bool.{cases_lt, false≢true}
-use Rattle.std.proofs.lemmas.List.{length-set, get_or-set_same, get_or-set_other, get_or_past, get_or_append_left}
-use Rattle.dom_model.specs.Forests.Forest.{Forest, occurs, one_at, beside, tree_at, without, cut, put, adopted, in_document}
-use Rattle.dom_model.specs.Worlds.World.{Content, Point, Range}
-use Rattle.dom_model.specs.BoundaryPoints.Points.{moved_range, map_ranges}
-use Rattle.dom_model.specs.PlainLists.Lists.{among}
-use Rattle.dom_model.specs.MutationObservers.Records.{moved_to}
-use Rattle.dom_model.proofs.PlainLists.Numbers.{same_or, same, apart}
+use Rattle.std.proofs.lemmas.{Bool.false≢true, List.length-set, List.get_or-set_same, List.get_or-set_other, List.get_or_past, List.get_or_append_left}
+use Rattle.dom_model.specs.Definitions.{Forest, occurs, one_at, beside, tree_at, without, cut, put, adopted, in_document, Content, Point, Range, moved_range, map_ranges, among, moved_to}
 use Rattle.dom_model.proofs.Forests.Totals.{total-beside, total-tree_at, total-placed_under, total-cut}
-use Rattle.dom_model.proofs.MutationObservers.Queues.{among-first, among-later}
+use Rattle.dom_model.proofs.MutationObservers.Queues.{among-later}
 use Rattle.dom_model.proofs.Worlds.SameShape.{IsAlike, occurs-alike, with_tree-alike}
+use Rattle.dom_model.proofs.PlainLists.Heads.{among-first}
 
 -- the second forest has no number that the first has not
 abbrev pub NoneComes : Forest Content → Forest Content → Type 0
@@ -66,30 +61,16 @@ pub live-of : {A : Type 0} (o : Option A) (a : A) → o ≡ Some a → is_none o
 live-of o a e = rw e refl
 
 pub live-mapped : {A : Type 0} (change : A → A) (rs : List (Option A)) → AreLiveAlike rs (map (λ (o : Option A). option_map change o) rs)
-live-mapped {A} change rs r = ap (λ (o : Option A). is_none o) (get_or-map (λ (o : Option A). option_map change o) rs r None) ∙ go (slice_index_or rs r None)
-  where
-    go : (o : Option A) → is_none (option_map change o) ≡ is_none o
-    go None = refl
-    go (Some a) = refl
+live-mapped {A} change rs r = grind (arith, get_or-map (λ (o : Option A). option_map change o) rs r None)
 
 pub live-map : (move : Point → Point) (rs : List (Option Range)) → AreLiveAlike rs (map_ranges move rs)
 live-map move rs = live-mapped (moved_range move) rs
 
 pub given : {A : Type 0} (rs : List (Option A)) (r : ℕ) → IsLiveAt rs r → r < length rs
-given {A} rs r live =
-    ⊎_elim
-    (λ (lt : r < length rs). lt)
-    (λ (le : length rs ≤ r). absurd (false≢true (sym live ∙ ap (λ (o : Option A). is_none o) (get_or_past rs r None le))))
-    (cases_lt r (length rs))
+given rs r live = grind (arith, get_or_past rs r None)
 
 pub live-set : {A : Type 0} (rs : List (Option A)) (r : ℕ) (a : A) → IsLiveAt rs r → AreLiveAlike rs (slice_set rs r (Some a))
-live-set {A} rs r a live q =
-    elim (same_or q r) [
-      | same e t ↦
-          subst (λ k. is_none (slice_index_or (slice_set rs r (Some a)) k None) ≡ is_none (slice_index_or rs k None)) (sym e)
-          (ap (λ (o : Option A). is_none o) (get_or-set_same rs r (Some a) None (given rs r live)) ∙ sym live)
-      | apart ne t ↦ ap (λ (o : Option A). is_none o) (get_or-set_other rs r q (Some a) None ne)
-    ]
+live-set rs r a live q = grind (arith, get_or-set_same rs r (Some a) None (given rs r live), get_or-set_other rs r q (Some a) None)
 
 -- places of some that are there are moved
 pub live-moved : (place : ℕ) (os : List ℕ) (places : List (Option ℕ)) → ((o : ℕ) → among o os ≡ true → IsLiveAt places o) → AreLiveAlike places (moved_to place os places)
@@ -107,12 +88,4 @@ pushed-released rs more r l e = get_or_append_left rs more None r l ∙ e
 
 -- one is released, and every other one that was stays so
 pub none-set : {A : Type 0} (rs : List (Option A)) (r q : ℕ) → slice_index_or rs q None ≡ None → slice_index_or (slice_set rs r None) q None ≡ None
-none-set rs r q h =
-    elim (same_or q r) [
-      | same e t ↦
-          ⊎_elim
-          (λ (lt : r < length rs). subst (λ k. slice_index_or (slice_set rs r None) k None ≡ None) (sym e) (get_or-set_same rs r None None lt))
-          (λ (le : length rs ≤ r). get_or_past (slice_set rs r None) q None (omega (arith, length-set rs r None, e)))
-          (cases_lt r (length rs))
-      | apart ne t ↦ get_or-set_other rs r q None None ne ∙ h
-    ]
+none-set rs r q h = grind (arith, get_or-set_same rs r None None, get_or-set_other rs r q None None, get_or_past (slice_set rs r None) q None, length-set rs r None)

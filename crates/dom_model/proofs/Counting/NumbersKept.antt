@@ -1,18 +1,8 @@
 -- In a sound world no command gives out more numbers than it asks for, so after any commands the counts are within the limit.
 use Rattle.std.proofs.Common.{◌≡◌, ℕ, ◌≤◌, List, [], ◌∷◌, Some, subst, arith}
-use Rattle.dom_model.specs.Worlds.World.{Range, World, first_world}
-use Rattle.dom_model.specs.Commands.Command.{Command, CloneContents}
-use Rattle.dom_model.specs.Commands.Guards.{Bounds}
-use Rattle.dom_model.specs.Commands.Answer.{answer}
-use Rattle.dom_model.specs.TokenText.CommandEdits.{world_past}
-use Rattle.dom_model.specs.RangesAndContents.Ranges.{range_at}
-use Rattle.dom_model.specs.Commands.Counts.{counts_of, asked, plus, of_each, AreAtMost}
-use Rattle.dom_model.specs.Soundness.Sound.{IsRange, IsSound}
-use Rattle.dom_model.proofs.Soundness.SoundWorlds.{IsLive}
-use Rattle.dom_model.proofs.Soundness.SoundRangeSteps.{live_range}
-use Rattle.dom_model.proofs.Soundness.SoundAnswers.{sound-answer, sound-first, sound-reached}
-use Rattle.dom_model.proofs.Counting.CopiesOfContents.{HasEnds, IsInOrder}
-use Rattle.dom_model.proofs.Counting.CommandsCounted.{Needed}
+use Rattle.dom_model.specs.Definitions.{Range, World, first_world, Command, CloneContents, Bounds, answer, world_past, range_at, counts_of, asked, plus, of_each, AreAtMost, IsRange, IsSound}
+use Rattle.dom_model.proofs.Soundness.{SoundWorlds.IsLive, SoundRangeSteps.live_range, SoundAnswers.sound-answer, SoundAnswers.sound-first, SoundAnswers.sound-reached}
+use Rattle.dom_model.proofs.Counting.{CopiesOfContents.HasEnds, CopiesOfContents.IsInOrder, CommandsCounted.Needed}
 use Rattle.dom_model.proofs.Commands.RefusalsLeave.{counts-as_asked, numbers-kept}
 
 -- a sound world is in order
@@ -46,4 +36,4 @@ asked-reached b cs c = sound-as_asked b (world_past b first_world cs) c (sound-r
 
 -- from the first world, of which the Document has the only number
 pub within-limit : (b : Bounds) (cs : List Command) → 1 ≤ b.numbers → AreAtMost (counts_of (world_past b first_world cs)) (of_each b.numbers)
-within-limit b cs h = within-reached b cs (record { nodes = h; ranges = omega arith; iterators = omega arith; walkers = omega arith; observers = omega arith; static_ranges = omega arith })
+within-limit b cs h = within-reached b cs (grind arith)

@@ -1,94 +1,55 @@
 -- Over any list of commands the counts only rise, what is gone stays gone, and no number is given out twice.
-use Rattle.std.proofs.Common.{◌≡◌, ℕ, ◌<◌, ◌≤◌, List, [], ◌∷◌, length, Some, None, subst, arith, ⊎_elim}
-use Rattle.std.proofs.lemmas.Bool.{cases_lt}
-use Rattle.dom_model.specs.Forests.Forest.{Forest, occurs, HasNode}
-use Rattle.dom_model.specs.Worlds.World.{Content, World}
-use Rattle.dom_model.specs.RangesAndContents.Ranges.{range_at}
-use Rattle.dom_model.specs.RangesAndContents.StaticRanges.{static_at}
-use Rattle.dom_model.specs.MutationObservers.Records.{taken_up_to}
-use Rattle.dom_model.specs.Commands.AnswerTraversal.{iterator_at, walker_at}
-use Rattle.dom_model.specs.Commands.Command.{Command}
-use Rattle.dom_model.specs.Commands.Reply.{Number, Done}
-use Rattle.dom_model.specs.Commands.Guards.{Bounds}
-use Rattle.dom_model.specs.Commands.Answer.{answer}
-use Rattle.dom_model.specs.Commands.Counts.{counts_of, AreAtMost}
-use Rattle.dom_model.specs.Commands.NewNumbers.{Numbered, Nodes, Ranges, Iterators, Walkers, Observers, StaticRanges, count_of, made_by, IsNext}
-use Rattle.dom_model.specs.TokenText.CommandEdits.{world_past}
+use Rattle.std.proofs.Common.{◌≡◌, ℕ, ◌<◌, ◌≤◌, List, [], ◌∷◌, length, Some, None, subst, arith, rules}
+use Rattle.dom_model.specs.Definitions.{Forest, occurs, HasNode, Content, World, range_at, static_at, taken_up_to, iterator_at, walker_at, Command, Number, Done, Bounds, answer, counts_of, AreAtMost, Numbered, Nodes, Ranges, Iterators, Walkers, Observers, StaticRanges, count_of, made_by, IsNext, world_past}
 use Rattle.dom_model.proofs.Forests.Entries.{HasNode-occurs, occurs-HasNode}
-use Rattle.dom_model.proofs.Counting.StepsCounted.{StaysGone, at_most-then, counted-stays_gone}
-use Rattle.dom_model.proofs.Counting.CommandsCounted.{command-counted}
-use Rattle.dom_model.proofs.Counting.NewNumbers.{AnswersNext, answer-next}
+use Rattle.dom_model.proofs.Counting.{StepsCounted.StaysGone, StepsCounted.at_most-then, StepsCounted.counted-stays_gone, CommandsCounted.command-counted, NewNumbers.AnswersNext, NewNumbers.answer-next}
 use Rattle.dom_model.proofs.Commands.RefusalsLeave.{counts-never_fall}
 
 -- the counts only rise
 pub counts-rise : (b : Bounds) (w : World) (cs : List Command) → AreAtMost (counts_of w) (counts_of (world_past b w cs))
-counts-rise b w [] = record { nodes = omega arith; ranges = omega arith; iterators = omega arith; walkers = omega arith; observers = omega arith; static_ranges = omega arith }
+counts-rise b w [] = search rules
 counts-rise b w (c ∷ cs) = at_most-then (counts-never_fall b w c) (counts-rise b (answer b w c).world cs)
 
 -- What is gone.
 
-gone-once : (b : Bounds) (w : World) (c : Command) → StaysGone w (answer b w c).world
-gone-once b w c = counted-stays_gone (command-counted b w c)
+stays_gone-then : {u v w : World} → AreAtMost (counts_of u) (counts_of v) → StaysGone u v → StaysGone v w → StaysGone u w
+stays_gone-then m g h = grind arith
 
-nowhere : (b : Bounds) (w : World) (cs : List Command) (n : ℕ) → n < w.made → occurs n w.forest ≡ 0 → occurs n (world_past b w cs).forest ≡ 0
-nowhere b w [] n l e = e
-nowhere b w (c ∷ cs) n l e =
-    let k = counts-never_fall b w c in
-    let g = gone-once b w c in
-    nowhere b (answer b w c).world cs n (omega (arith, l, k.nodes)) (g.nodes n l e)
+past-stays_gone : (b : Bounds) (w : World) (cs : List Command) → StaysGone w (world_past b w cs)
+past-stays_gone b w [] = search rules
+past-stays_gone b w (c ∷ cs) = stays_gone-then (counts-never_fall b w c) (counted-stays_gone (command-counted b w c)) (past-stays_gone b (answer b w c).world cs)
 
 not-there : (f : Forest Content) (n : ℕ) → (HasNode f n → ⊥) → occurs n f ≡ 0
-not-there f n h = ⊎_elim (λ (lt : 0 < occurs n f). absurd (h (HasNode-occurs f n lt))) (λ (le : occurs n f ≤ 0). omega arith) (cases_lt 0 (occurs n f))
+not-there f n h = grind (arith, HasNode-occurs f n)
 
 -- a node that is gone does not come back
 pub node-stays_gone : (b : Bounds) (w : World) (cs : List Command) (n : ℕ) → n < w.made → (HasNode w.forest n → ⊥) → HasNode (world_past b w cs).forest n → ⊥
 node-stays_gone b w cs n l h there =
     let v = world_past b w cs in
-    let e = nowhere b w cs n l (not-there w.forest n h) in
+    let e = (past-stays_gone b w cs).nodes n l (not-there w.forest n h) in
     let k = occurs-HasNode v.forest n there in
     absurd (omega arith)
 
 -- so a node that was not there before has a number that was not given out before
 pub node-is_new : (b : Bounds) (w : World) (cs : List Command) (n : ℕ) → (HasNode w.forest n → ⊥) → HasNode (world_past b w cs).forest n → w.made ≤ n
-node-is_new b w cs n h there =
-    ⊎_elim (λ (lt : n < w.made). absurd (node-stays_gone b w cs n lt h there)) (λ (le : w.made ≤ n). le) (cases_lt n w.made)
+node-is_new b w cs n h there = grind (arith, node-stays_gone b w cs n)
 
 -- a live range that was released stays so
 pub range-stays_released : (b : Bounds) (w : World) (cs : List Command) (r : ℕ) → r < length w.ranges → range_at w r ≡ None → range_at (world_past b w cs) r ≡ None
-range-stays_released b w [] r l e = e
-range-stays_released b w (c ∷ cs) r l e =
-    let k = counts-never_fall b w c in
-    let g = gone-once b w c in
-    range-stays_released b (answer b w c).world cs r (omega (arith, l, k.ranges)) (g.ranges r l e)
+range-stays_released b w cs r l e = (past-stays_gone b w cs).ranges r l e
 
 -- so does an iterator, a walker, a static range and an observer
 pub iterator-stays_released : (b : Bounds) (w : World) (cs : List Command) (i : ℕ) → i < length w.iterators → iterator_at i w ≡ None → iterator_at i (world_past b w cs) ≡ None
-iterator-stays_released b w [] i l e = e
-iterator-stays_released b w (c ∷ cs) i l e =
-    let k = counts-never_fall b w c in
-    let g = gone-once b w c in
-    iterator-stays_released b (answer b w c).world cs i (omega (arith, l, k.iterators)) (g.iterators i l e)
+iterator-stays_released b w cs i l e = (past-stays_gone b w cs).iterators i l e
 
 pub walker-stays_released : (b : Bounds) (w : World) (cs : List Command) (k : ℕ) → k < length w.walkers → walker_at k w ≡ None → walker_at k (world_past b w cs) ≡ None
-walker-stays_released b w [] k l e = e
-walker-stays_released b w (c ∷ cs) k l e =
-    let h = counts-never_fall b w c in
-    let g = gone-once b w c in
-    walker-stays_released b (answer b w c).world cs k (omega (arith, l, h.walkers)) (g.walkers k l e)
+walker-stays_released b w cs k l e = (past-stays_gone b w cs).walkers k l e
 
 pub static_range-stays_released : (b : Bounds) (w : World) (cs : List Command) (u : ℕ) → u < length w.static_ranges → static_at w u ≡ None → static_at (world_past b w cs) u ≡ None
-static_range-stays_released b w [] u l e = e
-static_range-stays_released b w (c ∷ cs) u l e =
-    let k = counts-never_fall b w c in
-    let g = gone-once b w c in
-    static_range-stays_released b (answer b w c).world cs u (omega (arith, l, k.static_ranges)) (g.static_ranges u l e)
+static_range-stays_released b w cs u l e = (past-stays_gone b w cs).static_ranges u l e
 
 pub observer-stays_released : (b : Bounds) (w : World) (cs : List Command) (o : ℕ) → o < length w.observing.places → taken_up_to o w.observing ≡ None → taken_up_to o (world_past b w cs).observing ≡ None
-observer-stays_released b w [] o l e = e
-observer-stays_released b w (c ∷ cs) o l e =
-    let k = counts-never_fall b w c in
-    let g = gone-once b w c in
-    observer-stays_released b (answer b w c).world cs o (omega (arith, l, k.observers)) (g.observers o l e)
+observer-stays_released b w cs o l e = (past-stays_gone b w cs).observers o l e
 
 -- What is given out.
 

@@ -1,19 +1,9 @@
 -- A step that is refused leaves the world; any other takes no more numbers than are asked for, and where they are left, and brings none back.
-use Rattle.std.proofs.Common.{◌≡◌, ℕ, ◌+◌, ◌<◌, ◌≤◌, nat_lt, Bool, true, false, if◌then◌else◌, List, [], ◌∷◌, Option, Some, None, refl, sym, ◌∙◌, subst, arith}
-use Rattle.std.specs.Prelude.{Ok, Err}
-use Rattle.std.proofs.lemmas.Bool.{false≢true, ltb-false}
+use Rattle.std.proofs.Common.{◌≡◌, ℕ, ◌+◌, ◌<◌, ◌≤◌, nat_lt, Bool, true, false, List, [], ◌∷◌, Option, Some, None, refl, sym, ◌∙◌, arith, rules, Ok, Err}
+use Rattle.std.proofs.lemmas.{Bool.false≢true, Bool.cond_both, Bool.Decides.nat_tests}
+use Rattle.dom_model.specs.Definitions.{occurs, Point, Range, World, Answer, Reply, Done, is_refusal, Counts, counts_of, no_numbers, node_numbers, plus, of_each, AreAtMost, Bounds, Step, guarded, checked, Outcome, on_range, at_point, at_ends, done_or_refused, with_object}
 use Rattle.dom_model.specs.declared.DomError.{DomError}
-use Rattle.dom_model.specs.Forests.Forest.{occurs}
-use Rattle.dom_model.specs.Worlds.World.{Point, Range, World}
-use Rattle.dom_model.specs.Commands.Reply.{Answer, Reply, Done, is_refusal}
-use Rattle.dom_model.specs.Commands.Counts.{Counts, counts_of, no_numbers, node_numbers, plus, of_each, AreAtMost}
-use Rattle.dom_model.specs.Commands.Guards.{Bounds, Step, refused, guarded, checked}
-use Rattle.dom_model.specs.RangesAndContents.Wrapping.{Outcome}
-use Rattle.dom_model.specs.Commands.AnswerRanges.{on_range, at_point, at_ends, done_or_refused}
-use Rattle.dom_model.specs.Commands.AnswerTraversal.{with_object}
-use Rattle.dom_model.proofs.Counting.NumbersGone.{StaysReleased, alike-released}
-use Rattle.dom_model.proofs.Counting.CountsKept.{AreThereAlike, IsGrown}
-use Rattle.dom_model.proofs.Counting.CountsOfExtraction.{IsGrownTo}
+use Rattle.dom_model.proofs.Counting.{NumbersGone.StaysReleased, NumbersGone.alike-released, CountsKept.IsGrown, CountsOfExtraction.IsGrownTo}
 
 -- the numbers asked for are left, where no more than the limit were given out before
 abbrev pub HasRoom : Bounds → Counts → World → Type 0
@@ -28,20 +18,6 @@ pub record StaysGone (w v : World) : Type 0 where
   pub observers : StaysReleased w.observing.places v.observing.places
   pub static_ranges : StaysReleased w.static_ranges v.static_ranges
 
--- the kinds but nodes may be told by which of them are there
-pub alike-stays_gone : (w v : World) → ((n : ℕ) → n < w.made → occurs n w.forest ≡ 0 → occurs n v.forest ≡ 0) → AreThereAlike w v → StaysGone w v
-alike-stays_gone w v gone h = record {
-  nodes = gone;
-  ranges = alike-released w.ranges v.ranges h.ranges;
-  iterators = alike-released w.iterators v.iterators h.iterators;
-  walkers = alike-released w.walkers v.walkers h.walkers;
-  observers = alike-released w.observing.places v.observing.places h.observers;
-  static_ranges = alike-released w.static_ranges v.static_ranges h.static_ranges;
-}
-
-same-stays_gone : (w : World) → StaysGone w w
-same-stays_gone w = record { nodes = λ n l e. e; ranges = λ r l e. e; iterators = λ r l e. e; walkers = λ r l e. e; observers = λ r l e. e; static_ranges = λ r l e. e }
-
 pub data IsCounted (b : Bounds) (asked : Counts) (needs : Type 0) (w : World) (s : Step) : Type 0 where
   leaves : s.world ≡ w → IsCounted b asked needs w s
   takes : is_refusal s.reply ≡ false → HasRoom b asked w → AreAtMost (counts_of w) (counts_of s.world) → (needs → AreAtMost (counts_of s.world) (plus (counts_of w) asked)) → StaysGone w s.world → IsCounted b asked needs w s
@@ -51,31 +27,21 @@ counted-leaves (leaves e) h = e
 counted-leaves (takes n room more most gone) h = absurd (false≢true (sym n ∙ h))
 
 pub at_most-then : {x y z : Counts} → AreAtMost x y → AreAtMost y z → AreAtMost x z
-at_most-then g h = record {
-  nodes = omega (arith, g.nodes, h.nodes);
-  ranges = omega (arith, g.ranges, h.ranges);
-  iterators = omega (arith, g.iterators, h.iterators);
-  walkers = omega (arith, g.walkers, h.walkers);
-  observers = omega (arith, g.observers, h.observers);
-  static_ranges = omega (arith, g.static_ranges, h.static_ranges);
-}
-
-at_most-plus : (x y : Counts) → AreAtMost x (plus x y)
-at_most-plus x y = record { nodes = omega arith; ranges = omega arith; iterators = omega arith; walkers = omega arith; observers = omega arith; static_ranges = omega arith }
+at_most-then g h = search rules
 
 -- the counts never fall
 pub counted-never_fall : {b : Bounds} {asked : Counts} {needs : Type 0} {w : World} {s : Step} → IsCounted b asked needs w s → AreAtMost (counts_of w) (counts_of s.world)
-counted-never_fall {b} {asked} {needs} {w} {s} (leaves e) = rw e (record { nodes = omega arith; ranges = omega arith; iterators = omega arith; walkers = omega arith; observers = omega arith; static_ranges = omega arith })
+counted-never_fall {b} {asked} {needs} {w} {s} (leaves e) = rw e (search rules)
 counted-never_fall (takes n room more most gone) = more
 
 -- what is gone stays so
 pub counted-stays_gone : {b : Bounds} {asked : Counts} {needs : Type 0} {w : World} {s : Step} → IsCounted b asked needs w s → StaysGone w s.world
-counted-stays_gone {b} {asked} {needs} {w} {s} (leaves e) = subst (λ v. StaysGone w v) (sym e) (same-stays_gone w)
+counted-stays_gone {b} {asked} {needs} {w} {s} (leaves e) = rw e (search rules)
 counted-stays_gone (takes n room more most gone) = gone
 
 -- they grow by at most what is asked for
 pub counted-at_most : {b : Bounds} {asked : Counts} {needs : Type 0} {w : World} {s : Step} → IsCounted b asked needs w s → needs → AreAtMost (counts_of s.world) (plus (counts_of w) asked)
-counted-at_most {b} {asked} {needs} {w} {s} (leaves e) o = rw e (at_most-plus (counts_of w) asked)
+counted-at_most {b} {asked} {needs} {w} {s} (leaves e) o = rw e (grind arith)
 counted-at_most (takes n room more most gone) o = most o
 
 -- and stay within the limit
@@ -92,11 +58,8 @@ NoneHolds (c ∷ cs) = (c.0 ≡ false) × NoneHolds cs
 
 pub guarded-counted : {needs : Type 0} (b : Bounds) (asked : Counts) (cs : List (Bool × Reply)) (w : World) (s : Step) → (NoneHolds cs → IsCounted b asked needs w s) → IsCounted b asked needs w (guarded cs w s)
 guarded-counted b asked [] w s h = h tt
-guarded-counted {needs} b asked (c ∷ cs) w s h = go c.0 refl (λ e. guarded-counted b asked cs w s (λ k. h (e, k)))
-  where
-    go : (v : Bool) → c.0 ≡ v → (c.0 ≡ false → IsCounted b asked needs w (guarded cs w s)) → IsCounted b asked needs w (if v then refused c.1 w else guarded cs w s)
-    go true e later = leaves refl
-    go false e later = later e
+guarded-counted {needs} b asked (c ∷ cs) w s h =
+    cond_both c.0 _ _ (IsCounted b asked needs w) (λ _. leaves refl) (λ e. guarded-counted b asked cs w s (λ k. h (e, k)))
 
 pub checked-counted : {needs : Type 0} (b : Bounds) (asked : Counts) (c : Option DomError) (w : World) (s : Step) → IsCounted b asked needs w s → IsCounted b asked needs w (checked c w s)
 checked-counted b asked None w s h = h
@@ -114,53 +77,31 @@ pub at_ends-counted : {needs : Type 0} (b : Bounds) (asked : Counts) (o : Option
 at_ends-counted b asked None w step h = leaves refl
 at_ends-counted b asked (Some x) w step h = h x
 
-pub object-counted : {A needs : Type 0} (b : Bounds) (asked : Counts) (o : Option A) (w : World) (step : A → Step) → ((x : A) → IsCounted b asked needs w (step x)) → IsCounted b asked needs w (with_object o w step)
-object-counted b asked None w step h = leaves refl
-object-counted b asked (Some x) w step h = h x
-
--- the same, where the step needs to know that the object is there
+-- where the step needs to know that the object is there, and where it does not
 pub object_there-counted : {A needs : Type 0} (b : Bounds) (asked : Counts) (o : Option A) (w : World) (step : A → Step) → ((x : A) → o ≡ Some x → IsCounted b asked needs w (step x)) → IsCounted b asked needs w (with_object o w step)
 object_there-counted b asked None w step h = leaves refl
 object_there-counted b asked (Some x) w step h = h x refl
 
+pub object-counted : {A needs : Type 0} (b : Bounds) (asked : Counts) (o : Option A) (w : World) (step : A → Step) → ((x : A) → IsCounted b asked needs w (step x)) → IsCounted b asked needs w (with_object o w step)
+object-counted b asked o w step h = object_there-counted b asked o w step (λ x e. h x)
+
 -- What steps take.
 
 pub never-fall : (more : ℕ) (w v : World) → IsGrown more w v → AreAtMost (counts_of w) (counts_of v)
-never-fall more w v g = record {
-  nodes = g.least;
-  ranges = omega (arith, g.ranges);
-  iterators = omega (arith, g.iterators);
-  walkers = omega (arith, g.walkers);
-  observers = omega (arith, g.observers);
-  static_ranges = omega (arith, g.static_ranges);
-}
+never-fall more w v g = grind arith
 
 pub grown-stays_gone : (more : ℕ) (w v : World) → IsGrown more w v → StaysGone w v
-grown-stays_gone more w v g = alike-stays_gone w v g.gone g.live
+grown-stays_gone more w v g = search (rules, alike-released)
 
 pub grow-at_most : (more asked : ℕ) (w v : World) → more ≤ asked → IsGrown more w v → AreAtMost (counts_of v) (plus (counts_of w) (node_numbers asked))
-grow-at_most more asked w v l g = record {
-  nodes = omega (arith, g.most);
-  ranges = omega (arith, g.ranges);
-  iterators = omega (arith, g.iterators);
-  walkers = omega (arith, g.walkers);
-  observers = omega (arith, g.observers);
-  static_ranges = omega (arith, g.static_ranges);
-}
+grow-at_most more asked w v l g = grind arith
 
 has-room : (b : Bounds) (asked : ℕ) (w : World) → nat_lt b.numbers (w.made + asked) ≡ false → HasRoom b (node_numbers asked) w
-has-room b asked w e h = record {
-  nodes = ltb-false b.numbers (w.made + asked) e;
-  ranges = omega (arith, h.ranges);
-  iterators = omega (arith, h.iterators);
-  walkers = omega (arith, h.walkers);
-  observers = omega (arith, h.observers);
-  static_ranges = omega (arith, h.static_ranges);
-}
+has-room b asked w e h = grind (arith, nat_tests)
 
 -- no number
 pub keeps : {needs : Type 0} (b : Bounds) (w v : World) (a : Answer) → IsGrown 0 w v → IsCounted b no_numbers needs w (record { reply = Done a; world = v })
-keeps b w v a g = takes refl (λ h. at_most-then (record { nodes = omega arith; ranges = omega arith; iterators = omega arith; walkers = omega arith; observers = omega arith; static_ranges = omega arith }) h) (never-fall 0 w v g) (λ o. grow-at_most 0 0 w v (omega arith) g) (grown-stays_gone 0 w v g)
+keeps b w v a g = takes refl (λ h. grind arith) (never-fall 0 w v g) (λ o. grow-at_most 0 0 w v (omega arith) g) (grown-stays_gone 0 w v g)
 
 -- numbers of nodes
 pub grows : {needs : Type 0} (b : Bounds) (asked more : ℕ) (w v : World) (a : Answer) → nat_lt b.numbers (w.made + asked) ≡ false → more ≤ asked → IsGrown more w v → IsCounted b (node_numbers asked) needs w (record { reply = Done a; world = v })

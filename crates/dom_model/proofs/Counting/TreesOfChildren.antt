@@ -1,16 +1,9 @@
 -- The trees of a node's children are apart, so the copies along a path and beside it take at most twice the nodes of its first node's tree.
-use Rattle.std.proofs.Common.{◌≡◌, ℕ, zero, suc, ◌+◌, ◌*◌, ◌<◌, ◌≤◌, List, [], ◌∷◌, take, drop, Option, Some, None, refl, arith, ⊎_elim}
-use Rattle.std.proofs.lemmas.Bool.{cases_lt, false≢true}
-use Rattle.dom_model.specs.PlainLists.Lists.{hits, or_else, past, up_to}
-use Rattle.dom_model.specs.Forests.Arena.{Entry, children_in}
-use Rattle.dom_model.specs.Forests.Forest.{Node, Forest, empty, node, occurs, size, tops, tree_at, entry_under, children_of}
-use Rattle.dom_model.specs.Worlds.World.{Content}
-use Rattle.dom_model.specs.Forests.Ways.{IsWay}
+use Rattle.std.proofs.Common.{◌≡◌, ℕ, zero, suc, ◌+◌, ◌*◌, ◌<◌, ◌≤◌, List, [], ◌∷◌, take, drop, Option, Some, None, refl, eq-eqb, arith, ⊎_elim}
+use Rattle.std.proofs.lemmas.{Bool.cases_lt, Bool.false≢true, Bool.ne_eqb, Bool.Decides.nat_tests}
+use Rattle.dom_model.specs.Definitions.{hits, or_else, past, up_to, Entry, children_in, Node, Forest, empty, node, occurs, size, tops, tree_at, entry_under, children_of, Content, IsWay}
 use Rattle.dom_model.proofs.PlainLists.Numbers.{same_or, same, apart}
-use Rattle.dom_model.proofs.Forests.Totals.{IsOnce, tree_at-absent, total-beside}
-use Rattle.dom_model.proofs.Forests.Tops.{hits-tops}
-use Rattle.dom_model.proofs.Forests.Entries.{entry_under-absent, entry_under-there}
-use Rattle.dom_model.proofs.Forests.Indices.{child-listed}
+use Rattle.dom_model.proofs.Forests.{Totals.IsOnce, Totals.tree_at-absent, Totals.total-beside, Tops.hits-tops, Entries.entry_under-absent, Entries.entry_under-there, Indices.child-listed}
 use Rattle.dom_model.proofs.RangesAndContents.PathsApart.{along}
 use Rattle.dom_model.proofs.Counting.CopiesCounted.{tree_sizes, tail_cost, head_cost}
 
@@ -19,7 +12,7 @@ use Rattle.dom_model.proofs.Counting.CopiesCounted.{tree_sizes, tail_cost, head_
 pub along-same : (v w : ℕ → ℕ) (ns : List ℕ) → ((n : ℕ) → 0 < hits n ns → v n ≡ w n) → along v ns ≡ along w ns
 along-same v w [] h = refl
 along-same v w (n ∷ ns) h =
-    let first : v n ≡ w n = h n (elim (same_or n n) [ same e t ↦ rw t (omega arith) | apart ne t ↦ absurd (ne refl) ]) in
+    let first : v n ≡ w n = h n (rw (eq-eqb n n refl) (omega arith)) in
     let later = along-same v w ns (λ m k. h m (omega arith)) in
     omega arith
 
@@ -35,42 +28,22 @@ along-take w (suc k) (n ∷ ns) = omega (arith, along-take w k ns)
 
 along-past : (w : ℕ → ℕ) (m : ℕ) (ns : List ℕ) → 0 < hits m ns → along w (past m ns) + w m ≤ along w ns
 along-past w m [] h = absurd (omega arith)
-along-past w m (n ∷ ns) h =
-    elim (same_or n m) [
-      | same e t ↦ rw t (rw (← e) (omega arith))
-      | apart ne t ↦ (let k = rw t at h in rw t (omega (arith, along-past w m ns (omega arith))))
-    ]
+along-past w m (n ∷ ns) h = grind (arith, nat_tests, along-past w m ns)
 
 along-up_to : (w : ℕ → ℕ) (m : ℕ) (ns : List ℕ) → 0 < hits m ns → along w (up_to m ns) + w m ≤ along w ns
 along-up_to w m [] h = absurd (omega arith)
-along-up_to w m (n ∷ ns) h =
-    elim (same_or n m) [
-      | same e t ↦ rw t (rw (← e) (omega arith))
-      | apart ne t ↦ (let k = rw t at h in rw t (omega (arith, along-up_to w m ns (omega arith))))
-    ]
+along-up_to w m (n ∷ ns) h = grind (arith, nat_tests, along-up_to w m ns)
 
 module _ {X : Type 0} where
   -- a number's tree, told by where it stands
   size-kids : (n : ℕ) (x : Node X) (kids rest : Forest X) → (x.number ≡ n → ⊥) → occurs n rest ≡ 0 → size (tree_at n (node x kids rest)) ≡ size (tree_at n kids)
-  size-kids n x kids rest far z =
-      elim (same_or x.number n) [
-        | same e t ↦ absurd (far e)
-        | apart ne t ↦ rw (t, tree_at-absent n rest z) (omega (arith, total-beside (λ _. 1) (tree_at n kids) empty))
-      ]
+  size-kids n x kids rest far z = rw (ne_eqb x.number n far, tree_at-absent n rest z) (omega (arith, total-beside (λ _. 1) (tree_at n kids) empty))
 
   size-rest : (n : ℕ) (x : Node X) (kids rest : Forest X) → (x.number ≡ n → ⊥) → occurs n kids ≡ 0 → size (tree_at n (node x kids rest)) ≡ size (tree_at n rest)
-  size-rest n x kids rest far z =
-      elim (same_or x.number n) [
-        | same e t ↦ absurd (far e)
-        | apart ne t ↦ rw (t, tree_at-absent n kids z) refl
-      ]
+  size-rest n x kids rest far z = rw (ne_eqb x.number n far, tree_at-absent n kids z) refl
 
   far-top : (n : ℕ) (x : Node X) (kids rest : Forest X) → IsOnce (node x kids rest) → 0 < occurs n kids + occurs n rest → x.number ≡ n → ⊥
-  far-top n x kids rest o h e =
-      elim (same_or x.number n) [
-        | same d t ↦ (let i = o n in let j = rw t at i in omega arith)
-        | apart ne t ↦ ne e
-      ]
+  far-top n x kids rest o h e = let i = o n in let j = rw (eq-eqb x.number n e) at i in omega arith
 
   -- the tops' trees are the whole
   tops-sizes : (f : Forest X) → IsOnce f → along (λ n. size (tree_at n f)) (tops f) ≡ size f
@@ -82,15 +55,11 @@ module _ {X : Type 0} where
       let far = far-top n x kids rest o (omega arith) in
       let z : occurs n kids ≡ 0 = omega arith in
       size-rest n x kids rest far z) in
-      elim (same_or x.number x.number) [
-        | same e t ↦
-            let i = o x.number in
-            let j = rw t at i in
-            let z : occurs x.number rest ≡ 0 = omega arith in
-            let top : size (tree_at x.number (node x kids rest)) ≡ 1 + size kids = rw (t, tree_at-absent x.number rest z) (omega arith) in
-            omega arith
-        | apart ne t ↦ absurd (ne refl)
-      ]
+      let own = eq-eqb x.number x.number refl in
+      let i = rw own at (o x.number) in
+      let z : occurs x.number rest ≡ 0 = omega arith in
+      let top : size (tree_at x.number (node x kids rest)) ≡ 1 + size kids = rw (own, tree_at-absent x.number rest z) (omega arith) in
+      omega arith
 
   -- a child stands in the forest
   child-within : (q : Option ℕ) (n c : ℕ) (f : Forest X) → hits c (children_in (entry_under q n f)) ≤ occurs c f

@@ -1,10 +1,6 @@
 -- A change of the nodes of one number beside cuts, and changes of data that come to nothing.
 use Rattle.std.proofs.Common.{◌≡◌, ℕ, ◌≤◌, ◌==◌, nat_lt, Bool, true, false, if◌then◌else◌, List, Option, Some, None, refl, ap, sym, ◌∙◌}
-use Rattle.dom_model.specs.Forests.Arena.{Entry}
-use Rattle.dom_model.specs.Forests.Forest.{Node, Forest, empty, node, occurs, beside, tree_at, without, placed_root, cut, with_node, entry_in}
-use Rattle.dom_model.specs.Worlds.World.{Content}
-use Rattle.dom_model.specs.DataAndCopies.Data.{content_in, with_data}
-use Rattle.dom_model.specs.Forests.Lies.{Lies}
+use Rattle.dom_model.specs.Definitions.{Entry, Node, Forest, empty, node, occurs, beside, tree_at, without, placed_root, cut, with_node, entry_in, Content, content_in, with_data, Lies}
 use Rattle.dom_model.proofs.PlainLists.Numbers.{same_or, same, apart}
 use Rattle.dom_model.proofs.Forests.Entries.{Lies-entry_in}
 

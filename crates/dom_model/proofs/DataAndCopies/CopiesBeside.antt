@@ -1,16 +1,7 @@
 -- Steps on younger trees leave the older ones: a forest as it was, with the younger trees after it.
 use Rattle.std.proofs.Common.{◌≡◌, ℕ, ◌+◌, ◌≤◌, Bool, true, false, if◌then◌else◌, List, [], ◌∷◌, Option, Some, None, ap, sym, ◌∙◌, subst, arith}
-use Rattle.dom_model.specs.Forests.Arena.{children_in}
-use Rattle.dom_model.specs.Forests.Kinds.{Label}
-use Rattle.dom_model.specs.Forests.Forest.{Forest, empty, node, size, beside, entry_in, parent_of, children_of, cut, put, adopted, in_document}
-use Rattle.dom_model.specs.Forests.EachNode.{EachNode}
-use Rattle.dom_model.specs.Worlds.World.{Content, World}
-use Rattle.dom_model.specs.Worlds.Making.{made_node}
-use Rattle.dom_model.specs.MutationAlgorithms.Editing.{tree_record_unless, emptied_fragment, taken_out, transients_made, removed_from, remove, remove_all, is_fragment, nodes_of, freed, node_document, put_in, put_all, insert_all, insert_nodes, append}
-use Rattle.dom_model.specs.DataAndCopies.Clones.{renumbered, with_copies}
-use Rattle.dom_model.proofs.Forests.EachNode.{EachNode-beside, EachNode-cut, EachNode-put, EachNode-with_tree}
-use Rattle.dom_model.proofs.Forests.Undone.{beside-assoc}
-use Rattle.dom_model.proofs.Forests.ForestsBeside.{AreFrom, IsFrom, IsBelow, children-each, entry-younger, cut-younger, put-younger, adopted-younger}
+use Rattle.dom_model.specs.Definitions.{children_in, Label, Forest, empty, node, size, beside, entry_in, parent_of, children_of, cut, put, adopted, in_document, EachNode, Content, World, made_node, tree_record_unless, emptied_fragment, taken_out, transients_made, removed_from, remove, remove_all, is_fragment, nodes_of, freed, node_document, put_in, put_all, insert_all, insert_nodes, append, renumbered, with_copies}
+use Rattle.dom_model.proofs.Forests.{EachNode.EachNode-beside, EachNode.EachNode-cut, EachNode.EachNode-put, EachNode.EachNode-with_tree, Undone.beside-assoc, ForestsBeside.AreFrom, ForestsBeside.IsFrom, ForestsBeside.IsBelow, ForestsBeside.children-each, ForestsBeside.entry-younger, ForestsBeside.cut-younger, ForestsBeside.put-younger, ForestsBeside.adopted-younger}
 
 -- v has the trees of f as they are, and after them others, whose numbers are at least `low`
 pub record StandsBeside (f : Forest Content) (low : ℕ) (v : World) : Type 0 where

@@ -1,17 +1,10 @@
 -- Where copies stand: each under a copy with a smaller number; the first has the kind of what it is a copy of.
-use Rattle.std.proofs.Common.{◌≡◌, ℕ, ◌+◌, ◌<◌, ◌≤◌, Bool, true, false, Option, Some, None, refl, ap, sym, ◌∙◌, arith, ◌⊎◌, inl, inr, ⊎_elim}
-use Rattle.std.proofs.lemmas.Bool.{cases_lt}
+use Rattle.std.proofs.Common.{◌≡◌, ℕ, ◌+◌, ◌<◌, ◌≤◌, Bool, true, false, Option, Some, None, refl, ap, ◌∙◌, arith, ◌⊎◌, inl, ⊎_elim}
+use Rattle.std.proofs.lemmas.Bool.{cases_lt, eq-eqb}
+use Rattle.dom_model.specs.Definitions.{or_else, Entry, parent_in, Node, Forest, empty, node, occurs, size, beside, tree_at, map_nodes, entry_under, parent_of, Content, entry_has, kind_passes, renumbered, alone_of, original}
 use Rattle.dom_model.specs.declared.Kind.{Kind}
-use Rattle.dom_model.specs.PlainLists.Lists.{or_else}
-use Rattle.dom_model.specs.Forests.Arena.{Entry, parent_in}
-use Rattle.dom_model.specs.Forests.Forest.{Node, Forest, empty, node, occurs, size, beside, tree_at, map_nodes, entry_under, parent_of}
-use Rattle.dom_model.specs.Worlds.World.{Content}
-use Rattle.dom_model.specs.Forests.Nodes.{entry_has, kind_passes}
-use Rattle.dom_model.specs.DataAndCopies.Clones.{renumbered, alone_of, original}
 use Rattle.dom_model.proofs.PlainLists.Numbers.{same_or, same, apart}
-use Rattle.dom_model.proofs.Forests.Totals.{tree_at-absent, beside-empty}
-use Rattle.dom_model.proofs.Forests.Entries.{entry_under-absent}
-use Rattle.dom_model.proofs.Forests.ForestsBeside.{entry-younger}
+use Rattle.dom_model.proofs.Forests.{Totals.tree_at-absent, Totals.beside-empty, Entries.entry_under-absent, ForestsBeside.entry-younger, Changes.seen, Changes.nothing, Changes.just}
 use Rattle.dom_model.proofs.Worlds.Measured.{parent-beside}
 
 -- A number with a parent among copies from a number on: the parent is the one that all stand under, or a copy with a smaller number.
@@ -24,41 +17,23 @@ parent-renumbered d p n q next (node x kids rest) h =
     elim (same_or next n) [
       | same e t ↦ (omega arith, inl (rw t at h))
       | apart ne t ↦
-          split (rw t at h) (parent-renumbered d (Some next) n q (next + 1) kids) (parent-renumbered d p n q (next + 1 + size kids) rest) (entry_under (Some next) n (renumbered d (next + 1) kids)) refl
+          let k = rw t at h in
+          elim (seen (entry_under (Some next) n (renumbered d (next + 1) kids))) [
+            | nothing e ↦ from_rest (parent-renumbered d p n q (next + 1 + size kids) rest (rw e at k))
+            | just a e ↦ (let j = rw e at k in from_kids (parent-renumbered d (Some next) n q (next + 1) kids (ap parent_in e ∙ j)))
+          ]
     ]
   where
-    others : Forest Content
-    others = renumbered d (next + 1 + size kids) rest
-
     from_kids : IsUnder (Some next) (next + 1) n q → IsUnder p next n q
-    from_kids (l, inl e) = (let k : next ≡ q = cc e in (omega arith, inr (omega arith, omega arith)))
-    from_kids (l, inr i) = (omega arith, inr (let a = i.0 in omega arith, i.1))
+    from_kids i = grind arith
 
     from_rest : IsUnder p (next + 1 + size kids) n q → IsUnder p next n q
-    from_rest (l, inl e) = (omega arith, inl e)
-    from_rest (l, inr i) = (omega arith, inr (let a = i.0 in omega arith, i.1))
-
-    split : parent_in (or_else (entry_under (Some next) n (renumbered d (next + 1) kids)) (entry_under p n others)) ≡ Some q
-        → (parent_in (entry_under (Some next) n (renumbered d (next + 1) kids)) ≡ Some q → IsUnder (Some next) (next + 1) n q)
-        → (parent_in (entry_under p n others) ≡ Some q → IsUnder p (next + 1 + size kids) n q)
-        → (o : Option (Entry (Node Content))) → entry_under (Some next) n (renumbered d (next + 1) kids) ≡ o → IsUnder p next n q
-    split k in_kids in_rest None e = from_rest (in_rest (rw e at k))
-    split k in_kids in_rest (Some a) e = let j = rw e at k in from_kids (in_kids (ap parent_in e ∙ j))
+    from_rest i = grind arith
 
 -- so it is in the whole forest
 pub parent-copies : (d made : ℕ) (f g : Forest Content) (n q : ℕ) → parent_of (beside f (renumbered d made g)) n ≡ Some q → (parent_of f n ≡ Some q) ⊎ ((made ≤ q) × (q < n))
 parent-copies d made f g n q h =
-    ⊎_elim
-    (λ (lt : 0 < occurs n f). inl (sym (parent-beside f (renumbered d made g) n lt) ∙ h))
-    (λ (le : occurs n f ≤ 0).
-    let z : occurs n f ≡ 0 = omega arith in
-    let k : parent_in (entry_under None n (renumbered d made g)) ≡ Some q = sym (ap parent_in (entry-younger n f (renumbered d made g) z)) ∙ h in
-    inr (below (parent-renumbered d None n q made g k)))
-    (cases_lt 0 (occurs n f))
-  where
-    below : IsUnder None made n q → (made ≤ q) × (q < n)
-    below (l, inl e) = absurd (cc e)
-    below (l, inr i) = i
+    grind (arith, parent-beside f (renumbered d made g) n, entry-younger n f (renumbered d made g), parent-renumbered d None n q made g)
 
 -- The kind of the first of some trees.
 
@@ -103,7 +78,7 @@ top-map test h keeps (node x kids rest) = ap (λ l. test l.kind) (keeps x)
 
 top-renumbered : (test : Kind → Bool) (d made : ℕ) (g : Forest Content) → kind_passes test (renumbered d made g) made ≡ top_passes test g
 top-renumbered test d made empty = refl
-top-renumbered test d made (node x kids rest) = elim (same_or made made) [ same e t ↦ rw t refl | apart ne t ↦ absurd (ne refl) ]
+top-renumbered test d made (node x kids rest) = rw (eq-eqb made made refl) refl
 
 -- the first copy has the kind of the node that is copied
 pub kind-clone : (test : Kind → Bool) (d made : ℕ) (deep : Bool) (n : ℕ) (f : Forest Content) → ((m : ℕ) → occurs m f ≤ 1) → occurs made f ≡ 0 → 0 < occurs n f → kind_passes test (beside f (renumbered d made (original deep n f))) made ≡ kind_passes test f n

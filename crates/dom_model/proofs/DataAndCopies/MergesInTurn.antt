@@ -1,16 +1,8 @@
 -- Texts that are joined to a Text before them: the ends may all move first, or each Text may leave before the ends in the next one move.
 -- DOM Standard, "Interface Node": normalize.
-use Rattle.std.proofs.Common.{◌≡◌, ℕ, ◌+◌, ◌-◌, ◌<◌, ◌≤◌, ◌==◌, nat_lt, Bool, true, false, ◌&&◌, if◌then◌else◌, List, [], ◌∷◌, length, Option, Some, None, IfSome, option_map, refl, ap, sym, ◌∙◌, arith, ⊎_elim}
-use Rattle.std.proofs.lemmas.Bool.{cases_lt, false≢true, lt-ltb, le-ltb}
-use Rattle.std.proofs.lemmas.List.Elements.{All-head, All-tail}
-use Rattle.dom_model.specs.PlainLists.Lists.{hits, among}
-use Rattle.dom_model.specs.Forests.Forest.{parent_of, index_of, inclusive_descendants}
-use Rattle.dom_model.specs.Worlds.World.{Point, Range, World}
-use Rattle.dom_model.specs.BoundaryPoints.Points.{after_merge, after_removal, moved_range, map_ranges}
-use Rattle.dom_model.specs.MutationAlgorithms.Editing.{removed_from, remove}
-use Rattle.dom_model.specs.DataAndCopies.Data.{data_of, merged_ends, merge_ends}
-use Rattle.dom_model.specs.DataAndCopies.Joinable.{Lives}
-use Rattle.dom_model.proofs.PlainLists.Numbers.{same_or, same, apart}
+use Rattle.std.proofs.Common.{◌≡◌, ℕ, ◌+◌, ◌<◌, ◌≤◌, ◌==◌, false, List, [], ◌∷◌, length, Option, Some, None, IfSome, option_map, refl, ap, sym, ◌∙◌, arith}
+use Rattle.std.proofs.lemmas.{List.Elements.All-head, List.Elements.All-tail, Bool.Decides.nat_tests}
+use Rattle.dom_model.specs.Definitions.{hits, among, parent_of, index_of, inclusive_descendants, Point, Range, World, after_merge, after_removal, moved_range, map_ranges, removed_from, remove, data_of, merged_ends, merge_ends, Lives}
 use Rattle.dom_model.proofs.Forests.Climbing.{hits-first}
 use Rattle.dom_model.proofs.BoundaryPoints.PointOrder.{map_ranges-twice}
 use Rattle.dom_model.proofs.RangesAndContents.RangesMerged.{IsPast}
@@ -54,90 +46,15 @@ module _ (inside : List ℕ) (first p into t base i j k : ℕ) (outside : (m : �
   abbrev joins : ℕ → Point → Point
   joins index q = after_merge t into base p index q
 
-  leaves-elsewhere : (q : Point) → (q.node ≡ first → ⊥) → (q.node == p) ≡ false → leaves q ≡ q
-  leaves-elsewhere q ne v = rw (outside q.node ne, v) refl
-
-  leaves-later : (q : Point) → (q.node ≡ first → ⊥) → (q.node == p) ≡ true → nat_lt k q.offset ≡ true → leaves q ≡ record q { offset = q.offset - 1 }
-  leaves-later q ne v w = rw (outside q.node ne, v, w) refl
-
-  leaves-ahead : (q : Point) → (q.node ≡ first → ⊥) → (q.node == p) ≡ true → nat_lt k q.offset ≡ false → leaves q ≡ q
-  leaves-ahead q ne v w = rw (outside q.node ne, v, w) refl
-
-  leaves-into : (a : ℕ) → leaves (record { node = into; offset = a }) ≡ record { node = into; offset = a }
-  leaves-into a = leaves-elsewhere (record { node = into; offset = a }) into_first into_parent
-
-  joins-text : (index : ℕ) (q : Point) → (q.node == t) ≡ true → joins index q ≡ record { node = into; offset = base + q.offset }
-  joins-text index q u = rw u refl
-
-  joins-place : (index : ℕ) (q : Point) → (q.node == t) ≡ false → (q.node == p) ≡ true → (q.offset == index) ≡ true → joins index q ≡ record { node = into; offset = base }
-  joins-place index q u v x = rw (u, v, x) refl
-
-  joins-elsewhere : (index : ℕ) (q : Point) → (q.node == t) ≡ false → (q.node == p) ≡ false → joins index q ≡ q
-  joins-elsewhere index q u v = rw (u, v) refl
-
-  joins-other : (index : ℕ) (q : Point) → (q.node == t) ≡ false → (q.node == p) ≡ true → (q.offset == index) ≡ false → joins index q ≡ q
-  joins-other index q u v x = rw (u, v, x) refl
-
-  same_number : (x y : ℕ) → x ≡ y → (x == y) ≡ true
-  same_number x y e = elim (same_or x y) [ same _ u ↦ u | apart ne u ↦ absurd (ne e) ]
-
-  other_number : (x y : ℕ) → (x ≡ y → ⊥) → (x == y) ≡ false
-  other_number x y ne = elim (same_or x y) [ same e u ↦ absurd (ne e) | apart _ u ↦ u ]
-
-  in_text : (q : Point) → q.node ≡ t → (q.node == t) ≡ true → leaves (joins i q) ≡ joins j (leaves q)
-  in_text q e u =
-      let v : (q.node == p) ≡ false = ap (λ m. m == p) e ∙ t_parent in
-      let a = leaves-elsewhere q (λ d. t_first (sym e ∙ d)) v in
-      ap leaves (joins-text i q u) ∙ leaves-into (base + q.offset) ∙ sym (ap (joins j) a ∙ joins-text j q u)
-
-  at_place : (q : Point) → (q.node ≡ first → ⊥) → (q.node == t) ≡ false → (q.node == p) ≡ true → q.offset ≡ i → leaves (joins i q) ≡ joins j (leaves q)
-  at_place q ne u v d =
-      let a = leaves-later q ne v (lt-ltb k q.offset (omega arith)) in
-      let r : Point = record q { offset = q.offset - 1 } in
-      ap leaves (joins-place i q u v (same_number q.offset i d)) ∙ leaves-into base
-      ∙ sym (ap (joins j) a ∙ joins-place j r u v (same_number (q.offset - 1) j (omega arith)))
-
-  at_other_place : (q : Point) → (q.node ≡ first → ⊥) → (q.node == t) ≡ false → (q.node == p) ≡ true → (q.offset ≡ i → ⊥) → (q.offset ≡ k → ⊥) → leaves (joins i q) ≡ joins j (leaves q)
-  at_other_place q ne u v far nk =
-      ap leaves (joins-other i q u v (other_number q.offset i far))
-      ∙ ⊎_elim
-      (λ (lt : k < q.offset).
-      let r : Point = record q { offset = q.offset - 1 } in
-      let a = leaves-later q ne v (lt-ltb k q.offset lt) in
-      a ∙ sym (ap (joins j) a ∙ joins-other j r u v (other_number (q.offset - 1) j (λ d. far (omega arith)))))
-      (λ (le : q.offset ≤ k).
-      let a = leaves-ahead q ne v (le-ltb k q.offset le) in
-      a ∙ sym (ap (joins j) a ∙ joins-other j q u v (other_number q.offset j (λ d. nk (omega arith)))))
-      (cases_lt k q.offset)
-
-  elsewhere : (q : Point) → (q.node ≡ first → ⊥) → (q.node == t) ≡ false → (q.node == p) ≡ false → leaves (joins i q) ≡ joins j (leaves q)
-  elsewhere q ne u v =
-      let a = leaves-elsewhere q ne v in
-      ap leaves (joins-elsewhere i q u v) ∙ a ∙ sym (ap (joins j) a ∙ joins-elsewhere j q u v)
-
   in_turn : (q : Point) → IsPast first p k q → leaves (joins i q) ≡ joins j (leaves q)
   in_turn q past =
-      elim (same_or q.node t) [
-        | same e u ↦ in_text q e u
-        | apart ne u ↦
-            elim (same_or q.node p) [
-              | same e v ↦
-                  elim (same_or q.offset i) [
-                    | same d x ↦ at_place q past.other_node u v d
-                    | apart nd x ↦ at_other_place q past.other_node u v nd (past.other_place e)
-                  ]
-              | apart np v ↦ elsewhere q past.other_node u v
-            ]
-      ]
+      let a = outside q.node past.other_node in
+      let b = outside into into_first in
+      rw a (grind (arith, nat_tests, past.other_place))
 
   -- a point that is past the first Text stays so
   past-joined : (q : Point) → IsPast first p k q → IsPast first p k (joins i q)
-  past-joined q past = go (q.node == t) ((q.node == p) && (q.offset == i))
-    where
-      go : (u v : Bool) → IsPast first p k (if u then record { node = into; offset = base + q.offset } else (if v then record { node = into; offset = base } else q))
-      go true v = record { other_node = into_first; other_place = λ d. absurd (false≢true (sym into_parent ∙ same_number into p d)) }
-      go false true = record { other_node = into_first; other_place = λ d. absurd (false≢true (sym into_parent ∙ same_number into p d)) }
-      go false false = past
+  past-joined q past = record { other_node = grind (arith, nat_tests, past.other_node); other_place = grind (arith, nat_tests, past.other_place) }
 
 -- Whole lists.
 

@@ -1,12 +1,7 @@
 -- What is erased may be what refuses a discard, so the laws of erasing leave `discard` out: a registration, and a range. Ours.
-use Rattle.std.specs.Prelude.{◌≡◌, refl, codes, ◌==◌, List, [], ◌∷◌, Some, true}
+use Rattle.std.proofs.Common.{◌≡◌, refl, codes, ◌==◌, List, [], ◌∷◌, Some, true}
+use Rattle.dom_model.specs.Definitions.{first_world, Command, CreateElement, CreateObserver, Observe, CreateRange, SetStart, Discard, no_options, Nothing, Number, Done, Own, Bounds, replies_to, without_observers, replies_without_observers, without_watchers, replies_without_watchers}
 use Rattle.dom_model.specs.declared.OwnError.TheVariants.{InUse}
-use Rattle.dom_model.specs.Worlds.World.{first_world}
-use Rattle.dom_model.specs.Commands.Command.{Command, CreateElement, CreateObserver, Observe, CreateRange, SetStart, Discard}
-use Rattle.dom_model.specs.MutationObservers.GivenOptions.{no_options}
-use Rattle.dom_model.specs.Commands.Reply.{Nothing, Number, Done, Own}
-use Rattle.dom_model.specs.Commands.Guards.{Bounds}
-use Rattle.dom_model.specs.Erasure.Erasing.{replies_to, without_observers, replies_without_observers, without_watchers, replies_without_watchers}
 
 abbrev bounds : Bounds
 bounds = record { numbers = 4294967295; line = 1048576 }

@@ -1,20 +1,8 @@
 -- Worlds without some observers: the steps on the contents of live ranges keep the two so.
-use Rattle.std.proofs.Common.{ℕ, ◌-◌, Bool, true, false, ◌||◌, List, [], ◌∷◌, length, take, drop, Option, Some, None}
+use Rattle.std.proofs.Common.{ℕ, ◌-◌, Bool, true, false, List, [], ◌∷◌, Option, Some, None}
+use Rattle.dom_model.specs.Definitions.{children_of, Range, World, no_content, past, up_to, append, node_document, named, is_collapsed, range_at, with_range, for_range, is_in_one_data, cut_from, cut_up_to, deleted_between, deleted, delete_contents, new_fragment, clone_with, cut_if, units_into, child_into, children_into, copy_into, tail_into, head_into, parts_into, contents_drawn, extracted, extract, clone_contents}
 use Rattle.dom_model.specs.declared.Kind.TheVariants.{DocumentFragment}
-use Rattle.dom_model.specs.Forests.Kinds.{is_character_data}
-use Rattle.dom_model.specs.Forests.Forest.{children_of, map_nodes}
-use Rattle.dom_model.specs.Forests.Texts.{substring}
-use Rattle.dom_model.specs.Worlds.World.{Range, World, no_content}
-use Rattle.dom_model.specs.PlainLists.Lists.{past, up_to}
-use Rattle.dom_model.specs.Forests.Nodes.{kind_passes}
-use Rattle.dom_model.specs.MutationAlgorithms.Editing.{append, node_document}
-use Rattle.dom_model.specs.Worlds.Making.{named}
-use Rattle.dom_model.specs.RangesAndContents.Ranges.{is_collapsed, collapsed_at, range_at, with_range}
-use Rattle.dom_model.specs.DataAndCopies.Data.{data_of, with_data}
-use Rattle.dom_model.specs.DataAndCopies.Clones.{original}
-use Rattle.dom_model.specs.RangesAndContents.Contents.{for_range, is_in_one_data, cut_from, cut_up_to, contained_tops, new_place, deleted_between, deleted, delete_contents, new_fragment, clone_with, cut_if, units_into, child_into, children_into, copy_into, tail_into, head_into, path_below, common_of, contained_children, parts_into, contents_drawn, extracted, extract, clone_contents}
-use Rattle.dom_model.proofs.Erasure.ErasedWorlds.{left_world, Without, without, Keeps, choice-left, append-left}
-use Rattle.dom_model.proofs.Erasure.ErasedData.{replace_data-left, made_node-left, remove_each-left, with_copies-left, clone_node-left}
+use Rattle.dom_model.proofs.Erasure.{ErasedWorlds.left_world, ErasedWorlds.Without, ErasedWorlds.without, ErasedWorlds.Keeps, ErasedWorlds.choice-left, ErasedWorlds.append-left, ErasedData.replace_data-left, ErasedData.made_node-left, ErasedData.remove_each-left, ErasedData.with_copies-left, ErasedData.clone_node-left}
 
 module _ (erased : ℕ → Bool) where
   pub with_range-left : (r : ℕ) (range : Range) → Keeps erased true (with_range r range)
@@ -28,28 +16,16 @@ module _ (erased : ℕ → Bool) where
   -- Delete contents.
 
   cut_from-left : (n offset : ℕ) → Keeps erased true (cut_from n offset)
-  cut_from-left n offset x _ (without o v h) =
-      choice-left erased true (kind_passes is_character_data x.forest n)
-      (replace_data-left erased true n offset (length (data_of x n) - offset) [] x _ (without o v h))
-      (without o v h)
+  cut_from-left n offset x _ (without o v h) = search (choice-left, replace_data-left, without)
 
   cut_up_to-left : (n offset : ℕ) → Keeps erased true (cut_up_to n offset)
-  cut_up_to-left n offset x _ (without o v h) =
-      choice-left erased true (kind_passes is_character_data x.forest n) (replace_data-left erased true n 0 offset [] x _ (without o v h)) (without o v h)
+  cut_up_to-left n offset x _ (without o v h) = search (choice-left, replace_data-left, without)
 
   deleted_between-left : (r : ℕ) (range : Range) → Keeps erased true (deleted_between r range)
-  deleted_between-left r range x _ (without o v h) =
-      with_range-left r (collapsed_at (new_place x.forest range)) _ _
-      (cut_up_to-left range.end.node range.end.offset _ _
-      (remove_each-left erased true (contained_tops x range) _ _
-      (cut_from-left range.start.node range.start.offset x _ (without o v h))))
+  deleted_between-left r range x _ (without o v h) = search (with_range-left, cut_up_to-left, remove_each-left, cut_from-left, without)
 
   deleted-left : (r : ℕ) (range : Range) → Keeps erased true (deleted r range)
-  deleted-left r range x _ (without o v h) =
-      choice-left erased true (is_collapsed range) (without o v h)
-      (choice-left erased true (is_in_one_data x range)
-      (replace_data-left erased true range.start.node range.start.offset (range.end.offset - range.start.offset) [] x _ (without o v h))
-      (deleted_between-left r range x _ (without o v h)))
+  deleted-left r range x _ (without o v h) = search (choice-left, replace_data-left, deleted_between-left, without)
 
   pub delete_contents-left : (r : ℕ) → Keeps erased true (delete_contents r)
   delete_contents-left r x _ (without o v h) = for_range-left (range_at x r) (deleted r) (deleted-left r) x _ (without o v h)
@@ -60,17 +36,14 @@ module _ (erased : ℕ → Bool) where
   new_fragment-left document = made_node-left erased true document (named DocumentFragment []) no_content
 
   clone_with-left : (units : List ℕ) (n : ℕ) → Keeps erased true (clone_with units n)
-  clone_with-left units n x _ (without o v h) =
-      with_copies-left erased true (node_document x n) (map_nodes (with_data units) (original false n x.forest)) x _ (without o v h)
+  clone_with-left units n x _ (without o v h) = search (with_copies-left, without)
 
   cut_if-left : (moves : Bool) (n offset count : ℕ) → Keeps erased true (cut_if moves n offset count)
   cut_if-left false n offset count x y h = h
   cut_if-left true n offset count x y h = replace_data-left erased true n offset count [] x y h
 
   units_into-left : (moves : Bool) (into n offset count : ℕ) → Keeps erased true (units_into moves into n offset count)
-  units_into-left moves into n offset count x _ (without o v h) =
-      cut_if-left moves n offset count _ _
-      (append-left erased true x.made into _ _ (clone_with-left (substring offset count (data_of x n)) n x _ (without o v h)))
+  units_into-left moves into n offset count x _ (without o v h) = search (cut_if-left, append-left, clone_with-left, without)
 
   child_into-left : (moves : Bool) (into n : ℕ) → Keeps erased true (child_into moves into n)
   child_into-left true into n x y h = append-left erased true n into x y h
@@ -82,8 +55,7 @@ module _ (erased : ℕ → Bool) where
 
   -- a further fragment is filled, and goes into the copy
   held-left : (document copy : ℕ) (fill : ℕ → World → World) → ((inner : ℕ) → Keeps erased true (fill inner)) → Keeps erased true (λ w. append w.made copy (fill w.made (new_fragment document w)))
-  held-left document copy fill k x _ (without o v h) =
-      append-left erased true x.made copy _ _ (k x.made _ _ (new_fragment-left document x _ (without o v h)))
+  held-left document copy fill k x _ (without o v h) = search (append-left, new_fragment-left, without)
 
   copy_into-left : (into n : ℕ) (fill : ℕ → World → World) → ((inner : ℕ) → Keeps erased true (fill inner)) → Keeps erased true (copy_into into n fill)
   copy_into-left into n fill k x _ (without o v h) =
@@ -92,11 +64,7 @@ module _ (erased : ℕ → Bool) where
 
   tail_into-left : (moves : Bool) (into offset : ℕ) (path : List ℕ) → Keeps erased true (tail_into moves into offset path)
   tail_into-left moves into offset [] x y h = h
-  tail_into-left moves into offset (n ∷ []) x _ (without o v h) =
-      choice-left erased true (kind_passes is_character_data x.forest n)
-      (units_into-left moves into n offset (length (data_of x n) - offset) x _ (without o v h))
-      (copy_into-left into n (λ inner v. children_into moves inner (drop offset (children_of x.forest n)) v)
-      (λ inner. children_into-left moves inner (drop offset (children_of x.forest n))) x _ (without o v h))
+  tail_into-left moves into offset (n ∷ []) x _ (without o v h) = search (choice-left, units_into-left, copy_into-left, children_into-left, without)
   tail_into-left moves into offset (n ∷ m ∷ path) x _ (without o v h) =
       copy_into-left into n (λ inner v. children_into moves inner (past m (children_of x.forest n)) (tail_into moves inner offset (m ∷ path) v))
       (λ inner v u k. children_into-left moves inner (past m (children_of x.forest n)) _ _ (tail_into-left moves inner offset (m ∷ path) v u k))
@@ -104,21 +72,14 @@ module _ (erased : ℕ → Bool) where
 
   head_into-left : (moves : Bool) (into offset : ℕ) (path : List ℕ) → Keeps erased true (head_into moves into offset path)
   head_into-left moves into offset [] x y h = h
-  head_into-left moves into offset (n ∷ []) x _ (without o v h) =
-      choice-left erased true (kind_passes is_character_data x.forest n)
-      (units_into-left moves into n 0 offset x _ (without o v h))
-      (copy_into-left into n (λ inner v. children_into moves inner (take offset (children_of x.forest n)) v)
-      (λ inner. children_into-left moves inner (take offset (children_of x.forest n))) x _ (without o v h))
+  head_into-left moves into offset (n ∷ []) x _ (without o v h) = search (choice-left, units_into-left, copy_into-left, children_into-left, without)
   head_into-left moves into offset (n ∷ m ∷ path) x _ (without o v h) =
       copy_into-left into n (λ inner v. head_into moves inner offset (m ∷ path) (children_into moves inner (up_to m (children_of x.forest n)) v))
       (λ inner v u k. head_into-left moves inner offset (m ∷ path) _ _ (children_into-left moves inner (up_to m (children_of x.forest n)) v u k))
       x _ (without o v h)
 
   parts_into-left : (moves : Bool) (into : ℕ) (r : Range) → Keeps erased true (parts_into moves into r)
-  parts_into-left moves into r x _ (without o v h) =
-      head_into-left moves into r.end.offset (path_below x.forest (common_of x r) r.end.node) _ _
-      (children_into-left moves into (contained_children x r) _ _
-      (tail_into-left moves into r.start.offset (path_below x.forest (common_of x r) r.start.node) x _ (without o v h)))
+  parts_into-left moves into r x _ (without o v h) = search (head_into-left, children_into-left, tail_into-left, without)
 
   contents_drawn-left : (moves : Bool) (r : Range) → Keeps erased true (contents_drawn moves r)
   contents_drawn-left moves r x _ (without o v h) =
@@ -131,10 +92,7 @@ module _ (erased : ℕ → Bool) where
       made = new_fragment-left (node_document x r.start.node) x _ (without o v h)
 
   extracted-left : (r : ℕ) (range : Range) → Keeps erased true (extracted r range)
-  extracted-left r range x _ (without o v h) =
-      choice-left erased true (is_collapsed range || is_in_one_data x range)
-      (contents_drawn-left true range x _ (without o v h))
-      (with_range-left r (collapsed_at (new_place x.forest range)) _ _ (contents_drawn-left true range x _ (without o v h)))
+  extracted-left r range x _ (without o v h) = search (choice-left, contents_drawn-left, with_range-left, without)
 
   pub extract-left : (r : ℕ) → Keeps erased true (extract r)
   extract-left r x _ (without o v h) = for_range-left (range_at x r) (extracted r) (extracted-left r) x _ (without o v h)

@@ -1,19 +1,7 @@
 -- Worlds without some observers: character data, Text, attributes, new nodes and copies keep the two so.
-use Rattle.std.proofs.Common.{ℕ, ◌+◌, ◌==◌, Bool, true, false, List, [], ◌∷◌, length, Option, Some, None}
-use Rattle.dom_model.specs.declared.Kind.{Kind}
-use Rattle.dom_model.specs.declared.Kind.TheVariants.{Element, Text, ProcessingInstruction, Comment, Document, DocumentType, DocumentFragment}
-use Rattle.dom_model.specs.declared.RecordType.TheVariants.{Attributes, CharacterData}
-use Rattle.dom_model.specs.Forests.Kinds.{Label}
-use Rattle.dom_model.specs.Forests.Arena.{Entry}
-use Rattle.dom_model.specs.Forests.Forest.{Node, Forest, entry_in, parent_of, next_of, index_of, with_node}
-use Rattle.dom_model.specs.Forests.Attributes.{attribute_value, with_attribute, without_attribute}
-use Rattle.dom_model.specs.Worlds.World.{Content}
-use Rattle.dom_model.specs.BoundaryPoints.Points.{map_ranges, after_splice, after_split, after_merge}
-use Rattle.dom_model.specs.Forests.Texts.{spliced}
-use Rattle.dom_model.specs.MutationAlgorithms.Editing.{node_document}
-use Rattle.dom_model.specs.Worlds.Making.{made_node, named, with_text}
-use Rattle.dom_model.specs.DataAndCopies.Data.{data_of, with_data, attributes_of, with_attributes, cut_count, data_record, replace_units, replace_data, set_data, tail_of, split_off, split, following_texts, joined_data, merged_ends, merge_ends, remove_each, join_following, normalize_text, is_descendant, text_descendants, normalize_each, normalize, by_kind, string_replace_all, set_text_content_by, set_text_content, attribute_record, set_attribute, has_attribute, remove_attribute_if, remove_attribute, is_toggled_on, toggled, toggle_attribute}
-use Rattle.dom_model.specs.DataAndCopies.Clones.{original, with_copies, document_of_clone, clone_node, import_node}
+use Rattle.std.proofs.Common.{ℕ, ◌+◌, Bool, true, false, List, [], ◌∷◌, length, Option, Some, None}
+use Rattle.dom_model.specs.Definitions.{Label, Entry, Node, Forest, entry_in, parent_of, next_of, index_of, with_node, attribute_value, with_attribute, without_attribute, Content, map_ranges, after_splice, after_split, after_merge, spliced, made_node, data_of, with_data, attributes_of, with_attributes, data_record, replace_units, replace_data, set_data, split_off, split, joined_data, merged_ends, merge_ends, remove_each, join_following, normalize_text, is_descendant, text_descendants, normalize_each, normalize, by_kind, string_replace_all, set_text_content_by, set_text_content, attribute_record, set_attribute, has_attribute, remove_attribute_if, remove_attribute, toggled, toggle_attribute, original, with_copies, document_of_clone, clone_node, import_node}
+use Rattle.dom_model.specs.declared.{Kind.Kind, Kind.TheVariants.Element, Kind.TheVariants.Document, Kind.TheVariants.DocumentType, Kind.TheVariants.DocumentFragment, RecordType.TheVariants.Attributes, RecordType.TheVariants.CharacterData}
 use Rattle.dom_model.proofs.Erasure.ErasedWorlds.{without, Keeps, moved_ranges-left, with_forest-left, choice-left, queued-left, remove-left, insert-left, replace_all-left}
 
 module _ (erased : ℕ → Bool) (watched : Bool) where
@@ -39,8 +27,7 @@ module _ (erased : ℕ → Bool) (watched : Bool) where
       (moved_ranges-left erased watched (after_splice n offset count (length added)) x _ (without o v h))
 
   pub replace_data-left : (n offset count : ℕ) (added : List ℕ) → Keeps erased watched (replace_data n offset count added)
-  replace_data-left n offset count added x _ (without o v h) =
-      replace_units-left n offset (cut_count (length (data_of x n)) offset count) added _ _ (data_record-left n x _ (without o v h))
+  replace_data-left n offset count added x _ (without o v h) = search (replace_units-left, data_record-left, without)
 
   pub set_data-left : (n : ℕ) (text : List ℕ) → Keeps erased watched (set_data n text)
   set_data-left n text x _ (without o v h) = replace_data-left n 0 (length (data_of x n)) text x _ (without o v h)
@@ -60,10 +47,7 @@ module _ (erased : ℕ → Bool) (watched : Bool) where
       split_ends-left n offset new parent _ _ (insert-left erased watched false new parent (next_of x.forest n) x _ (without o v h))
 
   pub split-left : (n offset : ℕ) → Keeps erased watched (split n offset)
-  split-left n offset x _ (without o v h) =
-      replace_data-left n offset (length (tail_of x n offset)) [] _ _
-      (split_off-left n offset x.made (parent_of x.forest n) _ _
-      (made_node-left (node_document x n) (named Text []) (with_text (tail_of x n offset)) x _ (without o v h)))
+  split-left n offset x _ (without o v h) = search (replace_data-left, split_off-left, made_node-left, without)
 
   -- Normalize.
 
@@ -87,10 +71,7 @@ module _ (erased : ℕ → Bool) (watched : Bool) where
       remove_each-left ts _ _ (merge_ends-left t base ts _ _ (replace_data-left t base 0 (joined_data x ts) x _ (without o v h)))
 
   normalize_text-left : (t : ℕ) → Keeps erased watched (normalize_text t)
-  normalize_text-left t x _ (without o v h) =
-      choice-left erased watched (length (data_of x t) == 0)
-      (remove-left erased watched false t x _ (without o v h))
-      (join_following-left t (following_texts x t) x _ (without o v h))
+  normalize_text-left t x _ (without o v h) = search (choice-left, remove-left, join_following-left, without)
 
   normalize_each-left : (n : ℕ) (ts : List ℕ) → Keeps erased watched (normalize_each n ts)
   normalize_each-left n [] x y h = h
@@ -104,17 +85,14 @@ module _ (erased : ℕ → Bool) (watched : Bool) where
 
   string_replace_all-left : (text : List ℕ) (n : ℕ) → Keeps erased watched (string_replace_all text n)
   string_replace_all-left [] n x y h = replace_all-left erased watched None n x y h
-  string_replace_all-left (u ∷ us) n x _ (without o v h) =
-      replace_all-left erased watched (Some x.made) n _ _ (made_node-left (node_document x n) (named Text []) (with_text (u ∷ us)) x _ (without o v h))
+  string_replace_all-left (u ∷ us) n x _ (without o v h) = search (replace_all-left, made_node-left, without)
 
   set_text_content_by-left : (k : Kind) (n : ℕ) (text : List ℕ) → Keeps erased watched (set_text_content_by k n text)
   set_text_content_by-left Element n text x y h = string_replace_all-left text n x y h
-  set_text_content_by-left Text n text x y h = set_data-left n text x y h
-  set_text_content_by-left ProcessingInstruction n text x y h = set_data-left n text x y h
-  set_text_content_by-left Comment n text x y h = set_data-left n text x y h
+  set_text_content_by-left DocumentFragment n text x y h = string_replace_all-left text n x y h
   set_text_content_by-left Document n text x y h = h
   set_text_content_by-left DocumentType n text x y h = h
-  set_text_content_by-left DocumentFragment n text x y h = string_replace_all-left text n x y h
+  set_text_content_by-left k n text x y h = set_data-left n text x y h
 
   content_by-left : (n : ℕ) (text : List ℕ) (e : Option (Entry (Node Content))) → Keeps erased watched (λ w. by_kind w (λ k. set_text_content_by k n text w) e)
   content_by-left n text None x y h = h
@@ -160,8 +138,7 @@ module _ (erased : ℕ → Bool) (watched : Bool) where
   toggled-left true false n name x y h = remove_attribute-left n name x y h
 
   pub toggle_attribute-left : (n : ℕ) (name : List ℕ) (force : Option Bool) → Keeps erased watched (toggle_attribute n name force)
-  toggle_attribute-left n name force x _ (without o v h) =
-      toggled-left (has_attribute x n name) (is_toggled_on force (has_attribute x n name)) n name x _ (without o v h)
+  toggle_attribute-left n name force x _ (without o v h) = search (toggled-left, without)
 
   -- Copies.
 

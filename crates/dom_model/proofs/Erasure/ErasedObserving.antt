@@ -1,20 +1,10 @@
 -- Worlds without some observers: the commands of the other observers, and what is left of the answers to notify and pending.
 -- DOM Standard, "Interface MutationObserver".
 use Rattle.std.proofs.Common.{◌≡◌, ℕ, ◌<◌, Bool, true, false, not, if◌then◌else◌, [], ◌∷◌, length, refl, ap, sym, subst}
+use Rattle.dom_model.specs.Definitions.{World, Command, CreateObserver, Observe, Disconnect, TakeRecords, Notify, Pending, ReleaseObserver, TakePending, TellObserver, Discard, GivenOptions, Number, Numbers, Notified, Done, Own, options_refusal, options_of, observed, has_observer, with_observer, after_notify, pending_taken, Bounds, Step, refused, guarded, no_node, no_room, answers, answer, is_by_observer, left_by_observers, discards}
 use Rattle.dom_model.specs.declared.OwnError.TheVariants.{NoSuchObject}
-use Rattle.dom_model.specs.Worlds.World.{World}
-use Rattle.dom_model.specs.Commands.Command.{Command, CreateObserver, Observe, Disconnect, TakeRecords, Notify, Pending, ReleaseObserver, TakePending, TellObserver, Discard}
-use Rattle.dom_model.specs.MutationObservers.GivenOptions.{GivenOptions}
-use Rattle.dom_model.specs.Commands.Reply.{Number, Numbers, Records, Notified, Done, Own}
-use Rattle.dom_model.specs.MutationObservers.Records.{options_refusal, options_of, observed, has_observer, with_observer, records_taken, disconnected, released_observer, after_notify, pending_taken, observer_told}
-use Rattle.dom_model.specs.Commands.Guards.{Bounds, Step, refused, guarded, no_node, no_room, answers}
-use Rattle.dom_model.specs.Commands.Answer.{answer}
-use Rattle.dom_model.specs.Erasure.Erasing.{is_by_observer, left_by_observers, discards}
-use Rattle.dom_model.proofs.MutationObservers.Apart.{queue-left, pending-left, told-left, notified-left, pending_taken-left, taken-left, observer_told-left, disconnected-left, released-left, observed-left, made-left, there-left}
-use Rattle.dom_model.proofs.MutationObservers.Queues.{observer-made}
-use Rattle.dom_model.proofs.Erasure.ErasedWorlds.{left_world, Without, without}
-use Rattle.dom_model.proofs.Erasure.ErasedSteps.{Alike, guarded-left, checked-left}
-use Rattle.dom_model.proofs.Erasure.ErasedTreeAnswers.{concerns_watchers, tree_answer-left}
+use Rattle.dom_model.proofs.MutationObservers.{Apart.queue-left, Apart.pending-left, Apart.told-left, Apart.notified-left, Apart.pending_taken-left, Apart.taken-left, Apart.observer_told-left, Apart.disconnected-left, Apart.released-left, Apart.observed-left, Apart.made-left, Apart.there-left, Queues.observer-made}
+use Rattle.dom_model.proofs.Erasure.{ErasedWorlds.left_world, ErasedWorlds.Without, ErasedWorlds.without, ErasedSteps.Alike, ErasedSteps.guarded-left, ErasedSteps.checked-left, ErasedTreeAnswers.concerns_watchers, ErasedTreeAnswers.tree_answer-left}
 
 module _ (erased : ℕ → Bool) (watched : Bool) where
   create_observer-left : (b : Bounds) (x y : World) → Without erased watched x y → Alike erased watched (answer b x CreateObserver) (answer b y CreateObserver)
@@ -44,29 +34,21 @@ module _ (erased : ℕ → Bool) (watched : Bool) where
 
   disconnect-left : (b : Bounds) (p : ℕ) → erased p ≡ false → (x y : World) → Without erased watched x y → Alike erased watched (answer b x (Disconnect p)) (answer b y (Disconnect p))
   disconnect-left b p e x _ (without o v h) =
-      named-left p e x _ (without o v h) _ _ λ below.
-      record { reply = refl; world = without (disconnected p o) v (disconnected-left erased x.observing o h p below) }
+      named-left p e x _ (without o v h) _ _ λ below. search (disconnected-left, without)
 
   release-left : (b : Bounds) (p : ℕ) → erased p ≡ false → (x y : World) → Without erased watched x y → Alike erased watched (answer b x (ReleaseObserver p)) (answer b y (ReleaseObserver p))
   release-left b p e x _ (without o v h) =
-      named-left p e x _ (without o v h) _ _ λ _.
-      record { reply = refl; world = without (released_observer p o) v (released-left erased x.observing o h p) }
+      named-left p e x _ (without o v h) _ _ λ below. search (released-left, without)
 
   take_records-left : (b : Bounds) (p : ℕ) → erased p ≡ false → (x y : World) → Without erased watched x y → Alike erased watched (answer b x (TakeRecords p)) (answer b y (TakeRecords p))
   take_records-left b p e x _ (without o v h) =
-      named-left p e x _ (without o v h) _ _ λ below.
-      record {
-        reply = ap (λ rs. Done (Records rs)) (queue-left erased x.observing o h p e);
-        world = without (records_taken p o) v (taken-left erased x.observing o h p below);
-      }
+      let queue = queue-left erased x.observing o h p e in
+      named-left p e x _ (without o v h) _ _ λ below. search (queue, taken-left, without)
 
   tell_observer-left : (b : Bounds) (p : ℕ) → erased p ≡ false → (x y : World) → Without erased watched x y → Alike erased watched (answer b x (TellObserver p)) (answer b y (TellObserver p))
   tell_observer-left b p e x _ (without o v h) =
-      named-left p e x _ (without o v h) _ _ λ below.
-      record {
-        reply = ap (λ rs. Done (Records rs)) (queue-left erased x.observing o h p e);
-        world = without (observer_told p o) v (observer_told-left erased x.observing o h p below);
-      }
+      let queue = queue-left erased x.observing o h p e in
+      named-left p e x _ (without o v h) _ _ λ below. search (queue, observer_told-left, without)
 
   -- the reply is what is left of the first, and the second world is the first one without the erased observers
   pub record Follows (c : Command) (s t : Step) : Type 0 where

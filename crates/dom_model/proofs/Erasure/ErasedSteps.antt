@@ -1,20 +1,8 @@
 -- Worlds without some observers: steps that answer alike, and the forms that commands share.
 use Rattle.std.proofs.Common.{◌≡◌, ℕ, Bool, true, false, List, [], ◌∷◌, Option, Some, None, refl}
+use Rattle.dom_model.specs.Definitions.{Entry, Node, Content, Point, Range, World, Reply, Step, guarded, checked, described, on_range, at_point, at_ends, done_or_refused, with_object, static_told, Outcome}
 use Rattle.dom_model.specs.declared.DomError.{DomError}
-use Rattle.dom_model.specs.Forests.Arena.{Entry}
-use Rattle.dom_model.specs.Forests.Forest.{Node}
-use Rattle.dom_model.specs.Worlds.World.{Content, Point, Range, Iterator, Walker, World}
-use Rattle.dom_model.specs.Commands.Reply.{Reply}
-use Rattle.dom_model.specs.RangesAndContents.StaticRanges.{made_static, released_static}
-use Rattle.dom_model.specs.RangesAndContents.Ranges.{made_range, released}
-use Rattle.dom_model.specs.Commands.Guards.{Step, guarded, checked}
-use Rattle.dom_model.specs.Commands.AnswerTree.{described}
-use Rattle.dom_model.specs.Commands.AnswerRanges.{on_range, at_point, at_ends, done_or_refused}
-use Rattle.dom_model.specs.Commands.AnswerTraversal.{with_object, with_iterator, with_walker, released_iterator, released_walker}
-use Rattle.dom_model.specs.Commands.AnswerStatic.{static_told}
-use Rattle.dom_model.specs.RangesAndContents.Wrapping.{Outcome}
-use Rattle.dom_model.proofs.Erasure.ErasedWorlds.{Without, without, Keeps}
-use Rattle.dom_model.proofs.Erasure.ErasedWrapping.{AlikeOutcome, both_done, both_refused}
+use Rattle.dom_model.proofs.Erasure.{ErasedWorlds.Without, ErasedWorlds.without, ErasedWrapping.AlikeOutcome, ErasedWrapping.both_done, ErasedWrapping.both_refused}
 
 module _ (erased : ℕ → Bool) (watched : Bool) where
   -- one reply, and the second world is the first one without the erased observers
@@ -62,33 +50,18 @@ module _ (erased : ℕ → Bool) (watched : Bool) where
   static_told-left None h = record { reply = refl; world = h }
   static_told-left (Some range) (without o v h) = record { reply = refl; world = without o v h }
 
+  -- A step in the first world alone, which the second does not meet.
+
+  pub guarded-alone : (cs : List (Bool × Reply)) (x y : World) (s : Step) → Without erased watched x y → Without erased watched s.world y → Without erased watched (guarded cs x s).world y
+  guarded-alone [] x y s h k = k
+  guarded-alone ((true, r) ∷ cs) x y s h k = h
+  guarded-alone ((false, r) ∷ cs) x y s h k = guarded-alone cs x y s h k
+
+  pub checked-alone : (e : Option DomError) (x y : World) (s : Step) → Without erased watched x y → Without erased watched s.world y → Without erased watched (checked e x s).world y
+  checked-alone None x y s h k = k
+  checked-alone (Some e) x y s h k = h
+
 module _ (erased : ℕ → Bool) where
   pub done_or_refused-left : (s t : Outcome) → AlikeOutcome erased s t → {x y : World} → Without erased true x y → Alike erased true (done_or_refused s x) (done_or_refused t y)
   done_or_refused-left _ _ (both_done k) h = record { reply = refl; world = k }
   done_or_refused-left _ _ (both_refused e) h = record { reply = refl; world = h }
-
-  -- Live and static ranges, iterators and walkers.
-
-  pub made_range-left : (range : Range) → Keeps erased true (made_range range)
-  made_range-left range x _ (without o v h) = without o v h
-
-  pub released-left : (r : ℕ) → Keeps erased true (released r)
-  released-left r x _ (without o v h) = without o v h
-
-  pub made_static-left : (range : Range) → Keeps erased true (made_static range)
-  made_static-left range x _ (without o v h) = without o v h
-
-  pub with_iterator-left : (i : ℕ) (it : Iterator) → Keeps erased true (with_iterator i it)
-  with_iterator-left i it x _ (without o v h) = without o v h
-
-  pub with_walker-left : (k : ℕ) (walker : Walker) → Keeps erased true (with_walker k walker)
-  with_walker-left k walker x _ (without o v h) = without o v h
-
-  pub released_iterator-left : (i : ℕ) → Keeps erased true (released_iterator i)
-  released_iterator-left i x _ (without o v h) = without o v h
-
-  pub released_walker-left : (k : ℕ) → Keeps erased true (released_walker k)
-  released_walker-left k x _ (without o v h) = without o v h
-
-  pub released_static-left : (u : ℕ) → Keeps erased true (released_static u)
-  released_static-left u x _ (without o v h) = without o v h

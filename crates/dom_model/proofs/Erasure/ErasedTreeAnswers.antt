@@ -1,19 +1,8 @@
 -- Worlds without some observers: each command of nodes, trees, data and attributes is answered alike, whatever the watchers are.
 use Rattle.std.proofs.Common.{◌≡◌, ℕ, Bool, true, false, ◌||◌, [], ◌∷◌, Option, Some, None, refl, ap}
-use Rattle.dom_model.specs.declared.Kind.{Kind}
-use Rattle.dom_model.specs.declared.Kind.TheVariants.{Element, Text, ProcessingInstruction, Comment, Document, DocumentType, DocumentFragment}
-use Rattle.dom_model.specs.Forests.Arena.{Entry}
-use Rattle.dom_model.specs.Forests.Forest.{Node, entry_in}
-use Rattle.dom_model.specs.Worlds.World.{Content, Observing, World}
-use Rattle.dom_model.specs.Commands.Command.{Command, InsertBefore, ReplaceChildren, IsContaining, IsEqual, TextContent, CreateObserver, Observe, Disconnect, TakeRecords, Notify, Pending, ReleaseObserver, TakePending, TellObserver, Discard}
-use Rattle.dom_model.specs.Commands.Reply.{MaybeUnits, Done}
-use Rattle.dom_model.specs.DataAndCopies.Data.{text_content, text_content_by, by_kind}
-use Rattle.dom_model.specs.Commands.Guards.{Bounds, Step, no_node, answers}
-use Rattle.dom_model.specs.Commands.Answer.{answer}
-use Rattle.dom_model.specs.Erasure.Erasing.{only_watches, edits_by_range}
-use Rattle.dom_model.proofs.Erasure.ErasedWorlds.{Watchers, left_world, Without, without, remove-left, pre_insert-left, append-left, replace-left, replace_all-left, adopt-left}
-use Rattle.dom_model.proofs.Erasure.ErasedData.{replace_data-left, set_data-left, made_node-left, split-left, normalize-left, set_text_content-left, set_attribute-left, remove_attribute-left, toggle_attribute-left, clone_node-left, import_node-left}
-use Rattle.dom_model.proofs.Erasure.ErasedSteps.{Alike, replies-left, guarded-left, checked-left, described-left}
+use Rattle.dom_model.specs.Definitions.{Entry, Node, entry_in, Content, Observing, World, Command, InsertBefore, ReplaceChildren, IsContaining, IsEqual, TextContent, CreateObserver, Observe, Disconnect, TakeRecords, Notify, Pending, ReleaseObserver, TakePending, TellObserver, Discard, MaybeUnits, Done, text_content, text_content_by, by_kind, Bounds, Step, no_node, answers, answer, only_watches, edits_by_range}
+use Rattle.dom_model.specs.declared.{Kind.Kind, Kind.TheVariants.Element}
+use Rattle.dom_model.proofs.Erasure.{ErasedWorlds.Watchers, ErasedWorlds.left_world, ErasedWorlds.Without, ErasedWorlds.without, ErasedWorlds.remove-left, ErasedWorlds.pre_insert-left, ErasedWorlds.append-left, ErasedWorlds.replace-left, ErasedWorlds.replace_all-left, ErasedWorlds.adopt-left, ErasedData.replace_data-left, ErasedData.set_data-left, ErasedData.made_node-left, ErasedData.split-left, ErasedData.normalize-left, ErasedData.set_text_content-left, ErasedData.set_attribute-left, ErasedData.remove_attribute-left, ErasedData.toggle_attribute-left, ErasedData.clone_node-left, ErasedData.import_node-left, ErasedSteps.Alike, ErasedSteps.replies-left, ErasedSteps.guarded-left, ErasedSteps.checked-left, ErasedSteps.described-left}
 
 ruleset steps = (
   without,
@@ -67,12 +56,7 @@ module _ (erased : ℕ → Bool) (watched : Bool) where
 
   text_by-left : (k : Kind) (n : ℕ) (x : World) (o : Observing) (v : Watchers) → text_content_by k (left_world watched o v x) n ≡ text_content_by k x n
   text_by-left Element n x o v = refl
-  text_by-left Text n x o v = refl
-  text_by-left ProcessingInstruction n x o v = refl
-  text_by-left Comment n x o v = refl
-  text_by-left Document n x o v = refl
-  text_by-left DocumentType n x o v = refl
-  text_by-left DocumentFragment n x o v = refl
+  text_by-left k n x o v = refl
 
   text-left : (e : Option (Entry (Node Content))) (n : ℕ) (x : World) (o : Observing) (v : Watchers) → by_kind None (λ k. text_content_by k (left_world watched o v x) n) e ≡ by_kind None (λ k. text_content_by k x n) e
   text-left None n x o v = refl

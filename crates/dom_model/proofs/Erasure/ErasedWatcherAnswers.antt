@@ -1,14 +1,7 @@
 -- Worlds without some observers: each command of ranges, iterators and walkers is answered alike.
 use Rattle.std.proofs.Common.{◌≡◌, ℕ, Bool, true, false, [], ◌∷◌, length, refl}
-use Rattle.dom_model.specs.Worlds.World.{World}
-use Rattle.dom_model.specs.Commands.Command.{Command, CreateIterator, CreateWalker}
-use Rattle.dom_model.specs.Commands.Guards.{Bounds, Step, no_node, no_room}
-use Rattle.dom_model.specs.Commands.Answer.{answer}
-use Rattle.dom_model.proofs.Erasure.ErasedWorlds.{Without, without}
-use Rattle.dom_model.proofs.Erasure.ErasedContents.{with_range-left, delete_contents-left, extract-left, clone_contents-left}
-use Rattle.dom_model.proofs.Erasure.ErasedWrapping.{insert_node-left, surround-left}
-use Rattle.dom_model.proofs.Erasure.ErasedSteps.{Alike, replies-left, guarded-left, checked-left, on_range-left, at_point-left, at_ends-left, with_object-left, static_told-left, done_or_refused-left, made_range-left, released-left, made_static-left, with_iterator-left, with_walker-left, released_iterator-left, released_walker-left, released_static-left}
-use Rattle.dom_model.proofs.Erasure.ErasedTreeAnswers.{concerns_watchers}
+use Rattle.dom_model.specs.Definitions.{World, Command, CreateIterator, CreateWalker, Bounds, Step, no_node, no_room, answer}
+use Rattle.dom_model.proofs.Erasure.{ErasedWorlds.Without, ErasedWorlds.without, ErasedContents.with_range-left, ErasedContents.delete_contents-left, ErasedContents.extract-left, ErasedContents.clone_contents-left, ErasedWrapping.insert_node-left, ErasedWrapping.surround-left, ErasedSteps.Alike, ErasedSteps.replies-left, ErasedSteps.guarded-left, ErasedSteps.checked-left, ErasedSteps.on_range-left, ErasedSteps.at_point-left, ErasedSteps.at_ends-left, ErasedSteps.with_object-left, ErasedSteps.static_told-left, ErasedSteps.done_or_refused-left, ErasedTreeAnswers.concerns_watchers}
 
 ruleset steps = (
   without,
@@ -27,14 +20,6 @@ ruleset steps = (
   clone_contents-left,
   insert_node-left,
   surround-left,
-  made_range-left,
-  released-left,
-  made_static-left,
-  with_iterator-left,
-  with_walker-left,
-  released_iterator-left,
-  released_walker-left,
-  released_static-left,
 )
 
 module _ (erased : ℕ → Bool) where

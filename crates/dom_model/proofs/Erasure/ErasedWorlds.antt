@@ -1,14 +1,9 @@
 -- Worlds without some observers: the second world is the first one, with an observing part that tells the other observers the same.
 -- Where watchers are erased too, its ranges, iterators and walkers may be any. Removals, insertions and replacements keep the two so.
 -- DOM Standard, "Mutation observers", "Mutation algorithms".
-use Rattle.std.proofs.Common.{ℕ, Bool, true, false, if◌then◌else◌, List, [], ◌∷◌, length, Option, Some, None, ap, sym, ◌∙◌, subst, refl}
+use Rattle.std.proofs.Common.{ℕ, Bool, true, false, if◌then◌else◌, List, [], ◌∷◌, Option, Some, None, ap, sym, ◌∙◌, subst, refl}
+use Rattle.dom_model.specs.Definitions.{Content, Point, Range, Iterator, Walker, Registration, Mutation, Observing, World, first_world, map_ranges, after_gap, after_removal, pre_removed_all, Forest, parent_of, next_of, previous_of, index_of, ancestors, inclusive_descendants, cut, adopted, standing_on, noted, queued, tree_record, tree_record_unless, taken_out, transients_made, removed_from, remove, remove_all, nodes_of, freed, put_in, put_all, gap_before, insert_all, insert_nodes, insert, reference_child, pre_insert, append, replace, insert_if_any, replaced_record, replace_all, adopt}
 use Rattle.dom_model.specs.declared.RecordType.TheVariants.{ChildList}
-use Rattle.dom_model.specs.Worlds.World.{Content, Point, Range, Iterator, Walker, Registration, Mutation, Observing, World, first_world}
-use Rattle.dom_model.specs.BoundaryPoints.Points.{map_ranges, after_gap, after_removal}
-use Rattle.dom_model.specs.MutationAlgorithms.PreRemoval.{pre_removed_all}
-use Rattle.dom_model.specs.Forests.Forest.{Forest, parent_of, children_of, next_of, previous_of, index_of, ancestors, inclusive_descendants, cut, adopted}
-use Rattle.dom_model.specs.MutationObservers.Observing.{standing_on, noted, with_transients}
-use Rattle.dom_model.specs.MutationAlgorithms.Editing.{queued, tree_record, tree_record_unless, taken_out, transients_made, removed_from, remove, remove_all, is_fragment, nodes_of, freed, put_in, put_all, gap_before, previous_to, insert_all, insert_nodes, insert, reference_child, pre_insert, append, replace, added_by, insert_if_any, replaced_record, replace_all, adopt}
 use Rattle.dom_model.proofs.MutationObservers.Apart.{IsWithout, left_of, standing-left, noted-left, transients-left}
 
 -- what watches the tree beside observers
@@ -96,8 +91,7 @@ module _ (erased : ℕ → Bool) (watched : Bool) where
   tree_record_unless-left false target added removed previous next x y h = tree_record-left target added removed previous next x y h
 
   transients_made-left : (n parent : ℕ) → Keeps erased watched (transients_made n parent)
-  transients_made-left n parent x _ (without o v h) =
-      without (with_transients n (ancestors parent x.forest) o) v (transients-left erased x.observing o h n (ancestors parent x.forest))
+  transients_made-left n parent x _ (without o v h) = search (transients-left, without)
 
   -- Remove.
 
@@ -112,9 +106,7 @@ module _ (erased : ℕ → Bool) (watched : Bool) where
 
   removed_from-left : (suppressed : Bool) (n : ℕ) (parent : Option ℕ) → Keeps erased watched (removed_from suppressed n parent)
   removed_from-left suppressed n None x y h = h
-  removed_from-left suppressed n (Some parent) x _ (without o v h) =
-      tree_record_unless-left suppressed parent [] (n ∷ []) (previous_of x.forest n) (next_of x.forest n) _ _
-      (transients_made-left n parent _ _ (taken_out-left n parent x _ (without o v h)))
+  removed_from-left suppressed n (Some parent) x _ (without o v h) = search (tree_record_unless-left, transients_made-left, taken_out-left, without)
 
   pub remove-left : (suppressed : Bool) (n : ℕ) → Keeps erased watched (remove suppressed n)
   remove-left suppressed n x _ (without o v h) = removed_from-left suppressed n (parent_of x.forest n) x _ (without o v h)
@@ -126,10 +118,7 @@ module _ (erased : ℕ → Bool) (watched : Bool) where
   -- Insert.
 
   freed-left : (n : ℕ) (nodes : List ℕ) → Keeps erased watched (freed n nodes)
-  freed-left n nodes x _ (without o v h) =
-      choice-left (is_fragment x n)
-      (tree_record-left n [] nodes None None _ _ (remove_all-left nodes x _ (without o v h)))
-      (remove-left false n x _ (without o v h))
+  freed-left n nodes x _ (without o v h) = search (choice-left, tree_record-left, remove_all-left, remove-left, without)
 
   put_in-left : (parent : ℕ) (child : Option ℕ) (n : ℕ) → Keeps erased watched (put_in parent child n)
   put_in-left parent child n x _ (without o v h) = without o v h
@@ -144,9 +133,7 @@ module _ (erased : ℕ → Bool) (watched : Bool) where
       moved_ranges-left erased watched (after_gap parent (index_of x.forest c) count) x _ (without o v h)
 
   insert_all-left : (suppressed : Bool) (parent : ℕ) (child : Option ℕ) (nodes : List ℕ) → Keeps erased watched (insert_all suppressed parent child nodes)
-  insert_all-left suppressed parent child nodes x _ (without o v h) =
-      tree_record_unless-left suppressed parent nodes [] (previous_to x.forest parent child) child _ _
-      (put_all-left parent child nodes _ _ (gap_before-left parent child (length nodes) x _ (without o v h)))
+  insert_all-left suppressed parent child nodes x _ (without o v h) = search (tree_record_unless-left, put_all-left, gap_before-left, without)
 
   insert_nodes-left : (suppressed : Bool) (n parent : ℕ) (child : Option ℕ) (nodes : List ℕ) → Keeps erased watched (insert_nodes suppressed n parent child nodes)
   insert_nodes-left suppressed n parent child [] x y h = h
@@ -179,9 +166,7 @@ module _ (erased : ℕ → Bool) (watched : Bool) where
   replaced_record-left parent (a ∷ others) removed x y h = tree_record-left parent (a ∷ others) removed None None x y h
 
   pub replace_all-left : (n : Option ℕ) (parent : ℕ) → Keeps erased watched (replace_all n parent)
-  replace_all-left n parent x _ (without o v h) =
-      replaced_record-left parent (added_by x n) (children_of x.forest parent) _ _
-      (insert_if_any-left n parent _ _ (remove_all-left (children_of x.forest parent) x _ (without o v h)))
+  replace_all-left n parent x _ (without o v h) = search (replaced_record-left, insert_if_any-left, remove_all-left, without)
 
   pub adopt-left : (n document : ℕ) → Keeps erased watched (adopt n document)
   adopt-left n document x y h = with_forest-left (adopted n document) _ _ (remove-left false n x y h)

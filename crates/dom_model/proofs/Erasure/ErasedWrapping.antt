@@ -1,17 +1,8 @@
 -- Worlds without some observers: insert node and surround contents refuse alike, and keep the two so.
-use Rattle.std.proofs.Common.{ℕ, Bool, true, false, if◌then◌else◌, Option, Some, None}
-use Rattle.std.specs.Prelude.{Ok, Err}
-use Rattle.dom_model.specs.declared.DomError.{DomError}
-use Rattle.dom_model.specs.declared.DomError.TheVariants.{InvalidNodeTypeError}
-use Rattle.dom_model.specs.Worlds.World.{Point, Range, World}
-use Rattle.dom_model.specs.MutationAlgorithms.Checks.{check_insert}
-use Rattle.dom_model.specs.MutationAlgorithms.Editing.{pre_insert, replace_all, reference_child}
-use Rattle.dom_model.specs.RangesAndContents.Ranges.{is_collapsed, around, range_at, with_range}
-use Rattle.dom_model.specs.RangesAndContents.Contents.{for_range, check_extract, extract}
-use Rattle.dom_model.specs.RangesAndContents.Wrapping.{Outcome, and_then, unless, try_pre_insert, is_text, reference_at, parent_at, check_start, split_at, reference_after, offset_past, end_if_collapsed, placed_at, inserted_at, insert_node, check_surround, try_extract, selected, try_select, surrounded, surround}
-use Rattle.dom_model.proofs.Erasure.ErasedWorlds.{Without, without, Keeps, choice-left, remove-left, pre_insert-left, replace_all-left}
-use Rattle.dom_model.proofs.Erasure.ErasedData.{split-left}
-use Rattle.dom_model.proofs.Erasure.ErasedContents.{with_range-left, for_range-left, extract-left}
+use Rattle.std.proofs.Common.{ℕ, Bool, true, false, if◌then◌else◌, Option, Some, None, Ok, Err}
+use Rattle.dom_model.specs.Definitions.{Point, Range, World, check_insert, replace_all, reference_child, is_collapsed, around, range_at, with_range, for_range, Outcome, and_then, unless, try_pre_insert, is_text, reference_at, parent_at, check_start, split_at, reference_after, offset_past, end_if_collapsed, placed_at, inserted_at, insert_node, try_extract, selected, try_select, surrounded, surround}
+use Rattle.dom_model.specs.declared.{DomError.DomError, DomError.TheVariants.InvalidNodeTypeError}
+use Rattle.dom_model.proofs.Erasure.{ErasedWorlds.Without, ErasedWorlds.without, ErasedWorlds.Keeps, ErasedWorlds.choice-left, ErasedWorlds.remove-left, ErasedWorlds.pre_insert-left, ErasedWorlds.replace_all-left, ErasedData.split-left, ErasedContents.with_range-left, ErasedContents.for_range-left, ErasedContents.extract-left}
 
 module _ (erased : ℕ → Bool) where
   -- one refusal, or worlds that are so
@@ -38,9 +29,7 @@ module _ (erased : ℕ → Bool) where
   -- Insert node.
 
   try_pre_insert-left : (n parent : ℕ) (child : Option ℕ) → MayKeep (try_pre_insert n parent child)
-  try_pre_insert-left n parent child x _ (without o v h) =
-      and_then-left (λ v. Ok (pre_insert n parent child v)) (λ v u k. both_done (pre_insert-left erased true n parent child v u k)) _ _
-      (unless-left (check_insert x.forest parent n child) x _ (without o v h))
+  try_pre_insert-left n parent child x _ (without o v h) = search (and_then-left, pre_insert-left, unless-left, without, both_done)
 
   split_at-left : (p : Point) → Keeps erased true (split_at p)
   split_at-left p x _ (without o v h) = choice-left erased true (is_text x p.node) (split-left erased true p.node p.offset x _ (without o v h)) (without o v h)
@@ -66,8 +55,7 @@ module _ (erased : ℕ → Bool) where
   placed_apart-left r n parent reference x _ (without o v h) = placed_at-left r n parent (reference_child x n reference) x _ (without o v h)
 
   split_and_placed-left : (r n : ℕ) (p : Point) → MayKeep (λ w. let apart = split_at p w in placed_at r n (parent_at w p) (reference_child apart n (reference_after w p)) apart)
-  split_and_placed-left r n p x _ (without o v h) =
-      placed_apart-left r n (parent_at x p) (reference_after x p) _ _ (split_at-left p x _ (without o v h))
+  split_and_placed-left r n p x _ (without o v h) = search (placed_apart-left, split_at-left, without)
 
   checked_and_placed-left : (r n : ℕ) (p : Point) → MayKeep (λ w. and_then (unless (check_insert w.forest (parent_at w p) n (reference_at w p)) w) (λ v. let apart = split_at p v in placed_at r n (parent_at v p) (reference_child apart n (reference_after v p)) apart))
   checked_and_placed-left r n p x _ (without o v h) =
@@ -88,9 +76,7 @@ module _ (erased : ℕ → Bool) where
   -- Surround contents.
 
   try_extract-left : (r : ℕ) → MayKeep (try_extract r)
-  try_extract-left r x _ (without o v h) =
-      and_then-left (λ v. Ok (extract r v)) (λ v u k. both_done (extract-left erased r v u k)) _ _
-      (unless-left (check_extract r x) x _ (without o v h))
+  try_extract-left r x _ (without o v h) = search (and_then-left, extract-left, unless-left, without, both_done)
 
   selected-left : (r : ℕ) (ends : Option Range) → MayKeep (selected r ends)
   selected-left r None x y h = both_refused InvalidNodeTypeError
@@ -101,19 +87,10 @@ module _ (erased : ℕ → Bool) where
 
   -- what follows the extraction
   wrapped-left : (r n fragment : ℕ) → MayKeep (λ v. and_then (insert_node r n (replace_all None n v)) (λ v. and_then (try_pre_insert fragment n None v) (λ v. try_select r n v)))
-  wrapped-left r n fragment x y h =
-      and_then-left (λ v. and_then (try_pre_insert fragment n None v) (λ v. try_select r n v))
-      (λ v u k. and_then-left (λ v. try_select r n v) (try_select-left r n) _ _ (try_pre_insert-left fragment n None v u k)) _ _
-      (insert_node-left r n _ _ (replace_all-left erased true None n x y h))
+  wrapped-left r n fragment x y h = search (and_then-left, try_select-left, try_pre_insert-left, insert_node-left, replace_all-left)
 
   surrounded-left : (r n : ℕ) (range : Range) → MayKeep (surrounded r n range)
-  surrounded-left r n range x _ (without o v h) =
-      and_then-left
-      (λ v. and_then (try_extract r v) (λ v. and_then (insert_node r n (replace_all None n v)) (λ v. and_then (try_pre_insert x.made n None v) (λ v. try_select r n v))))
-      (λ v u k. and_then-left
-      (λ v. and_then (insert_node r n (replace_all None n v)) (λ v. and_then (try_pre_insert x.made n None v) (λ v. try_select r n v)))
-      (wrapped-left r n x.made) _ _ (try_extract-left r v u k)) _ _
-      (unless-left (check_surround x range n) x _ (without o v h))
+  surrounded-left r n range x _ (without o v h) = search (and_then-left, wrapped-left, try_extract-left, unless-left, without)
 
   pub surround-left : (r n : ℕ) → MayKeep (surround r n)
   surround-left r n x _ (without o v h) = for_range-outcome (range_at x r) (surrounded r n) (surrounded-left r n) x _ (without o v h)

@@ -1,8 +1,7 @@
 -- A node and its parent: the parent is there, and its ancestors follow the node.
 use Rattle.std.proofs.Common.{◌≡◌, ℕ, ◌∷◌, Some}
-use Rattle.dom_model.specs.Forests.Forest.{Forest, Grove, HasNode, parent_of, ancestors, IsForest}
-use Rattle.dom_model.proofs.Forests.Entries.{occurs-HasNode, HasNode-occurs}
-use Rattle.dom_model.proofs.Forests.Paths.{parent-path}
+use Rattle.dom_model.specs.Definitions.{Forest, Grove, HasNode, parent_of, ancestors, IsForest}
+use Rattle.dom_model.proofs.Forests.{Entries.occurs-HasNode, Entries.HasNode-occurs, Paths.parent-path}
 
 -- a parent is there, and its ancestors follow
 pub record Above {X : Type 0} (f : Forest X) (n q : ℕ) : Type 0 where

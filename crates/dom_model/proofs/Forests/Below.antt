@@ -1,17 +1,11 @@
 -- A node below another: its tree in the other's, and its ancestors there.
-use Rattle.std.proofs.Common.{◌≡◌, ℕ, ◌+◌, ◌<◌, ◌≤◌, ◌==◌, true, false, List, [], ◌∷◌, ◌++◌, Some, refl, ap, sym, ◌∙◌, subst, arith, append_assoc, ⊎_elim}
-use Rattle.std.proofs.lemmas.Bool.{cases_lt}
-use Rattle.dom_model.specs.PlainLists.Lists.{hits, last_of}
-use Rattle.dom_model.specs.Forests.Forest.{Node, Forest, empty, node, occurs, size, one_at, tree_at, ancestors, root_of}
-use Rattle.dom_model.specs.Worlds.World.{Filter}
-use Rattle.dom_model.specs.Traversal.WalkSteps.{size_under}
+use Rattle.std.proofs.Common.{◌≡◌, ℕ, ◌+◌, ◌<◌, ◌≤◌, ◌==◌, true, false, List, [], ◌∷◌, ◌++◌, Some, refl, ap, sym, ◌∙◌, arith, append_assoc}
+use Rattle.std.proofs.lemmas.Bool.Decides.{nat_tests}
+use Rattle.dom_model.specs.Definitions.{hits, last_of, Node, Forest, empty, node, occurs, size, one_at, tree_at, ancestors, root_of, Filter, size_under}
 use Rattle.dom_model.proofs.PlainLists.Numbers.{same_or, same, apart}
-use Rattle.dom_model.proofs.Forests.Totals.{IsOnce, total-tree_at, total-beside, tree_at-absent, beside-empty}
-use Rattle.dom_model.proofs.Forests.Climbing.{hits-append, hits-first, hits-ancestors}
-use Rattle.dom_model.proofs.Traversal.IteratorsStay.{tree_at-inside}
+use Rattle.dom_model.proofs.Forests.{Totals.IsOnce, Totals.total-tree_at, Totals.total-beside, Totals.tree_at-absent, Totals.beside-empty, Climbing.hits-append, Climbing.hits-first, Climbing.hits-ancestors, Whereabouts.top, Whereabouts.inside, Whereabouts.beyond, Whereabouts.whereabouts, Standing.Tree, Standing.tree_of}
+use Rattle.dom_model.proofs.Traversal.{IteratorsStay.tree_at-inside, Shown.above, Shown.hits-above, Shown.ancestors-above}
 use Rattle.dom_model.proofs.BoundaryPoints.RootsKept.{last_of-behind}
-use Rattle.dom_model.proofs.Forests.Standing.{top, inside, beyond, whereabouts, Tree, tree_of}
-use Rattle.dom_model.proofs.Traversal.Shown.{above, hits-above, ancestors-above}
 
 pub at_itself : (n : ℕ) → (n == n) ≡ true
 at_itself n = elim (same_or n n) [ same e t ↦ t | apart ne t ↦ absurd (ne refl) ]
@@ -32,11 +26,7 @@ module _ {X : Type 0} where
     pub no_top : occurs c whole.kids ≡ 0
 
   pub is_apart_from : (c n : ℕ) (g : Forest X) → occurs c g ≡ 0 → 0 < occurs n g → (n == c) ≡ false
-  is_apart_from c n g z h =
-      elim (same_or n c) [
-        | same e t ↦ absurd (let k = subst (λ m. 0 < occurs m g) e h in omega arith)
-        | apart ne t ↦ t
-      ]
+  is_apart_from c n g z h = grind arith
 
   pub occurs-tree : (n c : ℕ) (f : Forest X) → occurs n (tree_at c f) ≤ occurs n f
   occurs-tree n c f = omega (arith, total-tree_at (one_at n) c f)
@@ -46,13 +36,7 @@ module _ {X : Type 0} where
 
   -- what has a number below it is there
   pub tree-there : (n c : ℕ) (f : Forest X) → 0 < occurs n (tree_at c f) → 0 < occurs c f
-  tree-there n c f h =
-      ⊎_elim
-      (λ (lt : 0 < occurs c f). lt)
-      (λ (le : occurs c f ≤ 0).
-      let z : occurs c f ≡ 0 = omega arith in
-      absurd (let k = rw (tree_at-absent c f z) at h in omega arith))
-      (cases_lt 0 (occurs c f))
+  tree-there n c f h = grind (arith, tree_at-absent c f)
 
   module _ (f : Forest X) (o : IsOnce f) (c : ℕ) (t : Tree f c) where
     pub kids_total : (n : ℕ) → occurs n (node t.top t.kids empty) ≤ 1
@@ -62,21 +46,11 @@ module _ {X : Type 0} where
     kids_once n = let i = kids_total n in omega arith
 
     pub no_top : occurs c t.kids ≡ 0
-    no_top =
-        elim (same_or t.top.number c) [
-          | same e v ↦ (let i = kids_total c in let j = rw v at i in omega arith)
-          | apart ne v ↦ absurd (ne t.is_top)
-        ]
+    no_top = grind (arith, kids_total c)
 
     -- the trees of the descendants are their trees in the whole
     pub tree-kids : (n : ℕ) → 0 < occurs n t.kids → tree_at n t.kids ≡ tree_at n f
-    tree-kids n h =
-        let i : 0 < occurs n (tree_at c f) = rw t.tree (omega arith) in
-        let j = rw t.tree at (tree_at-inside n c f o i) in
-        elim (same_or t.top.number n) [
-          | same e v ↦ absurd (let k = kids_total n in let k2 = rw v at k in omega arith)
-          | apart ne v ↦ (let w = rw (v, beside-empty (tree_at n t.kids)) at j in w)
-        ]
+    tree-kids n h = grind (arith, tree_at-inside n c f o, kids_total n, beside-empty (tree_at n t.kids))
 
   pub below : (f : Forest X) → IsOnce f → (c n : ℕ) → 0 < occurs n (tree_at c f) → (c ≡ n → ⊥) → Below f c n
   below f o c n h d =
@@ -114,42 +88,20 @@ module _ {X : Type 0} where
   -- the ancestors of n that are below c
   pub path_below : (f : Forest X) → IsOnce f → (c n : ℕ) → (b : Below f c n) → (m : ℕ) → 0 < occurs m b.whole.kids → hits m (ancestors n f) ≡ hits m (n ∷ above n b.whole.kids)
   path_below f o c n b m h =
-      hits-ancestors m n f o
-      ∙ ap (occurs n) (sym (tree-kids f o c b.whole m h))
-      ∙ sym (hits-ancestors m n b.whole.kids b.kids_once)
-      ∙ ap (hits m) (ancestors-above n b.whole.kids b.once)
+      grind (arith, hits-ancestors m n f o, tree-kids f o c b.whole m h, hits-ancestors m n b.whole.kids b.kids_once, ancestors-above n b.whole.kids b.once)
 
   -- all the ancestors in the tree of c
   pub path_in_tree : (f : Forest X) (c n : ℕ) → (b : Below f c n) → ancestors n (tree_at c f) ≡ n ∷ (above n b.whole.kids ++ c ∷ [])
-  path_in_tree f c n b =
-      rw b.whole.tree (elim (same_or b.whole.top.number n) [
-        | same e t ↦ absurd (b.apart (sym b.whole.is_top ∙ e))
-        | apart ne t ↦ rw (t, ancestors-above n b.whole.kids b.once, b.whole.is_top) refl
-      ])
+  path_in_tree f c n b = grind (arith, ancestors-above n b.whole.kids b.once)
 
   pub tree-beyond : (c : ℕ) (x : Node X) (kids rest : Forest X) → IsOnce (node x kids rest) → 0 < occurs c rest → tree_at c (node x kids rest) ≡ tree_at c rest
-  tree-beyond c x kids rest o h =
-      let i = o c in
-      elim (same_or x.number c) [
-        | same e t ↦ absurd (let j = rw t at i in omega arith)
-        | apart ne t ↦ (let z : occurs c kids ≡ 0 = omega arith in rw (t, tree_at-absent c kids z) refl)
-      ]
+  tree-beyond c x kids rest o h = grind (arith, tree_at-absent c kids)
 
   pub tree-top : (c : ℕ) (x : Node X) (kids rest : Forest X) → IsOnce (node x kids rest) → x.number ≡ c → tree_at c (node x kids rest) ≡ node x kids empty
-  tree-top c x kids rest o e =
-      let i = o c in
-      elim (same_or x.number c) [
-        | same d t ↦ (let j = rw t at i in let z : occurs c rest ≡ 0 = omega arith in rw (t, tree_at-absent c rest z) refl)
-        | apart ne t ↦ absurd (ne e)
-      ]
+  tree-top c x kids rest o e = grind (arith, tree_at-absent c rest)
 
   pub tree-inside : (c : ℕ) (x : Node X) (kids rest : Forest X) → IsOnce (node x kids rest) → 0 < occurs c kids → tree_at c (node x kids rest) ≡ tree_at c kids
-  tree-inside c x kids rest o h =
-      let i = o c in
-      elim (same_or x.number c) [
-        | same e t ↦ absurd (let j = rw t at i in omega arith)
-        | apart ne t ↦ (let z : occurs c rest ≡ 0 = omega arith in rw (t, tree_at-absent c rest z, beside-empty (tree_at c kids)) refl)
-      ]
+  tree-inside c x kids rest o h = grind (arith, tree_at-absent c rest, beside-empty (tree_at c kids))
 
   abbrev IsThrough : ℕ → ℕ → Forest X → Forest X → Type 0
   IsThrough n c g under = (ms : List ℕ) × (above n g ≡ above n under ++ c ∷ ms)
@@ -188,41 +140,23 @@ module _ {X : Type 0} where
       ]
 
   hits-path : (m n : ℕ) (g : Forest X) → occurs n g ≡ 1 → 0 < hits m (n ∷ above n g) → 0 < occurs m g
-  hits-path m n g h i =
-      let a = hits-above m n g h in
-      elim (same_or n m) [
-        | same e t ↦ subst (λ k. 0 < occurs k g) e (omega arith)
-        | apart ne t ↦ (let j = rw t at i in omega arith)
-      ]
+  hits-path m n g h i = grind (arith, hits-above m n g h)
 
   -- the tree of an ancestor is no larger than that of the root
   pub size-ancestor : (filter : Filter) (root current c n : ℕ) (g : Forest X) → IsOnce g → occurs n g ≡ 1 → 0 < hits c (ancestors n g) → size (tree_at c g) ≤ size_under g filter root current (root_of g n)
   size-ancestor filter root current c n empty o h i = absurd (omega arith)
   size-ancestor filter root current c n (node x kids rest) o h i =
-      let path = ancestors-above n (node x kids rest) h in
-      let i2 : 0 < hits c (n ∷ above n (node x kids rest)) = rw path at i in
-      elim (whereabouts n x kids rest h) [
-        | top e t zk zr ↦
-            let a : above n (node x kids rest) ≡ [] = rw t refl in
-            let k = rw a at i2 in
-            let d : n ≡ c = elim (same_or n c) [ same e v ↦ e | apart nc v ↦ absurd (let w = rw v at k in omega arith) ] in
-            let last : root_of (node x kids rest) n ≡ Some n = ap last_of (path ∙ ap (λ ns. n ∷ ns) a) in
-            rw last (subst (λ m. size (tree_at m (node x kids rest)) ≤ size (tree_at n (node x kids rest))) d (omega arith))
-        | inside ne t ok zr ↦
-            let a : above n (node x kids rest) ≡ above n kids ++ x.number ∷ [] = rw (t, ok) refl in
-            let k = rw a at i2 in
-            let last : root_of (node x kids rest) n ≡ Some x.number = ap last_of (path ∙ ap (λ ns. n ∷ ns) a) ∙ last_of-behind (n ∷ above n kids) x.number [] in
-            let path_kids : (x.number == c) ≡ false → 0 < hits c (n ∷ above n kids) = λ v. (let w = hits-append c (above n kids) (x.number ∷ []) in let u = rw v at w in omega arith) in
-            rw (last, tree-top x.number x kids rest o refl) (elim (same_or x.number c) [
-              | same e v ↦ rw (tree-top c x kids rest o e) (omega arith)
-              | apart nc v ↦ rw (tree-inside c x kids rest o (hits-path c n kids ok (path_kids v))) (omega (arith, size-tree c kids))
-            ])
-        | beyond ne t zk or ↦
-            let a : above n (node x kids rest) ≡ above n rest = rw (t, zk) refl in
-            let k : 0 < hits c (n ∷ above n rest) = rw a at i2 in
-            let r = last_of-there n (above n rest) in
-            let e : root_of rest n ≡ Some r.0 = ap last_of (ancestors-above n rest or) ∙ r.1 in
-            let last : root_of (node x kids rest) n ≡ Some r.0 = ap last_of (path ∙ ap (λ ns. n ∷ ns) a) ∙ r.1 in
-            let j = rw e at (size-ancestor filter root current c n rest (λ m. let k = o m in omega arith) or (rw (ancestors-above n rest or) k)) in
-            rw (last, tree-beyond c x kids rest o (hits-path c n rest or k), tree-beyond r.0 x kids rest o (hits-path r.0 n rest or r.2)) j
-      ]
+      grind (
+        arith,
+        nat_tests,
+        ancestors-above n (node x kids rest),
+        last_of-behind (n ∷ above n kids),
+        hits-append,
+        tree-inside c,
+        size-tree c,
+        last_of-there n (above n rest),
+        ancestors-above n rest,
+        size-ancestor filter root current c n rest,
+        tree-beyond,
+        hits-path,
+      )

@@ -1,34 +1,13 @@
 -- The way from a root down to a node: each step goes to a child.
 use Rattle.std.proofs.Common.{◌≡◌, ℕ, zero, suc, ◌<◌, ◌≤◌, List, [], ◌∷◌, ◌++◌, reverse, drop, length, Some, refl, ap, sym, ◌∙◌, subst, arith}
-use Rattle.std.proofs.lemmas.List.{reverse-append, drop-append-le, length-reverse}
-use Rattle.dom_model.specs.PlainLists.Lists.{hits, place_in, last_of}
-use Rattle.dom_model.specs.Forests.Forest.{Forest, occurs, parent_of, index_of, children_of, ancestors, root_of}
-use Rattle.dom_model.specs.Forests.Ways.{IsWay}
-use Rattle.dom_model.proofs.PlainLists.Numbers.{same_or, same, apart}
-use Rattle.dom_model.proofs.Forests.Changes.{seen, nothing, just}
-use Rattle.dom_model.proofs.Forests.Climbing.{ancestors-there}
-use Rattle.dom_model.proofs.Forests.Paths.{parent-path, root-path}
-use Rattle.dom_model.proofs.Forests.Indices.{child-listed, index-child}
+use Rattle.std.proofs.lemmas.List.{reverse-append, length-reverse}
+use Rattle.dom_model.specs.Definitions.{hits, place_in, last_of, Forest, occurs, parent_of, index_of, children_of, ancestors, root_of, IsWay}
+use Rattle.dom_model.proofs.Forests.{Changes.seen, Changes.nothing, Changes.just, Climbing.ancestors-there, Paths.parent-path, Paths.root-path, Indices.child-listed, Indices.index-child}
 
 -- a number stands at its place alone
 pub place-apart : (m n : ℕ) (ns : List ℕ) → 0 < hits m ns → place_in m ns ≡ place_in n ns → m ≡ n
 place-apart m n [] h e = absurd (omega arith)
-place-apart m n (x ∷ xs) h e =
-    elim (same_or x m) [
-      | same d t ↦
-          elim (same_or x n) [
-            | same d2 v ↦ sym d ∙ d2
-            | apart ne v ↦ absurd (let k = rw (t, v) at e in omega arith)
-          ]
-      | apart ne t ↦
-          elim (same_or x n) [
-            | same d2 v ↦ absurd (let k = rw (t, v) at e in omega arith)
-            | apart ne2 v ↦
-                let k = rw (t, v) at e in
-                let j = rw t at h in
-                place-apart m n xs (omega arith) (omega arith)
-          ]
-    ]
+place-apart m n (x ∷ xs) h e = grind (arith, place-apart m n xs)
 
 module _ {X : Type 0} where
   -- the nodes on the way down to a node, without the root
@@ -41,19 +20,11 @@ module _ {X : Type 0} where
 
   -- the way to a child is its parent's, and the child
   pub way-child : (f : Forest X) → ((m : ℕ) → occurs m f ≤ 1) → (m q : ℕ) → 0 < occurs m f → parent_of f m ≡ Some q → way_to f m ≡ way_to f q ++ m ∷ []
-  way-child f o m q hm e =
-      let i = parent-path f o m q hm e in
-      let j = ancestors-there q f i.0 in
-      ap (λ ns. drop 1 (reverse ns)) i.1
-      ∙ ap (drop 1) (reverse-append (m ∷ []) (ancestors q f))
-      ∙ drop-append-le 1 (reverse (ancestors q f)) (m ∷ []) (rw (length-reverse (ancestors q f), j.1) (omega arith))
+  way-child f o m q hm e = grind (arith, parent-path f o m q hm e, ancestors-there q f, reverse-append (m ∷ []) (ancestors q f), length-reverse (ancestors q f))
 
   -- a child has its parent's root
   pub root-child : (f : Forest X) → ((m : ℕ) → occurs m f ≤ 1) → (m q : ℕ) → 0 < occurs m f → parent_of f m ≡ Some q → root_of f m ≡ root_of f q
-  root-child f o m q hm e =
-      let i = parent-path f o m q hm e in
-      let j = ancestors-there q f i.0 in
-      ap last_of i.1 ∙ ap (λ ns. last_of (m ∷ ns)) j.1 ∙ sym (ap last_of j.1)
+  root-child f o m q hm e = grind (arith, parent-path f o m q hm e, ancestors-there q f)
 
   -- the way to a node goes down from its root
   pub way : (f : Forest X) → ((m : ℕ) → occurs m f ≤ 1) → (n : ℕ) → 0 < occurs n f → (r : ℕ) × (root_of f n ≡ Some r) × IsWay f r (way_to f n) n

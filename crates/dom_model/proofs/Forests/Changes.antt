@@ -1,8 +1,6 @@
 -- The entries after a change: a node cut from its parent, put under one, or given other contents.
 use Rattle.std.proofs.Common.{◌≡◌, ℕ, ◌==◌, if◌then◌else◌, Option, Some, None, option_map, refl}
-use Rattle.dom_model.specs.PlainLists.Lists.{entered, left_out}
-use Rattle.dom_model.specs.Forests.Arena.{Entry, held}
-use Rattle.dom_model.specs.Forests.Forest.{Node}
+use Rattle.dom_model.specs.Definitions.{entered, left_out, Entry, held, Node}
 
 -- what an option is
 pub data Seen {A : Type 0} (o : Option A) : Type 0 where

@@ -1,12 +1,7 @@
 -- Ancestors, step by step.
-use Rattle.std.proofs.Common.{◌≡◌, ℕ, ◌+◌, ◌<◌, ◌≤◌, ◌==◌, true, false, List, [], ◌∷◌, ◌++◌, reverse, Option, Some, None, refl, ap, sym, ◌∙◌, subst, arith, ⊎_elim}
-use Rattle.std.proofs.lemmas.List.{reverse-append}
-use Rattle.std.proofs.lemmas.Bool.{cases_lt, false≢true}
-use Rattle.std.proofs.lemmas.Bool.Decides.{nat_tests}
-use Rattle.dom_model.specs.PlainLists.Lists.{hits, among}
-use Rattle.dom_model.specs.Forests.Arena.{Entry, parent_in}
-use Rattle.dom_model.specs.Forests.Forest.{Node, Forest, empty, node, occurs, one_at, tree_at, ancestors}
-use Rattle.dom_model.specs.Forests.Lies.{Lies}
+use Rattle.std.proofs.Common.{◌≡◌, ℕ, ◌+◌, ◌<◌, ◌≤◌, true, false, List, [], ◌∷◌, ◌++◌, reverse, Option, Some, None, refl, ap, sym, ◌∙◌, subst, arith, ⊎_elim}
+use Rattle.std.proofs.lemmas.{List.reverse-append, Bool.cases_lt, Bool.false≢true, Bool.Decides.nat_tests}
+use Rattle.dom_model.specs.Definitions.{hits, among, Entry, parent_in, Node, Forest, empty, node, occurs, one_at, tree_at, ancestors, Lies}
 use Rattle.dom_model.proofs.PlainLists.Numbers.{same_or, same, apart}
 use Rattle.dom_model.proofs.Forests.Totals.{total-beside, total-tree_at, tree_at-absent}
 
@@ -21,81 +16,41 @@ hits-append n (x ∷ xs) ys = omega (arith, hits-append n xs ys)
 
 pub hits-reverse : (n : ℕ) (xs : List ℕ) → hits n (reverse xs) ≡ hits n xs
 hits-reverse n [] = refl
-hits-reverse n (x ∷ xs) =
-    let i = ap (hits n) (reverse-append (x ∷ []) xs) in
-    let j = hits-append n (reverse xs) (x ∷ []) in
-    let k = hits-reverse n xs in
-    omega arith
+hits-reverse n (x ∷ xs) = grind (arith, reverse-append (x ∷ []) xs, hits-append n (reverse xs) (x ∷ []), hits-reverse n xs)
 
 pub hits-first : (n : ℕ) (ns : List ℕ) → 0 < hits n (n ∷ ns)
 hits-first n ns = elim (same_or n n) [ same e t ↦ rw t (omega arith) | apart ne t ↦ absurd (ne refl) ]
 
 pub among-hits : (n : ℕ) (xs : List ℕ) → among n xs ≡ true → 0 < hits n xs
 among-hits n [] h = absurd (false≢true h)
-among-hits n (x ∷ xs) h =
-    elim (same_or x n) [
-      | same e t ↦ rw t (omega arith)
-      | apart ne t ↦ (let k = rw t at h in rw t (omega (arith, among-hits n xs k)))
-    ]
+among-hits n (x ∷ xs) h = grind (arith, among-hits n xs)
 
 pub hits-among : (n : ℕ) (xs : List ℕ) → 0 < hits n xs → among n xs ≡ true
 hits-among n [] h = absurd (omega arith)
-hits-among n (x ∷ xs) h =
-    elim (same_or x n) [
-      | same e t ↦ rw t refl
-      | apart ne t ↦ (let k = rw t at h in rw t (hits-among n xs (omega arith)))
-    ]
+hits-among n (x ∷ xs) h = grind (arith, hits-among n xs)
 
 pub not_among-hits : (n : ℕ) (xs : List ℕ) → among n xs ≡ false → hits n xs ≡ 0
 not_among-hits n [] h = refl
-not_among-hits n (x ∷ xs) h =
-    elim (same_or x n) [
-      | same e t ↦ absurd (false≢true (let k = rw t at h in sym k))
-      | apart ne t ↦ (let k = rw t at h in rw t (omega (arith, not_among-hits n xs k)))
-    ]
+not_among-hits n (x ∷ xs) h = grind (arith, not_among-hits n xs)
 
 pub hits-not_among : (n : ℕ) (xs : List ℕ) → hits n xs ≡ 0 → among n xs ≡ false
 hits-not_among n [] h = refl
-hits-not_among n (x ∷ xs) h =
-    elim (same_or x n) [
-      | same e t ↦ absurd (let k = rw t at h in omega arith)
-      | apart ne t ↦ (let k = rw t at h in rw t (hits-not_among n xs (omega arith)))
-    ]
+hits-not_among n (x ∷ xs) h = grind (arith, hits-not_among n xs)
 
 module _ {X : Type 0} where
   pub ancestors-absent : (n : ℕ) (f : Forest X) → occurs n f ≡ 0 → ancestors n f ≡ []
   ancestors-absent n empty h = refl
-  ancestors-absent n (node x kids rest) h =
-      elim (same_or x.number n) [
-        | same e t ↦ absurd (let k = rw t at h in omega arith)
-        | apart ne t ↦
-            let k = rw t at h in
-            let a : occurs n kids ≡ 0 = omega arith in
-            let b : occurs n rest ≡ 0 = omega arith in
-            rw (t, ancestors-absent n kids a, ancestors-absent n rest b) refl
-      ]
+  ancestors-absent n (node x kids rest) h = grind (arith, ancestors-absent n kids, ancestors-absent n rest)
 
   -- the ancestors in a forest of a number in its first children, or in the rest
   pub ancestors-kids : (n m : ℕ) (ms : List ℕ) (x : Node X) (kids rest : Forest X) → (x.number ≡ n → ⊥) → ancestors n kids ≡ m ∷ ms → ancestors n (node x kids rest) ≡ m ∷ (ms ++ x.number ∷ [])
-  ancestors-kids n m ms x kids rest ne h =
-      elim (same_or x.number n) [
-        | same e t ↦ absurd (ne e)
-        | apart _ t ↦ rw (t, h) refl
-      ]
+  ancestors-kids n m ms x kids rest ne h = grind arith
 
   pub ancestors-rest : (n : ℕ) (x : Node X) (kids rest : Forest X) → (x.number ≡ n → ⊥) → occurs n kids ≡ 0 → ancestors n (node x kids rest) ≡ ancestors n rest
-  ancestors-rest n x kids rest ne h =
-      elim (same_or x.number n) [
-        | same e t ↦ absurd (ne e)
-        | apart _ t ↦ rw (t, ancestors-absent n kids h) refl
-      ]
+  ancestors-rest n x kids rest ne h = grind (arith, ancestors-absent n kids h)
 
   pub ancestors-first : (x : Node X) (kids rest : Forest X) → ancestors x.number (node x kids rest) ≡ x.number ∷ []
-  ancestors-first x kids rest =
-      elim (same_or x.number x.number) [
-        | same e t ↦ rw t refl
-        | apart ne t ↦ absurd (ne refl)
-      ]
+  ancestors-first x kids rest = grind arith
 
   pub ancestors-there : (n : ℕ) (f : Forest X) → 0 < occurs n f → (ms : List ℕ) × (ancestors n f ≡ n ∷ ms)
   ancestors-there n empty h = absurd (omega arith)
@@ -152,45 +107,21 @@ module _ {X : Type 0} where
       let tr = total-tree_at (one_at n) c rest in
       let ik = hits-ancestors c n kids (λ m. let i = o m in omega arith) in
       let ir = hits-ancestors c n rest (λ m. let i = o m in omega arith) in
+      let both = total-beside (one_at n) (tree_at c kids) (tree_at c rest) in
       elim (same_or x.number n) [
-        | same e t ↦
-            let k = rw t at on in
-            elim (same_or x.number c) [
-              | same e2 v ↦
-                  let nc : (n == c) ≡ true = subst (λ m. (m == c) ≡ true) e v in
-                  rw (t, v) (rw (t, nc) (omega arith))
-              | apart ne2 v ↦
-                  let nc : (n == c) ≡ false = subst (λ m. (m == c) ≡ false) e v in
-                  rw (t, v) (rw nc (omega (arith, total-beside (one_at n) (tree_at c kids) (tree_at c rest))))
-            ]
+        | same e t ↦ grind (arith, nat_tests, on, tk, tr, both)
         | apart ne t ↦
-            let k = rw t at on in
             ⊎_elim
             (λ (lt : 0 < occurs n kids).
             let i = ancestors-there n kids lt in
             let a : ancestors n (node x kids rest) ≡ ancestors n kids ++ x.number ∷ [] = ancestors-kids n n i.0 x kids rest ne i.1 ∙ ap (λ ms. ms ++ x.number ∷ []) (sym i.1) in
-            let b = hits-append c (ancestors n kids) (x.number ∷ []) in
-            rw (a, b, ik) (elim (same_or x.number c) [
-              | same e2 v ↦
-                  let kc = rw v at oc in
-                  let zk : occurs c kids ≡ 0 = omega arith in
-                  let z : occurs n (tree_at c kids) ≡ 0 = ap (occurs n) (tree_at-absent c kids zk) in
-                  rw v (rw t (omega (arith, z)))
-              | apart ne2 v ↦ rw v (omega (arith, total-beside (one_at n) (tree_at c kids) (tree_at c rest)))
-            ]))
-            (λ (le : occurs n kids ≤ 0).
-            let z : occurs n kids ≡ 0 = omega arith in
-            rw (ancestors-rest n x kids rest ne z, ir) (elim (same_or x.number c) [
-              | same e2 v ↦ rw v (rw t (omega arith))
-              | apart ne2 v ↦ rw v (omega (arith, total-beside (one_at n) (tree_at c kids) (tree_at c rest)))
-            ]))
+            rw (a, hits-append c (ancestors n kids) (x.number ∷ []), ik) (grind (arith, nat_tests, oc, tree_at-absent c kids, both)))
+            (λ (le : occurs n kids ≤ 0). rw (ancestors-rest n x kids rest ne (omega arith), ir) (grind (arith, nat_tests, both)))
             (cases_lt 0 (occurs n kids))
       ]
 
   pub hits-self : (n c : ℕ) (f : Forest X) → n ≡ c → 0 < occurs n f → 0 < hits c (ancestors n f)
-  hits-self n c f e h =
-      let i = ancestors-there n f h in
-      rw i.1 (elim (same_or n c) [ same d t ↦ rw t (omega arith) | apart ne t ↦ absurd (ne e) ])
+  hits-self n c f e h = grind (arith, ancestors-there n f h)
 
   pub climbs : (at : (ℕ → Option (Entry (Node X)))) (n q : ℕ) (f : Forest X) → ((m : ℕ) → occurs m f ≤ 1) → Lies at None f → 0 < occurs n f → parent_in (at n) ≡ Some q → (0 < occurs q f) × (ancestors n f ≡ n ∷ ancestors q f)
   climbs at n q f o l h p = from (climb at None n f o l h)
@@ -203,8 +134,4 @@ module _ {X : Type 0} where
           (subst (λ m. 0 < occurs m f) i or, subst (λ m. ancestors n f ≡ n ∷ ancestors m f) i a)
 
   pub climbs-root : (at : (ℕ → Option (Entry (Node X)))) (n : ℕ) (f : Forest X) → ((m : ℕ) → occurs m f ≤ 1) → Lies at None f → 0 < occurs n f → parent_in (at n) ≡ None → ancestors n f ≡ n ∷ []
-  climbs-root at n f o l h p = from (climb at None n f o l h)
-    where
-      from : Climb None (parent_in (at n)) n f → ancestors n f ≡ n ∷ []
-      from (on_top e a) = a
-      from (under r e or a) = absurd (let d : None ≡ Some r = sym p ∙ e in cc d)
+  climbs-root at n f o l h p = grind (arith, climb at None n f o l h)

@@ -1,17 +1,8 @@
 -- In each tree all nodes keep one node document, wherever its nodes go.
-use Rattle.std.specs.Prelude.{IfSome}
-use Rattle.std.proofs.Common.{◌≡◌, ℕ, ◌≤◌, true, false, if◌then◌else◌, nat_lt, Option, Some, None, refl, ap, sym, ◌∙◌, subst, arith}
-use Rattle.dom_model.specs.PlainLists.Lists.{is_number}
-use Rattle.dom_model.specs.Forests.Arena.{Entry, parent_in}
-use Rattle.dom_model.specs.Forests.Forest.{Node, Forest, empty, node, occurs, entry_in, parent_of, beside, tree_at, without, placed_before, placed_under, placed_root, cut, put, map_nodes, in_document, adopted}
-use Rattle.dom_model.specs.Forests.Documents.{IsInDocument, HasOneDocument, HasDocument}
-use Rattle.dom_model.specs.Forests.Lies.{Lies}
+use Rattle.std.proofs.Common.{IfSome, ◌≡◌, ℕ, ◌≤◌, true, false, if◌then◌else◌, nat_lt, Option, Some, None, refl, sym, subst, arith}
+use Rattle.dom_model.specs.Definitions.{Entry, parent_in, Node, Forest, empty, node, occurs, entry_in, parent_of, beside, tree_at, without, placed_before, placed_under, placed_root, cut, put, map_nodes, in_document, adopted, IsInDocument, HasOneDocument, HasDocument, Lies}
 use Rattle.dom_model.proofs.PlainLists.Numbers.{same_or, same, apart}
-use Rattle.dom_model.proofs.Forests.Totals.{occurs-without, tree_at-absent}
-use Rattle.dom_model.proofs.Forests.Undone.{placed_under-absent}
-use Rattle.dom_model.proofs.Forests.Lying.{absent_under}
-use Rattle.dom_model.proofs.Forests.Entries.{Lies-entry_in}
-use Rattle.dom_model.proofs.Forests.EachNode.{EachNode-beside, EachNode-tree_at, EachNode-without, EachNode-placed_before, EachNode-placed_under, EachNode-put}
+use Rattle.dom_model.proofs.Forests.{Totals.occurs-without, Totals.tree_at-absent, Undone.placed_under-absent, Lying.absent_under, Entries.Lies-entry_in, EachNode.EachNode-beside, EachNode.EachNode-tree_at, EachNode.EachNode-without, EachNode.EachNode-placed_before, EachNode.EachNode-placed_under, EachNode.EachNode-put}
 
 module _ {X : Type 0} where
   -- The node document that is told of a number.
@@ -32,13 +23,7 @@ module _ {X : Type 0} where
 
   absent : (n d e : ℕ) (f : Forest X) → (e ≡ d → ⊥) → IsInDocument e f → HasDocument n d f → occurs n f ≡ 0
   absent n d e empty ne i h = refl
-  absent n d e (node x kids rest) ne i h =
-      let a = absent n d e kids ne i.1 h.1 in
-      let b = absent n d e rest ne i.2 h.2 in
-      elim (same_or x.number n) [
-        | same s t ↦ absurd (ne (sym i.0 ∙ h.0 s))
-        | apart np t ↦ rw t (omega arith)
-      ]
+  absent n d e (node x kids rest) ne i h = grind (arith, absent n d e kids ne i.1 h.1, absent n d e rest ne i.2 h.2)
 
   IsInDocument-as : (d e : ℕ) (f : Forest X) → d ≡ e → IsInDocument d f → IsInDocument e f
   IsInDocument-as d e f s h = subst (λ m. IsInDocument m f) s h
@@ -142,41 +127,19 @@ module _ {X : Type 0} where
 
   pub adopted-absent : (n d : ℕ) (f : Forest X) → occurs n f ≡ 0 → adopted n d f ≡ f
   adopted-absent n d empty h = refl
-  adopted-absent n d (node x kids rest) h =
-      elim (same_or x.number n) [
-        | same e t ↦ absurd (let k = rw t at h in omega arith)
-        | apart ne t ↦
-            let k = rw t at h in
-            let a : occurs n kids ≡ 0 = omega arith in
-            let b : occurs n rest ≡ 0 = omega arith in
-            rw (t, adopted-absent n d kids a, adopted-absent n d rest b) refl
-      ]
+  adopted-absent n d (node x kids rest) h = grind (arith, adopted-absent n d kids, adopted-absent n d rest)
 
   adopted-in : (n d : ℕ) (f : Forest X) → IsInDocument d f → adopted n d f ≡ f
   adopted-in n d empty h = refl
-  adopted-in n d (node x kids rest) h =
-      elim (same_or x.number n) [
-        | same e t ↦ rw (t, set-same d kids h.1, adopted-in n d rest h.2, ← h.0) refl
-        | apart ne t ↦ rw (t, adopted-in n d kids h.1, adopted-in n d rest h.2) refl
-      ]
+  adopted-in n d (node x kids rest) h = grind (arith, set-same d kids h.1, adopted-in n d rest h.2, adopted-in n d kids h.1)
 
   same_within : (n d e : ℕ) (f : Forest X) → IsInDocument e f → HasDocument n d f → adopted n d f ≡ f
-  same_within n d e f i h =
-      elim (same_or e d) [
-        | same s t ↦ adopted-in n d f (IsInDocument-as e d f s i)
-        | apart ne t ↦ adopted-absent n d f (absent n d e f ne i h)
-      ]
+  same_within n d e f i h = grind (arith, adopted-in n d f, adopted-absent n d f, absent n d e f)
 
   -- a node that is in the document already: nothing changes
   pub adopted-same : (n d : ℕ) (f : Forest X) → HasOneDocument f → HasDocument n d f → adopted n d f ≡ f
   adopted-same n d empty h w = refl
-  adopted-same n d (node x kids rest) h w =
-      let inside = same_within n d x.document kids h.0 w.1 in
-      let later = adopted-same n d rest h.1 w.2 in
-      elim (same_or x.number n) [
-        | same e t ↦ rw (t, set-same d kids (IsInDocument-as x.document d kids (w.0 e) h.0), later, ← w.0 e) refl
-        | apart ne t ↦ rw (t, inside, later) refl
-      ]
+  adopted-same n d (node x kids rest) h w = grind (arith, same_within n d x.document kids h.0 w.1, adopted-same n d rest h.1 w.2, set-same d kids)
 
   -- so also after a put in the parent's document
   pub adopted-put_same : (p c d : ℕ) (b : Option ℕ) (f : Forest X) → HasOneDocument f → HasDocument p d f → HasDocument c d f → adopted c d (put p c b f) ≡ put p c b f
@@ -185,11 +148,7 @@ module _ {X : Type 0} where
 
   pub adopted-beside : (n d : ℕ) (f g : Forest X) → adopted n d (beside f g) ≡ beside (adopted n d f) (adopted n d g)
   adopted-beside n d empty g = refl
-  adopted-beside n d (node x kids rest) g =
-      elim (same_or x.number n) [
-        | same e t ↦ rw (t, adopted-beside n d rest g) refl
-        | apart ne t ↦ rw (t, adopted-beside n d rest g) refl
-      ]
+  adopted-beside n d (node x kids rest) g = grind (arith, adopted-beside n d rest g)
 
   set-beside : (d : ℕ) (f g : Forest X) → map_nodes (in_document d) (beside f g) ≡ beside (map_nodes (in_document d) f) (map_nodes (in_document d) g)
   set-beside d empty g = refl
@@ -197,56 +156,20 @@ module _ {X : Type 0} where
 
   adopted-tree_at : (n d : ℕ) (f : Forest X) → adopted n d (tree_at n f) ≡ map_nodes (in_document d) (tree_at n f)
   adopted-tree_at n d empty = refl
-  adopted-tree_at n d (node x kids rest) =
-      elim (same_or x.number n) [
-        | same e t ↦ rw t (rw (t, adopted-tree_at n d rest) refl)
-        | apart ne t ↦
-            rw t (adopted-beside n d (tree_at n kids) (tree_at n rest)
-            ∙ rw (adopted-tree_at n d kids, adopted-tree_at n d rest) (sym (set-beside d (tree_at n kids) (tree_at n rest))))
-      ]
+  adopted-tree_at n d (node x kids rest) = grind (arith, adopted-tree_at n d rest, adopted-beside n d, adopted-tree_at n d kids, set-beside d)
 
   adopted-placed_before : (n d : ℕ) (b : Option ℕ) (g f : Forest X) → adopted n d (placed_before b g f) ≡ placed_before b (adopted n d g) (adopted n d f)
   adopted-placed_before n d b g empty = refl
-  adopted-placed_before n d b g (node x kids rest) =
-      let later = adopted-placed_before n d b g rest in
-      let whole = adopted-beside n d g (node x kids rest) in
-      elim (same_or x.number n) [
-        | same e t ↦
-            let all = rw t at whole in
-            rw t (elim (is_number b x.number) as (λ v. adopted n d (if v then beside g (node x kids rest) else node x kids (placed_before b g rest)) ≡ (if v then beside (adopted n d g) (node (in_document d x) (map_nodes (in_document d) kids) (adopted n d rest)) else node (in_document d x) (map_nodes (in_document d) kids) (placed_before b (adopted n d g) (adopted n d rest)))) [
-              | true ↦ all
-              | false ↦ rw (t, later) refl
-            ])
-        | apart ne t ↦
-            let all = rw t at whole in
-            rw t (elim (is_number b x.number) as (λ v. adopted n d (if v then beside g (node x kids rest) else node x kids (placed_before b g rest)) ≡ (if v then beside (adopted n d g) (node x (adopted n d kids) (adopted n d rest)) else node x (adopted n d kids) (placed_before b (adopted n d g) (adopted n d rest)))) [
-              | true ↦ all
-              | false ↦ rw (t, later) refl
-            ])
-      ]
+  adopted-placed_before n d b g (node x kids rest) = grind (arith, adopted-placed_before n d b g rest, adopted-beside n d g (node x kids rest))
 
   adopted-placed_under : (n p d : ℕ) (b : Option ℕ) (g f : Forest X) → occurs n f ≡ 0 → adopted n d (placed_under p b g f) ≡ placed_under p b (adopted n d g) f
   adopted-placed_under n p d b g empty z = refl
   adopted-placed_under n p d b g (node x kids rest) z =
-      elim (same_or x.number n) [
-        | same e t ↦ absurd (let k = rw t at z in omega arith)
-        | apart ne t ↦
-            let k = rw t at z in
-            let zk : occurs n kids ≡ 0 = omega arith in
-            let zr : occurs n rest ≡ 0 = omega arith in
-            let deeper = adopted-placed_under n p d b g kids zk in
-            let later = adopted-placed_under n p d b g rest zr in
-            elim (same_or x.number p) [
-              | same i v ↦ rw (t, v, adopted-placed_before n d b g (placed_under p b g kids), deeper, later) refl
-              | apart ni v ↦ rw (t, v, deeper, later) refl
-            ]
-      ]
+      grind (arith, adopted-placed_under n p d b g kids, adopted-placed_under n p d b g rest, adopted-placed_before n d b g (placed_under p b g kids))
 
   -- a put and then an adoption put the tree in its new document
   pub adopted-put : (p c d : ℕ) (b : Option ℕ) (f : Forest X) → adopted c d (put p c b f) ≡ placed_under p b (map_nodes (in_document d) (tree_at c f)) (without c f)
-  adopted-put p c d b f =
-      adopted-placed_under c p d b (tree_at c f) (without c f) (occurs-without c f)
-      ∙ ap (λ g. placed_under p b g (without c f)) (adopted-tree_at c d f)
+  adopted-put p c d b f = grind (arith, adopted-placed_under c p d b (tree_at c f) (without c f) (occurs-without c f), adopted-tree_at c d f)
 
   pub HasOneDocument-adopted_put : (p c d : ℕ) (b : Option ℕ) (f : Forest X) → HasOneDocument f → HasDocument p d f → HasOneDocument (adopted c d (put p c b f))
   HasOneDocument-adopted_put p c d b f h w =

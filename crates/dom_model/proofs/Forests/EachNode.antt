@@ -1,8 +1,6 @@
 -- What holds of each node still does, wherever the trees go.
 use Rattle.std.proofs.Common.{ℕ, true, false, if◌then◌else◌, nat_lt, Option}
-use Rattle.dom_model.specs.PlainLists.Lists.{is_number}
-use Rattle.dom_model.specs.Forests.Forest.{Node, Forest, empty, node, beside, tree_at, without, placed_before, placed_under, placed_root, cut, put, map_nodes, with_tree}
-use Rattle.dom_model.specs.Forests.EachNode.{EachNode}
+use Rattle.dom_model.specs.Definitions.{is_number, Node, Forest, empty, node, beside, tree_at, without, placed_before, placed_under, placed_root, cut, put, map_nodes, with_tree, EachNode}
 use Rattle.dom_model.proofs.PlainLists.Numbers.{same_or, same, apart}
 
 module _ {X : Type 0} where

@@ -1,44 +1,19 @@
 -- The entries of a forest: where a number stands, and what is told of it after a cut and a put.
-use Rattle.std.proofs.Common.{◌≡◌, ℕ, ◌<◌, ◌≤◌, ◌==◌, Bool, true, false, if◌then◌else◌, Option, Some, None, IsSome, refl, ap, sym, ◌∙◌, arith, ⊎_elim}
-use Rattle.std.proofs.lemmas.Bool.{cases_lt, false≢true}
-use Rattle.std.proofs.lemmas.Bool.Decides.{nat_tests}
-use Rattle.dom_model.specs.PlainLists.Lists.{or_else, left_out, entered}
-use Rattle.dom_model.specs.Forests.Arena.{Entry, held, parent_in, children_in}
-use Rattle.dom_model.specs.Forests.Forest.{Node, Forest, empty, node, occurs, one_at, tops, entry_under, entry_in, HasNode, parent_of, children_of, tree_at, without, cut, put}
-use Rattle.dom_model.specs.Forests.Lies.{Lies}
+use Rattle.std.proofs.Common.{◌≡◌, ℕ, ◌<◌, ◌≤◌, ◌==◌, if◌then◌else◌, Option, Some, None, IsSome, refl, ap, sym, ◌∙◌, arith, ⊎_elim}
+use Rattle.std.proofs.lemmas.{Bool.cases_lt, Bool.false≢true, Bool.Decides.nat_tests}
+use Rattle.dom_model.specs.Definitions.{or_else, left_out, entered, Entry, held, parent_in, children_in, Node, Forest, empty, node, occurs, one_at, tops, entry_under, entry_in, HasNode, parent_of, children_of, tree_at, without, cut, put, Lies}
 use Rattle.dom_model.proofs.PlainLists.Numbers.{same_or, same, apart}
-use Rattle.dom_model.proofs.Forests.Totals.{total-tree_at, total-cut, total-put, occurs-without}
-use Rattle.dom_model.proofs.Forests.Tops.{tops-tree_at}
-use Rattle.dom_model.proofs.Forests.Changes.{seen, nothing, just, cut_at, link_at, held-cut_at, held-link_at}
-use Rattle.dom_model.proofs.Forests.Lying.{Lies-cut, Lies-put_top, Lies-placed_under, Lies-without_root}
+use Rattle.dom_model.proofs.Forests.{Totals.total-tree_at, Totals.total-cut, Totals.total-put, Totals.occurs-without, Tops.tops-tree_at, Changes.cut_at, Changes.link_at, Changes.held-cut_at, Changes.held-link_at, Lying.Lies-cut, Lying.Lies-put_top, Lying.Lies-placed_under, Lying.Lies-without_root}
 
 module _ {X : Type 0} where
   pub entry_under-absent : (q : Option ℕ) (n : ℕ) (f : Forest X) → occurs n f ≡ 0 → entry_under q n f ≡ None
   entry_under-absent q n empty h = refl
-  entry_under-absent q n (node x kids rest) h =
-      elim (same_or x.number n) [
-        | same e t ↦ absurd (let k = rw t at h in omega arith)
-        | apart ne t ↦
-            let k = rw t at h in
-            let a : occurs n kids ≡ 0 = omega arith in
-            let b : occurs n rest ≡ 0 = omega arith in
-            rw (t, entry_under-absent (Some x.number) n kids a) (entry_under-absent q n rest b)
-      ]
+  entry_under-absent q n (node x kids rest) h = grind (arith, entry_under-absent (Some x.number) n kids, entry_under-absent q n rest)
 
   pub entry_under-Lies : (at : (ℕ → Option (Entry (Node X)))) (q : Option ℕ) (n : ℕ) (f : Forest X) (e : Entry (Node X)) → Lies at q f → 0 < occurs n f → at n ≡ Some e → entry_under q n f ≡ Some e
   entry_under-Lies at q n empty e l h s = absurd (omega arith)
   entry_under-Lies at q n (node x kids rest) e l h s =
-      elim (same_or x.number n) [
-        | same d t ↦ rw t (sym l.0 ∙ ap at d ∙ s)
-        | apart ne t ↦
-            let k = rw t at h in
-            rw t (⊎_elim
-            (λ (lt : 0 < occurs n kids). rw (entry_under-Lies at (Some x.number) n kids e l.1 lt s) refl)
-            (λ (le : occurs n kids ≤ 0).
-            let z : occurs n kids ≡ 0 = omega arith in
-            rw (entry_under-absent (Some x.number) n kids z) (entry_under-Lies at q n rest e l.2 (omega arith) s))
-            (cases_lt 0 (occurs n kids)))
-      ]
+      grind (arith, entry_under-Lies at (Some x.number) n kids e l.1, entry_under-absent (Some x.number) n kids, entry_under-Lies at q n rest e l.2)
 
   pub entry_under-there : (q : Option ℕ) (n : ℕ) (f : Forest X) → 0 < occurs n f → IsSome (entry_under q n f)
   entry_under-there q n empty h = absurd (omega arith)
@@ -63,11 +38,7 @@ module _ {X : Type 0} where
   HasNode-occurs f n h = entry_under-there None n f h
 
   pub occurs-HasNode : (f : Forest X) (n : ℕ) → HasNode f n → 0 < occurs n f
-  occurs-HasNode f n h =
-      ⊎_elim
-      (λ (lt : 0 < occurs n f). lt)
-      (λ (le : occurs n f ≤ 0). absurd (let z : entry_in f n ≡ None = entry_under-absent None n f (omega arith) in let k = rw z at h in false≢true k))
-      (cases_lt 0 (occurs n f))
+  occurs-HasNode f n h = grind (arith, entry_under-absent None n f)
 
   Lies-agree : (at : (ℕ → Option (Entry (Node X)))) (q : Option ℕ) (f : Forest X) → ((m : ℕ) → occurs m f ≤ 1) → ((n : ℕ) → 0 < occurs n f → at n ≡ entry_under q n f) → Lies at q f
   Lies-agree at q empty o h = tt
@@ -75,11 +46,7 @@ module _ {X : Type 0} where
       (top, Lies-agree at (Some x.number) kids (λ m. let i = o m in omega arith) below_kids, Lies-agree at q rest (λ m. let i = o m in omega arith) below_rest)
     where
       top : at x.number ≡ Some (record { value = x; parent = q; children = tops kids })
-      top =
-          elim (same_or x.number x.number) [
-            | same e t ↦ (let k = h x.number (grind (arith, nat_tests)) in let k2 = rw t at k in k2)
-            | apart ne t ↦ absurd (ne refl)
-          ]
+      top = grind (arith, nat_tests, h x.number)
 
       or_first : (o p : Option (Entry (Node X))) → IsSome o → or_else o p ≡ o
       or_first None p i = absurd (false≢true i)
@@ -87,56 +54,21 @@ module _ {X : Type 0} where
 
       below_kids : (n : ℕ) → 0 < occurs n kids → at n ≡ entry_under (Some x.number) n kids
       below_kids n k =
-          elim (same_or x.number n) [
-            | same e t ↦ absurd (let i = o n in let i2 = rw t at i in omega arith)
-            | apart ne t ↦
-                let j = h n (omega arith) in
-                let j2 = rw t at j in
-                j2 ∙ or_first (entry_under (Some x.number) n kids) (entry_under q n rest) (entry_under-there (Some x.number) n kids k)
-          ]
+          grind (arith, nat_tests, o n, h n, or_first (entry_under (Some x.number) n kids) (entry_under q n rest) (entry_under-there (Some x.number) n kids k), entry_under-there (Some x.number) n kids k)
 
       below_rest : (n : ℕ) → 0 < occurs n rest → at n ≡ entry_under q n rest
-      below_rest n k =
-          elim (same_or x.number n) [
-            | same e t ↦ absurd (let i = o n in let i2 = rw t at i in omega arith)
-            | apart ne t ↦
-                let i = o n in
-                let z : occurs n kids ≡ 0 = omega arith in
-                let j = h n (omega arith) in
-                let j2 = rw (t, entry_under-absent (Some x.number) n kids z) at j in
-                j2
-          ]
+      below_rest n k = grind (arith, nat_tests, o n, h n, entry_under-absent (Some x.number) n kids)
 
   -- the entries of a forest spell it
   pub Lies-entry_in : (f : Forest X) → ((m : ℕ) → occurs m f ≤ 1) → Lies (entry_in f) None f
   Lies-entry_in f o = Lies-agree (entry_in f) None f o (λ n h. refl)
 
   pub occurs-held : (f : Forest X) (n : ℕ) → occurs n f ≤ 1 → occurs n f ≡ held (entry_in f n)
-  occurs-held f n o =
-      elim (seen (entry_in f n)) [
-        | nothing e ↦
-            ⊎_elim
-            (λ (lt : 0 < occurs n f). absurd (let k = entry_under-there None n f lt in let k2 = rw e at k in false≢true k2))
-            (λ (le : occurs n f ≤ 0). rw e (omega arith))
-            (cases_lt 0 (occurs n f))
-        | just a e ↦
-            ⊎_elim
-            (λ (lt : 0 < occurs n f). rw e (omega arith))
-            (λ (le : occurs n f ≤ 0). absurd (let z : entry_in f n ≡ None = entry_under-absent None n f (omega arith) in let d : Some a ≡ None = sym e ∙ z in cc d))
-            (cases_lt 0 (occurs n f))
-      ]
+  occurs-held f n o = grind (arith, entry_under-there None n f, entry_under-absent None n f)
 
   -- entries that lie as the forest does, and no others, are its entries
   pub entry_in-Lies : (at : (ℕ → Option (Entry (Node X)))) (f : Forest X) → Lies at None f → ((n : ℕ) → occurs n f ≡ held (at n)) → (n : ℕ) → entry_in f n ≡ at n
-  entry_in-Lies at f l h n =
-      elim (seen (at n)) [
-        | nothing e ↦
-            let z : occurs n f ≡ 0 = h n ∙ ap held e in
-            rw e (entry_under-absent None n f z)
-        | just a e ↦
-            let o : occurs n f ≡ 1 = h n ∙ ap held e in
-            entry_under-Lies at None n f a l (omega arith) e ∙ sym e
-      ]
+  entry_in-Lies at f l h n = grind (arith, entry_under-absent None n f, entry_under-Lies at None n f)
 
   -- after a cut: the number has no parent, and stands in no list of children
   pub entry-cut : (f : Forest X) → ((m : ℕ) → occurs m f ≤ 1) → (c n : ℕ) → entry_in (cut c f) n ≡ cut_at c n (entry_in f n)
@@ -168,11 +100,7 @@ module _ {X : Type 0} where
       op = let k = o p in omega (arith, total-tree_at (one_at p) c f)
 
   parent-cut_at : (c n : ℕ) (e : Option (Entry (Node X))) → parent_in (cut_at c n e) ≡ (if n == c then None else parent_in e)
-  parent-cut_at c n None = either (n == c) None
-    where
-      either : (v : Bool) (m : Option ℕ) → m ≡ (if v then m else m)
-      either true m = refl
-      either false m = refl
+  parent-cut_at c n None = grind arith
   parent-cut_at c n (Some e) = refl
 
   children-cut_at : (c n : ℕ) (e : Option (Entry (Node X))) → children_in (cut_at c n e) ≡ left_out c (children_in e)

@@ -1,16 +1,8 @@
 -- A forest with younger trees after it: what is asked of its nodes is answered as before, and changes of the younger trees leave it.
-use Rattle.std.proofs.Common.{◌≡◌, ℕ, ◌<◌, ◌≤◌, nat_lt, false, List, [], ◌∷◌, Option, Some, None, refl, ap, ◌∙◌, arith, ⊎_elim}
-use Rattle.std.proofs.lemmas.Bool.{cases_lt, le-ltb}
-use Rattle.dom_model.specs.PlainLists.Lists.{or_else, or_list}
-use Rattle.dom_model.specs.Forests.Arena.{Entry, children_in}
-use Rattle.dom_model.specs.Forests.Forest.{Node, Forest, empty, node, occurs, tops, beside, tree_at, without, placed_under, placed_root, cut, put, adopted, entry_under, entry_in, ancestors, path_through}
-use Rattle.dom_model.specs.Forests.EachNode.{EachNode}
+use Rattle.std.proofs.Common.{◌≡◌, ℕ, ◌<◌, ◌≤◌, List, [], ◌∷◌, Option, Some, None, refl, ap, ◌∙◌, arith}
+use Rattle.dom_model.specs.Definitions.{or_else, or_list, Entry, children_in, Node, Forest, empty, node, occurs, tops, beside, tree_at, without, placed_under, placed_root, cut, put, adopted, entry_under, entry_in, ancestors, EachNode}
 use Rattle.dom_model.proofs.PlainLists.Numbers.{same_or, same, apart}
-use Rattle.dom_model.proofs.Forests.Totals.{without-absent, tree_at-absent}
-use Rattle.dom_model.proofs.Forests.Undone.{tree_at-beside, without-beside, placed_under-absent}
-use Rattle.dom_model.proofs.Forests.Entries.{entry_under-absent}
-use Rattle.dom_model.proofs.Forests.Climbing.{ancestors-absent}
-use Rattle.dom_model.proofs.Forests.Documents.{adopted-absent, adopted-beside}
+use Rattle.dom_model.proofs.Forests.{Totals.without-absent, Totals.tree_at-absent, Undone.tree_at-beside, Undone.without-beside, Undone.placed_under-absent, Entries.entry_under-absent, Climbing.ancestors-absent, Documents.adopted-absent, Documents.adopted-beside}
 
 -- what holds of every number of a list
 abbrev pub EachOf : (ℕ → Type 0) → List ℕ → Type 0
@@ -34,23 +26,11 @@ module _ {X : Type 0} where
 
   pub absent-from : (low n : ℕ) (f : Forest X) → EachNode (IsFrom low) f → n < low → occurs n f ≡ 0
   absent-from low n empty h l = refl
-  absent-from low n (node x kids rest) h l =
-      let a : low ≤ x.number = h.0 in
-      elim (same_or x.number n) [
-        | same e t ↦ absurd (omega arith)
-        | apart ne t ↦ rw t (omega (arith, absent-from low n kids h.1 l, absent-from low n rest h.2 l))
-      ]
+  absent-from low n (node x kids rest) h l = grind (arith, absent-from low n kids h.1 l, absent-from low n rest h.2 l)
 
   pub under-below : (low : ℕ) (f : Forest X) → IsBelow low f → EachNode (λ x. x.number < low) f
   under-below low empty h = tt
-  under-below low (node x kids rest) h = (
-    ⊎_elim
-        (λ (lt : x.number < low). lt)
-        (λ (le : low ≤ x.number). absurd (let i = h x.number le in elim (same_or x.number x.number) [ same e t ↦ (let j = rw t at i in omega arith) | apart ne t ↦ ne refl ]))
-        (cases_lt x.number low),
-    under-below low kids (λ n l. let i = h n l in omega arith),
-    under-below low rest (λ n l. let i = h n l in omega arith),
-  )
+  under-below low (node x kids rest) h = grind (arith, h x.number, under-below low kids, under-below low rest)
 
   tops-each : (P : ℕ → Type 0) (f : Forest X) → EachNode (λ x. P x.number) f → EachOf P (tops f)
   tops-each P empty h = tt
@@ -71,15 +51,7 @@ module _ {X : Type 0} where
 
   pub entry_under-beside : (q : Option ℕ) (n : ℕ) (f g : Forest X) → entry_under q n (beside f g) ≡ or_else (entry_under q n f) (entry_under q n g)
   entry_under-beside q n empty g = refl
-  entry_under-beside q n (node x kids rest) g =
-      elim (same_or x.number n) [
-        | same e t ↦ rw t refl
-        | apart ne t ↦ rw (t, entry_under-beside q n rest g) (first (entry_under (Some x.number) n kids))
-      ]
-    where
-      first : (a : Option (Entry (Node X))) → or_else a (or_else (entry_under q n rest) (entry_under q n g)) ≡ or_else (or_else a (entry_under q n rest)) (entry_under q n g)
-      first None = refl
-      first (Some e) = refl
+  entry_under-beside q n (node x kids rest) g = grind (arith, entry_under-beside q n rest g)
 
   or_none : (a : Option (Entry (Node X))) → or_else a None ≡ a
   or_none None = refl
@@ -94,22 +66,10 @@ module _ {X : Type 0} where
 
   pub ancestors-beside : (n : ℕ) (f g : Forest X) → ancestors n (beside f g) ≡ or_list (ancestors n f) (ancestors n g)
   ancestors-beside n empty g = refl
-  ancestors-beside n (node x kids rest) g =
-      elim (same_or x.number n) [
-        | same e t ↦ rw t refl
-        | apart ne t ↦ rw (t, ancestors-beside n rest g) (first (path_through x.number (ancestors n kids)))
-      ]
-    where
-      first : (a : List ℕ) → or_list a (or_list (ancestors n rest) (ancestors n g)) ≡ or_list (or_list a (ancestors n rest)) (ancestors n g)
-      first [] = refl
-      first (m ∷ ms) = refl
+  ancestors-beside n (node x kids rest) g = grind (arith, ancestors-beside n rest g)
 
   pub ancestors-older : (n : ℕ) (f g : Forest X) → occurs n g ≡ 0 → ancestors n (beside f g) ≡ ancestors n f
-  ancestors-older n f g z = ancestors-beside n f g ∙ ap (or_list (ancestors n f)) (ancestors-absent n g z) ∙ or_nil (ancestors n f)
-    where
-      or_nil : (a : List ℕ) → or_list a [] ≡ a
-      or_nil [] = refl
-      or_nil (m ∷ ms) = refl
+  ancestors-older n f g z = grind (arith, ancestors-beside n f g, ancestors-absent n g z)
 
   pub tree_at-older : (n : ℕ) (f g : Forest X) → occurs n g ≡ 0 → tree_at n (beside f g) ≡ beside (tree_at n f) empty
   tree_at-older n f g z = tree_at-beside n f g ∙ ap (beside (tree_at n f)) (tree_at-absent n g z)
@@ -126,27 +86,14 @@ module _ {X : Type 0} where
 
   placed_root-beside : (low n : ℕ) (t f g : Forest X) → low ≤ n → IsBelow low f → placed_root n t (beside f g) ≡ beside f (placed_root n t g)
   placed_root-beside low n t empty g l h = refl
-  placed_root-beside low n t (node x kids rest) g l h =
-      let later = placed_root-beside low n t rest g l (λ m k. let i = h m k in omega arith) in
-      let under = (under-below low (node x kids rest) h).0 in
-      let s : nat_lt n x.number ≡ false = le-ltb n x.number (omega (arith, under)) in
-      rw (s, later) refl
+  placed_root-beside low n t (node x kids rest) g l h = grind (arith, placed_root-beside low n t rest g l, under-below low (node x kids rest) h)
 
   -- changes of the younger trees
   pub cut-younger : (low n : ℕ) (f g : Forest X) → low ≤ n → IsBelow low f → cut n (beside f g) ≡ beside f (cut n g)
-  cut-younger low n f g l h =
-      let z = h n l in
-      ap (λ (t : Forest X). placed_root n t (without n (beside f g))) (tree_at-younger n f g z)
-      ∙ ap (placed_root n (tree_at n g)) (without-younger n f g z)
-      ∙ placed_root-beside low n (tree_at n g) f (without n g) l h
+  cut-younger low n f g l h = grind (arith, tree_at-younger n f g, without-younger n f g, placed_root-beside low n (tree_at n g) f (without n g) l h)
 
   pub put-younger : (low p n : ℕ) (b : Option ℕ) (f g : Forest X) → low ≤ p → low ≤ n → IsBelow low f → put p n b (beside f g) ≡ beside f (put p n b g)
-  put-younger low p n b f g k l h =
-      let z = h n l in
-      ap (λ (t : Forest X). placed_under p b t (without n (beside f g))) (tree_at-younger n f g z)
-      ∙ ap (placed_under p b (tree_at n g)) (without-younger n f g z)
-      ∙ placed_under-beside p b (tree_at n g) f (without n g)
-      ∙ ap (λ (t : Forest X). beside t (placed_under p b (tree_at n g) (without n g))) (placed_under-absent p b (tree_at n g) f (h p k))
+  put-younger low p n b f g k l h = grind (arith, tree_at-younger n, without-younger n, placed_under-beside p, placed_under-absent {X = X})
 
   pub adopted-younger : (low n d : ℕ) (f g : Forest X) → low ≤ n → IsBelow low f → adopted n d (beside f g) ≡ beside f (adopted n d g)
   adopted-younger low n d f g l h = adopted-beside n d f g ∙ ap (λ (t : Forest X). beside t (adopted n d g)) (adopted-absent n d f (h n l))

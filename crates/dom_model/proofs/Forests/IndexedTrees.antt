@@ -1,21 +1,13 @@
 -- The index of each node of a tree, as its place in the lists that the tree is made of.
 use Rattle.std.proofs.Common.{◌≡◌, ℕ, ◌+◌, ◌≤◌, List, [], ◌∷◌, ◌++◌, length, Some, None, refl, ap, sym, ◌∙◌, subst, arith, append_assoc, length-append}
-use Rattle.dom_model.specs.PlainLists.Lists.{hits, place_in}
-use Rattle.dom_model.specs.Forests.Arena.{parent_in, children_in}
-use Rattle.dom_model.specs.Forests.Forest.{Forest, empty, node, occurs, tops, entry_in, children_of, index_of}
+use Rattle.std.proofs.lemmas.Bool.Decides.{nat_tests}
+use Rattle.dom_model.specs.Definitions.{hits, place_in, parent_in, children_in, Forest, empty, node, occurs, tops, entry_in, children_of, index_of, Lies}
 use Rattle.dom_model.proofs.PlainLists.Numbers.{same_or, same, apart}
-use Rattle.dom_model.specs.Forests.Lies.{Lies}
-use Rattle.dom_model.proofs.Forests.Climbing.{hits-append}
-use Rattle.dom_model.proofs.Forests.Entries.{Lies-entry_in}
-use Rattle.dom_model.proofs.Forests.Indices.{child-once, index-child}
+use Rattle.dom_model.proofs.Forests.{Climbing.hits-append, Entries.Lies-entry_in, Indices.child-once, Indices.index-child}
 
 place-ahead : (n : ℕ) (ahead behind : List ℕ) → hits n ahead ≡ 0 → place_in n (ahead ++ n ∷ behind) ≡ length ahead
 place-ahead n [] behind z = elim (same_or n n) [ same e t ↦ rw t refl | apart ne t ↦ absurd (ne refl) ]
-place-ahead n (x ∷ xs) behind z =
-    elim (same_or x n) [
-      | same e t ↦ absurd (let k = rw t at z in omega arith)
-      | apart ne t ↦ (let k = rw t at z in rw t (omega (arith, place-ahead n xs behind (omega arith))))
-    ]
+place-ahead n (x ∷ xs) behind z = grind (arith, place-ahead n xs behind)
 
 module _ {X : Type 0} where
   -- the children's indices go on from i, and so below each
@@ -41,11 +33,7 @@ module _ {X : Type 0} where
         )
       where
         none_ahead : hits x.number (ahead ++ x.number ∷ tops rest) ≤ 1 → hits x.number ahead ≡ 0
-        none_ahead h =
-            elim (same_or x.number x.number) [
-              | same d t ↦ (let k = rw (hits-append x.number ahead (x.number ∷ tops rest), t) at h in omega arith)
-              | apart ne t ↦ absurd (ne refl)
-            ]
+        none_ahead h = grind (arith, nat_tests, hits-append x.number ahead (x.number ∷ tops rest))
 
     indexed_roots : (g : Forest X) → Lies (entry_in f) None g → AreIndexed (index_of f) g
     indexed_roots empty l = tt

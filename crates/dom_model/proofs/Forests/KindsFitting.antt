@@ -1,20 +1,12 @@
 -- Each node still stands where its kind may.
-use Rattle.std.proofs.Common.{◌≡◌, ℕ, ◌==◌, true, false, nat_lt, if◌then◌else◌, Option, Some, None, refl, ap, sym, ◌∙◌, subst}
-use Rattle.dom_model.specs.PlainLists.Lists.{is_number}
-use Rattle.dom_model.specs.Forests.Arena.{Entry}
+use Rattle.std.proofs.Common.{arith, ◌≡◌, ℕ, ◌==◌, true, false, nat_lt, if◌then◌else◌, Option, Some, None, refl, ap, sym, ◌∙◌, subst}
+use Rattle.dom_model.specs.Definitions.{is_number, Entry, Label, may_stand_under, may_stand_in, Node, Forest, empty, node, beside, tree_at, without, placed_under, placed_before, placed_root, tops, cut, with_node, KindsFit, Lies}
 use Rattle.dom_model.specs.declared.Kind.{Kind}
-use Rattle.dom_model.specs.Forests.Kinds.{Label, may_stand_under, may_stand_in}
-use Rattle.dom_model.specs.Forests.Forest.{Node, Forest, empty, node, beside, tree_at, without, placed_under, placed_before, placed_root, tops, cut, with_node, KindsFit}
-use Rattle.dom_model.specs.Forests.Lies.{Lies}
 use Rattle.dom_model.proofs.PlainLists.Numbers.{same_or, same, apart}
 
 module _ {X : Type 0} where
   value_of : (d e : Entry (Node X)) → Some d ≡ Some e → d.value ≡ e.value
-  value_of d e i = ap entry_value i
-    where
-      entry_value : Option (Entry (Node X)) → Node X
-      entry_value None = d.value
-      entry_value (Some a) = a.value
+  value_of d e i = grind arith
 
   pub KindsFit-beside : (q : Option Kind) (f g : Forest X) → KindsFit q f → KindsFit q g → KindsFit q (beside f g)
   KindsFit-beside q empty g k l = l

@@ -1,14 +1,9 @@
 -- A number in a list of trees: the first tree's own, below it, or elsewhere; and what is then told of its entry and its ancestors.
-use Rattle.std.proofs.Common.{◌≡◌, ℕ, ◌<◌, ◌≤◌, List, [], ◌∷◌, ◌++◌, reverse, drop, Option, Some, None, IsSome, refl, ap, sym, ◌∙◌, arith, ⊎_elim}
-use Rattle.std.proofs.lemmas.Bool.{cases_lt, false≢true}
-use Rattle.std.proofs.lemmas.List.{reverse-append}
-use Rattle.dom_model.specs.PlainLists.Lists.{hits, last_of, or_else}
-use Rattle.dom_model.specs.Forests.Arena.{Entry}
-use Rattle.dom_model.specs.Forests.Forest.{Node, Forest, empty, node, occurs, tops, entry_under, ancestors, root_of}
+use Rattle.std.proofs.Common.{◌≡◌, ℕ, ◌<◌, ◌≤◌, List, [], ◌∷◌, ◌++◌, reverse, drop, Option, Some, None, refl, ap, sym, ◌∙◌, arith, ⊎_elim}
+use Rattle.std.proofs.lemmas.{Bool.cases_lt, List.reverse-append}
+use Rattle.dom_model.specs.Definitions.{hits, last_of, Node, Forest, empty, node, occurs, tops, entry_under, ancestors, root_of}
 use Rattle.dom_model.proofs.PlainLists.Numbers.{same_or, same, apart}
-use Rattle.dom_model.proofs.Forests.Climbing.{ancestors-there, ancestors-kids, ancestors-rest}
-use Rattle.dom_model.proofs.Forests.Chains.{way_to}
-use Rattle.dom_model.proofs.Forests.Entries.{entry_under-absent, entry_under-there}
+use Rattle.dom_model.proofs.Forests.{Climbing.ancestors-there, Climbing.ancestors-kids, Climbing.ancestors-rest, Chains.way_to, Entries.entry_under-absent, Entries.entry_under-there}
 
 -- whether the number is the first tree's, stands below it, or does neither
 pub data Lot {X : Type 0} (n : ℕ) (x : Node X) (kids : Forest X) : Type 0 where
@@ -39,22 +34,10 @@ module _ {X : Type 0} where
   entry-top q n x kids rest e = elim (same_or x.number n) [ same d t ↦ rw t refl | apart ne t ↦ absurd (ne e) ]
 
   pub entry-beneath : (q : Option ℕ) (n : ℕ) (x : Node X) (kids rest : Forest X) → (x.number ≡ n → ⊥) → 0 < occurs n kids → entry_under q n (node x kids rest) ≡ entry_under (Some x.number) n kids
-  entry-beneath q n x kids rest ne h =
-      elim (same_or x.number n) [
-        | same e t ↦ absurd (ne e)
-        | apart _ t ↦ rw t (first (entry_under (Some x.number) n kids) (entry_under q n rest) (entry_under-there (Some x.number) n kids h))
-      ]
-    where
-      first : (o p : Option (Entry (Node X))) → IsSome o → or_else o p ≡ o
-      first None p i = absurd (false≢true i)
-      first (Some e) p i = refl
+  entry-beneath q n x kids rest ne h = grind (arith, entry_under-there (Some x.number) n kids h)
 
   pub entry-elsewhere : (q : Option ℕ) (n : ℕ) (x : Node X) (kids rest : Forest X) → (x.number ≡ n → ⊥) → occurs n kids ≡ 0 → entry_under q n (node x kids rest) ≡ entry_under q n rest
-  entry-elsewhere q n x kids rest ne z =
-      elim (same_or x.number n) [
-        | same e t ↦ absurd (ne e)
-        | apart _ t ↦ rw (t, entry_under-absent (Some x.number) n kids z) refl
-      ]
+  entry-elsewhere q n x kids rest ne z = grind (arith, entry_under-absent (Some x.number) n kids z)
 
   pub ancestors-top : (n : ℕ) (x : Node X) (kids rest : Forest X) → x.number ≡ n → ancestors n (node x kids rest) ≡ n ∷ []
   ancestors-top n x kids rest e = elim (same_or x.number n) [ same d t ↦ rw t refl | apart ne t ↦ absurd (ne e) ]
@@ -82,15 +65,4 @@ module _ {X : Type 0} where
   -- a root stands on top
   pub root-listed : (n r : ℕ) (f : Forest X) → root_of f n ≡ Some r → 0 < hits r (tops f)
   root-listed n r empty e = absurd (let d : None ≡ Some r = e in cc d)
-  root-listed n r (node x kids rest) e =
-      elim (lot n x kids) [
-        | on_top d ↦ first (at_top d)
-        | beneath ne h ↦ first (under_top ne h)
-        | elsewhere ne z ↦ (let i = root-listed n r rest (sym (root-elsewhere n x kids rest ne z) ∙ e) in omega arith)
-      ]
-    where
-      first : InTree n x kids → 0 < hits r (x.number ∷ tops rest)
-      first i =
-          let s : Some x.number ≡ Some r = sym (root-top n x kids rest i) ∙ e in
-          let d : x.number ≡ r = cc s in
-          elim (same_or x.number r) [ same k t ↦ rw t (omega arith) | apart ne t ↦ absurd (ne d) ]
+  root-listed n r (node x kids rest) e = grind (arith, root-listed n r rest, root-elsewhere n x kids rest, root-top n x kids rest)

@@ -1,25 +1,13 @@
 -- Entries that spell a forest still do after a change.
-use Rattle.std.proofs.Common.{◌≡◌, ℕ, ◌+◌, ◌<◌, ◌≤◌, ◌==◌, true, false, if◌then◌else◌, nat_lt, List, [], ◌∷◌, Option, Some, None, refl, sym, ◌∙◌, subst, arith}
+use Rattle.std.proofs.Common.{◌≡◌, ℕ, ◌<◌, ◌≤◌, true, false, if◌then◌else◌, nat_lt, List, [], ◌∷◌, Option, Some, None, refl, sym, ◌∙◌, subst, arith}
 use Rattle.std.proofs.lemmas.Bool.Decides.{nat_tests}
-use Rattle.dom_model.specs.PlainLists.Lists.{hits, is_number, left_out}
-use Rattle.dom_model.specs.Forests.Arena.{Entry, parent_in}
-use Rattle.dom_model.specs.Forests.Forest.{Node, Forest, empty, node, total, occurs, one_at, tops, beside, tree_at, without, placed_before, placed_under, placed_root, with_node}
-use Rattle.dom_model.specs.Forests.Lies.{Lies}
+use Rattle.dom_model.specs.Definitions.{hits, is_number, left_out, Entry, parent_in, Node, Forest, empty, node, total, occurs, one_at, tops, beside, tree_at, without, placed_before, placed_under, placed_root, with_node, Lies}
 use Rattle.dom_model.proofs.PlainLists.Numbers.{same_or, same, apart}
-use Rattle.dom_model.proofs.Forests.Totals.{total-beside, without-absent}
-use Rattle.dom_model.proofs.Forests.Tops.{tops-without, tops-placed_under, tops-placed_before, hits-tops}
-use Rattle.dom_model.proofs.Forests.Changes.{cut_at, link_at, change_at}
+use Rattle.dom_model.proofs.Forests.{Totals.total-beside, Totals.without-absent, Tops.tops-without, Tops.tops-placed_under, Tops.tops-placed_before, Tops.hits-tops, Changes.cut_at, Changes.link_at, Changes.change_at}
 
 pub left_out-absent : (c : ℕ) (ns : List ℕ) → hits c ns ≡ 0 → left_out c ns ≡ ns
 left_out-absent c [] h = refl
-left_out-absent c (n ∷ ns) h =
-    elim (same_or n c) [
-      | same e t ↦ absurd (let k = rw t at h in omega arith)
-      | apart ne t ↦
-          let k = rw t at h in
-          let z : hits c ns ≡ 0 = omega arith in
-          rw (t, left_out-absent c ns z) refl
-    ]
+left_out-absent c (n ∷ ns) h = grind (arith, left_out-absent c ns)
 
 module _ {X : Type 0} where
   pub Lies-beside : (at : (ℕ → Option (Entry (Node X)))) (q : Option ℕ) (f g : Forest X) → Lies at q f → Lies at q g → Lies at q (beside f g)
@@ -85,14 +73,7 @@ module _ {X : Type 0} where
   -- a root stands in no list of children
   pub absent_under : (at : (ℕ → Option (Entry (Node X)))) (c q : ℕ) (f : Forest X) → parent_in (at c) ≡ None → Lies at (Some q) f → occurs c f ≡ 0
   absent_under at c q empty r l = refl
-  absent_under at c q (node x kids rest) r l =
-      elim (same_or x.number c) [
-        | same e t ↦
-            let n : parent_in (at x.number) ≡ None = subst (λ m. parent_in (at m) ≡ None) (sym e) r in
-            let k = rw l.0 at n in
-            absurd (cc k)
-        | apart ne t ↦ rw t (omega (arith, absent_under at c x.number kids r l.1, absent_under at c q rest r l.2))
-      ]
+  absent_under at c q (node x kids rest) r l = grind (arith, absent_under at c x.number kids r l.1, absent_under at c q rest r l.2)
 
   pub Lies-without_root : (at : (ℕ → Option (Entry (Node X)))) (c : ℕ) → parent_in (at c) ≡ None → (f : Forest X) → Lies at None f → Lies at None (without c f)
   Lies-without_root at c r empty l = tt
@@ -104,20 +85,8 @@ module _ {X : Type 0} where
             rw (t, z) (l.0, l.1, Lies-without_root at c r rest l.2)
       ]
 
-  link_at-apart : (p c : ℕ) (b : Option ℕ) (n : ℕ) (o : Option (Entry (Node X))) → (n == c) ≡ false → (n == p) ≡ false → link_at p b c n o ≡ o
-  link_at-apart p c b n None h k = refl
-  link_at-apart p c b n (Some e) h k = rw (h, k) refl
-
   unmoved : (at at' : (ℕ → Option (Entry (Node X)))) (p c : ℕ) (b : Option ℕ) → ((n : ℕ) → at' n ≡ link_at p b c n (at n)) → (f : Forest X) → occurs c f ≡ 0 → occurs p f ≡ 0 → (n : ℕ) → 0 < occurs n f → at' n ≡ at n
-  unmoved at at' p c b h f zc zp n on =
-      elim (same_or n c) [
-        | same e t ↦ absurd (let k : occurs n f ≡ 0 = subst (λ m. occurs m f ≡ 0) (sym e) zc in omega arith)
-        | apart ne t ↦
-            elim (same_or n p) [
-              | same e2 t2 ↦ absurd (let k : occurs n f ≡ 0 = subst (λ m. occurs m f ≡ 0) (sym e2) zp in omega arith)
-              | apart ne2 t2 ↦ h n ∙ link_at-apart p c b n (at n) t t2
-            ]
-      ]
+  unmoved at at' p c b h f zc zp n on = grind arith
 
   -- the tree that is put, under its new parent
   pub Lies-put_top : (at at' : (ℕ → Option (Entry (Node X)))) (p c : ℕ) (b : Option ℕ) → ((n : ℕ) → at' n ≡ link_at p b c n (at n)) → (q : Option ℕ) (f : Forest X) → occurs c f ≤ 1 → occurs p (tree_at c f) ≡ 0 → Lies at q f → Lies at' (Some p) (tree_at c f)
@@ -178,19 +147,11 @@ module _ {X : Type 0} where
 
   pub tops-with_node : (n : ℕ) (g : Node X → Node X) → ((x : Node X) → (g x).number ≡ x.number) → (f : Forest X) → tops (with_node n g f) ≡ tops f
   tops-with_node n g h empty = refl
-  tops-with_node n g h (node x kids rest) =
-      elim (x.number == n) as (λ v. (if v then g x else x).number ∷ tops (with_node n g rest) ≡ x.number ∷ tops rest) [
-        | true ↦ rw (h x, tops-with_node n g h rest) refl
-        | false ↦ rw (tops-with_node n g h rest) refl
-      ]
+  tops-with_node n g h (node x kids rest) = grind (arith, tops-with_node n g h rest)
 
   pub total-with_node : (w : ℕ → ℕ) (n : ℕ) (g : Node X → Node X) → ((x : Node X) → (g x).number ≡ x.number) → (f : Forest X) → total w (with_node n g f) ≡ total w f
   total-with_node w n g h empty = refl
-  total-with_node w n g h (node x kids rest) =
-      elim (x.number == n) as (λ v. w (if v then g x else x).number + (total w (with_node n g kids) + total w (with_node n g rest)) ≡ w x.number + (total w kids + total w rest)) [
-        | true ↦ rw (h x, total-with_node w n g h kids, total-with_node w n g h rest) refl
-        | false ↦ rw (total-with_node w n g h kids, total-with_node w n g h rest) refl
-      ]
+  total-with_node w n g h (node x kids rest) = grind (arith, total-with_node w n g h kids, total-with_node w n g h rest)
 
   pub Lies-with_node : (at at' : (ℕ → Option (Entry (Node X)))) (n : ℕ) (g : Node X → Node X) → ((x : Node X) → (g x).number ≡ x.number) → ((k : ℕ) → at' k ≡ change_at g n k (at k)) → (q : Option ℕ) (f : Forest X) → Lies at q f → Lies at' q (with_node n g f)
   Lies-with_node at at' n g h c q empty l = tt

@@ -1,25 +1,11 @@
 -- A new root beside the trees of a forest leaves every other node and the order of points as they were; what is told of it after it is put
 -- under another node.
 use Rattle.std.proofs.Common.{◌≡◌, ℕ, ◌<◌, ◌==◌, Bool, true, false, if◌then◌else◌, List, [], ◌∷◌, ◌++◌, reverse, drop, Option, Some, None, refl, ap, sym, ◌∙◌, arith, append-nil}
-use Rattle.std.specs.Ordering.{nat_cmp}
-use Rattle.std.specs.Cmp.Lexicographic.{slice_cmp}
+use Rattle.dom_model.specs.Definitions.{among, last_of, place_in, after, entered, may_stand_under, Node, Forest, empty, node, occurs, one_at, beside, tree_at, without, put, entry_in, parent_of, children_of, next_of, index_of, ancestors, root_of, KindsFit, Entry, parent_in, children_in, list_under, place_of, order_of, entry_has, kind_passes, IsWay}
 use Rattle.dom_model.specs.declared.Kind.{Kind}
-use Rattle.dom_model.specs.PlainLists.Lists.{among, last_of, place_in, after, entered}
-use Rattle.dom_model.specs.Forests.Kinds.{may_stand_under}
-use Rattle.dom_model.specs.Forests.Forest.{Node, Forest, empty, node, occurs, one_at, beside, tree_at, without, put, entry_in, parent_of, children_of, next_of, index_of, ancestors, root_of, KindsFit}
-use Rattle.dom_model.specs.Forests.Arena.{Entry, parent_in, children_in, list_under}
-use Rattle.dom_model.specs.BoundaryPoints.Points.{place_of, order_of}
-use Rattle.dom_model.specs.Forests.Nodes.{entry_has, kind_passes}
-use Rattle.dom_model.specs.Forests.Ways.{IsWay}
 use Rattle.dom_model.proofs.PlainLists.Numbers.{same_or, same, apart}
-use Rattle.dom_model.proofs.Forests.Totals.{IsOnce, total-beside, total-tree_at, total-put}
-use Rattle.dom_model.proofs.Forests.Changes.{link_at}
-use Rattle.dom_model.proofs.Forests.Entries.{entry-put, parent-put, children-put}
-use Rattle.dom_model.proofs.Forests.Climbing.{hits-ancestors, hits-not_among}
-use Rattle.dom_model.proofs.Forests.Paths.{parent-path, ancestors-put}
-use Rattle.dom_model.proofs.Forests.Chains.{way_to, way}
+use Rattle.dom_model.proofs.Forests.{Totals.IsOnce, Totals.total-beside, Totals.total-tree_at, Totals.total-put, Changes.link_at, Entries.entry-put, Entries.parent-put, Entries.children-put, Climbing.hits-ancestors, Climbing.hits-not_among, Paths.parent-path, Paths.ancestors-put, Chains.way_to, Chains.way, ForestsBeside.entry-older, ForestsBeside.entry-younger, ForestsBeside.ancestors-older, ForestsBeside.tree_at-younger}
 use Rattle.dom_model.proofs.BoundaryPoints.WaysKept.{place_by}
-use Rattle.dom_model.proofs.Forests.ForestsBeside.{entry-older, entry-younger, ancestors-older, tree_at-younger}
 
 pub root-kinds : {X : Type 0} (q : Option Kind) (f : Forest X) (x : Node X) → may_stand_under q x.label.kind ≡ true → KindsFit q f → KindsFit q (beside f (node x empty empty))
 root-kinds q empty x h k = (h, tt, tt)
@@ -41,20 +27,11 @@ module _ {X : Type 0} (f : Forest X) (o : IsOnce f) (x : Node X) (new : occurs x
   more-there n h = let t = total-beside (one_at n) f (node x empty empty) in omega arith
 
   pub new-there : 0 < occurs x.number more
-  new-there =
-      let t = total-beside (one_at x.number) f (node x empty empty) in
-      elim (same_or x.number x.number) [
-        | same e v ↦ (let k = rw v at t in omega arith)
-        | apart ne v ↦ absurd (ne refl)
-      ]
+  new-there = grind (arith, total-beside (one_at x.number) f (node x empty empty))
 
   -- the other nodes are as they were
   other : (m : ℕ) → 0 < occurs m f → occurs m (node x empty empty) ≡ 0
-  other m h =
-      elim (same_or x.number m) [
-        | same e v ↦ absurd (let k : occurs m f ≡ 0 = ap (λ n. occurs n f) (sym e) ∙ new in omega arith)
-        | apart ne v ↦ rw v (omega arith)
-      ]
+  other m h = grind arith
 
   pub entry-more : (n : ℕ) → 0 < occurs n f → entry_in more n ≡ entry_in f n
   entry-more n h = entry-older n f (node x empty empty) (other n h)
@@ -78,11 +55,7 @@ module _ {X : Type 0} (f : Forest X) (o : IsOnce f) (x : Node X) (new : occurs x
   root-more n h = ap last_of (ancestors-older n f (node x empty empty) (other n h))
 
   siblings-more : (n : ℕ) → 0 < occurs n f → list_under (entry_in more) (parent_of more n) ≡ list_under (entry_in f) (parent_of f n)
-  siblings-more n h = ap (list_under (entry_in more)) (parent-more n h) ∙ under (parent_of f n) refl
-    where
-      under : (q : Option ℕ) → parent_of f n ≡ q → list_under (entry_in more) q ≡ list_under (entry_in f) q
-      under None e = refl
-      under (Some m) e = children-more m (parent-path f o n m h e).0
+  siblings-more n h = grind (arith, parent-more n h, children-more, parent-path f o n)
 
   pub index-more : (n : ℕ) → 0 < occurs n f → index_of more n ≡ index_of f n
   index-more n h = ap (place_in n) (siblings-more n h)
@@ -101,9 +74,7 @@ module _ {X : Type 0} (f : Forest X) (o : IsOnce f) (x : Node X) (new : occurs x
 
   -- points of the trees that were there stand as they did
   pub order-more : (n m a d : ℕ) → 0 < occurs n f → 0 < occurs m f → order_of more (record { node = n; offset = a }) (record { node = m; offset = d }) ≡ order_of f (record { node = n; offset = a }) (record { node = m; offset = d })
-  order-more n m a d hn hm =
-      ap (λ ns. slice_cmp nat_cmp ns (place_of more (record { node = m; offset = d }))) (place-more n a hn)
-      ∙ ap (slice_cmp nat_cmp (place_of f (record { node = n; offset = a }))) (place-more m d hm)
+  order-more n m a d hn hm = grind (arith, place-more n a hn, place-more m d hm)
 
   pub root-kind : (test : Kind → Bool) → kind_passes test more x.number ≡ test x.label.kind
   root-kind test = ap (entry_has test) entry-new
@@ -113,9 +84,7 @@ module _ {X : Type 0} (f : Forest X) (o : IsOnce f) (x : Node X) (new : occurs x
     put_after = put p x.number (next_of more t) more
 
     apart_from : occurs p (tree_at x.number more) ≡ 0
-    apart_from =
-        ap (λ (g : Forest X). occurs p g) (tree_at-younger x.number f (node x empty empty) new)
-        ∙ elim (same_or x.number x.number) [ same e v ↦ rw v (other p hp) | apart ne v ↦ absurd (ne refl) ]
+    apart_from = grind (arith, tree_at-younger x.number f (node x empty empty) new)
 
     next-old : next_of more t ≡ after t (children_of f p)
     next-old =

@@ -1,15 +1,9 @@
 -- Children and siblings: a node, the one before it, the one after it, and their indices.
-use Rattle.std.proofs.Common.{◌≡◌, ℕ, zero, suc, ◌+◌, ◌<◌, ◌≤◌, List, [], ◌∷◌, length, Some, None, refl, sym, ◌∙◌, arith, ⊎_elim, ◌==◌, true, Option, ap, slice_get}
-use Rattle.dom_model.specs.PlainLists.Lists.{hits, head_of, after, before, before_from, place_in}
-use Rattle.dom_model.specs.Forests.Arena.{siblings_in}
-use Rattle.dom_model.specs.Forests.Forest.{Forest, Grove, entry_in, HasNode, parent_of, children_of, next_of, previous_of, index_of, IsForest, occurs}
-use Rattle.dom_model.proofs.PlainLists.Numbers.{same_or, same, apart}
-use Rattle.dom_model.proofs.Forests.Changes.{seen, nothing, just}
-use Rattle.dom_model.proofs.Forests.Entries.{occurs-HasNode, HasNode-occurs}
-use Rattle.dom_model.proofs.Forests.Indices.{child-parent, child-there, child-listed, child-once, index-child}
-use Rattle.dom_model.proofs.PlainLists.Members.{hits-before}
-use Rattle.dom_model.proofs.PlainLists.Places.{place_before}
-use Rattle.dom_model.proofs.Forests.PutBack.{hits-after}
+use Rattle.std.proofs.Common.{◌≡◌, ℕ, zero, suc, ◌+◌, ◌<◌, ◌≤◌, List, [], ◌∷◌, length, Some, None, refl, sym, ◌∙◌, arith, ⊎_elim, Option, ap, slice_get}
+use Rattle.std.proofs.lemmas.Bool.Decides.{nat_tests}
+use Rattle.dom_model.specs.Definitions.{hits, head_of, after, before, before_from, place_in, siblings_in, Forest, Grove, entry_in, HasNode, parent_of, children_of, next_of, previous_of, index_of, IsForest, occurs}
+use Rattle.dom_model.proofs.PlainLists.{Numbers.same_or, Numbers.same, Numbers.apart, Members.hits-before, Places.place_before}
+use Rattle.dom_model.proofs.Forests.{Changes.seen, Changes.nothing, Changes.just, Entries.occurs-HasNode, Entries.HasNode-occurs, Indices.child-parent, Indices.child-there, Indices.child-listed, Indices.child-once, Indices.index-child, PutBack.hits-after}
 
 pub place_in-length : (n : ℕ) (l : List ℕ) → place_in n l ≤ length l
 place_in-length n [] = omega arith
@@ -18,38 +12,12 @@ place_in-length n (x ∷ xs) =
 
 place-from : (n m p : ℕ) (l : List ℕ) → ((k : ℕ) → hits k (p ∷ l) ≤ 1) → (p ≡ n → ⊥) → before_from (Some p) n l ≡ Some m → place_in n (p ∷ l) ≡ 1 + place_in m (p ∷ l)
 place-from n m p [] o ne e = absurd (cc e)
-place-from n m p (x ∷ xs) o ne e =
-    elim (same_or p n) [
-      | same d _ ↦ absurd (ne d)
-      | apart _ pn ↦
-          elim (same_or x n) [
-            | same d t ↦
-                let k = rw t at e in
-                let i : p ≡ m = cc k in
-                elim (same_or p m) [ same _ v ↦ rw (pn, t, v) refl | apart nm v ↦ absurd (nm i) ]
-            | apart nx t ↦
-                let k = rw t at e in
-                let ih = place-from n m x xs (λ j. let w = o j in omega arith) nx k in
-                let on : 0 < hits m (x ∷ xs) =
-                ⊎_elim
-                (λ (q : Some x ≡ Some m). (let d : x ≡ m = cc q in elim (same_or x m) [ same _ v ↦ rw v (omega arith) | apart nm v ↦ absurd (nm d) ]))
-                (λ (q : 0 < hits m xs). omega arith)
-                (hits-before (Some x) n xs m k) in
-                elim (same_or p m) [
-                  | same d v ↦ absurd (let w = o m in let w2 = rw v at w in omega arith)
-                  | apart _ v ↦ rw (pn, v) (omega (arith, ih))
-                ]
-          ]
-    ]
+place-from n m p (x ∷ xs) o ne e = grind (arith, place-from n m x xs, hits-before (Some x) n xs m)
 
 -- the place just before
 pub place-before : (n m : ℕ) (l : List ℕ) → ((k : ℕ) → hits k l ≤ 1) → before n l ≡ Some m → place_in n l ≡ 1 + place_in m l
 place-before n m [] o e = absurd (cc e)
-place-before n m (x ∷ xs) o e =
-    elim (same_or x n) [
-      | same d t ↦ absurd (let k = rw t at e in let z : None ≡ Some m = k in cc z)
-      | apart ne t ↦ (let k = rw t at e in place-from n m x xs o ne k)
-    ]
+place-before n m (x ∷ xs) o e = grind (arith, place-from n m x xs o)
 
 place-passed : (n p : ℕ) (l : List ℕ) → 0 < hits n l → before_from (Some p) n l ≡ None → ⊥
 place-passed n p [] h e = omega arith
@@ -61,22 +29,12 @@ place-passed n p (x ∷ xs) h e =
 
 pub place-first : (n : ℕ) (l : List ℕ) → 0 < hits n l → before n l ≡ None → place_in n l ≡ 0
 place-first n [] h e = refl
-place-first n (x ∷ xs) h e =
-    elim (same_or x n) [
-      | same d t ↦ rw t refl
-      | apart ne t ↦ absurd (let k = rw t at e in let w = rw t at h in place-passed n x xs (omega arith) k)
-    ]
+place-first n (x ∷ xs) h e = grind (arith, place-passed n x xs)
 
 -- what comes next after the element at an index
 pub after-get : (l : List ℕ) (i c : ℕ) → ((k : ℕ) → hits k l ≤ 1) → slice_get l i ≡ Some c → after c l ≡ slice_get l (suc i)
 after-get [] i c o e = absurd (cc e)
-after-get (x ∷ xs) zero c o e =
-    let d : x ≡ c = cc e in
-    elim (same_or x c) [ same _ t ↦ rw t (first xs) | apart ne t ↦ absurd (ne d) ]
-  where
-    first : (ys : List ℕ) → head_of ys ≡ slice_get ys 0
-    first [] = refl
-    first (y ∷ ys) = refl
+after-get (x ∷ xs) zero c o e = grind arith
 after-get (x ∷ xs) (suc i) c o e =
     let ih = after-get xs i c (λ j. let w = o j in omega arith) e in
     elim (same_or x c) [
@@ -120,13 +78,7 @@ module _ {X : Type 0} {g : Grove X} (s : IsForest g) where
       ]
 
   pub index-first : (n : ℕ) → HasNode g.forest n → previous_of g.forest n ≡ None → index_of g.forest n ≡ 0
-  index-first n h e =
-      elim (seen (parent_of g.forest n)) [
-        | nothing d ↦ rw d refl
-        | just p d ↦
-            let k = rw d at e in
-            rw d (place-first n (children_of g.forest p) (child-listed g.forest s.once n p (occurs-HasNode g.forest n h) d) k)
-      ]
+  index-first n h e = grind (arith, place-first n, child-listed g.forest s.once n, occurs-HasNode g.forest n h)
 
   -- the next child is at the next index
   pub child-next : (p c i : ℕ) → HasNode g.forest p → slice_get (children_of g.forest p) i ≡ Some c → next_of g.forest c ≡ slice_get (children_of g.forest p) (suc i)
@@ -164,25 +116,11 @@ place-after n (x ∷ xs) o h =
   where
     at_head : (ys : List ℕ) → hits x (x ∷ ys) ≤ 1 → place_before (head_of ys) (x ∷ ys) ≡ 1
     at_head [] i = refl
-    at_head (y ∷ ys) i =
-        elim (same_or x y) [
-          | same e t ↦ absurd (let j : hits x (x ∷ y ∷ ys) ≤ 1 = i in twice e j)
-          | apart ne t ↦ rw (t, self y) refl
-        ]
-      where
-        self : (m : ℕ) → (m == m) ≡ true
-        self m = elim (same_or m m) [ same e t ↦ t | apart ne t ↦ absurd (ne refl) ]
-
-        twice : x ≡ y → hits x (x ∷ y ∷ ys) ≤ 1 → ⊥
-        twice e j = let k = rw (self x, sym (ap (λ m. m == x) e) ∙ self x) at j in omega arith
+    at_head (y ∷ ys) i = grind (arith, nat_tests)
 
     past_head : (b : Option ℕ) → ((k : ℕ) → b ≡ Some k → 0 < hits k xs) → place_before b xs ≡ place_in n xs + 1 → place_before b (x ∷ xs) ≡ 1 + place_in n xs + 1
     past_head None there e = omega arith
-    past_head (Some b) there e =
-        elim (same_or x b) [
-          | same d t ↦ absurd (let i = there b refl in let j = o b in let k = rw t at j in omega arith)
-          | apart ne t ↦ rw t (omega arith)
-        ]
+    past_head (Some b) there e = grind (arith, nat_tests, there b, o b)
 
 module _ {X : Type 0} (f : Forest X) (o : (m : ℕ) → occurs m f ≤ 1) (n p : ℕ) (hn : 0 < occurs n f) (e : parent_of f n ≡ Some p) where
   next-after : next_of f n ≡ after n (children_of f p)
@@ -197,9 +135,7 @@ module _ {X : Type 0} (f : Forest X) (o : (m : ℕ) → occurs m f ≤ 1) (n p :
 
   -- the next sibling is the child of the next index
   pub next-child : slice_get (children_of f p) (index_of f n + 1) ≡ next_of f n
-  next-child =
-      let k : index_of f n + 1 ≡ suc (place_in n (children_of f p)) = omega (arith, index-child f n p e) in
-      ap (slice_get (children_of f p)) k ∙ get-after n (children_of f p) (child-listed f o n p hn e) ∙ sym next-after
+  next-child = grind (arith, get-after n (children_of f p) (child-listed f o n p hn e))
 
   -- it is one of the parent's children
   pub next-listed : (m : ℕ) → next_of f n ≡ Some m → 0 < hits m (children_of f p)

@@ -1,35 +1,12 @@
 -- Where a node stands: at the top of a list of trees, inside the first or beyond it; and what the entries say of a list of siblings.
-use Rattle.std.proofs.Common.{◌≡◌, ℕ, ◌<◌, ◌≤◌, ◌==◌, true, false, List, [], ◌∷◌, ◌++◌, Option, Some, None, refl, ap, sym, ◌∙◌, subst, arith, ⊎_elim, append_assoc}
-use Rattle.std.proofs.lemmas.Bool.{cases_lt}
+use Rattle.std.proofs.Common.{◌≡◌, ℕ, ◌<◌, ◌≤◌, List, [], ◌∷◌, ◌++◌, Option, Some, None, refl, ap, sym, ◌∙◌, subst, arith, append_assoc}
 use Rattle.std.specs.Option.{option_or}
-use Rattle.dom_model.specs.PlainLists.Lists.{hits, head_of, last_of, after, before_from, before}
-use Rattle.dom_model.specs.Forests.Arena.{Entry, parent_in, children_in, list_under, siblings_in, next_in, previous_in}
-use Rattle.dom_model.specs.Forests.Forest.{Node, Forest, empty, node, occurs, one_at, tops, tree_at, entry_in}
-use Rattle.dom_model.specs.Forests.Lies.{Lies}
+use Rattle.std.proofs.lemmas.Bool.Decides.{nat_tests}
+use Rattle.dom_model.specs.Definitions.{hits, head_of, last_of, after, before_from, before, Entry, parent_in, children_in, list_under, siblings_in, next_in, previous_in, Node, Forest, empty, node, occurs, one_at, tops, tree_at, entry_in, Lies}
 use Rattle.dom_model.proofs.PlainLists.Numbers.{same_or, same, apart}
-use Rattle.dom_model.proofs.Forests.Totals.{IsOnce, total-tree_at, tree_at-absent, beside-empty}
-use Rattle.dom_model.proofs.Forests.Tops.{hits-tops}
-use Rattle.dom_model.proofs.Forests.Climbing.{hits-append, hits-first}
+use Rattle.dom_model.proofs.Forests.{Totals.IsOnce, Totals.total-tree_at, Totals.tree_at-absent, Totals.beside-empty, Tops.hits-tops, Climbing.hits-append, Climbing.hits-first, Entries.Lies-entry_in}
 use Rattle.dom_model.proofs.BoundaryPoints.RootsKept.{last_of-behind}
-use Rattle.dom_model.proofs.Forests.Entries.{Lies-entry_in}
-
--- where a number stands that a list of trees has once
-pub data Whereabouts {X : Type 0} (n : ℕ) (x : Node X) (kids rest : Forest X) : Type 0 where
-  top : x.number ≡ n → (x.number == n) ≡ true → occurs n kids ≡ 0 → occurs n rest ≡ 0 → Whereabouts n x kids rest
-  inside : (x.number ≡ n → ⊥) → (x.number == n) ≡ false → occurs n kids ≡ 1 → occurs n rest ≡ 0 → Whereabouts n x kids rest
-  beyond : (x.number ≡ n → ⊥) → (x.number == n) ≡ false → occurs n kids ≡ 0 → occurs n rest ≡ 1 → Whereabouts n x kids rest
-
-pub whereabouts : {X : Type 0} (n : ℕ) (x : Node X) (kids rest : Forest X) → occurs n (node x kids rest) ≡ 1 → Whereabouts n x kids rest
-whereabouts n x kids rest h =
-    elim (same_or x.number n) [
-      | same e t ↦ (let k = rw t at h in top e t (omega arith) (omega arith))
-      | apart ne t ↦
-          let k = rw t at h in
-          ⊎_elim
-          (λ (lt : 0 < occurs n kids). inside ne t (omega arith) (omega arith))
-          (λ (le : occurs n kids ≤ 0). beyond ne t (omega arith) (omega arith))
-          (cases_lt 0 (occurs n kids))
-    ]
+pub use Rattle.dom_model.proofs.Forests.Whereabouts.{top, inside, beyond, whereabouts}
 
 pub or_none : (o : Option ℕ) → option_or o None ≡ o
 or_none None = refl
@@ -37,19 +14,11 @@ or_none (Some n) = refl
 
 pub after-ahead : (n : ℕ) (ahead behind : List ℕ) → hits n ahead ≡ 0 → after n (ahead ++ n ∷ behind) ≡ head_of behind
 after-ahead n [] behind h = elim (same_or n n) [ same e t ↦ rw t refl | apart ne t ↦ absurd (ne refl) ]
-after-ahead n (x ∷ xs) behind h =
-    elim (same_or x n) [
-      | same e t ↦ absurd (let k = rw t at h in omega arith)
-      | apart ne t ↦ (let k = rw t at h in let z : hits n xs ≡ 0 = omega arith in rw t (after-ahead n xs behind z))
-    ]
+after-ahead n (x ∷ xs) behind h = grind (arith, after-ahead n xs behind)
 
 pub before-ahead : (passed : Option ℕ) (n : ℕ) (ahead behind : List ℕ) → hits n ahead ≡ 0 → before_from passed n (ahead ++ n ∷ behind) ≡ option_or (last_of ahead) passed
 before-ahead passed n [] behind h = elim (same_or n n) [ same e t ↦ rw t refl | apart ne t ↦ absurd (ne refl) ]
-before-ahead passed n (x ∷ []) behind h =
-    elim (same_or x n) [
-      | same e t ↦ absurd (let k = rw t at h in omega arith)
-      | apart ne t ↦ rw t (before-ahead (Some x) n [] behind refl)
-    ]
+before-ahead passed n (x ∷ []) behind h = grind arith
 before-ahead passed n (x ∷ y ∷ ys) behind h =
     elim (same_or x n) [
       | same e t ↦ absurd (let k = rw t at h in omega arith)
@@ -150,8 +119,4 @@ module _ {X : Type 0} where
       i = found (entry_in f) None n f (Lies-entry_in f o) (let k = o n in omega arith)
 
       kids_once : (m : ℕ) → occurs m i.kids ≤ 1
-      kids_once m =
-          let a = total-tree_at (one_at m) n f in
-          let b = rw i.tree at a in
-          let c = o m in
-          omega arith
+      kids_once m = grind (arith, nat_tests, total-tree_at (one_at m) n f, o m)

@@ -1,8 +1,7 @@
 -- The tops of a changed forest.
-use Rattle.std.proofs.Common.{◌≡◌, ℕ, suc, ◌<◌, ◌≤◌, true, false, if◌then◌else◌, nat_lt, List, [], ◌∷◌, ◌++◌, Option, refl, arith, ⊎_elim}
+use Rattle.std.proofs.Common.{◌≡◌, ℕ, suc, ◌<◌, ◌≤◌, true, false, nat_lt, List, [], ◌∷◌, ◌++◌, Option, refl, arith, ⊎_elim}
 use Rattle.std.proofs.lemmas.Bool.{cases_lt, lt-ltb, le-ltb}
-use Rattle.dom_model.specs.PlainLists.Lists.{hits, is_number, entered, left_out}
-use Rattle.dom_model.specs.Forests.Forest.{Forest, empty, node, occurs, tops, beside, tree_at, without, placed_before, placed_under, placed_root, IsRising}
+use Rattle.dom_model.specs.Definitions.{hits, entered, left_out, Forest, empty, node, occurs, tops, beside, tree_at, without, placed_before, placed_under, placed_root, IsRising}
 use Rattle.dom_model.proofs.PlainLists.Numbers.{same_or, same, apart}
 use Rattle.dom_model.proofs.Forests.Totals.{tree_at-absent, beside-empty}
 
@@ -25,11 +24,7 @@ module _ {X : Type 0} where
 
   pub tops-without : (c : ℕ) (f : Forest X) → tops (without c f) ≡ left_out c (tops f)
   tops-without c empty = refl
-  tops-without c (node x kids rest) =
-      elim (same_or x.number c) [
-        | same e t ↦ rw t (tops-without c rest)
-        | apart ne t ↦ rw t (rw (tops-without c rest) refl)
-      ]
+  tops-without c (node x kids rest) = grind (arith, tops-without c rest)
 
   pub tops-placed_under : (p : ℕ) (b : Option ℕ) (t f : Forest X) → tops (placed_under p b t f) ≡ tops f
   tops-placed_under p b t empty = refl
@@ -37,33 +32,12 @@ module _ {X : Type 0} where
 
   pub tops-placed_before : (b : Option ℕ) (c : ℕ) (t f : Forest X) → tops t ≡ c ∷ [] → tops (placed_before b t f) ≡ entered b c (tops f)
   tops-placed_before b c t empty h = h
-  tops-placed_before b c t (node x kids rest) h =
-      elim (is_number b x.number) as (λ v. tops (if v then beside t (node x kids rest) else node x kids (placed_before b t rest)) ≡ (if v then c ∷ x.number ∷ tops rest else x.number ∷ entered b c (tops rest))) [
-        | true ↦ rw (tops-beside t (node x kids rest), h) refl
-        | false ↦ rw (tops-placed_before b c t rest h) refl
-      ]
+  tops-placed_before b c t (node x kids rest) h = grind (arith, tops-beside t (node x kids rest), tops-placed_before b c t rest h)
 
   pub tops-tree_at : (c : ℕ) (f : Forest X) → occurs c f ≡ 1 → tops (tree_at c f) ≡ c ∷ []
   tops-tree_at c empty h = absurd (omega arith)
   tops-tree_at c (node x kids rest) h =
-      elim (same_or x.number c) [
-        | same e t ↦
-            let k = rw t at h in
-            let z : occurs c rest ≡ 0 = omega arith in
-            rw (t, tree_at-absent c rest z, e) refl
-        | apart ne t ↦
-            let k = rw t at h in
-            rw t (⊎_elim
-            (λ (lt : 0 < occurs c kids).
-            let z : occurs c rest ≡ 0 = omega arith in
-            let o : occurs c kids ≡ 1 = omega arith in
-            rw (tree_at-absent c rest z, beside-empty (tree_at c kids)) (tops-tree_at c kids o))
-            (λ (le : occurs c kids ≤ 0).
-            let z : occurs c kids ≡ 0 = omega arith in
-            let o : occurs c rest ≡ 1 = omega arith in
-            rw (tree_at-absent c kids z) (tops-tree_at c rest o))
-            (cases_lt 0 (occurs c kids)))
-      ]
+      grind (arith, tree_at-absent c rest, beside-empty (tree_at c kids), tops-tree_at c kids, tree_at-absent c kids, tops-tree_at c rest)
 
   pub hits-tops : (n : ℕ) (f : Forest X) → hits n (tops f) ≤ occurs n f
   hits-tops n empty = omega arith

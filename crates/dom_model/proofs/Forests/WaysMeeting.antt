@@ -1,31 +1,17 @@
 -- The inclusive ancestors of a node (what is above it): how deep they stand, their root, and where the ways up from two nodes meet.
-use Rattle.std.proofs.Common.{◌≡◌, ℕ, zero, suc, ◌+◌, ◌<◌, ◌≤◌, Bool, true, false, List, [], ◌∷◌, length, drop, Some, IsSome, refl, ap, sym, ◌∙◌, subst, arith, length-append, ⊎_elim}
-use Rattle.std.specs.Prelude.{filter, unwrap_or}
-use Rattle.std.proofs.lemmas.Bool.{cases_lt}
+use Rattle.std.proofs.Common.{◌≡◌, ℕ, zero, suc, ◌+◌, ◌<◌, ◌≤◌, Bool, true, false, List, [], ◌∷◌, length, drop, Some, IsSome, refl, ap, sym, ◌∙◌, subst, arith, length-append, filter, unwrap_or}
+use Rattle.std.proofs.lemmas.Bool.Decides.{nat_tests}
 use Rattle.std.proofs.Math.Seq.{drop-append_seam}
-use Rattle.dom_model.specs.PlainLists.Lists.{hits, among, head_of, last_of, up_to}
-use Rattle.dom_model.specs.Forests.Forest.{Forest, occurs, size, parent_of, ancestors, root_of}
-use Rattle.dom_model.specs.RangesAndContents.Ranges.{common_ancestor}
+use Rattle.dom_model.specs.Definitions.{hits, among, head_of, last_of, up_to, Forest, occurs, size, parent_of, ancestors, root_of, common_ancestor}
 use Rattle.dom_model.proofs.PlainLists.Numbers.{same_or, same, apart}
-use Rattle.dom_model.proofs.Forests.Changes.{seen, nothing, just}
-use Rattle.dom_model.proofs.Forests.Climbing.{hits-append, hits-first, hits-among, hits-not_among, ancestors-there}
-use Rattle.dom_model.proofs.Forests.Paths.{parent-path, root-path}
+use Rattle.dom_model.proofs.Forests.{Changes.seen, Changes.nothing, Changes.just, Climbing.hits-append, Climbing.hits-first, Climbing.hits-among, Climbing.hits-not_among, Climbing.ancestors-there, Paths.parent-path, Paths.root-path}
 use Rattle.dom_model.proofs.RangesAndContents.PathsApart.{along, along-ancestors, up_to-itself}
-use Rattle.dom_model.proofs.BoundaryPoints.RemovalOrder.{ancestors-split}
-use Rattle.dom_model.proofs.BoundaryPoints.RootsKept.{last_of-behind}
+use Rattle.dom_model.proofs.BoundaryPoints.{RemovalOrder.ancestors-split, RootsKept.last_of-behind}
 
 -- the first that passes, where none before it does
 first-passing : (q : ℕ → Bool) (xs : List ℕ) (c : ℕ) → 0 < hits c xs → q c ≡ true → ((x : ℕ) → 0 < hits x (up_to c xs) → q x ≡ false) → head_of (filter q xs) ≡ Some c
 first-passing q [] c h e none = absurd (omega arith)
-first-passing q (y ∷ xs) c h e none =
-    elim (same_or y c) [
-      | same d t ↦ (let k : q y ≡ true = ap q d ∙ e in rw k (ap (λ x. Some x) d))
-      | apart ne t ↦
-          let n = rw t at none in
-          let i = rw t at h in
-          let k : q y ≡ false = n y (hits-first y (up_to c xs)) in
-          rw k (first-passing q xs c (omega arith) e (λ x j. n x (omega arith)))
-    ]
+first-passing q (y ∷ xs) c h e none = grind (arith, first-passing q xs c)
 
 module _ {X : Type 0} where
   -- no node has more inclusive ancestors than there are nodes
@@ -55,29 +41,19 @@ module _ {X : Type 0} where
 
     -- what is above a node above is above
     pub above-twice : (a c n : ℕ) → 0 < occurs n f → 0 < hits c (ancestors n f) → 0 < hits a (ancestors c f) → 0 < hits a (ancestors n f)
-    above-twice a c n h i j =
-        let s = ancestors-split f o c n h i in
-        rw s.1 (omega (arith, hits-append a s.0 (ancestors c f)))
+    above-twice a c n h i j = grind (arith, ancestors-split f o c n h i, hits-append a)
 
     -- the parent of a node above is above
     pub above-child : (c q n : ℕ) → 0 < occurs n f → 0 < occurs c f → 0 < hits c (ancestors n f) → parent_of f c ≡ Some q → 0 < hits q (ancestors n f)
-    above-child c q n h hc i e =
-        let p = parent-path f o c q hc e in
-        let up : 0 < hits q (ancestors c f) = rw p.1 (omega (arith, above-itself q p.0)) in
-        above-twice q c n h i up
+    above-child c q n h hc i e = grind (arith, parent-path f o c q hc e, above-itself q, above-twice q c n h i)
 
     -- a node above stands no deeper
     pub above-higher : (c n : ℕ) → 0 < occurs n f → 0 < hits c (ancestors n f) → length (ancestors c f) ≤ length (ancestors n f)
-    above-higher c n h i =
-        let s = ancestors-split f o c n h i in
-        rw s.1 (omega (arith, length-append s.0 (ancestors c f)))
+    above-higher c n h i = grind (arith, ancestors-split f o c n h i, length-append)
 
     -- and has the same root
     pub above-root : (c n : ℕ) → 0 < occurs n f → 0 < occurs c f → 0 < hits c (ancestors n f) → root_of f c ≡ root_of f n
-    above-root c n h hc i =
-        let s = ancestors-split f o c n h i in
-        let t = ancestors-there c f hc in
-        rw (s.1, t.1) (sym (last_of-behind s.0 c t.0))
+    above-root c n h hc i = grind (arith, ancestors-split f o c n h i, ancestors-there c f hc, last_of-behind)
 
     -- two nodes above one that stand as deep as one another are one
     pub above-apart : (a b n : ℕ) → 0 < occurs n f → 0 < occurs a f → 0 < occurs b f → 0 < hits a (ancestors n f) → 0 < hits b (ancestors n f) → length (ancestors a f) ≡ length (ancestors b f) → a ≡ b
@@ -125,46 +101,12 @@ module _ {X : Type 0} where
               | same d t ↦ subst (λ y. 0 < hits a (ancestors y f)) (sym d) hi
               | apart nx t ↦
                   elim (seen (parent_of f m)) [
-                    | nothing d ↦ absurd (top m (root-path f o m hm d) nx hx)
-                    | just q d ↦ step fuel m q l hm hi hx nx d (λ i1 i2 i3 i4. go fuel q i1 i2 i3 i4)
+                    | nothing d ↦ absurd (grind (arith, nat_tests, root-path f o m hm d))
+                    | just q d ↦
+                        let p = parent-path f o m q hm d in
+                        go fuel q (let s = rw p.1 at l in omega arith) p.0 (grind (arith, nat_tests, p.1, d, e, up_to-itself c f)) (grind (arith, nat_tests, p.1))
                   ]
             ]
-          where
-            top : (m : ℕ) → ancestors m f ≡ m ∷ [] → (x ≡ m → ⊥) → 0 < hits x (up_to c (ancestors m f)) → ⊥
-            top m p nx hx =
-                let j = rw p at hx in
-                elim (same_or m c) [
-                  | same s u ↦ (let w = rw u at j in omega arith)
-                  | apart ns u ↦
-                      let w = rw u at j in
-                      elim (same_or m x) [ same s2 v ↦ nx (sym s2) | apart _ v ↦ (let y = rw v at w in omega arith) ]
-                ]
-
-            step : (fuel m q : ℕ) → length (ancestors m f) ≤ suc fuel → 0 < occurs m f → 0 < hits a (ancestors m f) → 0 < hits x (up_to c (ancestors m f)) → (x ≡ m → ⊥) → parent_of f m ≡ Some q → (length (ancestors q f) ≤ fuel → 0 < occurs q f → 0 < hits a (ancestors q f) → 0 < hits x (up_to c (ancestors q f)) → 0 < hits a (ancestors x f)) → 0 < hits a (ancestors x f)
-            step fuel m q l hm hi hx nx d later =
-                let p = parent-path f o m q hm d in
-                let lq = rw p.1 at l in
-                let hx2 = rw p.1 at hx in
-                let hi2 = rw p.1 at hi in
-                elim (same_or m c) [
-                  | same s u ↦ absurd (let w = rw u at hx2 in omega arith)
-                  | apart ns u ↦
-                      let w = rw u at hx2 in
-                      elim (same_or m x) [
-                        | same s v ↦ absurd (nx (sym s))
-                        | apart _ v ↦
-                            let y = rw v at w in
-                            elim (same_or m a) [
-                              | same s z ↦
-                                  absurd (let qc : Some q ≡ Some c = sym d ∙ ap (parent_of f) s ∙ e in
-                                  let qd : q ≡ c = cc qc in
-                                  let empty : up_to c (ancestors q f) ≡ [] = ap (λ r. up_to c (ancestors r f)) qd ∙ up_to-itself c f in
-                                  let y2 = rw empty at y in
-                                  omega arith)
-                              | apart na z ↦ (let i2 = rw z at hi2 in later (omega arith) p.0 (omega arith) (omega arith))
-                            ]
-                      ]
-                ]
 
     -- the deepest node above both is the first on the way up from the one that is above the other
     met : (n m c : ℕ) → 0 < occurs n f → 0 < hits c (ancestors n f) → 0 < hits c (ancestors m f) → ((x : ℕ) → 0 < hits x (up_to c (ancestors n f)) → hits x (ancestors m f) ≡ 0) → common_ancestor f n m ≡ c
@@ -175,21 +117,20 @@ module _ {X : Type 0} where
     pub met-first : (n m : ℕ) → 0 < occurs n f → 0 < hits n (ancestors m f) → common_ancestor f n m ≡ n
     met-first n m h j = met n m n h (above-itself n h) j (λ x k. absurd (let w = rw (up_to-itself n f) at k in omega arith))
 
-    none-by : (x m : ℕ) → (0 < hits x (ancestors m f) → ⊥) → hits x (ancestors m f) ≡ 0
-    none-by x m never = ⊎_elim (λ (lt : 0 < hits x (ancestors m f)). absurd (never lt)) (λ (le : hits x (ancestors m f) ≤ 0). omega arith) (cases_lt 0 (hits x (ancestors m f)))
-
     -- the second, where the first stands below it
     pub met-second : (n m a : ℕ) → 0 < occurs n f → 0 < occurs m f → 0 < occurs a f → parent_of f a ≡ Some m → 0 < hits a (ancestors n f) → common_ancestor f n m ≡ m
     met-second n m a hn hm ha e i =
-        met n m m hn (above-child a m n hn ha i e) (above-itself m hm) (λ x k. none-by x m (λ j.
-        let up = below-last n m a x hn i e hm k in
-        let deep = above-higher a m hm (above-twice a x m hm j up) in
-        let step = depth-child a m ha e in
-        omega arith))
+        grind (arith, met n m m hn (above-child a m n hn ha i e) (above-itself m hm), below-last n, above-higher a, above-twice a, depth-child a)
 
     -- a node of which both stand below different children
     pub met-between : (n m c a b : ℕ) → 0 < occurs n f → 0 < occurs m f → 0 < occurs c f → 0 < occurs a f → 0 < occurs b f → parent_of f a ≡ Some c → parent_of f b ≡ Some c → 0 < hits a (ancestors n f) → 0 < hits b (ancestors m f) → (a ≡ b → ⊥) → common_ancestor f n m ≡ c
     met-between n m c a b hn hm hc ha hb ea eb ia ib ne =
-        met n m c hn (above-child a c n hn ha ia ea) (above-child b c m hm hb ib eb) (λ x k. none-by x m (λ j.
-        let up = below-last n c a x hn ia ea hc k in
-        ne (above-apart a b m hm ha hb (above-twice a x m hm j up) ib (depth-child a c ha ea ∙ sym (depth-child b c hb eb)))))
+        grind (
+          arith,
+          met n m c hn (above-child a c n hn ha ia ea) (above-child b c m hm hb ib eb),
+          below-last n,
+          above-apart a,
+          above-twice a,
+          depth-child a c ha ea,
+          depth-child b,
+        )

@@ -1,21 +1,12 @@
 -- What a node that is appended leaves of the forest: all numbers and kinds; each node has the parent that it had, or the new one, or none.
 -- DOM Standard, "Mutation algorithms": append.
-use Rattle.std.proofs.Common.{◌≡◌, ℕ, ◌<◌, ◌≤◌, ◌==◌, Bool, true, false, if◌then◌else◌, List, [], ◌∷◌, Some, None, refl, sym, ◌∙◌, subst, arith, ◌⊎◌, inl, inr, ⊎_elim}
-use Rattle.std.proofs.lemmas.Bool.{cases_lt}
+use Rattle.std.proofs.Common.{◌≡◌, ℕ, ◌<◌, Bool, true, false, if◌then◌else◌, List, [], ◌∷◌, Some, None, refl, sym, ◌∙◌, subst, arith, ◌⊎◌, inr}
+use Rattle.std.proofs.lemmas.Bool.Decides.{nat_tests}
+use Rattle.dom_model.proofs.MutationAlgorithms.{Extending.insert-made, Loosened.IsLoosened, Loosened.loosened-remove, Loosened.parent-remove, Loosened.loosened-remove_all, Loosened.parent-remove_all, Loosened.root-remove_all}
+use Rattle.dom_model.specs.Definitions.{hits, Forest, occurs, parent_of, children_of, Content, World, kind_passes, remove, remove_all, is_fragment, nodes_of, emptied_fragment, freed, put_in, put_all, insert_nodes, append, IsSound, ArePlaceable, IsInsertable}
 use Rattle.dom_model.specs.declared.Kind.{Kind}
-use Rattle.dom_model.specs.PlainLists.Lists.{hits}
-use Rattle.dom_model.specs.Forests.Forest.{Forest, occurs, parent_of, children_of}
-use Rattle.dom_model.specs.Worlds.World.{Content, World}
-use Rattle.dom_model.specs.Forests.Nodes.{kind_passes}
-use Rattle.dom_model.specs.MutationAlgorithms.Editing.{remove, remove_all, is_fragment, nodes_of, emptied_fragment, freed, put_in, put_all, insert_nodes, append}
-use Rattle.dom_model.specs.Soundness.Sound.{IsSound}
-use Rattle.dom_model.specs.MutationAlgorithms.Insertable.{ArePlaceable, IsInsertable}
-use Rattle.dom_model.proofs.PlainLists.Numbers.{same_or, same, apart}
 use Rattle.dom_model.proofs.Forests.Indices.{child-there}
-use Rattle.dom_model.proofs.MutationAlgorithms.Loosened.{IsLoosened, loosened-remove, parent-remove, loosened-remove_all, parent-remove_all, root-remove_all, made-remove}
-use Rattle.dom_model.proofs.Soundness.SoundWorlds.{child_there}
-use Rattle.dom_model.proofs.Soundness.SoundPlacing.{occurs_placed, parent_placed, kind_placed, all_placeable, sound-put_one}
-use Rattle.dom_model.proofs.Soundness.SoundInserting.{IsReady, freed_ready}
+use Rattle.dom_model.proofs.Soundness.{SoundWorlds.child_there, SoundPlacing.occurs_placed, SoundPlacing.parent_placed, SoundPlacing.kind_placed, SoundPlacing.all_placeable, SoundPlacing.sound-put_one, SoundInserting.IsReady, SoundInserting.freed_ready}
 
 -- the nodes have left where they stood, and no parent is new
 record IsFreed (f g : Forest Content) : Type 0 where
@@ -26,23 +17,15 @@ freed-alone : (n : ℕ) (w : World) → IsSound w → 0 < occurs n w.forest → 
 freed-alone n w s h =
     record {
       loosened = loosened-remove false n w s h;
-      fewer = λ m q e. told m q (m == n) refl (sym (parent-remove false n w s h m) ∙ e);
+      fewer = λ m q e. grind (arith, nat_tests, parent-remove false n w s h m);
     }
-  where
-    told : (m q : ℕ) (v : Bool) → (m == n) ≡ v → (if m == n then None else parent_of w.forest m) ≡ Some q → parent_of w.forest m ≡ Some q
-    told m q true t e = absurd (let k : None ≡ Some q = rw t at e in cc k)
-    told m q false t e = rw t at e
 
 freed-children : (n : ℕ) (w : World) → IsSound w → IsFreed w.forest (remove_all (children_of w.forest n) w).forest
 freed-children n w s =
     let there : (m : ℕ) → 0 < hits m (children_of w.forest n) → 0 < occurs m w.forest = λ m h. child-there w.forest s.forest.once m n h in
     record {
       loosened = loosened-remove_all (children_of w.forest n) w s there;
-      fewer = λ m q e.
-          ⊎_elim
-          (λ (lt : 0 < hits m (children_of w.forest n)). absurd (let k : None ≡ Some q = sym (root-remove_all (children_of w.forest n) w s there m lt) ∙ e in cc k))
-          (λ (le : hits m (children_of w.forest n) ≤ 0). sym (parent-remove_all (children_of w.forest n) w s there m (omega arith)) ∙ e)
-          (cases_lt 0 (hits m (children_of w.forest n)));
+      fewer = λ m q e. grind (arith, root-remove_all (children_of w.forest n) w s there m, parent-remove_all (children_of w.forest n) w s there m);
     }
 
 freed-nodes : (n : ℕ) (w : World) → IsSound w → 0 < occurs n w.forest → IsFreed w.forest (freed n (nodes_of w n) w).forest
@@ -52,13 +35,13 @@ freed-nodes n w s h = go (is_fragment w n)
     go true = freed-children n w s
     go false = freed-alone n w s h
 
--- the nodes have come under a parent
-record ArePut (f g : Forest Content) (parent : ℕ) (ns : List ℕ) : Type 0 where
-  numbers : (m : ℕ) → occurs m g ≡ occurs m f
-  kinds : (test : Kind → Bool) (m : ℕ) → kind_passes test g m ≡ kind_passes test f m
-  parents : (m q : ℕ) → parent_of g m ≡ Some q → ((q ≡ parent) × (0 < hits m ns)) ⊎ (parent_of f m ≡ Some q)
+-- nodes have come under a parent
+pub record IsAppended (f g : Forest Content) (parent : ℕ) (ns : List ℕ) : Type 0 where
+  pub numbers : (m : ℕ) → occurs m g ≡ occurs m f
+  pub kinds : (test : Kind → Bool) (m : ℕ) → kind_passes test g m ≡ kind_passes test f m
+  pub parents : (m q : ℕ) → parent_of g m ≡ Some q → ((q ≡ parent) × (0 < hits m ns)) ⊎ (parent_of f m ≡ Some q)
 
-put-last : (parent : ℕ) (ns : List ℕ) (w : World) → IsSound w → 0 < occurs parent w.forest → ArePlaceable w.forest parent ns → ArePut w.forest (put_all parent None ns w).forest parent ns
+put-last : (parent : ℕ) (ns : List ℕ) (w : World) → IsSound w → 0 < occurs parent w.forest → ArePlaceable w.forest parent ns → IsAppended w.forest (put_all parent None ns w).forest parent ns
 put-last parent [] w s hp k = record { numbers = λ m. refl; kinds = λ test m. refl; parents = λ m q e. inr e }
 put-last parent (n ∷ ns) w s hp k =
     let v = put_in parent None n w in
@@ -66,43 +49,22 @@ put-last parent (n ∷ ns) w s hp k =
     record {
       numbers = λ m. next.numbers m ∙ occurs_placed parent n None w s hp k.0 m;
       kinds = λ test m. next.kinds test m ∙ kind_placed parent n None w s hp k.0 test m;
-      parents = λ m q e. told m q (next.parents m q e);
+      parents = λ m q e. grind (arith, nat_tests, next.parents m q e, first m q);
     }
   where
     first : (m q : ℕ) → parent_of (put_in parent None n w).forest m ≡ Some q → ((q ≡ parent) × (0 < hits m (n ∷ ns))) ⊎ (parent_of w.forest m ≡ Some q)
     first m q e =
-        let v = put_in parent None n w in
-        let h : 0 < occurs m w.forest = subst (λ x. 0 < x) (occurs_placed parent n None w s hp k.0 m) (child_there v.forest m q e) in
+        let h : 0 < occurs m w.forest = subst (λ x. 0 < x) (occurs_placed parent n None w s hp k.0 m) (child_there (put_in parent None n w).forest m q e) in
         let i = sym (parent_placed parent n None w s hp k.0 m h) ∙ e in
-        elim (same_or m n) [
-          | same d t ↦
-              let j : Some parent ≡ Some q = rw t at i in
-              let u : (n == m) ≡ true = elim (same_or n m) [ same _ u ↦ u | apart ne u ↦ absurd (ne (sym d)) ] in
-              inl (sym (cc j), rw u (omega arith))
-          | apart ne t ↦ inr (rw t at i)
-        ]
+        grind (arith, nat_tests)
 
-    told : (m q : ℕ) → ((q ≡ parent) × (0 < hits m ns)) ⊎ (parent_of (put_in parent None n w).forest m ≡ Some q) → ((q ≡ parent) × (0 < hits m (n ∷ ns))) ⊎ (parent_of w.forest m ≡ Some q)
-    told m q (inl i) = let k = i.1 in inl (i.0, omega arith)
-    told m q (inr e) = first m q e
-
--- a node has been appended
-pub record IsAppended (f g : Forest Content) (parent : ℕ) (ns : List ℕ) : Type 0 where
-  pub numbers : (m : ℕ) → occurs m g ≡ occurs m f
-  pub kinds : (test : Kind → Bool) (m : ℕ) → kind_passes test g m ≡ kind_passes test f m
-  pub parents : (m q : ℕ) → parent_of g m ≡ Some q → ((q ≡ parent) × (0 < hits m ns)) ⊎ (parent_of f m ≡ Some q)
-
-freed-put : (f g h : Forest Content) (parent : ℕ) (ns : List ℕ) → IsFreed f g → ArePut g h parent ns → IsAppended f h parent ns
+freed-put : (f g h : Forest Content) (parent : ℕ) (ns : List ℕ) → IsFreed f g → IsAppended g h parent ns → IsAppended f h parent ns
 freed-put f g h parent ns a b =
     record {
       numbers = λ m. b.numbers m ∙ a.loosened.numbers m;
       kinds = λ test m. b.kinds test m ∙ a.loosened.kinds test m;
-      parents = λ m q e. told m q (b.parents m q e);
+      parents = λ m q e. grind (arith, b.parents m q e, a.fewer m q);
     }
-  where
-    told : (m q : ℕ) → ((q ≡ parent) × (0 < hits m ns)) ⊎ (parent_of g m ≡ Some q) → ((q ≡ parent) × (0 < hits m ns)) ⊎ (parent_of f m ≡ Some q)
-    told m q (inl i) = inl i
-    told m q (inr e) = inr (a.fewer m q e)
 
 module _ (n parent : ℕ) (w : World) (s : IsSound w) (k : IsInsertable w.forest n parent None) where
   pub appended : IsAppended w.forest (append n parent w).forest parent (nodes_of w n)
@@ -113,23 +75,4 @@ module _ (n parent : ℕ) (w : World) (s : IsSound w) (k : IsInsertable w.forest
       go (m ∷ ms) r a = freed-put w.forest (freed n (m ∷ ms) w).forest _ parent (m ∷ ms) a (put-last parent (m ∷ ms) (freed n (m ∷ ms) w) r.sound r.parent_there r.placeable)
 
   pub made-appended : (append n parent w).made ≡ w.made
-  made-appended = go (nodes_of w n)
-    where
-      put-made : (ns : List ℕ) (v : World) → (put_all parent None ns v).made ≡ v.made
-      put-made [] v = refl
-      put-made (m ∷ ms) v = put-made ms (put_in parent None m v)
-
-      removed-made : (ns : List ℕ) (v : World) → (remove_all ns v).made ≡ v.made
-      removed-made [] v = refl
-      removed-made (m ∷ ms) v = removed-made ms (remove true m v) ∙ made-remove true m v
-
-      freed-made : (ns : List ℕ) → (freed n ns w).made ≡ w.made
-      freed-made ns = either (is_fragment w n)
-        where
-          either : (v : Bool) → (if v then emptied_fragment n ns w else remove false n w).made ≡ w.made
-          either true = removed-made ns w
-          either false = made-remove false n w
-
-      go : (ns : List ℕ) → (insert_nodes false n parent None ns w).made ≡ w.made
-      go [] = refl
-      go (m ∷ ms) = put-made (m ∷ ms) (freed n (m ∷ ms) w) ∙ freed-made (m ∷ ms)
+  made-appended = insert-made false n parent None w

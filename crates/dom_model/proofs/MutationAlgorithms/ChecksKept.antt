@@ -1,53 +1,36 @@
 -- What an insertion's check asks of a forest, and that it passes on another forest that is like it there. DOM Standard, "Mutation algorithms".
 use Rattle.std.proofs.Common.{◌≡◌, ℕ, ◌<◌, ◌==◌, Bool, true, false, not, ◌&&◌, ◌||◌, if◌then◌else◌, List, [], ◌∷◌, length, Option, Some, None, refl, ap, sym, ◌∙◌, subst, arith}
-use Rattle.std.specs.Prelude.{filter, cond}
-use Rattle.std.specs.List.{list_any}
-use Rattle.std.proofs.lemmas.Bool.{false≢true}
-use Rattle.dom_model.specs.declared.Kind.{Kind}
-use Rattle.dom_model.specs.declared.Kind.TheVariants.{Element, Text, ProcessingInstruction, Comment, Document, DocumentType, DocumentFragment}
-use Rattle.dom_model.specs.declared.DomError.{DomError}
-use Rattle.dom_model.specs.PlainLists.Lists.{hits, among, is_number}
-use Rattle.dom_model.specs.Forests.Arena.{Entry}
-use Rattle.dom_model.specs.Forests.Kinds.{is_kind, may_be_parent, may_stand_under}
-use Rattle.dom_model.specs.Forests.Forest.{Node, Forest, empty, node, occurs, tops, entry_under, entry_in, parent_of, children_of, ancestors, KindsFit}
-use Rattle.dom_model.specs.Worlds.World.{Content}
-use Rattle.dom_model.specs.MutationAlgorithms.Checks.{if_given, has_kind, count_kind, doctype_from, holds_too_much, element_refused, doctype_refused, document_refuses, is_misplaced, kind_refuses, check_insert}
-use Rattle.dom_model.specs.Forests.Nodes.{kind_passes, is_of_kind}
+use Rattle.std.specs.{Prelude.filter, List.list_any}
+use Rattle.std.proofs.lemmas.{Bool.false≢true, Bool.Decides.nat_tests, Bool.or_parts, Bool.or_from}
+use Rattle.dom_model.specs.Definitions.{hits, among, is_number, Entry, is_kind, may_be_parent, may_stand_under, Node, Forest, empty, node, occurs, tops, entry_under, entry_in, parent_of, children_of, ancestors, KindsFit, Content, if_given, has_kind, count_kind, doctype_from, holds_too_much, element_refused, doctype_refused, document_refuses, is_misplaced, kind_refuses, check_insert, kind_passes, is_of_kind}
+use Rattle.dom_model.specs.declared.{Kind.Kind, Kind.TheVariants.Element, Kind.TheVariants.Text, Kind.TheVariants.Document, Kind.TheVariants.DocumentType, Kind.TheVariants.DocumentFragment, DomError.DomError}
 use Rattle.dom_model.proofs.PlainLists.Numbers.{same_or, same, apart}
-use Rattle.dom_model.proofs.Forests.Changes.{seen, nothing, just}
-use Rattle.dom_model.proofs.Forests.Totals.{IsOnce}
-use Rattle.dom_model.proofs.Forests.Entries.{HasNode-occurs, occurs-HasNode}
-use Rattle.dom_model.proofs.Forests.Indices.{child-listed, child-there}
+use Rattle.dom_model.proofs.Forests.{Changes.seen, Changes.nothing, Changes.just, Totals.IsOnce, Entries.HasNode-occurs, Indices.child-listed, Indices.child-there, Climbing.hits-first, Entries.entry_under-absent}
 
 -- no member of the list passes
 abbrev pub NoneOf : (ℕ → Bool) → List ℕ → Type 0
 NoneOf test ns = (n : ℕ) → 0 < hits n ns → test n ≡ false
 
 pub or_first : (a b : Bool) → (a || b) ≡ false → a ≡ false
-or_first true b h = h
-or_first false b h = refl
+or_first a b h = (or_parts a b h).0
 
 pub or_second : (a b : Bool) → (a || b) ≡ false → b ≡ false
-or_second true b h = absurd (false≢true (sym h))
-or_second false b h = h
+or_second a b h = (or_parts a b h).1
 
 pub or_both : (a b : Bool) → a ≡ false → b ≡ false → (a || b) ≡ false
-or_both true b h k = h
-or_both false b h k = k
+or_both = or_from
+
+and_instead : (v x y : Bool) → (v && x) ≡ false → (x ≡ false → y ≡ false) → (v && y) ≡ false
+and_instead true x y h k = k h
+and_instead false x y h k = refl
 
 pub none-of : (test : ℕ → Bool) (ns : List ℕ) → list_any test ns ≡ false → NoneOf test ns
 none-of test [] h n k = absurd (omega arith)
-none-of test (m ∷ ns) h n k =
-    elim (same_or m n) [
-      | same e t ↦ ap test (sym e) ∙ or_first (test m) (list_any test ns) h
-      | apart ne t ↦ (let j = rw t at k in none-of test ns (or_second (test m) (list_any test ns) h) n (omega arith))
-    ]
+none-of test (m ∷ ns) h n k = grind (arith, nat_tests, or_parts (test m) (list_any test ns) h, none-of test ns)
 
 pub any-none : (test : ℕ → Bool) (ns : List ℕ) → NoneOf test ns → list_any test ns ≡ false
 any-none test [] h = refl
-any-none test (m ∷ ns) h =
-    or_both (test m) (list_any test ns) (h m (elim (same_or m m) [ same e t ↦ rw t (omega arith) | apart ne t ↦ absurd (ne refl) ]))
-    (any-none test ns (λ n k. h n (omega arith)))
+any-none test (m ∷ ns) h = or_from (test m) (list_any test ns) (h m (hits-first m ns)) (any-none test ns (λ n k. h n (omega arith)))
 
 pub refusal-head : (c : Bool) (e : DomError) (rest : Option DomError) → (if c then Some e else rest) ≡ None → (c ≡ false) × (rest ≡ None)
 refusal-head true e rest h = absurd (cc h)
@@ -94,12 +77,7 @@ under_none {X} k above n (node x kids rest) e w d h =
   where
     no_fragment : (j : Kind) → may_stand_under (Some k) j ≡ true → is_kind DocumentFragment j ≡ true → ⊥
     no_fragment DocumentFragment p q = false≢true p
-    no_fragment Element p q = false≢true q
-    no_fragment Text p q = false≢true q
-    no_fragment ProcessingInstruction p q = false≢true q
-    no_fragment Comment p q = false≢true q
-    no_fragment Document p q = false≢true q
-    no_fragment DocumentType p q = false≢true q
+    no_fragment j p q = false≢true q
 
 fragment-parent : (n : ℕ) (f : Forest Content) (e : Entry (Node Content)) → KindsFit None f → entry_in f n ≡ Some e → is_kind DocumentFragment e.value.label.kind ≡ true → e.parent ≡ None
 fragment-parent n empty e w d h = absurd (cc d)
@@ -133,33 +111,22 @@ pub record IsLike (f g : Forest Content) (parent n : ℕ) (child place : Option 
   pub behind : is_number child n ≡ false → doctype_from f parent child ≡ false → doctype_from g parent place ≡ false
   pub ahead : is_number child n ≡ false → doctype_refused f parent child ≡ false → doctype_refused g parent place ≡ false
 
-filter-same : (t u : ℕ → Bool) (ns : List ℕ) → ((m : ℕ) → 0 < hits m ns → t m ≡ u m) → filter t ns ≡ filter u ns
+pub filter-same : (t u : ℕ → Bool) (ns : List ℕ) → ((m : ℕ) → 0 < hits m ns → t m ≡ u m) → filter t ns ≡ filter u ns
 filter-same t u [] h = refl
-filter-same t u (n ∷ ns) h =
-    let first = h n (elim (same_or n n) [ same e v ↦ rw v (omega arith) | apart ne v ↦ absurd (ne refl) ]) in
-    let later = filter-same t u ns (λ m k. h m (omega arith)) in
-    ap (λ b. cond b (n ∷ filter t ns) (filter t ns)) first ∙ ap (λ ms. cond (u n) (n ∷ ms) ms) later
+filter-same t u (n ∷ ns) h = rw (h n (hits-first n ns), filter-same t u ns (λ m k. h m (omega arith))) refl
 
-any-same : (t u : ℕ → Bool) (ns : List ℕ) → ((m : ℕ) → 0 < hits m ns → t m ≡ u m) → list_any t ns ≡ list_any u ns
+pub any-same : (t u : ℕ → Bool) (ns : List ℕ) → ((m : ℕ) → 0 < hits m ns → t m ≡ u m) → list_any t ns ≡ list_any u ns
 any-same t u [] h = refl
-any-same t u (n ∷ ns) h =
-    let first = h n (elim (same_or n n) [ same e v ↦ rw v (omega arith) | apart ne v ↦ absurd (ne refl) ]) in
-    let later = any-same t u ns (λ m k. h m (omega arith)) in
-    ap (λ b. b || list_any t ns) first ∙ ap (λ b. u n || b) later
+any-same t u (n ∷ ns) h = rw (h n (hits-first n ns), any-same t u ns (λ m k. h m (omega arith))) refl
 
 is_kind-same : (k : Kind) → is_kind k k ≡ true
 is_kind-same Element = refl
-is_kind-same Text = refl
-is_kind-same ProcessingInstruction = refl
-is_kind-same Comment = refl
-is_kind-same Document = refl
-is_kind-same DocumentType = refl
-is_kind-same DocumentFragment = refl
+is_kind-same k = refl
 
 -- an optional number that is told to be the parent's is the parent's
 pub number-parent : (parent : ℕ) (q : Option ℕ) → not (is_number q parent) ≡ false → q ≡ Some parent
 number-parent parent None h = absurd (false≢true (sym h))
-number-parent parent (Some m) h = elim (same_or m parent) [ same e t ↦ ap (λ x. Some x) e | apart ne t ↦ absurd (let k = rw t at h in false≢true (sym k)) ]
+number-parent parent (Some m) h = grind (arith, nat_tests)
 
 module _ (f g : Forest Content) (parent n : ℕ) (child place : Option ℕ) (o : IsOnce f) (kinds : KindsFit None f) (there : 0 < occurs n f) (l : IsLike f g parent n child place) where
   -- what comes in is no child of the parent, where no child is of its kind
@@ -168,7 +135,7 @@ module _ (f g : Forest Content) (parent n : ℕ) (child place : Option ℕ) (o :
 
   apart_from : (c : Option ℕ) → if_given (λ m. not (is_number (parent_of f m) parent)) c ≡ false → (parent_of f n ≡ Some parent → ⊥) → is_number c n ≡ false
   apart_from None h far = refl
-  apart_from (Some m) h far = elim (same_or m n) [ same e t ↦ absurd (far (ap (parent_of f) (sym e) ∙ number-parent parent (parent_of f m) h)) | apart ne t ↦ t ]
+  apart_from (Some m) h far = grind (arith, nat_tests, number-parent parent (parent_of f m) h)
 
   module _ (a : Allows f parent n child) where
     element-kept : (parent_of f n ≡ Some parent → ⊥) → element_refused f parent child ≡ false → element_refused g parent place ≡ false
@@ -189,29 +156,18 @@ module _ (f g : Forest Content) (parent n : ℕ) (child place : Option ℕ) (o :
         let far : parent_of f n ≡ Some parent → ⊥ = λ e. (let u : None ≡ Some parent = sym root ∙ e in cc u) in
         let elements : count_kind Element g (children_of g n) ≡ count_kind Element f (children_of f n) = ap (λ ns. count_kind Element g ns) (l.own root) ∙ ap length (filter-same (is_of_kind Element g) (is_of_kind Element f) (children_of f n) (child-kinds Element)) in
         let texts : has_kind Text g (children_of g n) ≡ has_kind Text f (children_of f n) = ap (λ ns. has_kind Text g ns) (l.own root) ∙ any-same (is_of_kind Text g) (is_of_kind Text f) (children_of f n) (child-kinds Text) in
-        or_both (holds_too_much g n) ((count_kind Element g (children_of g n) == 1) && element_refused g parent place) (rw (elements, texts) (or_first (holds_too_much f n) _ d)) (rw elements (go (count_kind Element f (children_of f n) == 1) (or_second _ _ d) (element-kept far)))
-      where
-        go : (v : Bool) → (v && element_refused f parent child) ≡ false → (element_refused f parent child ≡ false → element_refused g parent place ≡ false) → (v && element_refused g parent place) ≡ false
-        go true e k = k e
-        go false e k = refl
+        or_both (holds_too_much g n) ((count_kind Element g (children_of g n) == 1) && element_refused g parent place) (rw (elements, texts) (or_first (holds_too_much f n) _ d)) (rw elements (and_instead (count_kind Element f (children_of f n) == 1) _ _ (or_second _ _ d) (element-kept far)))
 
     refuses-kept : (k : Kind) → is_of_kind k f n ≡ true → document_refuses k f parent n child ≡ false → document_refuses k g parent n place ≡ false
     refuses-kept Element h d = element-kept (no_child Element h (none-of (is_of_kind Element f) (children_of f parent) (or_first _ _ d))) d
-    refuses-kept Text h d = refl
-    refuses-kept ProcessingInstruction h d = refl
-    refuses-kept Comment h d = refl
-    refuses-kept Document h d = refl
     refuses-kept DocumentType h d =
         let none = none-of (is_of_kind DocumentType f) (children_of f parent) (doctype-first child d) in
         l.ahead (apart_from child a.found (no_child DocumentType h none)) d
     refuses-kept DocumentFragment h d = fragment-kept h d
+    refuses-kept k h d = refl
 
     parent_there : 0 < occurs parent f
-    parent_there =
-        elim (seen (entry_in f parent)) [
-          | nothing z ↦ absurd (let k = rw z at a.may_hold in false≢true (sym k))
-          | just e z ↦ occurs-HasNode f parent (rw z refl)
-        ]
+    parent_there = grind (arith, entry_under-absent None parent f, a.may_hold)
 
     fits-kept : kind_refuses (λ k. document_refuses k g parent n place) g parent n ≡ false
     fits-kept =
@@ -223,12 +179,8 @@ module _ (f g : Forest Content) (parent n : ℕ) (child place : Option ℕ) (o :
               let before : (is_of_kind Document f parent && document_refuses k f parent n child) ≡ false = (let h = rw z at a.fits in h) in
               let same_parent = l.kinds (is_kind Document) parent parent_there in
               let same_n : kind_passes (λ j. document_refuses j g parent n place) g n ≡ document_refuses k g parent n place = l.kinds (λ j. document_refuses j g parent n place) n there ∙ (rw z refl) in
-              rw (same_parent, same_n) (go (is_of_kind Document f parent) (document_refuses k f parent n child) (document_refuses k g parent n place) before (refuses-kept k own))
+              rw (same_parent, same_n) (and_instead (is_of_kind Document f parent) (document_refuses k f parent n child) (document_refuses k g parent n place) before (refuses-kept k own))
         ]
-      where
-        go : (v x y : Bool) → (v && x) ≡ false → (x ≡ false → y ≡ false) → (v && y) ≡ false
-        go true x y h k = k h
-        go false x y h k = refl
 
     pub allows-kept : Allows g parent n place
     allows-kept = record {

@@ -1,18 +1,10 @@
 -- A node whose children are removed one after another has none left, and they are roots. DOM Standard, "Mutation algorithms": insert.
-use Rattle.std.proofs.Common.{◌≡◌, ℕ, ◌<◌, ◌≤◌, Bool, true, List, [], ◌∷◌, None, refl, ap, sym, ◌∙◌, subst, arith, ⊎_elim}
-use Rattle.std.proofs.lemmas.Bool.{cases_lt}
-use Rattle.dom_model.specs.PlainLists.Lists.{hits, left_out}
-use Rattle.dom_model.specs.Forests.Forest.{Forest, occurs, parent_of, children_of}
-use Rattle.dom_model.specs.Worlds.World.{Content, World}
-use Rattle.dom_model.specs.MutationAlgorithms.Editing.{remove, remove_all}
-use Rattle.dom_model.specs.Soundness.Sound.{IsSound}
-use Rattle.dom_model.proofs.PlainLists.Numbers.{same_or, same, apart}
-use Rattle.dom_model.proofs.Forests.Climbing.{hits-first}
-use Rattle.dom_model.proofs.Forests.Entries.{children-cut}
-use Rattle.dom_model.proofs.Forests.Indices.{child-there}
+use Rattle.std.proofs.Common.{◌≡◌, ℕ, ◌<◌, ◌≤◌, Bool, true, List, [], ◌∷◌, None, refl, ap, sym, ◌∙◌, subst, arith}
+use Rattle.std.proofs.lemmas.Bool.Decides.{nat_tests}
+use Rattle.dom_model.specs.Definitions.{hits, left_out, Forest, occurs, parent_of, children_of, Content, World, remove, remove_all, IsSound}
+use Rattle.dom_model.proofs.Forests.{Climbing.hits-first, Entries.children-cut, Indices.child-there}
 use Rattle.dom_model.proofs.Soundness.SoundWorlds.{sound-remove}
-use Rattle.dom_model.proofs.MutationAlgorithms.Loosened.{forest-remove, loosened-remove, root-remove_all}
-use Rattle.dom_model.proofs.MutationAlgorithms.RemovalsLike.{hits-left_out}
+use Rattle.dom_model.proofs.MutationAlgorithms.{Loosened.forest-remove, Loosened.loosened-remove, Loosened.root-remove_all, RemovalsLike.hits-left_out}
 
 -- a list without the numbers of another
 abbrev pub all_left_out : List ℕ → List ℕ → List ℕ
@@ -21,27 +13,16 @@ all_left_out (n ∷ ns) xs = all_left_out ns (left_out n xs)
 
 pub none-left_out : (n : ℕ) (xs : List ℕ) → hits n (left_out n xs) ≡ 0
 none-left_out n [] = refl
-none-left_out n (x ∷ xs) =
-    elim (same_or x n) [
-      | same e t ↦ rw t (none-left_out n xs)
-      | apart ne t ↦ rw t (rw t (let i = none-left_out n xs in omega arith))
-    ]
+none-left_out n (x ∷ xs) = grind (arith, nat_tests, none-left_out n xs)
 
 fewer : (m : ℕ) (ns xs : List ℕ) → hits m (all_left_out ns xs) ≤ hits m xs
 fewer m [] xs = omega arith
-fewer m (n ∷ ns) xs = let a = fewer m ns (left_out n xs) in let b = hits-left_out n m xs in omega arith
+fewer m (n ∷ ns) xs = omega (arith, fewer m ns (left_out n xs), hits-left_out n m xs)
 
 -- no number of the other is left
 pub none-all_left_out : (m : ℕ) (ns xs : List ℕ) → 0 < hits m ns → hits m (all_left_out ns xs) ≡ 0
 none-all_left_out m [] xs h = absurd (omega arith)
-none-all_left_out m (n ∷ ns) xs h =
-    elim (same_or n m) [
-      | same e t ↦
-          let a = fewer m ns (left_out n xs) in
-          let b = subst (λ k. hits k (left_out n xs) ≡ 0) e (none-left_out n xs) in
-          omega arith
-      | apart ne t ↦ (let k = rw t at h in none-all_left_out m ns (left_out n xs) (omega arith))
-    ]
+none-all_left_out m (n ∷ ns) xs h = grind (arith, nat_tests, fewer m ns (left_out n xs), none-left_out n xs, none-all_left_out m ns (left_out n xs))
 
 nothing-stands : (xs : List ℕ) → ((m : ℕ) → hits m xs ≡ 0) → xs ≡ []
 nothing-stands [] h = refl
@@ -49,11 +30,7 @@ nothing-stands (x ∷ xs) h = absurd (let a = h x in let b = hits-first x xs in 
 
 -- a list without its own numbers
 pub all_left_out-itself : (ns : List ℕ) → all_left_out ns ns ≡ []
-all_left_out-itself ns = nothing-stands (all_left_out ns ns) each
-  where
-    each : (m : ℕ) → hits m (all_left_out ns ns) ≡ 0
-    each m =
-        ⊎_elim (λ (lt : 0 < hits m ns). none-all_left_out m ns ns lt) (λ (le : hits m ns ≤ 0). let a = fewer m ns ns in omega arith) (cases_lt 0 (hits m ns))
+all_left_out-itself ns = nothing-stands (all_left_out ns ns) (λ m. grind (arith, none-all_left_out m ns ns, fewer m ns ns))
 
 -- the children of each node, once a node is removed, and each of a list
 pub children-remove : (suppressed : Bool) (n : ℕ) (w : World) → IsSound w → 0 < occurs n w.forest → (m : ℕ) → children_of (remove suppressed n w).forest m ≡ left_out n (children_of w.forest m)

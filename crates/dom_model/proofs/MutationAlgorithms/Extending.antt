@@ -1,30 +1,12 @@
 -- What an insertion keeps of the nodes that were there: their kinds, their data, and the parents of those that do not move.
-use Rattle.std.proofs.Common.{◌≡◌, ℕ, suc, ◌+◌, ◌<◌, ◌≤◌, Bool, true, false, if◌then◌else◌, List, [], ◌∷◌, ◌++◌, length, Option, Some, None, refl, ap, sym, ◌∙◌, subst, arith}
+use Rattle.std.proofs.Common.{◌≡◌, ℕ, suc, ◌+◌, ◌<◌, ◌≤◌, Bool, true, false, if◌then◌else◌, List, [], ◌∷◌, ◌++◌, length, Option, Some, None, refl, ap, sym, ◌∙◌, subst, arith, eqb}
+use Rattle.std.proofs.lemmas.{Bool.Decides.nat_tests, Bool.cond-true, Bool.eq-eqb}
+use Rattle.dom_model.specs.Definitions.{hits, Label, Attribute, Entry, parent_in, Node, Forest, occurs, one_at, beside, cut, entry_in, parent_of, children_of, Content, World, entry_has, kind_passes, node_document, remove, remove_all, is_fragment, nodes_of, emptied_fragment, freed, put_in, put_all, gap_before, previous_to, insert_nodes, insert, content_in, IsSound, label_in, IsPlaceable, ArePlaceable, IsChildOf, IsInsertable}
 use Rattle.dom_model.specs.declared.Kind.{Kind}
-use Rattle.dom_model.specs.PlainLists.Lists.{hits}
-use Rattle.dom_model.specs.Forests.Kinds.{Label}
-use Rattle.dom_model.specs.Forests.Attributes.{Attribute}
-use Rattle.dom_model.specs.Forests.Arena.{Entry, parent_in}
-use Rattle.dom_model.specs.Forests.Forest.{Node, Forest, occurs, one_at, beside, cut, map_nodes, adopted, entry_in, parent_of, children_of}
-use Rattle.dom_model.specs.Worlds.World.{Content, World}
-use Rattle.dom_model.specs.Forests.Nodes.{entry_has, kind_passes}
-use Rattle.dom_model.specs.MutationAlgorithms.Editing.{node_document, remove, remove_all, is_fragment, nodes_of, emptied_fragment, freed, put_in, put_all, gap_before, previous_to, insert_nodes, insert}
-use Rattle.dom_model.specs.DataAndCopies.Data.{content_in}
-use Rattle.dom_model.specs.Soundness.Sound.{IsSound}
-use Rattle.dom_model.specs.TokenText.Originals.{label_in}
-use Rattle.dom_model.specs.MutationAlgorithms.Insertable.{IsPlaceable, ArePlaceable, IsChildOf, IsInsertable}
-use Rattle.dom_model.proofs.PlainLists.Numbers.{same_or, same, apart}
-use Rattle.dom_model.proofs.Forests.Changes.{cut_at, link_at}
-use Rattle.dom_model.proofs.Forests.Climbing.{hits-append, hits-first}
-use Rattle.dom_model.proofs.Forests.Totals.{total-cut, total-beside}
-use Rattle.dom_model.proofs.Forests.Entries.{entry-cut, entry-put, parent-cut}
-use Rattle.dom_model.proofs.Forests.Indices.{child-there}
-use Rattle.dom_model.proofs.Forests.Listed.{hits-other}
-use Rattle.dom_model.proofs.Worlds.Measured.{kind-cut, entry-beside, adopted-unplaced, unplaced, entry-unplaced, unplaced_entry}
+use Rattle.dom_model.proofs.Forests.{Changes.link_at, Climbing.hits-append, Climbing.hits-first, Totals.total-cut, Totals.total-beside, Entries.parent-cut, Indices.child-there}
+use Rattle.dom_model.proofs.Worlds.Measured.{kind-cut, entry-beside, unplaced_entry, kept-adopted, kept-cut, kept-put}
 use Rattle.dom_model.proofs.MutationAlgorithms.Loosened.{forest-remove, made-remove, unless-forest, unless-made}
-use Rattle.dom_model.proofs.Soundness.SoundWorlds.{sound-remove}
-use Rattle.dom_model.proofs.Soundness.SoundPlacing.{after_put, after_adoption, apart_from, occurs_placed, parent_placed, kind_placed, all_placeable, child_placed, placed-forest, gap-apart, sound-put_one}
-use Rattle.dom_model.proofs.Soundness.SoundInserting.{IsReady, freed_ready}
+use Rattle.dom_model.proofs.Soundness.{SoundWorlds.sound-remove, SoundPlacing.after_put, SoundPlacing.after_adoption, SoundPlacing.apart_from, SoundPlacing.occurs_placed, SoundPlacing.parent_placed, SoundPlacing.kind_placed, SoundPlacing.all_placeable, SoundPlacing.child_placed, SoundPlacing.placed-forest, SoundPlacing.gap-apart, SoundPlacing.sound-put_one, SoundInserting.IsReady, SoundInserting.freed_ready}
 
 -- the data of a node
 abbrev pub text_at : Forest Content → ℕ → List ℕ
@@ -87,21 +69,10 @@ extends-cut f o n =
     record {
       there = λ m h. subst (λ x. 0 < x) (sym (total-cut (one_at m) n f)) h;
       kinds = λ test m h. kind-cut f o n test m;
-      texts = λ m h. ap (λ x. (content_in x).text) (entry-cut f o n m) ∙ text m (entry_in f m);
-      tags = λ m h. ap tag_in (entry-cut f o n m) ∙ tag m (entry_in f m);
-      parents = λ m h z. parent-cut f o n m ∙ (elim (same_or m n) [
-        | same e t ↦ absurd (let k = hits-first n [] in let j : hits n (n ∷ []) ≡ 0 = ap (λ x. hits x (n ∷ [])) (sym e) ∙ z in omega arith)
-        | apart ne t ↦ rw t refl
-      ]);
+      texts = λ m h. kept-cut f o n (λ x. (content_in x).text) m (λ e. refl);
+      tags = λ m h. kept-cut f o n tag_in m (λ e. refl);
+      parents = λ m h z. grind (arith, nat_tests, parent-cut f o n m);
     }
-  where
-    text : (m : ℕ) (e : Option (Entry (Node Content))) → (content_in (cut_at n m e)).text ≡ (content_in e).text
-    text m None = refl
-    text m (Some e) = refl
-
-    tag : (m : ℕ) (e : Option (Entry (Node Content))) → tag_in (cut_at n m e) ≡ tag_in e
-    tag m None = refl
-    tag m (Some e) = refl
 
 pub extends-remove : (suppressed : Bool) (n : ℕ) (w : World) → IsSound w → 0 < occurs n w.forest → Extends w.forest (remove suppressed n w).forest (n ∷ [])
 extends-remove suppressed n w s h =
@@ -119,55 +90,21 @@ extends-remove_all (n ∷ ns) w s h =
 -- A put.
 
 module _ (parent n : ℕ) (child : Option ℕ) (w : World) (s : IsSound w) (hp : 0 < occurs parent w.forest) (k : IsPlaceable w.forest parent n) where
-  text-put : (m : ℕ) → text_at (after_put parent n child w s hp k) m ≡ text_at w.forest m
-  text-put m =
-      ap (λ o. (content_in o).text) (entry-put w.forest s.forest.once parent n child hp k.there k.root (apart_from parent n child w s hp k) m)
-      ∙ go (entry_in w.forest m)
-    where
-      go : (e : Option (Entry (Node Content))) → (content_in (link_at parent child n m e)).text ≡ (content_in e).text
-      go None = refl
-      go (Some e) = refl
-
-  tag-put : (m : ℕ) → tag_at (after_put parent n child w s hp k) m ≡ tag_at w.forest m
-  tag-put m =
-      ap tag_in (entry-put w.forest s.forest.once parent n child hp k.there k.root (apart_from parent n child w s hp k) m)
-      ∙ go (entry_in w.forest m)
-    where
-      go : (e : Option (Entry (Node Content))) → tag_in (link_at parent child n m e) ≡ tag_in e
-      go None = refl
-      go (Some e) = refl
-
-  tag-adopted : (f : Forest Content) (d m : ℕ) → tag_at (adopted n d f) m ≡ tag_at f m
-  tag-adopted f d m = sym (measured (adopted n d f)) ∙ ap (λ g. tag_at g m) (adopted-unplaced n d f) ∙ measured f
-    where
-      measured : (g : Forest Content) → tag_at (map_nodes unplaced g) m ≡ tag_at g m
-      measured g = ap tag_in (entry-unplaced None m g) ∙ go (entry_in g m)
-        where
-          go : (e : Option (Entry (Node Content))) → tag_in (unplaced_entry e) ≡ tag_in e
-          go None = refl
-          go (Some e) = refl
-
-  text-adopted : (f : Forest Content) (d m : ℕ) → text_at (adopted n d f) m ≡ text_at f m
-  text-adopted f d m = sym (measured (adopted n d f)) ∙ ap (λ g. text_at g m) (adopted-unplaced n d f) ∙ measured f
-    where
-      measured : (g : Forest Content) → text_at (map_nodes unplaced g) m ≡ text_at g m
-      measured g = ap (λ o. (content_in o).text) (entry-unplaced None m g) ∙ go (entry_in g m)
-        where
-          go : (e : Option (Entry (Node Content))) → (content_in (unplaced_entry e)).text ≡ (content_in e).text
-          go None = refl
-          go (Some e) = refl
+  -- what is read of a node but not of where it stands
+  kept-placed : {A : Type 0} (read : Option (Entry (Node Content)) → A) → ((e : Entry (Node Content)) → read (unplaced_entry (Some e)) ≡ read (Some e)) → ((m : ℕ) (e : Entry (Node Content)) → read (link_at parent child n m (Some e)) ≡ read (Some e)) →
+      (m : ℕ) → read (entry_in (after_adoption parent n child w s hp k) m) ≡ read (entry_in w.forest m)
+  kept-placed read adopts links m =
+      kept-adopted read adopts n (node_document w parent) (after_put parent n child w s hp k) m
+      ∙ kept-put w.forest s.forest.once parent n child hp k.there k.root (apart_from parent n child w s hp k) read m (links m)
 
   extends-put : Extends w.forest (after_adoption parent n child w s hp k) (n ∷ [])
   extends-put =
       record {
         there = λ m h. subst (λ x. 0 < x) (sym (occurs_placed parent n child w s hp k m)) h;
         kinds = λ test m h. kind_placed parent n child w s hp k test m;
-        texts = λ m h. text-adopted (after_put parent n child w s hp k) (node_document w parent) m ∙ text-put m;
-        tags = λ m h. tag-adopted (after_put parent n child w s hp k) (node_document w parent) m ∙ tag-put m;
-        parents = λ m h z. parent_placed parent n child w s hp k m h ∙ (elim (same_or m n) [
-          | same e t ↦ absurd (let i = hits-first n [] in let j : hits n (n ∷ []) ≡ 0 = ap (λ x. hits x (n ∷ [])) (sym e) ∙ z in omega arith)
-          | apart ne t ↦ rw t refl
-        ]);
+        texts = λ m h. kept-placed (λ o. (content_in o).text) (λ e. refl) (λ m e. refl) m;
+        tags = λ m h. kept-placed tag_in (λ e. refl) (λ m e. refl) m;
+        parents = λ m h z. grind (arith, nat_tests, parent_placed parent n child w s hp k m h);
       }
 
 -- what several puts leave: what was there stays, and the nodes have the parent
@@ -175,7 +112,7 @@ pub record IsPut (f g : Forest Content) (parent : ℕ) (ns : List ℕ) : Type 0 
   pub extends : Extends f g ns
   pub put_under : (m : ℕ) → 0 < hits m ns → parent_of g m ≡ Some parent
 
-gap-forest : (parent : ℕ) (child : Option ℕ) (count : ℕ) (w : World) → (gap_before parent child count w).forest ≡ w.forest
+pub gap-forest : (parent : ℕ) (child : Option ℕ) (count : ℕ) (w : World) → (gap_before parent child count w).forest ≡ w.forest
 gap-forest parent None count w = refl
 gap-forest parent (Some c) count w = refl
 
@@ -197,13 +134,10 @@ put_each parent child (n ∷ ns) w s hp k c =
     let next = put_each parent child ns v (sound-put_one parent n child w s hp k.0 c) (first.there parent hp)
     (subst (λ (g : Forest Content). ArePlaceable g parent ns) (sym e) (all_placeable parent n child w s hp k.0 ns k.1 k.2))
     (subst (λ (g : Forest Content). IsChildOf g parent child) (sym e) (child_placed parent n child w s hp k.0 child c)) in
-    let here : parent_of v.forest n ≡ Some parent = ap (λ (g : Forest Content). parent_of g n) e ∙ parent_placed parent n child w s hp k.0 n k.0.there ∙ (elim (same_or n n) [ same _ t ↦ rw t refl | apart ne t ↦ absurd (ne refl) ]) in
+    let here : parent_of v.forest n ≡ Some parent = ap (λ (g : Forest Content). parent_of g n) e ∙ parent_placed parent n child w s hp k.0 n k.0.there ∙ cond-true (eqb n n) _ _ (eq-eqb n n refl) in
     let whole : IsPut w.forest (put_all parent child ns (gap_before parent child (length ns) v)).forest parent (n ∷ ns) = record {
       extends = extends-then w.forest v.forest _ (n ∷ []) ns first next.extends;
-      put_under = λ m h. elim (same_or m n) [
-        | same d t ↦ subst (λ x. parent_of (put_all parent child ns (gap_before parent child (length ns) v)).forest x ≡ Some parent) (sym d) (next.extends.parents n (first.there n k.0.there) k.1 ∙ here)
-        | apart ne t ↦ next.put_under m (let i = hits-other m n ns (λ d. ne (sym d)) in omega arith)
-      ];
+      put_under = λ m h. grind (arith, nat_tests, next.put_under m, next.extends.parents n (first.there n k.0.there) k.1);
     } in
     subst (λ x. IsPut w.forest (put_all parent child ns (put_in parent child n (gap_before parent child x w))).forest parent (n ∷ ns)) (sym count)
     (subst (λ (x : World). IsPut w.forest (put_all parent child ns x).forest parent (n ∷ ns)) (sym (gap-apart parent n child (length ns) w s hp k.0 c)) whole)
@@ -214,13 +148,8 @@ extends-freed : (n : ℕ) (w : World) → IsSound w → 0 < occurs n w.forest �
 extends-freed n w s h = go (is_fragment w n)
   where
     go : (v : Bool) → Extends w.forest (if v then emptied_fragment n (if v then children_of w.forest n else n ∷ []) w else remove false n w).forest (if v then children_of w.forest n else n ∷ [])
-    go true =
-        let a = extends-remove_all (children_of w.forest n) w s (λ m k. child-there w.forest s.forest.once m n k) in
-        record { there = a.there; kinds = a.kinds; texts = a.texts; tags = a.tags; parents = a.parents }
+    go true = extends-remove_all (children_of w.forest n) w s (λ m k. child-there w.forest s.forest.once m n k)
     go false = extends-remove false n w s h
-
-twice : (ns ms : List ℕ) (m : ℕ) → ms ≡ ns → hits m ns ≡ 0 → hits m (ns ++ ms) ≡ 0
-twice ns ms m e z = let i = hits-append m ns ms in let j = ap (hits m) e in omega arith
 
 pub put_by_insert : (suppressed : Bool) (n parent : ℕ) (child : Option ℕ) (w : World) → IsSound w → IsInsertable w.forest n parent child → IsPut w.forest (insert suppressed n parent child w).forest parent (nodes_of w n)
 put_by_insert suppressed n parent child w s k = go (nodes_of w n) (freed_ready n parent child w s k) (extends-freed n w s k.there)
@@ -233,7 +162,7 @@ put_by_insert suppressed n parent child w s k = go (nodes_of w n) (freed_ready n
         let e = unless-forest suppressed parent (m ∷ ms) [] (previous_to v.forest parent child) child (put_all parent child (m ∷ ms) (gap_before parent child (length (m ∷ ms)) v)) in
         subst (λ (g : Forest Content). IsPut w.forest g parent (m ∷ ms)) (sym e)
         (record {
-          extends = extends-of w.forest _ ((m ∷ ms) ++ (m ∷ ms)) (m ∷ ms) (λ x _ z. twice (m ∷ ms) (m ∷ ms) x refl z) (extends-then w.forest v.forest _ (m ∷ ms) (m ∷ ms) a p.extends);
+          extends = extends-of w.forest _ ((m ∷ ms) ++ (m ∷ ms)) (m ∷ ms) (λ x _ z. omega (arith, hits-append x (m ∷ ms) (m ∷ ms))) (extends-then w.forest v.forest _ (m ∷ ms) (m ∷ ms) a p.extends);
           put_under = p.put_under;
         })
 

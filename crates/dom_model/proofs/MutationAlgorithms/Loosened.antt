@@ -1,33 +1,16 @@
 -- What a removal leaves of the forest: the node is a root, and nothing else of kinds, parents and paths is new.
 use Rattle.std.proofs.Common.{◌≡◌, ℕ, ◌<◌, ◌≤◌, ◌==◌, Bool, true, false, if◌then◌else◌, List, [], ◌∷◌, Option, Some, None, refl, ap, sym, ◌∙◌, subst, arith}
+use Rattle.std.proofs.lemmas.{Bool.Decides.nat_tests, Bool.cond-false}
+use Rattle.dom_model.specs.Definitions.{hits, Entry, parent_in, Node, Forest, empty, node, occurs, one_at, tops, cut, entry_in, parent_of, ancestors, Content, World, kind_passes, removed_from, remove, remove_all, tree_record_unless, IsSound, Lies}
 use Rattle.dom_model.specs.declared.Kind.{Kind}
-use Rattle.dom_model.specs.PlainLists.Lists.{hits}
-use Rattle.dom_model.specs.Forests.Arena.{Entry, parent_in}
-use Rattle.dom_model.specs.Forests.Forest.{Node, Forest, empty, node, occurs, one_at, tops, cut, entry_in, parent_of, ancestors}
-use Rattle.dom_model.specs.Worlds.World.{Content, World}
-use Rattle.dom_model.specs.Forests.Nodes.{kind_passes}
-use Rattle.dom_model.specs.MutationAlgorithms.Editing.{removed_from, remove, remove_all, tree_record_unless}
-use Rattle.dom_model.specs.Soundness.Sound.{IsSound}
-use Rattle.dom_model.specs.Forests.Lies.{Lies}
 use Rattle.dom_model.proofs.PlainLists.Numbers.{same_or, same, apart}
-use Rattle.dom_model.proofs.Forests.Totals.{total-cut}
-use Rattle.dom_model.proofs.Forests.Lying.{absent_under}
-use Rattle.dom_model.proofs.Forests.Entries.{Lies-entry_in, parent-cut}
-use Rattle.dom_model.proofs.Forests.Paths.{up_with, ancestors-cut}
-use Rattle.dom_model.proofs.Forests.PutBack.{cut-root}
+use Rattle.dom_model.proofs.Forests.{Totals.total-cut, Lying.absent_under, Entries.Lies-entry_in, Entries.parent-cut, Paths.up_with, Paths.ancestors-cut, PutBack.cut-root, Changes.seen, Changes.nothing, Changes.just, Climbing.hits-first}
 use Rattle.dom_model.proofs.Worlds.Measured.{kind-cut}
 use Rattle.dom_model.proofs.Soundness.SoundWorlds.{sound-remove}
 
 root-top : (at : (ℕ → Option (Entry (Node Content)))) (q : Option ℕ) (n : ℕ) (f : Forest Content) → Lies at q f → parent_in (at n) ≡ None → 0 < occurs n f → 0 < hits n (tops f)
 root-top at q n empty l e h = absurd (omega arith)
-root-top at q n (node x kids rest) l e h =
-    elim (same_or x.number n) [
-      | same d t ↦ rw t (omega arith)
-      | apart ne t ↦
-          let z = absent_under at n x.number kids e l.1 in
-          let k = rw t at h in
-          rw t (let i = root-top at q n rest l.2 e (omega arith) in omega arith)
-    ]
+root-top at q n (node x kids rest) l e h = grind (arith, nat_tests, absent_under at n x.number kids e l.1, root-top at q n rest l.2 e)
 
 -- the number of a root stands among the tops
 pub root-listed : (f : Forest Content) → ((m : ℕ) → occurs m f ≤ 1) → (n : ℕ) → parent_of f n ≡ None → 0 < occurs n f → 0 < hits n (tops f)
@@ -50,11 +33,8 @@ forest-remove suppressed n w s h = go (parent_of w.forest n) refl
     go (Some p) e = unless-forest suppressed p [] (n ∷ []) _ _ _
 
 pub made-remove : (suppressed : Bool) (n : ℕ) (w : World) → (remove suppressed n w).made ≡ w.made
-made-remove suppressed n w = go (parent_of w.forest n)
-  where
-    go : (p : Option ℕ) → (removed_from suppressed n p w).made ≡ w.made
-    go None = refl
-    go (Some p) = unless-made suppressed p [] (n ∷ []) _ _ _
+made-remove suppressed n w =
+    elim (seen (parent_of w.forest n)) [ nothing e ↦ rw e refl | just p e ↦ rw e (unless-made suppressed p [] (n ∷ []) _ _ _) ]
 
 -- one forest is left of another by cuts: no path is longer, and no parent new
 pub record IsLoosened (f g : Forest Content) : Type 0 where
@@ -87,20 +67,12 @@ loosened-cut f o c =
       numbers = λ n. total-cut (one_at n) c f;
       kinds = kind-cut f o c;
       paths = λ m n h. let e = ap (hits m) (ancestors-cut f o c n h) in let i = shorter m (ancestors n f) in omega arith;
-      roots = λ n k. parent-cut f o c n ∙ either (n == c) (parent_of f n) k;
+      roots = λ n k. grind (arith, nat_tests, parent-cut f o c n);
     }
   where
     shorter : (m : ℕ) (ns : List ℕ) → hits m (up_with c ns) ≤ hits m ns
     shorter m [] = omega arith
-    shorter m (n ∷ ns) =
-        elim (same_or n c) [
-          | same e t ↦ rw t (omega arith)
-          | apart ne t ↦ rw t (let i = shorter m ns in omega arith)
-        ]
-
-    either : (v : Bool) (p : Option ℕ) → p ≡ None → (if v then None else p) ≡ None
-    either true p e = refl
-    either false p e = e
+    shorter m (n ∷ ns) = grind (arith, nat_tests, shorter m ns)
 
 -- a node removed, and each of a list
 pub loosened-remove : (suppressed : Bool) (n : ℕ) (w : World) → IsSound w → 0 < occurs n w.forest → IsLoosened w.forest (remove suppressed n w).forest
@@ -113,7 +85,7 @@ parent-remove suppressed n w s h m = ap (λ (g : Forest Content). parent_of g m)
 pub loosened-remove_all : (ns : List ℕ) (w : World) → IsSound w → ((n : ℕ) → 0 < hits n ns → 0 < occurs n w.forest) → IsLoosened w.forest (remove_all ns w).forest
 loosened-remove_all [] w s h = loosened-same w.forest w.forest refl
 loosened-remove_all (n ∷ ns) w s h =
-    let k = h n (elim (same_or n n) [ same e t ↦ rw t (omega arith) | apart ne t ↦ absurd (ne refl) ]) in
+    let k = h n (hits-first n ns) in
     let v = remove true n w in
     let a = loosened-remove true n w s k in
     loosened-then w.forest v.forest (remove_all ns v).forest a (loosened-remove_all ns v (sound-remove true n w s) (λ m i. subst (λ x. 0 < x) (sym (a.numbers m)) (h m (omega arith))))
@@ -122,30 +94,22 @@ loosened-remove_all (n ∷ ns) w s h =
 pub parent-remove_all : (ns : List ℕ) (w : World) → IsSound w → ((n : ℕ) → 0 < hits n ns → 0 < occurs n w.forest) → (m : ℕ) → hits m ns ≡ 0 → parent_of (remove_all ns w).forest m ≡ parent_of w.forest m
 parent-remove_all [] w s h m z = refl
 parent-remove_all (n ∷ ns) w s h m z =
-    let k = h n (elim (same_or n n) [ same e t ↦ rw t (omega arith) | apart ne t ↦ absurd (ne refl) ]) in
-    let v = remove true n w in
+    let k = h n (hits-first n ns) in
     let a = loosened-remove true n w s k in
-    elim (same_or n m) [
-      | same e t ↦ absurd (let j = rw t at z in omega arith)
-      | apart ne t ↦
-          let far : (m == n) ≡ false = elim (same_or m n) [ same e u ↦ absurd (ne (sym e)) | apart _ u ↦ u ] in
-          parent-remove_all ns v (sound-remove true n w s) (λ l i. subst (λ x. 0 < x) (sym (a.numbers l)) (h l (omega arith))) m (let j = rw t at z in omega arith)
-          ∙ parent-remove true n w s k m
-          ∙ (rw far refl)
-    ]
+    parent-remove_all ns (remove true n w) (sound-remove true n w s) (λ l i. subst (λ x. 0 < x) (sym (a.numbers l)) (h l (omega arith))) m (omega arith)
+    ∙ parent-remove true n w s k m
+    ∙ cond-false (m == n) _ _ (grind (arith, nat_tests))
 
 -- and each of the list is a root
 pub root-remove_all : (ns : List ℕ) (w : World) → IsSound w → ((n : ℕ) → 0 < hits n ns → 0 < occurs n w.forest) → (m : ℕ) → 0 < hits m ns → parent_of (remove_all ns w).forest m ≡ None
 root-remove_all [] w s h m k = absurd (omega arith)
 root-remove_all (n ∷ ns) w s h m k =
-    let i = h n (elim (same_or n n) [ same e t ↦ rw t (omega arith) | apart ne t ↦ absurd (ne refl) ]) in
+    let i = h n (hits-first n ns) in
     let v = remove true n w in
     let a = loosened-remove true n w s i in
     let there : (l : ℕ) → 0 < hits l ns → 0 < occurs l v.forest = λ l j. subst (λ x. 0 < x) (sym (a.numbers l)) (h l (omega arith)) in
     let sv = sound-remove true n w s in
-    elim (same_or n m) [
-      | same e t ↦
-          let here : (m == n) ≡ true = elim (same_or m n) [ same d u ↦ u | apart ne u ↦ absurd (ne (sym e)) ] in
-          (loosened-remove_all ns v sv there).roots m (parent-remove true n w s i m ∙ (rw here refl))
-      | apart ne t ↦ root-remove_all ns v sv there m (let j = rw t at k in omega arith)
+    elim (same_or m n) [
+      | same e t ↦ (loosened-remove_all ns v sv there).roots m (parent-remove true n w s i m ∙ (rw t refl))
+      | apart ne t ↦ root-remove_all ns v sv there m (grind (arith, nat_tests))
     ]

@@ -1,28 +1,11 @@
 -- In each tree one node document, a Document of the forest: kept as nodes leave and come in. DOM Standard, "Mutation algorithms".
-use Rattle.std.specs.Prelude.{IfSome}
-use Rattle.std.proofs.Common.{◌≡◌, ℕ, ◌<◌, Bool, true, false, if◌then◌else◌, List, [], ◌∷◌, Option, Some, None, refl, sym, ◌∙◌, subst, arith}
+use Rattle.std.proofs.Common.{IfSome, ◌≡◌, ℕ, ◌<◌, Bool, true, false, if◌then◌else◌, List, [], ◌∷◌, Option, Some, None, refl, sym, ◌∙◌, subst, arith}
+use Rattle.dom_model.specs.Definitions.{hits, is_kind, Entry, Node, Forest, empty, node, occurs, tops, cut, put, entry_under, entry_in, EachNode, Content, World, IsSound, is_of_kind, remove, remove_all, is_fragment, emptied_fragment, freed, document_in, node_document, put_in, IsOwned, IsOwnedWell, IsPlaceable}
 use Rattle.dom_model.specs.declared.Kind.TheVariants.{Document}
-use Rattle.dom_model.specs.PlainLists.Lists.{hits}
-use Rattle.dom_model.specs.Forests.Kinds.{is_kind}
-use Rattle.dom_model.specs.Forests.Arena.{Entry}
-use Rattle.dom_model.specs.Forests.Forest.{Node, Forest, empty, node, occurs, tops, cut, put, entry_under, entry_in}
-use Rattle.dom_model.specs.Forests.EachNode.{EachNode}
-use Rattle.dom_model.specs.Worlds.World.{Content, World}
-use Rattle.dom_model.specs.Soundness.Sound.{IsSound}
-use Rattle.dom_model.specs.Forests.Nodes.{is_of_kind}
-use Rattle.dom_model.specs.MutationAlgorithms.Editing.{remove, remove_all, is_fragment, emptied_fragment, freed, document_in, node_document, put_in}
-use Rattle.dom_model.specs.Soundness.Owners.{IsOwned, IsOwnedWell}
-use Rattle.dom_model.specs.MutationAlgorithms.Insertable.{IsPlaceable}
 use Rattle.dom_model.proofs.PlainLists.Numbers.{same_or, same, apart}
-use Rattle.dom_model.proofs.Forests.Changes.{seen, nothing, just}
-use Rattle.dom_model.proofs.Forests.Totals.{IsOnce}
-use Rattle.dom_model.proofs.Forests.Climbing.{hits-first}
-use Rattle.dom_model.proofs.Forests.Documents.{HasDocument-entry, HasOneDocument-cut, HasOneDocument-adopted_put}
-use Rattle.dom_model.proofs.Worlds.Measured.{kind-put}
-use Rattle.dom_model.proofs.Worlds.Owners.{HasOwners-cut, HasOwners-put, HasOwners-adopted}
-use Rattle.dom_model.proofs.Soundness.SoundForests.{entry_there}
-use Rattle.dom_model.proofs.Soundness.SoundWorlds.{sound-remove}
-use Rattle.dom_model.proofs.Soundness.SoundPlacing.{apart_from}
+use Rattle.dom_model.proofs.Forests.{Changes.seen, Changes.nothing, Changes.just, Totals.IsOnce, Climbing.hits-first, Documents.HasDocument-entry, Documents.HasOneDocument-cut, Documents.HasOneDocument-adopted_put}
+use Rattle.dom_model.proofs.Worlds.{Measured.kind-put, Owners.HasOwners-cut, Owners.HasOwners-put, Owners.HasOwners-adopted}
+use Rattle.dom_model.proofs.Soundness.{SoundForests.entry_there, SoundWorlds.sound-remove, SoundPlacing.apart_from}
 use Rattle.dom_model.proofs.MutationAlgorithms.Loosened.{forest-remove, loosened-remove}
 
 -- what holds of each node holds of the node of an entry
@@ -68,7 +51,7 @@ document-owned w n h k =
     let e = entry_there w.forest n h in
     rw e.1 (EachNode-entry (IsOwned w.forest) None n w.forest e.0 k.owners e.1)
 
-told : (o : Option (Entry (Node Content))) → IfSome o (λ e. document_in o ≡ e.value.document)
+pub told : (o : Option (Entry (Node Content))) → IfSome o (λ e. document_in o ≡ e.value.document)
 told None = tt
 told (Some e) = refl
 

@@ -1,20 +1,9 @@
 -- Where an insertion's check passes, each node that comes in is a root that may be put: what a store asks of a put. DOM Standard, "Mutation algorithms".
 use Rattle.std.proofs.Common.{◌≡◌, ℕ, ◌<◌, true, false, Option, Some, None, IfSome}
+use Rattle.dom_model.specs.Definitions.{among, may_stand_in, Entry, Node, Forest, occurs, entry_in, ancestors, HasNode, Content, World, IsSound, check_insert, entry_has, nodes_of, freed, reference_child, IsPlaceable}
 use Rattle.dom_model.specs.declared.Kind.{Kind}
-use Rattle.dom_model.specs.PlainLists.Lists.{among}
-use Rattle.dom_model.specs.Forests.Kinds.{may_stand_in}
-use Rattle.dom_model.specs.Forests.Arena.{Entry}
-use Rattle.dom_model.specs.Forests.Forest.{Node, Forest, occurs, entry_in, ancestors, HasNode}
-use Rattle.dom_model.specs.Worlds.World.{Content, World}
-use Rattle.dom_model.specs.Soundness.Sound.{IsSound}
-use Rattle.dom_model.specs.MutationAlgorithms.Checks.{check_insert}
-use Rattle.dom_model.specs.Forests.Nodes.{entry_has}
-use Rattle.dom_model.specs.MutationAlgorithms.Editing.{nodes_of, freed, reference_child}
-use Rattle.dom_model.specs.MutationAlgorithms.Insertable.{IsPlaceable}
-use Rattle.dom_model.proofs.Forests.Climbing.{hits-not_among}
-use Rattle.dom_model.proofs.Forests.Entries.{HasNode-occurs}
-use Rattle.dom_model.proofs.Soundness.SoundInserting.{IsReady, freed_ready}
-use Rattle.dom_model.proofs.Soundness.SoundEditing.{may_come_before}
+use Rattle.dom_model.proofs.Forests.{Climbing.hits-not_among, Entries.HasNode-occurs}
+use Rattle.dom_model.proofs.Soundness.{SoundInserting.IsReady, SoundInserting.freed_ready, SoundEditing.may_come_before}
 
 -- what is asked of a root that is put under a parent
 pub record MayBePut (f : Forest Content) (parent n : ℕ) : Type 0 where

@@ -1,78 +1,26 @@
 -- A node that is removed first may come in where it was allowed to: before the child, or before its own next sibling. DOM Standard, "Mutation algorithms".
-use Rattle.std.proofs.Common.{◌≡◌, ℕ, ◌<◌, ◌≤◌, ◌==◌, Bool, false, not, if◌then◌else◌, List, [], ◌∷◌, Option, Some, None, refl, ap, sym, ◌∙◌, subst, arith, ⊎_elim}
-use Rattle.std.proofs.lemmas.Bool.{cases_lt}
-use Rattle.dom_model.specs.declared.Kind.{Kind}
-use Rattle.dom_model.specs.declared.Kind.TheVariants.{Element, DocumentType}
-use Rattle.dom_model.specs.PlainLists.Lists.{hits, among, is_number, after, left_out, past, up_to}
-use Rattle.dom_model.specs.Forests.Arena.{Entry, list_under}
-use Rattle.dom_model.specs.Forests.Kinds.{is_kind}
-use Rattle.dom_model.specs.Forests.Forest.{Node, Forest, cut, entry_in, parent_of, children_of, next_of, ancestors}
-use Rattle.dom_model.specs.Worlds.World.{Content}
-use Rattle.dom_model.specs.MutationAlgorithms.Checks.{if_given, has_kind, doctype_from, doctype_refused}
-use Rattle.dom_model.specs.Forests.Nodes.{entry_has, kind_passes, is_of_kind}
+use Rattle.std.proofs.Common.{◌≡◌, ℕ, ◌≤◌, ◌==◌, Bool, false, not, if◌then◌else◌, List, [], ◌∷◌, Option, Some, None, refl, ap, sym, ◌∙◌, arith}
+use Rattle.std.proofs.lemmas.Bool.Decides.{nat_tests}
+use Rattle.dom_model.proofs.Worlds.Measured.{kind-cut}
+use Rattle.dom_model.specs.Definitions.{hits, among, is_number, after, left_out, past, up_to, list_under, is_kind, Forest, cut, entry_in, parent_of, children_of, next_of, ancestors, Content, if_given, has_kind, doctype_from, doctype_refused, kind_passes, is_of_kind}
+use Rattle.dom_model.specs.declared.{Kind.Kind, Kind.TheVariants.Element, Kind.TheVariants.DocumentType}
 use Rattle.dom_model.proofs.PlainLists.Numbers.{same_or, same, apart}
-use Rattle.dom_model.proofs.Forests.Changes.{cut_at}
-use Rattle.dom_model.proofs.Forests.Totals.{IsOnce}
-use Rattle.dom_model.proofs.Forests.Lying.{left_out-absent}
-use Rattle.dom_model.proofs.Forests.PutBack.{hits-head_of, hits-after}
-use Rattle.dom_model.proofs.Forests.Entries.{entry-cut, parent-cut, children-cut}
-use Rattle.dom_model.proofs.Forests.Indices.{child-once, child-parent}
-use Rattle.dom_model.proofs.Forests.Paths.{outside-cut}
+use Rattle.dom_model.proofs.Forests.{Totals.IsOnce, Lying.left_out-absent, PutBack.hits-head_of, PutBack.hits-after, Entries.parent-cut, Entries.children-cut, Indices.child-once, Indices.child-parent, Paths.outside-cut}
 use Rattle.dom_model.proofs.MutationAlgorithms.ChecksKept.{none-of, any-none, IsLike, number-parent, or_first, or_second, or_both}
 
 -- What is left of a list is of the list.
 
 pub hits-left_out : (n m : ℕ) (ns : List ℕ) → hits m (left_out n ns) ≤ hits m ns
 hits-left_out n m [] = omega arith
-hits-left_out n m (x ∷ ns) =
-    elim (same_or x n) [
-      | same e t ↦ rw t (omega (arith, hits-left_out n m ns))
-      | apart ne t ↦ rw t (omega (arith, hits-left_out n m ns))
-    ]
+hits-left_out n m (x ∷ ns) = grind (arith, nat_tests, hits-left_out n m ns)
 
 pub past-left_out : (n c m : ℕ) (ns : List ℕ) → (c == n) ≡ false → hits m (past c (left_out n ns)) ≤ hits m (past c ns)
 past-left_out n c m [] far = omega arith
-past-left_out n c m (x ∷ ns) far =
-    elim (same_or x c) [
-      | same e t ↦
-          let other : (x == n) ≡ false = subst (λ y. (y == n) ≡ false) (sym e) far in
-          rw (t, other) (rw t (hits-left_out n m ns))
-      | apart ne t ↦
-          elim (same_or x n) [
-            | same e v ↦ rw (t, v) (past-left_out n c m ns far)
-            | apart ne2 v ↦ rw (t, v) (rw t (past-left_out n c m ns far))
-          ]
-    ]
+past-left_out n c m (x ∷ ns) far = grind (arith, nat_tests, past-left_out n c m ns far, hits-left_out n m ns)
 
 pub up_to-left_out : (n c m : ℕ) (ns : List ℕ) → (c == n) ≡ false → hits m (up_to c (left_out n ns)) ≤ hits m (up_to c ns)
 up_to-left_out n c m [] far = omega arith
-up_to-left_out n c m (x ∷ ns) far =
-    elim (same_or x c) [
-      | same e t ↦
-          let other : (x == n) ≡ false = subst (λ y. (y == n) ≡ false) (sym e) far in
-          rw (t, other) (rw t (omega arith))
-      | apart ne t ↦
-          elim (same_or x n) [
-            | same e v ↦ rw (t, v) (omega (arith, up_to-left_out n c m ns far))
-            | apart ne2 v ↦ rw (t, v) (rw t (omega (arith, up_to-left_out n c m ns far)))
-          ]
-    ]
-
-pub hits-past_within : (m c : ℕ) (ns : List ℕ) → hits m (past c ns) ≤ hits m ns
-hits-past_within m c [] = omega arith
-hits-past_within m c (x ∷ ns) =
-    elim (same_or x c) [
-      | same e t ↦ rw t (omega arith)
-      | apart ne t ↦ rw t (omega (arith, hits-past_within m c ns))
-    ]
-
-pub hits-up_to_within : (m c : ℕ) (ns : List ℕ) → hits m (up_to c ns) ≤ hits m ns
-hits-up_to_within m c [] = omega arith
-hits-up_to_within m c (x ∷ ns) =
-    elim (same_or x c) [
-      | same e t ↦ rw t (omega arith)
-      | apart ne t ↦ rw t (omega (arith, hits-up_to_within m c ns))
-    ]
+up_to-left_out n c m (x ∷ ns) far = grind (arith, nat_tests, up_to-left_out n c m ns far)
 
 -- g is f where n has left its parent, if it had one
 pub record IsWithout (f g : Forest Content) (n : ℕ) : Type 0 where
@@ -83,29 +31,21 @@ pub record IsWithout (f g : Forest Content) (n : ℕ) : Type 0 where
 
 pub without-cut : (f : Forest Content) → IsOnce f → (n : ℕ) → IsWithout f (cut n f) n
 without-cut f o n = record {
-  kinds = λ test m. ap (entry_has test) (entry-cut f o n m) ∙ go test m (entry_in f m);
-  parents = λ m. parent-cut f o n m;
-  children = λ m. children-cut f o n m;
-  outside = λ m h. outside-cut f o n m h;
+  kinds = kind-cut f o n;
+  parents = parent-cut f o n;
+  children = children-cut f o n;
+  outside = outside-cut f o n;
 }
-  where
-    go : (test : Kind → Bool) (m : ℕ) (e : Option (Entry (Node Content))) → entry_has test (cut_at n m e) ≡ entry_has test e
-    go test m None = refl
-    go test m (Some e) = refl
 
 -- a root stands in no list of children
 pub root-unlisted : (f : Forest Content) → IsOnce f → (n m : ℕ) → parent_of f n ≡ None → hits n (children_of f m) ≡ 0
-root-unlisted f o n m r =
-    ⊎_elim
-    (λ (lt : 0 < hits n (children_of f m)). absurd (let e : None ≡ Some m = sym r ∙ child-parent f o n m lt in cc e))
-    (λ (le : hits n (children_of f m) ≤ 0). omega arith)
-    (cases_lt 0 (hits n (children_of f m)))
+root-unlisted f o n m r = grind (arith, child-parent f o n m)
 
 -- a root stays
 pub without-root : (f : Forest Content) → IsOnce f → (n : ℕ) → parent_of f n ≡ None → IsWithout f f n
 without-root f o n r = record {
   kinds = λ test m. refl;
-  parents = λ m. elim (same_or m n) [ same e t ↦ rw t (ap (parent_of f) e ∙ r) | apart ne t ↦ rw t refl ];
+  parents = λ m. grind (arith, nat_tests);
   children = λ m. sym (left_out-absent n (children_of f m) (root-unlisted f o n m r));
   outside = λ m h. h;
 }
@@ -113,18 +53,7 @@ without-root f o n r = record {
 -- what comes after a number that stands once is another
 after-apart : (n b : ℕ) (ns : List ℕ) → hits n ns ≤ 1 → after n ns ≡ Some b → (b == n) ≡ false
 after-apart n b [] h e = absurd (cc e)
-after-apart n b (x ∷ ns) h e =
-    elim (same_or x n) [
-      | same d t ↦
-          let k = rw t at e in
-          let i = hits-head_of ns b k in
-          let j = rw t at h in
-          elim (same_or b n) [
-            | same d2 v ↦ absurd (let l = subst (λ y. 0 < hits y ns) d2 i in omega arith)
-            | apart ne v ↦ v
-          ]
-      | apart ne t ↦ (let k = rw t at e in let j = rw t at h in after-apart n b ns (omega arith) k)
-    ]
+after-apart n b (x ∷ ns) h e = grind (arith, nat_tests, hits-head_of ns b, after-apart n b ns)
 
 module _ (f g : Forest Content) (o : IsOnce f) (parent n : ℕ) (w : IsWithout f g n) where
   -- none of a kind among some of those among whom there was none
@@ -142,20 +71,14 @@ module _ (f g : Forest Content) (o : IsOnce f) (parent n : ℕ) (w : IsWithout f
       let far = after-apart n b (children_of f parent) (child-once f o n parent) s in
       let p : parent_of f b ≡ Some parent = child-parent f o b parent (hits-after n (children_of f parent) b s) in
       let q : parent_of g b ≡ Some parent = w.parents b ∙ (rw far p) in
-      rw q (own parent)
-    where
-      own : (m : ℕ) → not (m == m) ≡ false
-      own m = elim (same_or m m) [ same e t ↦ rw t refl | apart ne t ↦ absurd (ne refl) ]
+      rw q (grind (arith, nat_tests))
 
   found-kept : (child : Option ℕ) → if_given (λ c. not (is_number (parent_of f c) parent)) child ≡ false → if_given (λ c. not (is_number (parent_of g c) parent)) (if is_number child n then next_of f n else child) ≡ false
   found-kept None h = refl
-  found-kept (Some a) h =
-      elim (same_or a n) [
-        | same e t ↦ rw t (next-found (next_of f n) (ap (parent_of f) (sym e) ∙ number-parent parent (parent_of f a) h) refl)
-        | apart ne t ↦
-            let q : parent_of g a ≡ parent_of f a = w.parents a ∙ (rw t refl) in
-            rw t (rw q h)
-      ]
+  found-kept (Some a) h = elim (same_or a n) [
+    | same e t ↦ rw t (next-found (next_of f n) (ap (parent_of f) (sym e) ∙ number-parent parent (parent_of f a) h) refl)
+    | apart ne t ↦ rw t (rw (w.parents a, t) h)
+  ]
 
   behind-kept : (child : Option ℕ) → is_number child n ≡ false → doctype_from f parent child ≡ false → doctype_from g parent (if is_number child n then next_of f n else child) ≡ false
   behind-kept None far h = refl

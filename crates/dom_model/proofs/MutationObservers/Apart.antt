@@ -1,18 +1,10 @@
 -- Observers do not feel one another: the observing part without some observers tells the others the same.
-use Rattle.std.proofs.Common.{◌≡◌, ℕ, zero, suc, ◌+◌, ◌<◌, ◌≤◌, ◌==◌, Bool, true, false, not, ◌||◌, if◌then◌else◌, List, [], ◌∷◌, ◌++◌, map, length, drop, Option, Some, None, refl, ap, sym, ◌∙◌, subst, append-nil, length-append, ◌-◌, ◌⊎◌, inl, inr}
-use Rattle.std.specs.Prelude.{filter, filter_map, flat_map, cond, is_none, is_some, slice_index_or}
-use Rattle.std.specs.List.{cons_option, list_any}
-use Rattle.std.proofs.lemmas.Bool.{false≢true, cases_lt}
-use Rattle.std.proofs.lemmas.List.{map-append, length-map, length-set, get_or-set_same, get_or-set_other, get_or_append_left, get_or-append_right}
-use Rattle.std.proofs.lemmas.List.Elements.{filter-append}
-use Rattle.dom_model.specs.PlainLists.Lists.{among}
-use Rattle.dom_model.specs.Worlds.World.{Options, Registration, Mutation, Observing}
-use Rattle.dom_model.specs.MutationObservers.Observing.{registered_on, standing_on, noted, transient_of, with_transients}
-use Rattle.dom_model.specs.MutationObservers.Record.{Told}
-use Rattle.dom_model.specs.MutationObservers.Records.{interests, interested, record_by, record_for, observers_of, each_once, taken_up_to, has_observer, records_past, queue_of, pending_of, told_in, has_records, told, after_notify, pending_taken, is_transient_of, observer_told, records_taken, disconnected, released_observer, is_registered, is_transient_from, new_registration, with_options, registered, observed, with_observer}
+use Rattle.std.proofs.Common.{arith, ◌≡◌, ℕ, zero, suc, ◌+◌, ◌<◌, ◌≤◌, ◌==◌, Bool, true, false, not, if◌then◌else◌, List, [], ◌∷◌, ◌++◌, map, length, drop, Some, None, refl, ap, sym, ◌∙◌, append-nil, length-append, ◌-◌, ◌⊎◌, inl, inr}
+use Rattle.std.specs.{Prelude.filter, Prelude.filter_map, Prelude.flat_map, Prelude.is_none, Prelude.is_some, Prelude.slice_index_or, List.list_any}
+use Rattle.std.proofs.lemmas.{Bool.cases_Bool, Bool.Decides.nat_tests, Bool.false≢true, Bool.cases_lt, List.map-append, List.length-map, List.length-set, List.get_or-set_same, List.get_or-set_other, List.get_or_append_left, List.get_or-append_right, List.Elements.filter-append}
+use Rattle.dom_model.specs.Definitions.{among, Options, Registration, Mutation, Observing, registered_on, standing_on, noted, transient_of, with_transients, Told, interests, interested, record_by, record_for, observers_of, each_once, taken_up_to, has_observer, queue_of, pending_of, told_in, has_records, told, after_notify, pending_taken, is_transient_of, observer_told, records_taken, disconnected, released_observer, is_registered, is_transient_from, new_registration, with_options, registered, observed, with_observer}
 use Rattle.dom_model.proofs.PlainLists.Numbers.{Same, same_or, same, apart}
-use Rattle.dom_model.proofs.MutationObservers.NodeRegistrations.{filter-twice, filter-map_kept, registered_on-filter}
-use Rattle.dom_model.proofs.MutationObservers.Queues.{each_once-filter, place-released, place-released_other, place-notified, among-passing, length-moved}
+use Rattle.dom_model.proofs.MutationObservers.{NodeRegistrations.filter-twice, NodeRegistrations.filter-map_kept, NodeRegistrations.registered_on-filter, Queues.each_once-filter, Queues.place-released, Queues.place-released_other, Queues.place-notified, Queues.among-passing, Queues.length-moved}
 
 module _ (erased : ℕ → Bool) where
   abbrev pub is_left : Registration → Bool
@@ -32,15 +24,7 @@ module _ (erased : ℕ → Bool) where
 
   filter-own : (o : ℕ) → erased o ≡ false → (rs : List Registration) → filter (λ (r : Registration). r.observer == o) (filter is_left rs) ≡ filter (λ (r : Registration). r.observer == o) rs
   filter-own o h [] = refl
-  filter-own o h (r ∷ rs) = go (erased r.observer) refl (filter-own o h rs)
-    where
-      go : (v : Bool) → erased r.observer ≡ v → filter (λ (s : Registration). s.observer == o) (filter is_left rs) ≡ filter (λ (s : Registration). s.observer == o) rs → filter (λ (s : Registration). s.observer == o) (cond (not v) (r ∷ filter is_left rs) (filter is_left rs)) ≡ cond (r.observer == o) (r ∷ filter (λ (s : Registration). s.observer == o) rs) (filter (λ (s : Registration). s.observer == o) rs)
-      go false e i = ap (λ ss. cond (r.observer == o) (r ∷ ss) ss) i
-      go true e i =
-          elim (same_or r.observer o) [
-            | same d t ↦ absurd (false≢true (sym h ∙ ap erased (sym d) ∙ e))
-            | apart ne t ↦ rw t i
-          ]
+  filter-own o h (r ∷ rs) = grind (arith, filter-own o h rs)
 
   pub record-left : (o : ℕ) → erased o ≡ false → (m : Mutation) → record_for o (left_of m) ≡ record_for o m
   record-left o h m =
@@ -48,9 +32,7 @@ module _ (erased : ℕ → Bool) where
 
   filter_map-left : (o : ℕ) → erased o ≡ false → (ms : List Mutation) → filter_map (record_for o) (map left_of ms) ≡ filter_map (record_for o) ms
   filter_map-left o h [] = refl
-  filter_map-left o h (m ∷ ms) =
-      ap (λ r. cons_option r (filter_map (record_for o) (map left_of ms))) (record-left o h m)
-      ∙ ap (cons_option (record_for o m)) (filter_map-left o h ms)
+  filter_map-left o h (m ∷ ms) = grind (arith, record-left o h m, filter_map-left o h ms)
 
   drop-map : (n : ℕ) (ms : List Mutation) → drop n (map left_of ms) ≡ map left_of (drop n ms)
   drop-map zero ms = refl
@@ -59,14 +41,7 @@ module _ (erased : ℕ → Bool) where
 
   -- the others' queues are the same
   pub queue-left : (x y : Observing) → IsWithout x y → (o : ℕ) → erased o ≡ false → queue_of o y ≡ queue_of o x
-  queue-left x y w o h = ap (records_past o y.mutations) (w.places o h) ∙ past (taken_up_to o x)
-    where
-      past : (t : Option ℕ) → records_past o y.mutations t ≡ records_past o x.mutations t
-      past None = refl
-      past (Some place) =
-          ap (λ ms. filter_map (record_for o) (drop place ms)) w.mutations
-          ∙ ap (filter_map (record_for o)) (drop-map place x.mutations)
-          ∙ filter_map-left o h (drop place x.mutations)
+  queue-left x y w o h = grind (arith, drop-map, filter_map-left o h)
 
   -- the others are there in both, or in neither
   pub there-left : (x y : Observing) → IsWithout x y → (o : ℕ) → erased o ≡ false → has_observer y o ≡ has_observer x o
@@ -82,11 +57,7 @@ module _ (erased : ℕ → Bool) where
     where
       go : (rs : List Registration) → map (λ (r : Registration). r.observer) (filter is_left rs) ≡ filter is_other (map (λ (r : Registration). r.observer) rs)
       go [] = refl
-      go (r ∷ rs) = one (not (erased r.observer)) (go rs)
-        where
-          one : (v : Bool) → map (λ (s : Registration). s.observer) (filter is_left rs) ≡ filter is_other (map (λ (s : Registration). s.observer) rs) → map (λ (s : Registration). s.observer) (cond v (r ∷ filter is_left rs) (filter is_left rs)) ≡ cond v (r.observer ∷ filter is_other (map (λ (s : Registration). s.observer) rs)) (filter is_other (map (λ (s : Registration). s.observer) rs))
-          one true i = ap (λ os. r.observer ∷ os) i
-          one false i = i
+      go (r ∷ rs) = grind (arith, cases_Bool (erased r.observer), go rs)
 
   flat_map-left : (ms : List Mutation) → flat_map observers_of (map left_of ms) ≡ filter is_other (flat_map observers_of ms)
   flat_map-left [] = refl
@@ -97,21 +68,7 @@ module _ (erased : ℕ → Bool) where
 
   filter-there : (x y : Observing) → IsWithout x y → (ns : List ℕ) → filter (has_observer y) (filter is_other ns) ≡ filter is_other (filter (has_observer x) ns)
   filter-there x y w [] = refl
-  filter-there x y w (n ∷ ns) = go (erased n) refl (filter-there x y w ns)
-    where
-      gone : (v : Bool) → erased n ≡ true → filter is_other (filter (has_observer x) ns) ≡ filter is_other (cond v (n ∷ filter (has_observer x) ns) (filter (has_observer x) ns))
-      gone true e = rw e refl
-      gone false e = refl
-
-      other : (v : Bool) → erased n ≡ false → filter (has_observer y) (filter is_other ns) ≡ filter is_other (filter (has_observer x) ns) → cond v (n ∷ filter (has_observer y) (filter is_other ns)) (filter (has_observer y) (filter is_other ns)) ≡ filter is_other (cond v (n ∷ filter (has_observer x) ns) (filter (has_observer x) ns))
-      other true e i = rw e (ap (λ os. n ∷ os) i)
-      other false e i = i
-
-      go : (v : Bool) → erased n ≡ v → filter (has_observer y) (filter is_other ns) ≡ filter is_other (filter (has_observer x) ns) → filter (has_observer y) (cond (not v) (n ∷ filter is_other ns) (filter is_other ns)) ≡ filter is_other (filter (has_observer x) (n ∷ ns))
-      go true e i = i ∙ gone (has_observer x n) e
-      go false e i =
-          ap (λ v. cond v (n ∷ filter (has_observer y) (filter is_other ns)) (filter (has_observer y) (filter is_other ns))) (there-left x y w n e)
-          ∙ other (has_observer x n) e i
+  filter-there x y w (n ∷ ns) = grind (arith, nat_tests, filter-there x y w ns)
 
   pub pending-left : (x y : Observing) → IsWithout x y → pending_of y ≡ filter is_other (pending_of x)
   pending-left x y w =
@@ -126,28 +83,17 @@ module _ (erased : ℕ → Bool) where
 
   told_in-left : (x y : Observing) → IsWithout x y → (os : List ℕ) → map (told_in y) (filter is_other os) ≡ filter (λ (t : Told). is_other t.observer) (map (told_in x) os)
   told_in-left x y w [] = refl
-  told_in-left x y w (o ∷ os) = go (erased o) refl (told_in-left x y w os)
-    where
-      go : (v : Bool) → erased o ≡ v → map (told_in y) (filter is_other os) ≡ filter (λ (t : Told). is_other t.observer) (map (told_in x) os) → map (told_in y) (cond (not v) (o ∷ filter is_other os) (filter is_other os)) ≡ cond (not v) (told_in x o ∷ filter (λ (t : Told). is_other t.observer) (map (told_in x) os)) (filter (λ (t : Told). is_other t.observer) (map (told_in x) os))
-      go true e i = i
-      go false e i =
-          ap (λ rs. record { observer = o; records = rs } ∷ map (told_in y) (filter is_other os)) (queue-left x y w o e)
-          ∙ ap (λ (ts : List Told). told_in x o ∷ ts) i
+  told_in-left x y w (o ∷ os) = grind (arith, cases_Bool (erased o), queue-left x y w o, told_in-left x y w os)
 
   pub told-left : (x y : Observing) → IsWithout x y → told y ≡ filter (λ (t : Told). is_other t.observer) (told x)
-  told-left x y w =
-      ap (λ os. filter has_records (map (told_in y) os)) (pending-left x y w)
-      ∙ ap (filter has_records) (told_in-left x y w (pending_of x))
-      ∙ filter-twice has_records (λ (t : Told). is_other t.observer) (map (told_in x) (pending_of x))
+  told-left x y w = grind (arith, pending-left x y w, told_in-left x y w (pending_of x), filter-twice has_records)
 
   -- Each step leaves the two as they were to one another.
 
   pub standing-left : (ns : List ℕ) (rs : List Registration) → standing_on ns (filter is_left rs) ≡ filter is_left (standing_on ns rs)
   standing-left [] rs = refl
   standing-left (n ∷ ns) rs =
-      ap (λ ss. ss ++ standing_on ns (filter is_left rs)) (registered_on-filter n is_left rs)
-      ∙ ap (λ ss. filter is_left (registered_on n rs) ++ ss) (standing-left ns rs)
-      ∙ sym (filter-append is_left (registered_on n rs) (standing_on ns rs))
+      grind (arith, registered_on-filter n is_left rs, standing-left ns rs, filter-append is_left (registered_on n rs) (standing_on ns rs))
 
   pub noted-left : (x y : Observing) → IsWithout x y → (m : Mutation) → IsWithout (noted m x) (noted (left_of m) y)
   noted-left x y w m = record {
@@ -227,8 +173,7 @@ module _ (erased : ℕ → Bool) where
       place : (p : ℕ) → erased p ≡ false → Same p o → taken_up_to p (records_taken o y) ≡ taken_up_to p (records_taken o x)
       place p k (apart ne t) = get_or-set_other y.places o p (Some (length y.mutations)) None ne ∙ w.places p k ∙ sym (get_or-set_other x.places o p (Some (length x.mutations)) None ne)
       place p k (same d t) =
-          subst (λ q. taken_up_to q (records_taken o y) ≡ taken_up_to q (records_taken o x)) (sym d)
-          (get_or-set_same y.places o (Some (length y.mutations)) None (rw w.made h) ∙ ap Some long ∙ sym (get_or-set_same x.places o (Some (length x.mutations)) None h))
+          grind (arith, long, w.made, get_or-set_same y.places o (Some (length y.mutations)) None, get_or-set_same x.places o (Some (length x.mutations)) None h)
 
   -- an erased observer is disconnected in the one alone, another in both
   pub disconnected-erased : (x y : Observing) → IsWithout x y → (o : ℕ) → erased o ≡ true → IsWithout (disconnected o x) y
@@ -244,11 +189,7 @@ module _ (erased : ℕ → Bool) where
     where
       go : (rs : List Registration) → filter is_left rs ≡ filter is_left (filter (λ (r : Registration). not (r.observer == o)) rs)
       go [] = refl
-      go (r ∷ rs) = one (same_or r.observer o) (go rs)
-        where
-          one : Same r.observer o → filter is_left rs ≡ filter is_left (filter (λ (s : Registration). not (s.observer == o)) rs) → filter is_left (r ∷ rs) ≡ filter is_left (filter (λ (s : Registration). not (s.observer == o)) (r ∷ rs))
-          one (same d t) i = let e : erased r.observer ≡ true = ap erased d ∙ h in rw (t, e) i
-          one (apart ne t) i = rw t (ap (λ ss. cond (not (erased r.observer)) (r ∷ ss) ss) i)
+      go (r ∷ rs) = grind (arith, nat_tests, cases_Bool (erased r.observer), go rs)
 
   pub disconnected-left : (x y : Observing) → IsWithout x y → (o : ℕ) → o < length x.places → IsWithout (disconnected o x) (disconnected o y)
   disconnected-left x y w o h =
@@ -275,12 +216,7 @@ module _ (erased : ℕ → Bool) where
     where
       go : (rs : List Registration) → filter is_left rs ≡ filter is_left (filter (λ (r : Registration). not (is_transient_of o r)) rs)
       go [] = refl
-      go (r ∷ rs) = one (same_or r.observer o) (is_some r.source) refl (go rs)
-        where
-          one : Same r.observer o → (b : Bool) → is_some r.source ≡ b → filter is_left rs ≡ filter is_left (filter (λ (s : Registration). not (is_transient_of o s)) rs) → filter is_left (r ∷ rs) ≡ filter is_left (filter (λ (s : Registration). not (is_transient_of o s)) (r ∷ rs))
-          one (same d t) true f i = let e : erased r.observer ≡ true = ap erased d ∙ h in rw (t, f, e) i
-          one (same d t) false f i = let e : erased r.observer ≡ true = ap erased d ∙ h in rw (t, f) (rw e i)
-          one (apart ne t) b f i = rw t (ap (λ ss. cond (not (erased r.observer)) (r ∷ ss) ss) i)
+      go (r ∷ rs) = grind (arith, nat_tests, cases_Bool (erased r.observer), cases_Bool (is_some r.source), go rs)
 
   pub observer_told-left : (x y : Observing) → IsWithout x y → (o : ℕ) → o < length x.places → IsWithout (observer_told o x) (observer_told o y)
   observer_told-left x y w o h =
@@ -316,9 +252,7 @@ module _ (erased : ℕ → Bool) where
     where
       place : (p : ℕ) → erased p ≡ false → Same p o → taken_up_to p (released_observer o y) ≡ taken_up_to p (released_observer o x)
       place p k (apart ne t) = place-released_other o p y ne ∙ w.places p k ∙ sym (place-released_other o p x ne)
-      place p k (same d t) =
-          subst (λ q. taken_up_to q (released_observer o y) ≡ taken_up_to q (released_observer o x)) (sym d)
-          (place-released o y ∙ sym (place-released o x))
+      place p k (same d t) = grind (arith, nat_tests, place-released o y, place-released o x)
 
   -- an erased observer observes in the one alone
   pub observed-erased : (x y : Observing) → IsWithout x y → (o n : ℕ) (options : Options) → erased o ≡ true → IsWithout (observed o n options x) y
@@ -335,19 +269,8 @@ module _ (erased : ℕ → Bool) where
 
       go : (rs : List Registration) → filter is_left (map (with_options o n options) (filter (λ (r : Registration). not (is_transient_from o n r)) rs)) ≡ filter is_left rs
       go [] = refl
-      go (r ∷ rs) = one (erased r.observer) refl (go rs)
-        where
-          one : (v : Bool) → erased r.observer ≡ v → filter is_left (map (with_options o n options) (filter (λ (s : Registration). not (is_transient_from o n s)) rs)) ≡ filter is_left rs → filter is_left (map (with_options o n options) (filter (λ (s : Registration). not (is_transient_from o n s)) (r ∷ rs))) ≡ cond (not v) (r ∷ filter is_left rs) (filter is_left rs)
-          one false e i = let t = off r e in rw (t) (rw (t, e) (ap (λ ss. r ∷ ss) i))
-          one true e i = gone (is_transient_from o n r) (is_registered o n r) e i
-            where
-              gone : (v w : Bool) → erased r.observer ≡ true → filter is_left (map (with_options o n options) (filter (λ (s : Registration). not (is_transient_from o n s)) rs)) ≡ filter is_left rs → filter is_left (map (with_options o n options) (cond (not v) (r ∷ filter (λ (s : Registration). not (is_transient_from o n s)) rs) (filter (λ (s : Registration). not (is_transient_from o n s)) rs))) ≡ filter is_left rs
-              gone true w e i = i
-              gone false w e i = kept (is_registered o n r) i
-                where
-                  kept : (u : Bool) → filter is_left (map (with_options o n options) (filter (λ (s : Registration). not (is_transient_from o n s)) rs)) ≡ filter is_left rs → filter is_left ((if u then record r { options = options } else r) ∷ map (with_options o n options) (filter (λ (s : Registration). not (is_transient_from o n s)) rs)) ≡ filter is_left rs
-                  kept true i = rw e i
-                  kept false i = rw e i
+      go (r ∷ rs) =
+          grind (arith, nat_tests, cases_Bool (erased r.observer), cases_Bool (is_transient_from o n r), cases_Bool (is_registered o n r), off r, go rs)
 
       by_test : (v : Bool) → filter is_left (if v then map (with_options o n options) (filter (λ (r : Registration). not (is_transient_from o n r)) x.registrations) else x.registrations ++ new_registration o n options ∷ []) ≡ filter is_left x.registrations
       by_test true = go x.registrations
@@ -365,22 +288,10 @@ module _ (erased : ℕ → Bool) where
     where
       any : (rs : List Registration) → list_any (is_registered o n) (filter is_left rs) ≡ list_any (is_registered o n) rs
       any [] = refl
-      any (r ∷ rs) = one (erased r.observer) refl (any rs)
-        where
-          one : (v : Bool) → erased r.observer ≡ v → list_any (is_registered o n) (filter is_left rs) ≡ list_any (is_registered o n) rs → list_any (is_registered o n) (cond (not v) (r ∷ filter is_left rs) (filter is_left rs)) ≡ (is_registered o n r || list_any (is_registered o n) rs)
-          one false e i = ap (λ b. is_registered o n r || b) i
-          one true e i =
-              elim (same_or r.observer o) [
-                | same d t ↦ absurd (false≢true (sym h ∙ ap erased (sym d) ∙ e))
-                | apart ne t ↦ rw t i
-              ]
+      any (r ∷ rs) = grind (arith, nat_tests, cases_Bool (erased r.observer), any rs)
 
       kept : (r : Registration) → is_left (with_options o n options r) ≡ is_left r
-      kept r = go (is_registered o n r)
-        where
-          go : (v : Bool) → is_left (if v then record r { options = options } else r) ≡ is_left r
-          go true = refl
-          go false = refl
+      kept r = grind (arith, cases_Bool (is_registered o n r))
 
       by_test : (v : Bool) → (if v then map (with_options o n options) (filter (λ (r : Registration). not (is_transient_from o n r)) (filter is_left x.registrations)) else filter is_left x.registrations ++ new_registration o n options ∷ []) ≡ filter is_left (if v then map (with_options o n options) (filter (λ (r : Registration). not (is_transient_from o n r)) x.registrations) else x.registrations ++ new_registration o n options ∷ [])
       by_test true =
@@ -403,9 +314,7 @@ module _ (erased : ℕ → Bool) where
 
       place : (o : ℕ) → erased o ≡ false → ((o < length x.places) ⊎ (length x.places ≤ o)) → taken_up_to o (with_observer y) ≡ taken_up_to o (with_observer x)
       place o h (inl lt) =
-          get_or_append_left y.places (Some (length y.mutations) ∷ []) None o (rw w.made lt)
-          ∙ w.places o h
-          ∙ sym (get_or_append_left x.places (Some (length x.mutations) ∷ []) None o lt)
+          grind (arith, nat_tests, get_or_append_left y.places (Some (length y.mutations) ∷ []) None o, get_or_append_left x.places (Some (length x.mutations) ∷ []) None o lt)
       place o h (inr le) =
           get_or-append_right y.places (Some (length y.mutations) ∷ []) (length x.places) o None w.made le
           ∙ ap (λ l. slice_index_or (Some l ∷ []) (o - length x.places) None) long

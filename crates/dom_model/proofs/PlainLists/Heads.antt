@@ -1,11 +1,7 @@
 -- What is told of a list of numbers by its first number and by the rest.
-use Rattle.std.proofs.Common.{◌≡◌, ℕ, ◌+◌, true, List, ◌∷◌, refl, sym, arith}
+use Rattle.std.proofs.Common.{◌≡◌, ℕ, true, List, ◌∷◌, refl, sym, arith}
 use Rattle.std.proofs.lemmas.Bool.{eq-eqb, ne_eqb}
-use Rattle.dom_model.specs.PlainLists.Lists.{hits, among, after, head_of}
-
--- how often a number stands in a list with a head
-pub hits-first : (e : ℕ) (xs : List ℕ) → hits e (e ∷ xs) ≡ 1 + hits e xs
-hits-first e xs = rw (eq-eqb e e refl) refl
+use Rattle.dom_model.specs.Definitions.{hits, among, after, head_of}
 
 pub hits-rest : (k e : ℕ) (xs : List ℕ) → (k ≡ e → ⊥) → hits k (e ∷ xs) ≡ hits k xs
 hits-rest k e xs d = rw (ne_eqb e k (λ q. d (sym q))) (omega arith)

@@ -1,6 +1,6 @@
 -- A list mapped, and a question asked of it before or after.
-use Rattle.std.proofs.Common.{◌≡◌, ℕ, ◌<◌, ◌==◌, true, false, if◌then◌else◌, List, [], ◌∷◌, map, Option, Some, option_map, refl, ap, arith}
-use Rattle.dom_model.specs.PlainLists.Lists.{hits, is_number, entered, left_out, head_of, last_of, after, before_from, place_in}
+use Rattle.std.proofs.Common.{◌≡◌, ℕ, ◌<◌, ◌==◌, List, [], ◌∷◌, map, Option, Some, option_map, refl, arith}
+use Rattle.dom_model.specs.Definitions.{hits, is_number, entered, left_out, head_of, last_of, after, before_from, place_in}
 use Rattle.dom_model.proofs.Forests.Climbing.{hits-first}
 
 pub head_of-map : (f : ℕ → ℕ) (l : List ℕ) → head_of (map f l) ≡ option_map f (head_of l)
@@ -14,19 +14,11 @@ last_of-map f (x ∷ y ∷ ys) = last_of-map f (y ∷ ys)
 
 pub after-map : (f : ℕ → ℕ) (s : ℕ) (l : List ℕ) → ((x : ℕ) → 0 < hits x l → (f x == f s) ≡ (x == s)) → after (f s) (map f l) ≡ option_map f (after s l)
 after-map f s [] h = refl
-after-map f s (x ∷ xs) h =
-    rw (h x (hits-first x xs)) (elim (x == s) as (λ v. (if v then head_of (map f xs) else after (f s) (map f xs)) ≡ option_map f (if v then head_of xs else after s xs)) [
-      | true ↦ head_of-map f xs
-      | false ↦ after-map f s xs (λ y k. h y (omega arith))
-    ])
+after-map f s (x ∷ xs) h = grind (arith, after-map f s xs)
 
 pub before_from-map : (f : ℕ → ℕ) (s : ℕ) (passed : Option ℕ) (l : List ℕ) → ((x : ℕ) → 0 < hits x l → (f x == f s) ≡ (x == s)) → before_from (option_map f passed) (f s) (map f l) ≡ option_map f (before_from passed s l)
 before_from-map f s passed [] h = refl
-before_from-map f s passed (x ∷ xs) h =
-    rw (h x (hits-first x xs)) (elim (x == s) as (λ v. (if v then option_map f passed else before_from (Some (f x)) (f s) (map f xs)) ≡ option_map f (if v then passed else before_from (Some x) s xs)) [
-      | true ↦ refl
-      | false ↦ before_from-map f s (Some x) xs (λ y k. h y (omega arith))
-    ])
+before_from-map f s passed (x ∷ xs) h = grind (arith, before_from-map f s (Some x) xs)
 
 pub place_in-map : (f : ℕ → ℕ) (s : ℕ) (l : List ℕ) → ((x : ℕ) → 0 < hits x l → (f x == f s) ≡ (x == s)) → place_in (f s) (map f l) ≡ place_in s l
 place_in-map f s [] h = refl
@@ -34,19 +26,11 @@ place_in-map f s (x ∷ xs) h = rw (h x (hits-first x xs), place_in-map f s xs (
 
 pub left_out-map : (f : ℕ → ℕ) (s : ℕ) (l : List ℕ) → ((x : ℕ) → 0 < hits x l → (f x == f s) ≡ (x == s)) → left_out (f s) (map f l) ≡ map f (left_out s l)
 left_out-map f s [] h = refl
-left_out-map f s (x ∷ xs) h =
-    rw (h x (hits-first x xs)) (elim (x == s) as (λ v. (if v then left_out (f s) (map f xs) else f x ∷ left_out (f s) (map f xs)) ≡ map f (if v then left_out s xs else x ∷ left_out s xs)) [
-      | true ↦ left_out-map f s xs (λ y k. h y (omega arith))
-      | false ↦ ap (λ l. f x ∷ l) (left_out-map f s xs (λ y k. h y (omega arith)))
-    ])
+left_out-map f s (x ∷ xs) h = grind (arith, left_out-map f s xs)
 
 pub entered-map : (f : ℕ → ℕ) (b : Option ℕ) (s : ℕ) (l : List ℕ) → ((x : ℕ) → 0 < hits x l → is_number (option_map f b) (f x) ≡ is_number b x) → entered (option_map f b) (f s) (map f l) ≡ map f (entered b s l)
 entered-map f b s [] h = refl
-entered-map f b s (x ∷ xs) h =
-    rw (h x (hits-first x xs)) (elim (is_number b x) as (λ v. (if v then f s ∷ f x ∷ map f xs else f x ∷ entered (option_map f b) (f s) (map f xs)) ≡ map f (if v then s ∷ x ∷ xs else x ∷ entered b s xs)) [
-      | true ↦ refl
-      | false ↦ ap (λ l. f x ∷ l) (entered-map f b s xs (λ y k. h y (omega arith)))
-    ])
+entered-map f b s (x ∷ xs) h = grind (arith, entered-map f b s xs)
 
 pub map-same : (f g : ℕ → ℕ) (l : List ℕ) → ((x : ℕ) → 0 < hits x l → f x ≡ g x) → map f l ≡ map g l
 map-same f g [] h = refl

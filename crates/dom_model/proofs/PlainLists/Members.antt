@@ -1,7 +1,6 @@
 -- What stands last in a list, or before another, stands in it.
-use Rattle.std.proofs.Common.{◌≡◌, ℕ, ◌<◌, List, [], ◌∷◌, Option, Some, subst, arith, ◌⊎◌, inl, inr, ⊎_elim}
-use Rattle.dom_model.specs.PlainLists.Lists.{hits, last_of, before_from}
-use Rattle.dom_model.proofs.PlainLists.Numbers.{same_or, same, apart}
+use Rattle.std.proofs.Common.{◌≡◌, ℕ, ◌<◌, List, [], ◌∷◌, Option, Some, subst, arith, ◌⊎◌}
+use Rattle.dom_model.specs.Definitions.{hits, last_of, before_from}
 use Rattle.dom_model.proofs.Forests.Climbing.{hits-first}
 
 pub hits-last_of : (l : List ℕ) (x : ℕ) → last_of l ≡ Some x → 0 < hits x l
@@ -11,13 +10,4 @@ hits-last_of (y ∷ z ∷ zs) x e = omega (arith, hits-last_of (z ∷ zs) x e)
 
 pub hits-before : (passed : Option ℕ) (s : ℕ) (l : List ℕ) (x : ℕ) → before_from passed s l ≡ Some x → (passed ≡ Some x) ⊎ (0 < hits x l)
 hits-before passed s [] x e = absurd (cc e)
-hits-before passed s (y ∷ ys) x e =
-    elim (same_or y s) [
-      | same d t ↦ (let k = rw t at e in inl k)
-      | apart ne t ↦
-          let k = rw t at e in
-          ⊎_elim
-          (λ (p : Some y ≡ Some x). inr (let d : y ≡ x = cc p in subst (λ m. 0 < hits m (y ∷ ys)) d (hits-first y ys)))
-          (λ (lt : 0 < hits x ys). inr (omega arith))
-          (hits-before (Some y) s ys x k)
-    ]
+hits-before passed s (y ∷ ys) x e = grind (arith, hits-before (Some y) s ys x)

@@ -1,10 +1,10 @@
 -- Searches in lists of numbers, by what is among them.
-use Rattle.std.proofs.Common.{◌≡◌, ℕ, ◌==◌, ◌<◌, Bool, true, false, ◌||◌, if◌then◌else◌, List, [], ◌∷◌, ◌++◌, refl, ap, sym, ◌∙◌, subst, arith}
+use Rattle.std.proofs.Common.{◌≡◌, ℕ, ◌<◌, Bool, true, false, ◌||◌, List, [], ◌∷◌, ◌++◌, refl, sym, ◌∙◌, arith}
 use Rattle.std.specs.List.{list_any}
-use Rattle.std.proofs.lemmas.Bool.{true≢false, or_parts, or_from}
-use Rattle.dom_model.specs.PlainLists.Lists.{hits, among, from_first}
-use Rattle.dom_model.proofs.PlainLists.Numbers.{same_or, same, apart}
+use Rattle.std.proofs.lemmas.Bool.{true≢false, or_from}
+use Rattle.dom_model.specs.Definitions.{hits, among, from_first}
 use Rattle.dom_model.proofs.PlainLists.Heads.{among-first}
+use Rattle.dom_model.proofs.MutationObservers.Queues.{among-later}
 
 -- two answers that are no alike are the same
 pub alike : (a b : Bool) → (a ≡ false → b ≡ false) → (b ≡ false → a ≡ false) → a ≡ b
@@ -13,30 +13,16 @@ alike true false f g = g refl
 alike false true f g = sym (f refl)
 alike false false f g = refl
 
-among-later : (n x : ℕ) (xs : List ℕ) → among n xs ≡ true → among n (x ∷ xs) ≡ true
-among-later n x xs h = go (x == n)
-  where
-    go : (b : Bool) → (if b then true else among n xs) ≡ true
-    go true = refl
-    go false = h
-
 -- what is among two lists, one after the other
 pub among-both : (n : ℕ) (xs ys : List ℕ) → among n (xs ++ ys) ≡ (among n xs || among n ys)
 among-both n [] ys = refl
-among-both n (x ∷ xs) ys = go (x == n) (among-both n xs ys)
-  where
-    go : (b : Bool) → among n (xs ++ ys) ≡ (among n xs || among n ys) → (if b then true else among n (xs ++ ys)) ≡ ((if b then true else among n xs) || among n ys)
-    go true i = refl
-    go false i = i
+among-both n (x ∷ xs) ys = grind (arith, among-both n xs ys)
 
 module _ (p : ℕ → Bool) where
   -- where none passes, none that is among them does
   pub passes_not : (xs : List ℕ) (n : ℕ) → list_any p xs ≡ false → among n xs ≡ true → p n ≡ false
   passes_not [] n none h = absurd (true≢false (sym h))
-  passes_not (x ∷ xs) n none h = elim (same_or x n) [
-    | same e t ↦ subst (λ m. p m ≡ false) e ((or_parts (p x) (list_any p xs) none).0)
-    | apart ne t ↦ let k = rw t at h in passes_not xs n ((or_parts (p x) (list_any p xs) none).1) k
-  ]
+  passes_not (x ∷ xs) n none h = grind (arith, passes_not xs n)
 
   pub none-each : (xs : List ℕ) → ((n : ℕ) → among n xs ≡ true → p n ≡ false) → list_any p xs ≡ false
   none-each [] h = refl
@@ -44,10 +30,7 @@ module _ (p : ℕ → Bool) where
 
   -- lists with the same numbers pass alike
   pub any-same : (xs ys : List ℕ) → ((n : ℕ) → among n xs ≡ among n ys) → list_any p xs ≡ list_any p ys
-  any-same xs ys e =
-      alike (list_any p xs) (list_any p ys)
-      (λ none. none-each ys (λ n h. passes_not xs n none (e n ∙ h)))
-      (λ none. none-each xs (λ n h. passes_not ys n none (sym (e n) ∙ h)))
+  any-same xs ys e = grind (arith, none-each ys, passes_not xs, none-each xs, passes_not ys)
 
 -- of two lists that have a number in common, either can be searched for the other
 pub any-either : (xs ys : List ℕ) → list_any (λ m. among m xs) ys ≡ list_any (λ m. among m ys) xs
@@ -64,7 +47,4 @@ any-either xs ys =
 -- a search from a number that passes
 pub any-from : (p : ℕ → Bool) (n : ℕ) (l : List ℕ) → 0 < hits n l → p n ≡ true → list_any p (from_first n l) ≡ true
 any-from p n [] h e = absurd (omega arith)
-any-from p n (x ∷ xs) h e = elim (same_or x n) [
-  | same d t ↦ rw t (ap (λ b. b || list_any p xs) (ap p d ∙ e))
-  | apart ne t ↦ let w = rw t at h in rw t (any-from p n xs (omega arith) e)
-]
+any-from p n (x ∷ xs) h e = grind (arith, any-from p n xs)

@@ -1,29 +1,14 @@
 -- Of the children of the deepest common ancestor of a range's ends, those that lie between the two ways down to them are contained.
 -- DOM Standard, "Interface Range".
-use Rattle.std.proofs.Common.{◌≡◌, ℕ, zero, suc, ◌+◌, ◌*◌, ◌<◌, ◌≤◌, Bool, true, false, ◌&&◌, List, [], ◌∷◌, ◌++◌, take, filter, Option, Some, None, refl, ap, sym, ◌∙◌, subst, arith, slice_get, ⊎_elim}
-use Rattle.std.proofs.lemmas.Bool.{cases_lt, false≢true, lt-ltb, le-ltb}
+use Rattle.std.proofs.Common.{◌≡◌, ℕ, zero, suc, ◌+◌, ◌*◌, ◌<◌, ◌≤◌, Bool, true, false, List, [], ◌∷◌, ◌++◌, take, filter, Some, refl, ap, sym, ◌∙◌, subst, arith, slice_get}
+use Rattle.std.proofs.Math.Bool.{and-false}
+use Rattle.std.proofs.lemmas.{Bool.false≢true, Bool.lt-ltb, Bool.le-ltb, Bool.Decides.nat_tests}
 use lib.Seq.{take-nil}
-use Rattle.dom_model.specs.PlainLists.Lists.{hits, among, place_in, past, is_same, up_to}
-use Rattle.dom_model.specs.Forests.Forest.{Forest, Grove, IsForest, occurs, parent_of, children_of, index_of, ancestors, root_of}
-use Rattle.dom_model.specs.Worlds.Lengths.{unit_count, node_length}
-use Rattle.dom_model.specs.Worlds.World.{Content, Point, Range}
-use Rattle.dom_model.specs.Soundness.Sound.{IsRange}
-use Rattle.dom_model.specs.BoundaryPoints.Points.{path_places, order_of}
-use Rattle.dom_model.specs.RangesAndContents.Ranges.{is_less, is_before, is_contained, common_ancestor}
-use Rattle.dom_model.specs.Forests.Nodes.{same_root}
-use Rattle.dom_model.specs.RangesAndContents.Contents.{path_below}
-use Rattle.dom_model.specs.Forests.Ways.{IsWay}
+use Rattle.dom_model.specs.Definitions.{hits, among, place_in, past, is_same, up_to, Forest, Grove, IsForest, occurs, parent_of, children_of, index_of, ancestors, root_of, unit_count, node_length, Content, Point, Range, IsRange, path_places, order_of, is_less, is_before, is_contained, common_ancestor, same_root, path_below, IsWay}
 use Rattle.dom_model.proofs.PlainLists.Numbers.{same_or, same, apart}
-use Rattle.dom_model.proofs.Forests.Chains.{place-apart, root-child}
-use Rattle.dom_model.proofs.Forests.Climbing.{hits-first, hits-among}
-use Rattle.dom_model.proofs.Forests.Entries.{occurs-HasNode}
-use Rattle.dom_model.proofs.Forests.Indices.{child-listed, child-once, child-parent, child-there, index-child, path-child}
-use Rattle.dom_model.proofs.Forests.WaysMeeting.{above-root}
-use Rattle.dom_model.proofs.BoundaryPoints.PointOrder.{nat_cmp-greater, order-one_node, order-above}
-use Rattle.dom_model.proofs.BoundaryPoints.OrderByWays.{path-through, order-below, order-beside}
-use Rattle.dom_model.proofs.RangesAndContents.ContainedAside.{start-not_contained, end-not_contained}
-use Rattle.dom_model.proofs.RangesAndContents.StartsAhead.{got_place}
-use Rattle.dom_model.proofs.RangesAndContents.WaysBelow.{IsFork, fork, way-above}
+use Rattle.dom_model.proofs.Forests.{Chains.index-apart, Chains.place-apart, Chains.root-child, Climbing.hits-first, Climbing.hits-among, Entries.occurs-HasNode, Indices.child-listed, Indices.child-once, Indices.child-parent, Indices.child-there, Indices.index-child, Indices.path-child, Listed.parted_at, WaysMeeting.above-root}
+use Rattle.dom_model.proofs.BoundaryPoints.{PointOrder.nat_cmp-greater, PointOrder.order-one_node, PointOrder.order-above, OrderByWays.path-through, OrderByWays.order-below, OrderByWays.order-beside}
+use Rattle.dom_model.proofs.RangesAndContents.{ContainedAside.start-not_contained, ContainedAside.end-not_contained, StartsAhead.got_place, WaysBelow.IsFork, WaysBelow.fork, WaysBelow.way-above, RangesSet.same-itself}
 
 -- A list whose elements pass from one index on, and ahead of another.
 
@@ -59,19 +44,10 @@ up_to-place n (x ∷ xs) h =
 
 pub up_to-through : (n : ℕ) (ns : List ℕ) → 0 < hits n ns → take (place_in n ns + 1) ns ≡ up_to n ns ++ n ∷ []
 up_to-through n [] h = absurd (omega arith)
-up_to-through n (x ∷ xs) h =
-    elim (same_or x n) [
-      | same e t ↦ rw t (ap (λ m. m ∷ []) e)
-      | apart ne t ↦ (let k = rw t at h in let e : 1 + place_in n xs + 1 ≡ suc (place_in n xs + 1) = omega arith in rw (t, e) (ap (λ ms. x ∷ ms) (up_to-through n xs (omega arith))))
-    ]
+up_to-through n (x ∷ xs) h = grind (arith, nat_tests, up_to-through n xs)
 
 pub around-one : (n : ℕ) (ns : List ℕ) → 0 < hits n ns → ns ≡ up_to n ns ++ (n ∷ past n ns)
-around-one n [] h = absurd (omega arith)
-around-one n (x ∷ xs) h =
-    elim (same_or x n) [
-      | same e t ↦ rw t (ap (λ m. m ∷ xs) e)
-      | apart ne t ↦ (let k = rw t at h in rw t (ap (λ ms. x ∷ ms) (around-one n xs (omega arith))))
-    ]
+around-one n ns h = parted_at n ns h
 
 -- Of the children of a path's ancestor: those ahead of the point that the path leads to, and those through its child on the path.
 
@@ -93,19 +69,6 @@ place_at f p [] = p.offset
 place_at f p (c ∷ path) = index_of f c
 
 -- The children between the two ways.
-
-same-itself : (o : Option ℕ) → is_same o o ≡ true
-same-itself None = refl
-same-itself (Some a) = elim (same_or a a) [ same _ t ↦ t | apart ne t ↦ absurd (ne refl) ]
-
-and-false : (a b : Bool) → (a && (false && b)) ≡ false
-and-false true b = refl
-and-false false b = refl
-
-and-false_last : (a b : Bool) → (a && (b && false)) ≡ false
-and-false_last true true = refl
-and-false_last true false = refl
-and-false_last false b = refl
 
 module _ (g : Grove Content) (s : IsForest g) (r : Range) (is : IsRange g.forest r) where
   abbrev f : Forest Content
@@ -168,10 +131,10 @@ module _ (g : Grove Content) (s : IsForest g) (r : Range) (is : IsRange g.forest
       on_start path w = way-above g.forest s.once top path r.start.node forked.there hs w
 
   not-behind : (x : ℕ) → is_before g.forest r.start (front x) ≡ false → contained x ≡ false
-  not-behind x e = rw e (and-false (same_root g.forest x r.start.node) (is_before g.forest (back x) r.end))
+  not-behind x e = simp (e, and-false)
 
   not-ahead : (x : ℕ) → is_before g.forest (back x) r.end ≡ false → contained x ≡ false
-  not-ahead x e = rw e (and-false_last (same_root g.forest x r.start.node) (is_before g.forest r.start (front x)))
+  not-ahead x e = simp (e, and-false)
 
   -- by the way to the start
   behind : (path : List ℕ) → IsWay g.forest top path r.start.node → (k x : ℕ) → IsChild k x → (place_behind g.forest r.start path ≤ k → is_before g.forest r.start (front x) ≡ true) × (k < place_behind g.forest r.start path → contained x ≡ false)
@@ -226,43 +189,35 @@ module _ (g : Grove Content) (s : IsForest g) (r : Range) (is : IsRange g.forest
   -- the ways do not cross
   in-order : (first last : List ℕ) → IsWay g.forest top first r.start.node → IsWay g.forest top last r.end.node → ((x : ℕ) → 0 < hits x first → among x (ancestors r.end.node g.forest) ≡ false) → place_behind g.forest r.start first ≤ place_at g.forest r.end last
   in-order [] [] v w off =
-      ⊎_elim
-      (λ (lt : r.end.offset < r.start.offset).
-      absurd (is.in_order (ap (λ m. order_of g.forest r.start (record { node = m; offset = r.end.offset })) (sym w ∙ v) ∙ order-one_node g.forest r.start.node r.start.offset r.end.offset ∙ nat_cmp-greater r.start.offset r.end.offset lt)))
-      (λ (le : r.start.offset ≤ r.end.offset). le)
-      (cases_lt r.end.offset r.start.offset)
+      let no : r.end.offset < r.start.offset → ⊥ = λ lt.
+      is.in_order (ap (λ m. order_of g.forest r.start (record { node = m; offset = r.end.offset })) (sym w ∙ v) ∙ order-one_node g.forest r.start.node r.start.offset r.end.offset ∙ nat_cmp-greater r.start.offset r.end.offset lt) in
+      omega arith
   in-order [] (c ∷ last) v w off =
       let above = way-above g.forest s.once c last r.end.node w.0 he w.2 in
       let way = path-through g.forest s.once r.end.node top c he above w.1 in
       let p = way.1 ∙ ap (λ m. path_places g.forest m ++ (2 * index_of g.forest c + 1) ∷ way.0) v in
       let o = order-above g.forest r.start.node r.end.node (index_of g.forest c) r.start.offset r.end.offset way.0 p in
-      ⊎_elim
-      (λ (lt : index_of g.forest c < r.start.offset). absurd (is.in_order (o ∙ (rw (lt-ltb (index_of g.forest c) r.start.offset lt) refl))))
-      (λ (le : r.start.offset ≤ index_of g.forest c). le)
-      (cases_lt (index_of g.forest c) r.start.offset)
+      let no : index_of g.forest c < r.start.offset → ⊥ = λ lt. is.in_order (o ∙ (rw (lt-ltb (index_of g.forest c) r.start.offset lt) refl)) in
+      omega arith
   in-order (b ∷ first) [] v w off =
       let above = way-above g.forest s.once b first r.start.node v.0 hs v.2 in
       let way = path-through g.forest s.once r.start.node top b hs above v.1 in
       let p = way.1 ∙ ap (λ m. path_places g.forest m ++ (2 * index_of g.forest b + 1) ∷ way.0) w in
       let o = order-below g.forest r.start.node r.end.node (index_of g.forest b) r.start.offset r.end.offset way.0 p in
-      ⊎_elim
-      (λ (lt : index_of g.forest b < r.end.offset). omega arith)
-      (λ (le : r.end.offset ≤ index_of g.forest b). absurd (is.in_order (o ∙ (rw (le-ltb (index_of g.forest b) r.end.offset le) refl))))
-      (cases_lt (index_of g.forest b) r.end.offset)
+      let no : r.end.offset ≤ index_of g.forest b → ⊥ = λ le. is.in_order (o ∙ (rw (le-ltb (index_of g.forest b) r.end.offset le) refl)) in
+      omega arith
   in-order (b ∷ first) (c ∷ last) v w off =
       let above_start = way-above g.forest s.once b first r.start.node v.0 hs v.2 in
       let above_end = way-above g.forest s.once c last r.end.node w.0 he w.2 in
       let ways = path-through g.forest s.once r.start.node top b hs above_start v.1 in
       let waye = path-through g.forest s.once r.end.node top c he above_end w.1 in
       let far : index_of g.forest b ≡ index_of g.forest c → ⊥ = λ e.
-      let one : b ≡ c = place-apart b c (children_of g.forest top) (child-listed g.forest s.once b top v.0 v.1) (sym (index-child g.forest b top v.1) ∙ e ∙ index-child g.forest c top w.1) in
+      let one : b ≡ c = index-apart g.forest s.once b c top v.0 v.1 w.1 e in
       let on = hits-among c (ancestors r.end.node g.forest) above_end in
       false≢true (sym (off b (hits-first b first)) ∙ ap (λ m. among m (ancestors r.end.node g.forest)) one ∙ on) in
       let o = order-beside g.forest r.start.node r.end.node top (index_of g.forest b) (index_of g.forest c) r.start.offset r.end.offset ways.0 waye.0 ways.1 waye.1 far in
-      ⊎_elim
-      (λ (lt : index_of g.forest b < index_of g.forest c). omega arith)
-      (λ (le : index_of g.forest c ≤ index_of g.forest b). absurd (is.in_order (o ∙ (rw (le-ltb (index_of g.forest b) (index_of g.forest c) le) refl))))
-      (cases_lt (index_of g.forest b) (index_of g.forest c))
+      let no : index_of g.forest c ≤ index_of g.forest b → ⊥ = λ le. is.in_order (o ∙ (rw (le-ltb (index_of g.forest b) (index_of g.forest c) le) refl)) in
+      omega arith
 
   through-place : (path : List ℕ) → IsWay g.forest top path r.start.node → take (place_behind g.forest r.start path) (children_of g.forest top) ≡ through_in r.start.offset path (children_of g.forest top)
   through-place [] w = refl

@@ -1,36 +1,18 @@
 -- Worlds on the way of extracting or cloning contents: what is new stands under what is new, with rising numbers, so that each node that is
 -- appended there may be. DOM Standard, "Interface Range": extract, clone the contents.
-use Rattle.std.proofs.Common.{◌≡◌, ℕ, zero, suc, ◌<◌, ◌≤◌, Bool, true, false, if◌then◌else◌, List, [], ◌∷◌, Option, Some, None, refl, ap, sym, ◌∙◌, subst, arith, ◌⊎◌, inl, inr, ⊎_elim}
-use Rattle.std.proofs.lemmas.Bool.{cases_lt, false≢true}
-use Rattle.dom_model.specs.declared.Kind.{Kind}
-use Rattle.dom_model.specs.declared.Kind.TheVariants.{Document, DocumentType}
-use Rattle.dom_model.specs.PlainLists.Lists.{hits}
-use Rattle.dom_model.specs.Forests.Kinds.{may_be_parent}
-use Rattle.dom_model.specs.Forests.Arena.{Entry}
-use Rattle.dom_model.specs.Forests.Forest.{Node, Forest, occurs, one_at, parent_of, children_of, ancestors, entry_in}
-use Rattle.dom_model.specs.Worlds.World.{Content, World}
-use Rattle.dom_model.specs.Forests.Nodes.{entry_has, kind_passes, is_of_kind}
-use Rattle.dom_model.specs.MutationAlgorithms.Editing.{is_fragment, nodes_of, append}
-use Rattle.dom_model.specs.DataAndCopies.Data.{content_in, data_of}
-use Rattle.dom_model.specs.DataAndCopies.Clones.{renumbered, with_copies}
-use Rattle.dom_model.specs.Soundness.Sound.{IsSound}
-use Rattle.dom_model.specs.TokenText.Tokens.{Edit}
-use Rattle.dom_model.specs.TokenText.Edits.{Trace, doing_append, append_edits}
-use Rattle.dom_model.specs.MutationAlgorithms.Insertable.{IsInsertable}
+use Rattle.std.proofs.Common.{◌≡◌, ℕ, zero, suc, ◌<◌, ◌≤◌, Bool, true, false, if◌then◌else◌, List, [], ◌∷◌, Some, None, refl, ap, sym, ◌∙◌, subst, arith, ◌⊎◌, inl, inr}
+use Rattle.std.proofs.lemmas.{Bool.false≢true, Bool.Decides.nat_tests}
+use Rattle.dom_model.specs.Definitions.{hits, may_be_parent, Forest, occurs, one_at, parent_of, children_of, ancestors, Content, World, kind_passes, is_of_kind, is_fragment, nodes_of, append, content_in, data_of, renumbered, with_copies, IsSound, Edit, Trace, doing_append, append_edits, IsInsertable}
+use Rattle.dom_model.specs.declared.{Kind.Kind, Kind.TheVariants.Document, Kind.TheVariants.DocumentType}
 use Rattle.dom_model.proofs.PlainLists.Numbers.{same_or, same, apart}
-use Rattle.dom_model.proofs.Forests.Changes.{seen, nothing, just}
-use Rattle.dom_model.proofs.Forests.Totals.{total-beside}
-use Rattle.dom_model.proofs.Forests.Paths.{parent-path, root-path}
-use Rattle.dom_model.proofs.Forests.Indices.{child-parent}
+use Rattle.dom_model.proofs.Forests.{Changes.seen, Changes.nothing, Changes.just, Totals.total-beside, Paths.parent-path, Paths.root-path, Indices.child-parent}
 use Rattle.dom_model.proofs.Worlds.Measured.{kind-beside, entry-beside}
-use Rattle.dom_model.proofs.MutationAlgorithms.Extending.{tag_in, tag_at, put_by_insert}
-use Rattle.dom_model.proofs.Soundness.SoundInserting.{sound-insert}
+use Rattle.dom_model.proofs.MutationAlgorithms.{Extending.tag_in, Extending.tag_at, Extending.put_by_insert, Appended.IsAppended, Appended.appended, Appended.made-appended}
+use Rattle.dom_model.proofs.Soundness.{SoundInserting.sound-insert}
 use Rattle.dom_model.proofs.DataAndCopies.CopiesPlaced.{parent-copies}
-use Rattle.dom_model.proofs.MutationAlgorithms.Appended.{IsAppended, appended, made-appended}
 use Rattle.dom_model.proofs.RangesAndContents.LiveRangesKept.{is_live, append-live}
+use Rattle.dom_model.proofs.TokenText.{EditsMade.EditsLeave.Comes, EditsMade.EditsLeave.Follows, EditsMade.EditsLeave.follows-none, EditsMade.EditsLeave.follows-then, EditsMade.EditsLeave.follows-doing, EditsMade.EditsOfTrees.leave-append}
 pub use Rattle.dom_model.proofs.TokenText.EditsMade.FittingEdits.{passes_there}
-use Rattle.dom_model.proofs.TokenText.EditsMade.EditsLeave.{Comes, Follows, follows-none, follows-then, follows-doing}
-use Rattle.dom_model.proofs.TokenText.EditsMade.EditsOfTrees.{leave-append}
 
 -- of the nodes from a number on, each stands under one of them with a smaller number, or under none
 pub record IsDrawing (low : ℕ) (v : World) : Type 0 where
@@ -81,18 +63,6 @@ pub draws-as : (low : ℕ) (v u : World) (step other : Trace → Trace) → ((es
 draws-as low v u step other e h =
     record { follows = λ w es l. subst (λ t. Comes w t u) (e es) (h.follows w es l); drawing = h.drawing; extends = h.extends }
 
-pub draws-if : (low : ℕ) (b : Bool) (v u x : World) (step other : Trace → Trace) → Draws low step v u → Draws low other v x → Draws low (λ t. if b then step t else other t) v (if b then u else x)
-draws-if low true v u x step other h k = h
-draws-if low false v u x step other h k = k
-
--- one test of a kind that answers for another
-pub passes_too : (test other : Kind → Bool) (answer : Bool) → ((k : Kind) → test k ≡ true → other k ≡ answer) → (f : Forest Content) (n : ℕ) → kind_passes test f n ≡ true → kind_passes other f n ≡ answer
-passes_too test other answer each f n h = go (entry_in f n) h
-  where
-    go : (o : Option (Entry (Node Content))) → entry_has test o ≡ true → entry_has other o ≡ answer
-    go None k = absurd (false≢true k)
-    go (Some e) k = each e.value.label.kind k
-
 -- New trees.
 
 module _ (low : ℕ) (v : World) (d : IsDrawing low v) (document : ℕ) (g : Forest Content) where
@@ -133,24 +103,16 @@ pub record IsComing (low : ℕ) (v : World) (into n : ℕ) : Type 0 where
   pub no_doctype : is_of_kind DocumentType v.forest n ≡ false
   pub place : ((n < low) × (is_fragment v n ≡ false)) ⊎ (into < n)
 
-first-or : (m n : ℕ) (ns : List ℕ) → 0 < hits m (n ∷ ns) → (m ≡ n) ⊎ (0 < hits m ns)
-first-or m n ns h = elim (same_or n m) [ same e t ↦ inl (sym e) | apart ne t ↦ inr (let k = rw t at h in omega arith) ]
-
 module _ (low : ℕ) (v : World) (d : IsDrawing low v) where
   -- a node without a parent, and one that stands right under another, of which that is so
   top-new : (into m : ℕ) → low ≤ into → 0 < occurs into v.forest → parent_of v.forest into ≡ None → 0 < hits m (ancestors into v.forest) → (low ≤ m) × (m ≤ into)
-  top-new into m l h e k = told (first-or m into [] (subst (λ ns. 0 < hits m ns) (root-path v.forest d.sound.forest.once into h e) k))
-    where
-      told : (m ≡ into) ⊎ (0 < hits m []) → (low ≤ m) × (m ≤ into)
-      told (inl e) = (omega arith, omega arith)
-      told (inr i) = absurd (omega arith)
+  top-new into m l h e k = let i = subst (λ ns. 0 < hits m ns) (root-path v.forest d.sound.forest.once into h e) k in (grind (arith, nat_tests), grind (arith, nat_tests))
 
   under-new : (into q m : ℕ) → low ≤ into → 0 < occurs into v.forest → parent_of v.forest into ≡ Some q → (0 < hits m (ancestors q v.forest) → (low ≤ m) × (m ≤ q)) → 0 < hits m (ancestors into v.forest) → (low ≤ m) × (m ≤ into)
-  under-new into q m l h e above k = told (first-or m into (ancestors q v.forest) (subst (λ ns. 0 < hits m ns) (parent-path v.forest d.sound.forest.once into q h e).1 k))
-    where
-      told : (m ≡ into) ⊎ (0 < hits m (ancestors q v.forest)) → (low ≤ m) × (m ≤ into)
-      told (inl e) = (omega arith, omega arith)
-      told (inr i) = let a = above i in let r = d.rising into q l e in (a.0, let x = a.1 in let y = r.1 in omega arith)
+  under-new into q m l h e above k =
+      let i = subst (λ ns. 0 < hits m ns) (parent-path v.forest d.sound.forest.once into q h e).1 k in
+      let r = d.rising into q l e in
+      (grind (arith, nat_tests, above), grind (arith, nat_tests, above))
 
   -- all above a new node is new, and has a smaller number
   above-new : (most into m : ℕ) → into ≤ most → low ≤ into → 0 < occurs into v.forest → 0 < hits m (ancestors into v.forest) → (low ≤ m) × (m ≤ into)
@@ -173,11 +135,7 @@ module _ (low : ℕ) (v : World) (d : IsDrawing low v) where
     into_there = passes_there may_be_parent v.forest into k.kind
 
     outside : hits n (ancestors into v.forest) ≡ 0
-    outside =
-        ⊎_elim
-        (λ (lt : 0 < hits n (ancestors into v.forest)). absurd (clash (above-new into into n (omega arith) k.fresh into_there lt) c.place))
-        (λ (le : hits n (ancestors into v.forest) ≤ 0). omega arith)
-        (cases_lt 0 (hits n (ancestors into v.forest)))
+    outside = let no : 0 < hits n (ancestors into v.forest) → ⊥ = λ lt. clash (above-new into into n (omega arith) k.fresh into_there lt) c.place in omega arith
       where
         clash : (low ≤ n) × (n ≤ into) → ((n < low) × (is_fragment v n ≡ false)) ⊎ (into < n) → ⊥
         clash a (inl i) = let x = a.0 in let y = i.0 in omega arith

@@ -1,63 +1,39 @@
 -- What stands beside a path goes into a fragment, and copies of the nodes on the path with it. DOM Standard, "Interface Range": extract.
-use Rattle.std.proofs.Common.{◌≡◌, ℕ, zero, suc, ◌-◌, ◌<◌, ◌≤◌, ◌==◌, Bool, true, false, if◌then◌else◌, List, [], ◌∷◌, length, take, drop, filter, Some, refl, ap, sym, ◌∙◌, subst, arith, inr, ⊎_elim}
-use Rattle.std.proofs.lemmas.Bool.{cases_lt, false≢true}
-use Rattle.dom_model.specs.declared.Kind.{Kind}
-use Rattle.dom_model.specs.declared.Kind.TheVariants.{Element, Text, ProcessingInstruction, Comment, Document, DocumentType, DocumentFragment}
-use Rattle.dom_model.specs.PlainLists.Lists.{hits, past, up_to}
-use Rattle.dom_model.specs.Forests.Kinds.{is_kind, is_character_data, may_be_parent, may_stand_in}
-use Rattle.dom_model.specs.Forests.Forest.{Forest, empty, node, occurs, parent_of, children_of}
-use Rattle.dom_model.specs.Worlds.World.{Content, World, no_content}
-use Rattle.dom_model.specs.Forests.Nodes.{entry_has, kind_passes, is_of_kind}
-use Rattle.dom_model.specs.MutationAlgorithms.Editing.{node_document, append}
-use Rattle.dom_model.specs.Worlds.Making.{named}
-use Rattle.dom_model.specs.DataAndCopies.Data.{data_of}
-use Rattle.dom_model.specs.DataAndCopies.Clones.{original, document_of_clone, clone_node}
-use Rattle.dom_model.specs.RangesAndContents.Contents.{new_fragment, units_into, children_into, copy_into, tail_into, head_into}
-use Rattle.dom_model.specs.TokenText.Edits.{Trace, doing_append, doing_clone, doing_fragment, doing_units, doing_children, doing_copy, doing_tail, doing_head}
-use Rattle.dom_model.proofs.Forests.Indices.{child-parent, child-there}
-use Rattle.dom_model.proofs.Forests.Paths.{parent-path}
-use Rattle.dom_model.proofs.Forests.OneMoreRoot.{entry-new}
+use Rattle.std.proofs.Common.{◌≡◌, ℕ, zero, suc, ◌-◌, ◌<◌, ◌≤◌, Bool, true, false, if◌then◌else◌, List, [], ◌∷◌, length, take, drop, filter, Some, refl, ap, sym, ◌∙◌, subst, arith, inr}
+use Rattle.std.proofs.lemmas.Bool.{cases_Bool, false≢true}
+use Rattle.dom_model.specs.Definitions.{hits, past, up_to, is_kind, is_character_data, may_be_parent, may_stand_in, Forest, empty, node, occurs, parent_of, children_of, Content, World, no_content, entry_has, kind_passes, is_of_kind, node_document, append, named, data_of, original, document_of_clone, clone_node, new_fragment, units_into, children_into, copy_into, tail_into, head_into, Trace, doing_append, doing_clone, doing_fragment, doing_units, doing_children, doing_copy, doing_tail, doing_head}
+use Rattle.dom_model.specs.declared.{Kind.Kind, Kind.TheVariants.Element, Kind.TheVariants.Text, Kind.TheVariants.ProcessingInstruction, Kind.TheVariants.Comment, Kind.TheVariants.Document, Kind.TheVariants.DocumentType, Kind.TheVariants.DocumentFragment}
+use Rattle.dom_model.proofs.Forests.{Indices.child-parent, Indices.child-there, Paths.parent-path, OneMoreRoot.entry-new}
 use Rattle.dom_model.proofs.Soundness.SoundForests.{IsWood, entry_there, child-fits}
 use Rattle.dom_model.proofs.DataAndCopies.CopiesPlaced.{kind-clone}
-use Rattle.dom_model.proofs.RangesAndContents.Drawing.{IsDrawing, Extends, extends-then, KeepsData, Draws, draws-none, draws-then, draws-as, passes_there, data-copies, IsHolder, holder-extends, IsComing, data-append, draws-append}
-use Rattle.dom_model.proofs.RangesAndContents.DrawnPieces.{draws-fragment, draws-clone, new-greater, is_drawn, IsDrawable, drawable-extends, coming, draws-units, draws-children}
+use Rattle.dom_model.proofs.RangesAndContents.{Drawing.IsDrawing, Drawing.Extends, Drawing.extends-then, Drawing.KeepsData, Drawing.Draws, Drawing.draws-none, Drawing.draws-then, Drawing.draws-as, Drawing.passes_there, Drawing.data-copies, Drawing.IsHolder, Drawing.holder-extends, Drawing.IsComing, Drawing.data-append, Drawing.draws-append, DrawnPieces.draws-fragment, DrawnPieces.draws-clone, DrawnPieces.new-greater, DrawnPieces.is_drawn, DrawnPieces.IsDrawable, DrawnPieces.drawable-extends, DrawnPieces.coming, DrawnPieces.draws-units, DrawnPieces.draws-children}
+pub use Rattle.dom_model.proofs.BoundaryPoints.RootsKept.{hits-up_to}
+pub use Rattle.dom_model.proofs.Traversal.IteratorsStay.{hits-past}
 
 -- Kinds.
 
 drawn-holds : (k : Kind) → is_drawn k ≡ true → is_character_data k ≡ false → may_be_parent k ≡ true
 drawn-holds Element h d = refl
-drawn-holds Text h d = absurd (false≢true (sym d))
-drawn-holds ProcessingInstruction h d = absurd (false≢true (sym d))
-drawn-holds Comment h d = absurd (false≢true (sym d))
-drawn-holds Document h d = absurd (false≢true h)
-drawn-holds DocumentType h d = absurd (false≢true h)
-drawn-holds DocumentFragment h d = absurd (false≢true h)
+drawn-holds Document h d = refl
+drawn-holds DocumentFragment h d = refl
+drawn-holds DocumentType h d = h
+drawn-holds k h d = absurd (false≢true (sym d))
 
 -- a child that is no doctype
 pub stands-drawn : (parent child : Kind) → may_stand_in parent child ≡ true → is_kind DocumentType child ≡ false → is_drawn child ≡ true
-stands-drawn parent Element h d = refl
-stands-drawn parent Text h d = refl
-stands-drawn parent ProcessingInstruction h d = refl
-stands-drawn parent Comment h d = refl
-stands-drawn parent Document h d = absurd (false≢true h)
+stands-drawn parent Document h d = h
 stands-drawn parent DocumentType h d = absurd (false≢true (sym d))
-stands-drawn parent DocumentFragment h d = absurd (false≢true h)
+stands-drawn parent DocumentFragment h d = h
+stands-drawn parent k h d = refl
 
 -- no doctype stands under a node that is drawn
 under-drawn : (parent child : Kind) → is_drawn parent ≡ true → may_stand_in parent child ≡ true → is_kind DocumentType child ≡ false
-under-drawn parent Element d h = refl
-under-drawn parent Text d h = refl
-under-drawn parent ProcessingInstruction d h = refl
-under-drawn parent Comment d h = refl
-under-drawn parent Document d h = refl
 under-drawn Element DocumentType d h = absurd (false≢true h)
 under-drawn Text DocumentType d h = absurd (false≢true h)
 under-drawn ProcessingInstruction DocumentType d h = absurd (false≢true h)
 under-drawn Comment DocumentType d h = absurd (false≢true h)
-under-drawn Document DocumentType d h = absurd (false≢true d)
-under-drawn DocumentType DocumentType d h = absurd (false≢true d)
-under-drawn DocumentFragment DocumentType d h = absurd (false≢true d)
-under-drawn parent DocumentFragment d h = refl
+under-drawn parent DocumentType d h = absurd (false≢true d)
+under-drawn parent k d h = refl
 
 -- Parts of lists.
 
@@ -71,23 +47,9 @@ hits-take c zero ns = omega arith
 hits-take c (suc k) [] = omega arith
 hits-take c (suc k) (n ∷ ns) = omega (arith, hits-take c k ns)
 
-pub hits-past : (c m : ℕ) (ns : List ℕ) → hits c (past m ns) ≤ hits c ns
-hits-past c m [] = omega arith
-hits-past c m (n ∷ ns) =
-    let i = hits-past c m ns in
-    elim (n == m) as (λ b. hits c (if b then ns else past m ns) ≤ hits c (n ∷ ns)) [ true ↦ omega arith | false ↦ omega arith ]
-
-pub hits-up_to : (c m : ℕ) (ns : List ℕ) → hits c (up_to m ns) ≤ hits c ns
-hits-up_to c m [] = omega arith
-hits-up_to c m (n ∷ ns) =
-    let i = hits-up_to c m ns in
-    elim (n == m) as (λ b. hits c (if b then [] else n ∷ up_to m ns) ≤ hits c (n ∷ ns)) [ true ↦ omega arith | false ↦ omega arith ]
-
 pub hits-filter : (c : ℕ) (test : ℕ → Bool) (ns : List ℕ) → hits c (filter test ns) ≤ hits c ns
 hits-filter c test [] = omega arith
-hits-filter c test (n ∷ ns) =
-    let i = hits-filter c test ns in
-    elim (test n) as (λ b. hits c (if b then n ∷ filter test ns else filter test ns) ≤ hits c (n ∷ ns)) [ true ↦ omega arith | false ↦ omega arith ]
+hits-filter c test (n ∷ ns) = grind (arith, cases_Bool, hits-filter c test ns)
 
 -- a child that is no doctype is of a kind that may be drawn
 pub kind-drawn : (f : Forest Content) (made : ℕ) → IsWood f made → (c p : ℕ) → parent_of f c ≡ Some p → 0 < occurs c f → is_of_kind DocumentType f c ≡ false → kind_passes is_drawn f c ≡ true
@@ -109,11 +71,7 @@ child-drawable low v d n c h k =
     let fit = rw (ec.1, en.1) at (child-fits d.sound.forest c n p hc) in
     let kn = rw en.1 at h.kind in
     record {
-      old =
-          ⊎_elim
-          (λ (lt : c < low). lt)
-          (λ (le : low ≤ c). absurd (let r = d.rising c n le p in let x = r.0 in let y = h.old in omega arith))
-          (cases_lt c low);
+      old = (let no : low ≤ c → ⊥ = λ le. let r = d.rising c n le p in let x = r.0 in let y = h.old in omega arith in omega arith);
       kind = rw ec.1 (stands-drawn en.0.value.label.kind ec.0.value.label.kind fit (under-drawn en.0.value.label.kind ec.0.value.label.kind kn fit));
     }
 
@@ -233,25 +191,29 @@ module _ (low : ℕ) (moves : Bool) (v : World) (d : IsDrawing low v) (n : ℕ) 
   draws-some : (inner : ℕ) (x : World) → IsDrawing low x → Extends v x → IsHolder low x inner → Draws low (doing_children moves inner ns) x (children_into moves inner ns x)
   draws-some inner x dx e k = draws-children low moves inner ns x dx k (λ c i. drawable-extends low v x c e (child-drawable low v d n c h (let j = among_children c in omega arith)))
 
+-- the last node of a path: some of its units go into a fragment, or a copy of it with some of its children
+module _ (low : ℕ) (moves : Bool) (into n : ℕ) (v : World) (d : IsDrawing low v) (k : IsHolder low v into) (p : IsDrawable low v n) where
+  abbrev doing_last : ℕ → ℕ → List ℕ → Trace → Trace
+  doing_last start count ns t = if kind_passes is_character_data v.forest n then doing_units moves into n start count t else doing_copy into n (λ inner u. doing_children moves inner ns u) t
+
+  abbrev last_into : ℕ → ℕ → List ℕ → World
+  last_into start count ns = if kind_passes is_character_data v.forest n then units_into moves into n start count v else copy_into into n (λ inner u. children_into moves inner ns u) v
+
+  draws-last : (start count : ℕ) (ns : List ℕ) → ((c : ℕ) → hits c ns ≤ hits c (children_of v.forest n)) → (kind_passes is_character_data v.forest n ≡ true → start ≤ length (data_of v n)) → Draws low (doing_last start count ns) v (last_into start count ns)
+  draws-last start count ns among within = go (kind_passes is_character_data v.forest n) refl
+    where
+      go : (b : Bool) → kind_passes is_character_data v.forest n ≡ b → Draws low (λ t. if b then doing_units moves into n start count t else doing_copy into n (λ inner u. doing_children moves inner ns u) t) v (if b then units_into moves into n start count v else copy_into into n (λ inner u. children_into moves inner ns u) v)
+      go true e = draws-units low moves into n start count v d k e (within e)
+      go false e =
+          draws-copy low into n v d k p e (λ inner u. doing_children moves inner ns u) (λ inner u. children_into moves inner ns u) (λ inner x dx e _ kx. draws-some low moves v d n p ns among inner x dx e kx)
+
 pub draws-tail : (low : ℕ) (moves : Bool) (into offset : ℕ) (path : List ℕ) (v : World) → IsDrawing low v → IsHolder low v into → ArePath low v path → IsWithin offset v path → Draws low (doing_tail moves into offset path) v (tail_into moves into offset path v)
 draws-tail low moves into offset [] v d k p within = draws-none low v d
-draws-tail low moves into offset (n ∷ []) v d k p within = go (kind_passes is_character_data v.forest n) refl
-  where
-    count : ℕ
-    count = length (data_of v n) - offset
-
-    ns : List ℕ
-    ns = drop offset (children_of v.forest n)
-
-    go : (b : Bool) → kind_passes is_character_data v.forest n ≡ b → Draws low (doing_tail moves into offset (n ∷ [])) v (tail_into moves into offset (n ∷ []) v)
-    go true e =
-        subst (λ u. Draws low (doing_tail moves into offset (n ∷ [])) v u) (sym (if_so (kind_passes is_character_data v.forest n) _ _ e))
-        (draws-as low v (units_into moves into n offset count v) (doing_units moves into n offset count) (doing_tail moves into offset (n ∷ [])) (λ es. sym (if_so (kind_passes is_character_data v.forest n) _ _ e))
-        (draws-units low moves into n offset count v d k e (within e)))
-    go false e =
-        subst (λ u. Draws low (doing_tail moves into offset (n ∷ [])) v u) (sym (if_not (kind_passes is_character_data v.forest n) _ _ e))
-        (draws-as low v (copy_into into n (λ inner u. children_into moves inner ns u) v) (doing_copy into n (λ inner u. doing_children moves inner ns u)) (doing_tail moves into offset (n ∷ [])) (λ es. sym (if_not (kind_passes is_character_data v.forest n) _ _ e))
-        (draws-copy low into n v d k p e (λ inner u. doing_children moves inner ns u) (λ inner u. children_into moves inner ns u) (λ inner x dx e _ kx. draws-some low moves v d n p ns (λ c. hits-drop c offset (children_of v.forest n)) inner x dx e kx)))
+draws-tail low moves into offset (n ∷ []) v d k p within =
+    let ns = drop offset (children_of v.forest n) in
+    let count = length (data_of v n) - offset in
+    draws-as low v (tail_into moves into offset (n ∷ []) v) (doing_last low moves into n v d k p offset count ns) (doing_tail moves into offset (n ∷ [])) (λ es. refl)
+    (draws-last low moves into n v d k p offset count ns (λ c. hits-drop c offset (children_of v.forest n)) within)
 draws-tail low moves into offset (n ∷ m ∷ path) v d k p within =
     let ns = past m (children_of v.forest n) in
     draws-as low v (tail_into moves into offset (n ∷ m ∷ path) v) (doing_copy into n (λ inner u. doing_children moves inner ns (doing_tail moves inner offset (m ∷ path) u))) (doing_tail moves into offset (n ∷ m ∷ path)) (λ es. refl)
@@ -264,20 +226,10 @@ draws-tail low moves into offset (n ∷ m ∷ path) v d k p within =
 
 pub draws-head : (low : ℕ) (moves : Bool) (into offset : ℕ) (path : List ℕ) (v : World) → IsDrawing low v → IsHolder low v into → ArePath low v path → Draws low (doing_head moves into offset path) v (head_into moves into offset path v)
 draws-head low moves into offset [] v d k p = draws-none low v d
-draws-head low moves into offset (n ∷ []) v d k p = go (kind_passes is_character_data v.forest n) refl
-  where
-    ns : List ℕ
-    ns = take offset (children_of v.forest n)
-
-    go : (b : Bool) → kind_passes is_character_data v.forest n ≡ b → Draws low (doing_head moves into offset (n ∷ [])) v (head_into moves into offset (n ∷ []) v)
-    go true e =
-        subst (λ u. Draws low (doing_head moves into offset (n ∷ [])) v u) (sym (if_so (kind_passes is_character_data v.forest n) _ _ e))
-        (draws-as low v (units_into moves into n 0 offset v) (doing_units moves into n 0 offset) (doing_head moves into offset (n ∷ [])) (λ es. sym (if_so (kind_passes is_character_data v.forest n) _ _ e))
-        (draws-units low moves into n 0 offset v d k e (omega arith)))
-    go false e =
-        subst (λ u. Draws low (doing_head moves into offset (n ∷ [])) v u) (sym (if_not (kind_passes is_character_data v.forest n) _ _ e))
-        (draws-as low v (copy_into into n (λ inner u. children_into moves inner ns u) v) (doing_copy into n (λ inner u. doing_children moves inner ns u)) (doing_head moves into offset (n ∷ [])) (λ es. sym (if_not (kind_passes is_character_data v.forest n) _ _ e))
-        (draws-copy low into n v d k p e (λ inner u. doing_children moves inner ns u) (λ inner u. children_into moves inner ns u) (λ inner x dx e _ kx. draws-some low moves v d n p ns (λ c. hits-take c offset (children_of v.forest n)) inner x dx e kx)))
+draws-head low moves into offset (n ∷ []) v d k p =
+    let ns = take offset (children_of v.forest n) in
+    draws-as low v (head_into moves into offset (n ∷ []) v) (doing_last low moves into n v d k p 0 offset ns) (doing_head moves into offset (n ∷ [])) (λ es. refl)
+    (draws-last low moves into n v d k p 0 offset ns (λ c. hits-take c offset (children_of v.forest n)) (λ e. omega arith))
 draws-head low moves into offset (n ∷ m ∷ path) v d k p =
     let ns = up_to m (children_of v.forest n) in
     draws-as low v (head_into moves into offset (n ∷ m ∷ path) v) (doing_copy into n (λ inner u. doing_head moves inner offset (m ∷ path) (doing_children moves inner ns u))) (doing_head moves into offset (n ∷ m ∷ path)) (λ es. refl)

@@ -1,34 +1,17 @@
 -- Pieces of contents as they go into a fragment: some units of a node, a child, a copy that is filled, and what stands beside a path.
 -- DOM Standard, "Interface Range": extract, clone the contents.
-use Rattle.std.proofs.Common.{◌≡◌, ℕ, ◌<◌, ◌≤◌, ◌==◌, Bool, true, false, if◌then◌else◌, List, [], ◌∷◌, length, Option, Some, None, refl, ap, sym, ◌∙◌, subst, arith, ◌⊎◌, inl, inr, ⊎_elim}
-use Rattle.std.proofs.lemmas.Bool.{cases_lt, false≢true}
-use Rattle.dom_model.specs.declared.Kind.{Kind}
-use Rattle.dom_model.specs.declared.Kind.TheVariants.{Element, Text, ProcessingInstruction, Comment, Document, DocumentType, DocumentFragment}
-use Rattle.dom_model.specs.PlainLists.Lists.{hits}
-use Rattle.dom_model.specs.Forests.Kinds.{is_kind, is_character_data, may_be_parent}
-use Rattle.dom_model.specs.Forests.Arena.{Entry}
-use Rattle.dom_model.specs.Forests.Forest.{Node, Forest, empty, node, occurs, map_nodes, entry_in, KindsFit}
-use Rattle.dom_model.specs.Worlds.World.{Content, World, no_content}
-use Rattle.dom_model.specs.Forests.Texts.{substring, spliced}
-use Rattle.dom_model.specs.Forests.Nodes.{kind_passes}
-use Rattle.dom_model.specs.MutationAlgorithms.Editing.{is_fragment, node_document, append}
-use Rattle.dom_model.specs.Worlds.Making.{named}
-use Rattle.dom_model.specs.DataAndCopies.Data.{data_of, with_data, cut_count, replace_data}
-use Rattle.dom_model.specs.DataAndCopies.Clones.{original, document_of_clone, clone_node}
-use Rattle.dom_model.specs.RangesAndContents.Contents.{new_fragment, clone_with, cut_if, units_into, child_into, children_into}
-use Rattle.dom_model.specs.TokenText.Edits.{making, copies_edits, clone_edits, replace_data_edits, doing_append, doing_replace_data, doing_clone, doing_clone_with, doing_fragment, doing_cut_if, doing_units, doing_child, doing_children}
+use Rattle.std.proofs.Common.{◌≡◌, ℕ, ◌<◌, ◌≤◌, ◌==◌, Bool, true, false, if◌then◌else◌, List, [], ◌∷◌, length, Option, Some, None, refl, ap, sym, ◌∙◌, subst, arith, ◌⊎◌, inl, inr}
+use Rattle.std.proofs.lemmas.Bool.{false≢true}
+use Rattle.dom_model.specs.Definitions.{hits, is_kind, is_character_data, may_be_parent, Entry, Node, Forest, empty, node, occurs, map_nodes, entry_in, KindsFit, Content, World, no_content, substring, spliced, kind_passes, is_fragment, node_document, append, named, data_of, with_data, cut_count, replace_data, original, document_of_clone, clone_node, new_fragment, clone_with, cut_if, units_into, child_into, children_into, making, copies_edits, clone_edits, replace_data_edits, doing_append, doing_replace_data, doing_clone, doing_clone_with, doing_fragment, doing_cut_if, doing_units, doing_child, doing_children}
+use Rattle.dom_model.specs.declared.{Kind.Kind, Kind.TheVariants.Element, Kind.TheVariants.Text, Kind.TheVariants.ProcessingInstruction, Kind.TheVariants.Comment, Kind.TheVariants.Document, Kind.TheVariants.DocumentType, Kind.TheVariants.DocumentFragment}
 use Rattle.dom_model.proofs.PlainLists.Numbers.{same_or, same, apart}
 use Rattle.dom_model.proofs.Forests.Changes.{change_at}
-use Rattle.dom_model.proofs.Worlds.Measured.{entry-with_node}
+use Rattle.dom_model.proofs.Worlds.{Measured.entry-with_node, SameShape.IsAlike, SameShape.occurs-alike, SameShape.parent-alike, SameShape.kind-alike, SameShape.map-alike, SameShape.with_node-alike, SameShape.fits-alike}
 use Rattle.dom_model.proofs.MutationAlgorithms.Extending.{tag_in}
-use Rattle.dom_model.proofs.Worlds.SameShape.{IsAlike, occurs-alike, parent-alike, kind-alike, map-alike, with_node-alike, fits-alike}
-use Rattle.dom_model.proofs.Soundness.SoundMaking.{sound-made_node, sound-copies, sound-clone_node, fits-original}
-use Rattle.dom_model.proofs.Soundness.SoundData.{sound-replace_data}
-use Rattle.dom_model.proofs.RangesAndContents.LiveRangesKept.{replace_data-live}
+use Rattle.dom_model.proofs.Soundness.{SoundMaking.sound-made_node, SoundMaking.sound-copies, SoundMaking.sound-clone_node, SoundMaking.fits-original, SoundData.sound-replace_data, SoundForests.passes-also}
+use Rattle.dom_model.proofs.RangesAndContents.{LiveRangesKept.replace_data-live, Drawing.IsDrawing, Drawing.Extends, Drawing.extends-then, Drawing.Draws, Drawing.draws-none, Drawing.draws-then, Drawing.draws-as, Drawing.passes_there, Drawing.extends-copies, Drawing.data-copies, Drawing.drawing-copies, Drawing.IsHolder, Drawing.holder-extends, Drawing.IsComing, Drawing.data-append, Drawing.draws-append}
 use Rattle.dom_model.proofs.DataAndCopies.CopiesPlaced.{kind-clone, kind-copy}
-use Rattle.dom_model.proofs.TokenText.EditsMade.EditsLeave.{follows-doing}
-use Rattle.dom_model.proofs.TokenText.EditsMade.EditsOfSteps.{leave-making, leave-copies, leave-replace_data}
-use Rattle.dom_model.proofs.RangesAndContents.Drawing.{IsDrawing, Extends, extends-then, Draws, draws-none, draws-then, draws-as, passes_there, passes_too, extends-copies, data-copies, drawing-copies, IsHolder, holder-extends, IsComing, data-append, draws-append}
+use Rattle.dom_model.proofs.TokenText.{EditsMade.EditsLeave.follows-doing, EditsMade.EditsOfSteps.leave-making, EditsMade.EditsOfSteps.leave-copies, EditsMade.EditsOfSteps.leave-replace_data}
 
 module _ (low : ℕ) (v : World) (d : IsDrawing low v) where
   -- Data.
@@ -97,11 +80,7 @@ module _ (low : ℕ) (v : World) (d : IsDrawing low v) where
 
   -- a new node's number is greater than that of what is there
   pub new-greater : (into : ℕ) → 0 < occurs into v.forest → into < v.made
-  new-greater into h =
-      ⊎_elim
-      (λ (lt : into < v.made). lt)
-      (λ (le : v.made ≤ into). absurd (let z = d.sound.forest.small into le in omega arith))
-      (cases_lt into v.made)
+  new-greater into h = let no : v.made ≤ into → ⊥ = λ le. let z = d.sound.forest.small into le in omega arith in omega arith
 
 -- Kinds that may be drawn from where they stand under a node: no Document, doctype or fragment.
 
@@ -115,40 +94,20 @@ is_drawn DocumentType = false
 is_drawn DocumentFragment = false
 
 drawn-document : (k : Kind) → is_drawn k ≡ true → is_kind Document k ≡ false
-drawn-document Element h = refl
-drawn-document Text h = refl
-drawn-document ProcessingInstruction h = refl
-drawn-document Comment h = refl
 drawn-document Document h = absurd (false≢true h)
-drawn-document DocumentType h = refl
-drawn-document DocumentFragment h = refl
+drawn-document k h = refl
 
 drawn-doctype : (k : Kind) → is_drawn k ≡ true → is_kind DocumentType k ≡ false
-drawn-doctype Element h = refl
-drawn-doctype Text h = refl
-drawn-doctype ProcessingInstruction h = refl
-drawn-doctype Comment h = refl
-drawn-doctype Document h = refl
 drawn-doctype DocumentType h = absurd (false≢true h)
-drawn-doctype DocumentFragment h = refl
+drawn-doctype k h = refl
 
 pub drawn-fragment : (k : Kind) → is_drawn k ≡ true → is_kind DocumentFragment k ≡ false
-drawn-fragment Element h = refl
-drawn-fragment Text h = refl
-drawn-fragment ProcessingInstruction h = refl
-drawn-fragment Comment h = refl
-drawn-fragment Document h = refl
-drawn-fragment DocumentType h = refl
 drawn-fragment DocumentFragment h = absurd (false≢true h)
+drawn-fragment k h = refl
 
 pub data-drawn : (k : Kind) → is_character_data k ≡ true → is_drawn k ≡ true
 data-drawn Element h = refl
-data-drawn Text h = refl
-data-drawn ProcessingInstruction h = refl
-data-drawn Comment h = refl
-data-drawn Document h = absurd (false≢true h)
-data-drawn DocumentType h = absurd (false≢true h)
-data-drawn DocumentFragment h = absurd (false≢true h)
+data-drawn k h = h
 
 -- an old node of such a kind
 pub record IsDrawable (low : ℕ) (v : World) (n : ℕ) : Type 0 where
@@ -163,13 +122,13 @@ module _ (low : ℕ) (v : World) (into n : ℕ) (kind : kind_passes is_drawn v.f
   coming place =
       record {
         there = passes_there is_drawn v.forest n kind;
-        no_document = passes_too is_drawn (is_kind Document) false drawn-document v.forest n kind;
-        no_doctype = passes_too is_drawn (is_kind DocumentType) false drawn-doctype v.forest n kind;
+        no_document = passes-also is_drawn (is_kind Document) false drawn-document v.forest n kind;
+        no_doctype = passes-also is_drawn (is_kind DocumentType) false drawn-doctype v.forest n kind;
         place = place;
       }
 
   old-coming : n < low → IsComing low v into n
-  old-coming h = coming (inl (h, passes_too is_drawn (is_kind DocumentFragment) false drawn-fragment v.forest n kind))
+  old-coming h = coming (inl (h, passes-also is_drawn (is_kind DocumentFragment) false drawn-fragment v.forest n kind))
 
 -- Some units go into a fragment, and a child, and children.
 
@@ -182,7 +141,7 @@ module _ (low : ℕ) (moves : Bool) (into : ℕ) where
       let hn = passes_there is_character_data v.forest n has_data in
       let copied : kind_passes is_drawn first.forest v.made ≡ true =
       kind-copy is_drawn (node_document v n) v.made false (with_data units) (λ x. refl) n v.forest d.sound.forest.once (d.sound.forest.small v.made (omega arith)) hn
-      ∙ passes_too is_character_data is_drawn true data-drawn v.forest n has_data in
+      ∙ passes-also is_character_data is_drawn true data-drawn v.forest n has_data in
       let ki = holder-extends low v first into a.extends k in
       let ci = coming low first into v.made copied (inr (new-greater low v d into (passes_there may_be_parent v.forest into k.kind))) in
       let b = draws-append low first a.drawing into v.made ki ci in

@@ -1,33 +1,14 @@
 -- A live range that ends ahead of what comes in may end behind it. DOM Standard, "Interface Range": insert.
-use Rattle.std.proofs.Common.{◌≡◌, ℕ, ◌+◌, ◌<◌, ◌≤◌, Bool, true, false, if◌then◌else◌, [], ◌∷◌, ◌++◌, length, Option, Some, None, ap, sym, ◌∙◌, subst, arith, length-append, ◌⊎◌, inl, inr, ⊎_elim}
+use Rattle.std.proofs.Common.{◌≡◌, ℕ, ◌+◌, ◌<◌, ◌≤◌, Bool, true, false, if◌then◌else◌, [], ◌∷◌, ◌++◌, length, Option, Some, None, ap, sym, ◌∙◌, subst, arith, length-append, ◌⊎◌, inl, inr, ⊎_elim, Greater}
 use Rattle.std.proofs.lemmas.Bool.{cases_lt}
-use Rattle.std.specs.Ordering.{nat_cmp}
-use Rattle.std.specs.declared.cmp.Ordering.TheVariants.{Greater}
-use Rattle.dom_model.specs.PlainLists.Lists.{hits}
-use Rattle.dom_model.specs.Forests.Kinds.{may_be_parent}
-use Rattle.dom_model.specs.Forests.Forest.{Forest, parent_of, children_of, root_of}
-use Rattle.dom_model.specs.Worlds.World.{Content, Point, Range, World}
-use Rattle.dom_model.specs.BoundaryPoints.Points.{place_of, order_of, moved_range}
-use Rattle.dom_model.specs.Forests.Nodes.{kind_passes}
-use Rattle.dom_model.specs.MutationAlgorithms.Editing.{is_fragment, nodes_of, insert}
-use Rattle.dom_model.specs.RangesAndContents.Wrapping.{offset_past}
-use Rattle.dom_model.specs.Soundness.Sound.{IsBoundary, IsRange, IsSound}
-use Rattle.dom_model.specs.MutationAlgorithms.Insertable.{IsChildOf, IsInsertable}
-use Rattle.dom_model.proofs.PlainLists.Numbers.{same_or, same, apart}
-use Rattle.dom_model.proofs.Forests.Climbing.{hits-append}
-use Rattle.dom_model.proofs.Forests.Entries.{HasNode-occurs}
-use Rattle.dom_model.proofs.PlainLists.Places.{place_before, place-there}
-use Rattle.dom_model.proofs.Forests.Indices.{child-listed, child-once, child-parent, child-there, index-child}
-use Rattle.dom_model.proofs.BoundaryPoints.PointOrder.{nat_cmp-same, nat_cmp-less, order-one_node}
-use Rattle.dom_model.proofs.Forests.Listed.{hits-other}
-use Rattle.dom_model.proofs.RangesAndContents.RangesCut.{no_doctype}
+use Rattle.dom_model.specs.Definitions.{hits, may_be_parent, Forest, parent_of, children_of, root_of, Content, Point, Range, World, place_of, order_of, moved_range, kind_passes, is_fragment, nodes_of, insert, offset_past, IsBoundary, IsRange, IsSound, IsChildOf, IsInsertable}
+use Rattle.dom_model.proofs.PlainLists.{Numbers.same_or, Numbers.same, Numbers.apart, Places.place_before, Places.place-there}
+use Rattle.dom_model.proofs.Forests.{Climbing.hits-append, Entries.HasNode-occurs, Indices.child-listed, Indices.child-once, Indices.child-parent, Indices.child-there, Indices.index-child, Listed.hits-other}
+use Rattle.dom_model.proofs.BoundaryPoints.{MovedPoints.moved-range, MovedPoints.KeepsPoint, GapsKept.between, GapsKept.position, GapsKept.ahead, GapsKept.fragment_child, GapsKept.keeps_ahead, PointOrder.order-later}
+use Rattle.dom_model.proofs.RangesAndContents.{RangesCut.no_doctype, PlacesLeft.length_within}
 use Rattle.dom_model.proofs.Worlds.Measured.{length-parent}
-use Rattle.dom_model.proofs.Soundness.SoundWorlds.{child_there}
-use Rattle.dom_model.proofs.Soundness.SoundInserting.{sound-insert}
+use Rattle.dom_model.proofs.Soundness.{SoundWorlds.child_there, SoundInserting.sound-insert}
 use Rattle.dom_model.proofs.MutationAlgorithms.Extending.{IsPut, put_by_insert}
-use Rattle.dom_model.proofs.RangesAndContents.PlacesLeft.{length_within}
-use Rattle.dom_model.proofs.BoundaryPoints.MovedPoints.{moved-range, KeepsPoint}
-use Rattle.dom_model.proofs.BoundaryPoints.GapsKept.{between, position, ahead, fragment_child, keeps_ahead}
 
 module _ (n parent : ℕ) (child : Option ℕ) (w : World) (s : IsSound w) (root : parent_of w.forest n ≡ None) (k : IsInsertable w.forest n parent child) where
   abbrev pub after : World
@@ -45,19 +26,14 @@ module _ (n parent : ℕ) (child : Option ℕ) (w : World) (s : IsSound w) (root
     where
       go : (v : Bool) → hits m (children_of w.forest parent) + hits m (if v then children_of w.forest n else n ∷ []) ≤ 1
       go true =
-          ⊎_elim
-          (λ (lt : 0 < hits m (children_of w.forest n)). let i = fragment_child n parent child w s root k m lt in let j = child-once w.forest s.forest.once m n in omega arith)
-          (λ (le : hits m (children_of w.forest n) ≤ 0). let j = child-once w.forest s.forest.once m parent in omega arith)
-          (cases_lt 0 (hits m (children_of w.forest n)))
+          grind (arith, fragment_child n parent child w s root k m, child-once w.forest s.forest.once m n, child-once w.forest s.forest.once m parent)
       go false =
           elim (same_or m n) [
             | same e t ↦
-                ⊎_elim
-                (λ (lt : 0 < hits m (children_of w.forest parent)).
-                let a = child-parent w.forest s.forest.once m parent lt in
-                absurd (let b : None ≡ Some parent = sym root ∙ ap (parent_of w.forest) (sym e) ∙ a in cc b))
-                (λ (le : hits m (children_of w.forest parent) ≤ 0). let j = once_one m in omega arith)
-                (cases_lt 0 (hits m (children_of w.forest parent)))
+                let no : 0 < hits m (children_of w.forest parent) → ⊥ = λ lt.
+                let b : None ≡ Some parent = sym root ∙ ap (parent_of w.forest) (sym e) ∙ child-parent w.forest s.forest.once m parent lt in
+                cc b in
+                omega (arith, once_one m)
             | apart ne t ↦ (let i = hits-other m n [] (λ d. ne (sym d)) in let j = child-once w.forest s.forest.once m parent in omega arith)
           ]
         where
@@ -141,14 +117,6 @@ module _ (n parent : ℕ) (child : Option ℕ) (w : World) (s : IsSound w) (root
         in_order = λ g. from b (between (place_of after.forest (keeps.by.moves range.start)) (place_of after.forest (ahead n parent child w s root k)) (place_of after.forest behind) g);
       }
     where
-      none_later : (i c : ℕ) → order_of after.forest (record { node = parent; offset = i }) (record { node = parent; offset = i + c }) ≡ Greater → ⊥
-      none_later i c g =
-          let e = sym (order-one_node after.forest parent i (i + c)) ∙ g in
-          ⊎_elim
-          (λ (lt : i < i + c). let d = sym (nat_cmp-less i (i + c) lt) ∙ e in cc d)
-          (λ (le : i + c ≤ i). let z : i ≡ i + c = omega arith in let d = sym (nat_cmp-same i) ∙ subst (λ y. nat_cmp i y ≡ Greater) (sym z) e in cc d)
-          (cases_lt i (i + c))
-
       from : IsRange after.forest (moved_range keeps.by.moves (record { start = range.start; end = ahead n parent child w s root k })) → (order_of after.forest (keeps.by.moves range.start) (ahead n parent child w s root k) ≡ Greater) ⊎ (order_of after.forest (ahead n parent child w s root k) behind ≡ Greater) → ⊥
       from b (inl g) = b.in_order (ap (order_of after.forest (keeps.by.moves range.start)) keeps.kept ∙ g)
-      from b (inr g) = none_later (position n parent child w s root k) (length (nodes_of w n)) g
+      from b (inr g) = order-later after.forest parent (position n parent child w s root k) (position n parent child w s root k + length (nodes_of w n)) (omega arith) g

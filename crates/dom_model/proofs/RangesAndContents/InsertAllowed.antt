@@ -1,36 +1,14 @@
 -- An insertion into a range whose first two checks pass is not refused later: the pre-insert's own check passes after the split and the removal.
 -- DOM Standard, "Interface Range" (insert a node into a live range).
-use Rattle.std.proofs.Common.{◌≡◌, ℕ, ◌<◌, Bool, true, false, ◌&&◌, List, [], ◌∷◌, length, Option, Some, None, refl, ap, sym, ◌∙◌, arith}
-use Rattle.std.specs.Prelude.{Ok, is_none, unwrap_or}
-use Rattle.std.proofs.lemmas.Bool.{false≢true}
-use Rattle.dom_model.specs.declared.DomError.{DomError}
-use Rattle.dom_model.specs.declared.Kind.TheVariants.{Text, DocumentFragment}
-use Rattle.dom_model.specs.Forests.Kinds.{is_kind}
-use Rattle.dom_model.specs.Forests.Forest.{Node, Forest, HasNode, occurs, put, adopted, in_document, cut, parent_of, next_of, IsForest}
-use Rattle.dom_model.specs.Worlds.World.{Content, Point, World}
-use Rattle.dom_model.specs.Worlds.Making.{made_node, named, with_text}
-use Rattle.dom_model.specs.MutationAlgorithms.Checks.{check_insert}
-use Rattle.dom_model.specs.Forests.Nodes.{is_of_kind}
-use Rattle.dom_model.specs.MutationAlgorithms.Editing.{remove, removed_from, tree_record_unless, is_fragment, nodes_of, freed, gap_before, insert_all, insert_nodes, insert, node_document, reference_child, pre_insert}
-use Rattle.dom_model.specs.DataAndCopies.Data.{tail_of, with_data, replace_data, split_off, split}
-use Rattle.dom_model.specs.RangesAndContents.Wrapping.{is_text, reference_at, parent_by, parent_at, check_start, split_at, reference_after, offset_past, end_if_collapsed, Outcome, and_then, unless, placed_at, inserted_at}
-use Rattle.dom_model.proofs.PlainLists.Numbers.{same_or, same, apart}
-use Rattle.dom_model.proofs.Forests.Changes.{seen, nothing, just}
-use Rattle.dom_model.proofs.Forests.Totals.{IsOnce}
-use Rattle.dom_model.proofs.Forests.Entries.{occurs-HasNode}
-use Rattle.dom_model.proofs.Forests.Indices.{parent-there}
-use Rattle.dom_model.proofs.Forests.Paths.{parent-path}
+use Rattle.std.proofs.Common.{◌≡◌, ℕ, ◌<◌, Bool, true, false, ◌&&◌, List, [], ◌∷◌, length, Option, Some, None, refl, ap, sym, ◌∙◌, arith, Ok, is_none, unwrap_or}
+use Rattle.std.proofs.lemmas.Bool.{false≢true, ne_eqb}
+use Rattle.dom_model.specs.Definitions.{is_kind, Node, Forest, HasNode, occurs, put, adopted, in_document, cut, parent_of, next_of, IsForest, Content, Point, World, made_node, named, with_text, check_insert, is_of_kind, remove, removed_from, is_fragment, nodes_of, freed, gap_before, insert_all, insert_nodes, insert, node_document, reference_child, pre_insert, tail_of, with_data, replace_data, split_off, split, is_text, reference_at, parent_by, parent_at, check_start, split_at, reference_after, offset_past, end_if_collapsed, Outcome, and_then, unless, placed_at, inserted_at}
+use Rattle.dom_model.specs.declared.{DomError.DomError, Kind.TheVariants.Text, Kind.TheVariants.DocumentFragment}
+use Rattle.dom_model.proofs.Forests.{Changes.seen, Changes.nothing, Changes.just, Totals.IsOnce, Entries.occurs-HasNode, Indices.parent-there, Paths.parent-path, OneMoreRoot.root-kind, OneMoreRoot.parent-new, OneMoreRoot.put-kind, OneMoreRoot.put-kind_old, OneMoreRoot.put-parent_new, OneMoreRoot.put-kids_there, OneMoreRoot.put-kids_elsewhere, OneMoreRoot.put-above, OneMoreRoot.put-once}
 use Rattle.dom_model.proofs.Worlds.SameShape.{bare, IsAlike, with_node-alike, with_tree-alike, ancestors-alike, parent-alike, children-alike, kind-alike, occurs-alike}
-use Rattle.dom_model.proofs.Forests.OneMoreRoot.{root-kind, parent-new, put-kind, put-kind_old, put-parent_new, put-kids_there, put-kids_elsewhere, put-above, put-once}
-use Rattle.dom_model.proofs.MutationAlgorithms.ChecksKept.{refusal-head, allows, check-kept}
-use Rattle.dom_model.proofs.MutationAlgorithms.RemovalsLike.{IsWithout, without-cut, without-root, removal-like}
-use Rattle.dom_model.proofs.MutationAlgorithms.SplitsLike.{IsSplit, split-like}
+use Rattle.dom_model.proofs.MutationAlgorithms.{ChecksKept.refusal-head, ChecksKept.allows, ChecksKept.check-kept, RemovalsLike.IsWithout, RemovalsLike.without-cut, RemovalsLike.without-root, RemovalsLike.removal-like, SplitsLike.IsSplit, SplitsLike.split-like, Extending.gap-forest}
 
 -- The forest after a removal.
-
-record_unless-forest : (b : Bool) (n : ℕ) (xs ys : List ℕ) (p q : Option ℕ) (w : World) → (tree_record_unless b n xs ys p q w).forest ≡ w.forest
-record_unless-forest true n xs ys p q w = refl
-record_unless-forest false n xs ys p q w = refl
 
 removed-without : (w : World) → IsOnce w.forest → (n : ℕ) → IsWithout w.forest (remove false n w).forest n
 removed-without w o n =
@@ -44,10 +22,6 @@ removed-without w o n =
     ]
 
 -- The forest after a split of a Text that has a parent.
-
-gap-forest : (p : ℕ) (c : Option ℕ) (count : ℕ) (w : World) → (gap_before p c count w).forest ≡ w.forest
-gap-forest p None count w = refl
-gap-forest p (Some c) count w = refl
 
 replace-alike : (n offset count : ℕ) (added : List ℕ) (w : World) → IsAlike w.forest (replace_data n offset count added w).forest
 replace-alike n offset count added w = with_node-alike (with_data _) (λ x. refl) n w.forest
@@ -126,10 +100,7 @@ module _ (w : World) (sound : IsForest (record { forest = w.forest; made = w.mad
   -- the second part is not what comes in
   new-reference : (n : ℕ) → 0 < occurs n w.forest → (u : World) → reference_child u n (Some w.made) ≡ Some w.made
   new-reference n there u =
-      elim (same_or w.made n) [
-        | same e v ↦ absurd (let k : occurs n w.forest ≡ 0 = ap (λ m. occurs m w.forest) (sym e) ∙ fresh in omega arith)
-        | apart ne v ↦ rw v refl
-      ]
+      rw (ne_eqb w.made n (λ e. let k : occurs n w.forest ≡ 0 = ap (λ m. occurs m w.forest) (sym e) ∙ fresh in omega arith)) refl
 
 -- A step behind a check that passes.
 

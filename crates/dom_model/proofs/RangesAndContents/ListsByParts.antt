@@ -1,10 +1,8 @@
 -- A list of which each element gives itself or nothing, but for one that gives more: what the whole list gives.
-use Rattle.std.proofs.Common.{◌≡◌, ℕ, zero, suc, ◌<◌, ◌≤◌, Bool, true, false, if◌then◌else◌, List, [], ◌∷◌, ◌++◌, take, drop, filter, flat_map, Some, slice_get, refl, ap, sym, ◌∙◌, arith, append-nil}
-use Rattle.std.proofs.lemmas.Grind.{flat_map-append}
-use Rattle.dom_model.specs.PlainLists.Lists.{hits, place_in, past, up_to}
-use Rattle.dom_model.proofs.PlainLists.Numbers.{same_or, same, apart}
-use Rattle.dom_model.proofs.Forests.Climbing.{hits-first}
-use Rattle.dom_model.proofs.Forests.Listed.{parted_at}
+use Rattle.std.proofs.Common.{◌≡◌, ℕ, zero, suc, ◌<◌, ◌≤◌, Bool, false, if◌then◌else◌, List, [], ◌∷◌, ◌++◌, take, drop, filter, flat_map, Some, slice_get, refl, ap, ◌∙◌, arith, append-nil}
+use Rattle.std.proofs.lemmas.{Bool.cases_Bool, Bool.Decides.nat_tests, Grind.flat_map-append}
+use Rattle.dom_model.specs.Definitions.{hits, place_in, past, up_to}
+use Rattle.dom_model.proofs.Forests.{Climbing.hits-first, Listed.parted_at}
 use Rattle.dom_model.proofs.RangesAndContents.DrawnPaths.{hits-past}
 
 pub flat-none : (give : ℕ → List ℕ) (ns : List ℕ) → ((x : ℕ) → 0 < hits x ns → give x ≡ []) → flat_map give ns ≡ []
@@ -22,11 +20,7 @@ flat-each give (n ∷ ns) h = ap (λ xs. xs ++ flat_map give ns) (h n (hits-firs
 
 pub flat-filter : (test : ℕ → Bool) (ns : List ℕ) → flat_map (λ x. if test x then x ∷ [] else []) ns ≡ filter test ns
 flat-filter test [] = refl
-flat-filter test (n ∷ ns) = go (test n) (flat-filter test ns)
-  where
-    go : (v : Bool) → flat_map (λ x. if test x then x ∷ [] else []) ns ≡ filter test ns → (if v then n ∷ [] else []) ++ flat_map (λ x. if test x then x ∷ [] else []) ns ≡ (if v then n ∷ filter test ns else filter test ns)
-    go true i = ap (λ xs. n ∷ xs) i
-    go false i = i
+flat-filter test (n ∷ ns) = grind (arith, cases_Bool, flat-filter test ns)
 
 pub filter-nothing : (test : ℕ → Bool) (ns : List ℕ) → ((x : ℕ) → 0 < hits x ns → test x ≡ false) → filter test ns ≡ []
 filter-nothing test [] h = refl
@@ -38,55 +32,27 @@ pub flat-drop : (give : ℕ → List ℕ) (ns : List ℕ) (k : ℕ) → ((i x : 
 flat-drop give [] zero h = refl
 flat-drop give [] (suc k) h = refl
 flat-drop give (n ∷ ns) zero h =
-    ap (λ xs. xs ++ flat_map give ns) ((h 0 n refl).1 (omega arith))
-    ∙ ap (λ xs. n ∷ xs) (flat-drop give ns zero (λ i x e. (λ l. absurd (omega arith), λ l. (h (suc i) x e).1 (omega arith))))
+    rw ((h 0 n refl).1 (omega arith)) (ap (λ xs. n ∷ xs) (flat-drop give ns zero (λ i x e. (λ l. absurd (omega arith), λ l. (h (suc i) x e).1 (omega arith)))))
 flat-drop give (n ∷ ns) (suc k) h =
-    ap (λ xs. xs ++ flat_map give ns) ((h 0 n refl).0 (omega arith))
-    ∙ flat-drop give ns k (λ i x e. (λ l. (h (suc i) x e).0 (omega arith), λ l. (h (suc i) x e).1 (omega arith)))
+    rw ((h 0 n refl).0 (omega arith)) (flat-drop give ns k (λ i x e. (λ l. (h (suc i) x e).0 (omega arith), λ l. (h (suc i) x e).1 (omega arith))))
 
 pub flat-take : (give : ℕ → List ℕ) (ns : List ℕ) (k : ℕ) → ((i x : ℕ) → slice_get ns i ≡ Some x → (i < k → give x ≡ x ∷ []) × (k ≤ i → give x ≡ [])) → flat_map give ns ≡ take k ns
 flat-take give [] zero h = refl
 flat-take give [] (suc k) h = refl
 flat-take give (n ∷ ns) zero h =
-    ap (λ xs. xs ++ flat_map give ns) ((h 0 n refl).1 (omega arith))
-    ∙ flat-take give ns zero (λ i x e. (λ l. absurd (omega arith), λ l. (h (suc i) x e).1 (omega arith)))
+    rw ((h 0 n refl).1 (omega arith)) (flat-take give ns zero (λ i x e. (λ l. absurd (omega arith), λ l. (h (suc i) x e).1 (omega arith))))
 flat-take give (n ∷ ns) (suc k) h =
-    ap (λ xs. xs ++ flat_map give ns) ((h 0 n refl).0 (omega arith))
-    ∙ ap (λ xs. n ∷ xs) (flat-take give ns k (λ i x e. (λ l. (h (suc i) x e).0 (omega arith), λ l. (h (suc i) x e).1 (omega arith))))
+    rw ((h 0 n refl).0 (omega arith)) (ap (λ xs. n ∷ xs) (flat-take give ns k (λ i x e. (λ l. (h (suc i) x e).0 (omega arith), λ l. (h (suc i) x e).1 (omega arith)))))
 
 -- Around one element.
 
 pub place-up_to : (x m : ℕ) (ns : List ℕ) → 0 < hits x (up_to m ns) → place_in x ns < place_in m ns
-place-up_to x m [] h = absurd (omega arith)
-place-up_to x m (n ∷ ns) h =
-    elim (same_or n m) [
-      | same d t ↦ absurd (let k = rw t at h in omega arith)
-      | apart ne t ↦
-          let k = rw t at h in
-          elim (same_or n x) [
-            | same e u ↦ rw (t, u) (omega arith)
-            | apart nx u ↦ (let l = rw u at k in rw (t, u) (omega (arith, place-up_to x m ns (omega arith))))
-          ]
-    ]
+place-up_to x m [] h = omega arith
+place-up_to x m (n ∷ ns) h = grind (arith, nat_tests, place-up_to x m ns)
 
 pub place-past : (x m : ℕ) (ns : List ℕ) → hits x ns ≤ 1 → 0 < hits x (past m ns) → place_in m ns < place_in x ns
-place-past x m [] o h = absurd (omega arith)
-place-past x m (n ∷ ns) o h =
-    elim (same_or n m) [
-      | same d t ↦
-          let k = rw t at h in
-          elim (same_or n x) [
-            | same e u ↦ absurd (let l = rw u at o in omega arith)
-            | apart nx u ↦ rw (t, u) (omega arith)
-          ]
-      | apart ne t ↦
-          let k = rw t at h in
-          let p = hits-past x m ns in
-          elim (same_or n x) [
-            | same e u ↦ absurd (let l = rw u at o in omega arith)
-            | apart nx u ↦ (let l = rw u at o in rw (t, u) (omega (arith, place-past x m ns (omega arith) k)))
-          ]
-    ]
+place-past x m [] o h = omega arith
+place-past x m (n ∷ ns) o h = grind (arith, nat_tests, hits-past x m ns, place-past x m ns)
 
 module _ (give other : ℕ → List ℕ) (m : ℕ) (part : List ℕ) (ns : List ℕ) (there : 0 < hits m ns) (here : give m ≡ part) where
   whole : (g : ℕ → List ℕ) → flat_map g ns ≡ flat_map g (up_to m ns) ++ (g m ++ flat_map g (past m ns))
@@ -95,40 +61,19 @@ module _ (give other : ℕ → List ℕ) (m : ℕ) (part : List ℕ) (ns : List 
   -- nothing ahead of it, and past it what the other gives
   pub flat-first : other m ≡ [] → ((x : ℕ) → 0 < hits x (up_to m ns) → (give x ≡ []) × (other x ≡ [])) → ((x : ℕ) → 0 < hits x (past m ns) → give x ≡ other x) → flat_map give ns ≡ part ++ flat_map other ns
   flat-first z ahead behind =
-      whole give
-      ∙ ap (λ xs. xs ++ (give m ++ flat_map give (past m ns))) (flat-none give (up_to m ns) (λ x k. (ahead x k).0))
-      ∙ ap (λ xs. xs ++ flat_map give (past m ns)) here
-      ∙ ap (λ xs. part ++ xs) (flat-same give other (past m ns) behind)
-      ∙ sym (ap (λ xs. part ++ xs) (whole other
-      ∙ ap (λ xs. xs ++ (other m ++ flat_map other (past m ns))) (flat-none other (up_to m ns) (λ x k. (ahead x k).1))
-      ∙ ap (λ xs. xs ++ flat_map other (past m ns)) z))
+      rw (whole give, whole other, flat-none give (up_to m ns) (λ x k. (ahead x k).0), flat-none other (up_to m ns) (λ x k. (ahead x k).1), here, z)
+      (rw (flat-same give other (past m ns) behind) refl)
 
   -- nothing past it, and ahead of it what the other gives
   pub flat-last : other m ≡ [] → ((x : ℕ) → 0 < hits x (up_to m ns) → give x ≡ other x) → ((x : ℕ) → 0 < hits x (past m ns) → (give x ≡ []) × (other x ≡ [])) → flat_map give ns ≡ flat_map other ns ++ part
   flat-last z ahead behind =
-      whole give
-      ∙ ap (λ xs. xs ++ (give m ++ flat_map give (past m ns))) (flat-same give other (up_to m ns) ahead)
-      ∙ ap (λ xs. flat_map other (up_to m ns) ++ (xs ++ flat_map give (past m ns))) here
-      ∙ ap (λ xs. flat_map other (up_to m ns) ++ (part ++ xs)) (flat-none give (past m ns) (λ x k. (behind x k).0))
-      ∙ ap (λ xs. flat_map other (up_to m ns) ++ xs) (append-nil part)
-      ∙ sym (ap (λ xs. xs ++ part) (whole other
-      ∙ ap (λ xs. flat_map other (up_to m ns) ++ (xs ++ flat_map other (past m ns))) z
-      ∙ ap (λ xs. flat_map other (up_to m ns) ++ xs) (flat-none other (past m ns) (λ x k. (behind x k).1))
-      ∙ append-nil (flat_map other (up_to m ns))))
+      rw (whole give, whole other, flat-same give other (up_to m ns) ahead, here, z, flat-none give (past m ns) (λ x k. (behind x k).0))
+      (rw (flat-none other (past m ns) (λ x k. (behind x k).1), append-nil part, append-nil (flat_map other (up_to m ns))) refl)
 
   -- nothing ahead of it, and past it each element itself
   pub flat-past : ((x : ℕ) → 0 < hits x (up_to m ns) → give x ≡ []) → ((x : ℕ) → 0 < hits x (past m ns) → give x ≡ x ∷ []) → flat_map give ns ≡ part ++ past m ns
-  flat-past ahead behind =
-      whole give
-      ∙ ap (λ xs. xs ++ (give m ++ flat_map give (past m ns))) (flat-none give (up_to m ns) ahead)
-      ∙ ap (λ xs. xs ++ flat_map give (past m ns)) here
-      ∙ ap (λ xs. part ++ xs) (flat-each give (past m ns) behind)
+  flat-past ahead behind = rw (whole give, flat-none give (up_to m ns) ahead, here, flat-each give (past m ns) behind) refl
 
   -- each element ahead of it itself, and nothing past it
   pub flat-up_to : ((x : ℕ) → 0 < hits x (up_to m ns) → give x ≡ x ∷ []) → ((x : ℕ) → 0 < hits x (past m ns) → give x ≡ []) → flat_map give ns ≡ up_to m ns ++ part
-  flat-up_to ahead behind =
-      whole give
-      ∙ ap (λ xs. xs ++ (give m ++ flat_map give (past m ns))) (flat-each give (up_to m ns) ahead)
-      ∙ ap (λ xs. up_to m ns ++ (xs ++ flat_map give (past m ns))) here
-      ∙ ap (λ xs. up_to m ns ++ (part ++ xs)) (flat-none give (past m ns) behind)
-      ∙ ap (λ xs. up_to m ns ++ xs) (append-nil part)
+  flat-up_to ahead behind = rw (whole give, flat-each give (up_to m ns) ahead, here, flat-none give (past m ns) behind, append-nil part) refl

@@ -1,14 +1,8 @@
 -- A live range stays one through every step that is not its release.
 use Rattle.std.proofs.Common.{◌≡◌, ℕ, zero, suc, Bool, true, false, if◌then◌else◌, List, [], ◌∷◌, length, Option, Some, None, is_some, slice_index_or, refl, ap, ◌∙◌}
 use Rattle.std.proofs.lemmas.Bool.{false≢true}
+use Rattle.dom_model.specs.Definitions.{parent_of, children_of, next_of, Point, Range, World, map_ranges, tree_record_unless, removed_from, remove, remove_all, is_fragment, nodes_of, emptied_fragment, freed, put_all, gap_before, insert_nodes, insert, reference_child, pre_insert, append, insert_if_any, replaced_record, replace_all, added_by, node_document, made_node, named, with_text, range_at, with_range, replace_data, split, split_off, tail_of, remove_each}
 use Rattle.dom_model.specs.declared.Kind.TheVariants.{Text}
-use Rattle.dom_model.specs.Forests.Forest.{parent_of, children_of, next_of}
-use Rattle.dom_model.specs.Worlds.World.{Point, Range, World}
-use Rattle.dom_model.specs.BoundaryPoints.Points.{map_ranges}
-use Rattle.dom_model.specs.MutationAlgorithms.Editing.{tree_record_unless, removed_from, remove, remove_all, is_fragment, nodes_of, emptied_fragment, freed, put_all, gap_before, insert_nodes, insert, reference_child, pre_insert, append, insert_if_any, replaced_record, replace_all, added_by, node_document}
-use Rattle.dom_model.specs.Worlds.Making.{made_node, named, with_text}
-use Rattle.dom_model.specs.RangesAndContents.Ranges.{range_at, with_range}
-use Rattle.dom_model.specs.DataAndCopies.Data.{replace_data, split, split_off, tail_of, remove_each}
 use Rattle.dom_model.proofs.Forests.Changes.{seen, nothing, just}
 use Rattle.dom_model.proofs.TokenText.EditsMade.EditsOfSteps.{range-set}
 

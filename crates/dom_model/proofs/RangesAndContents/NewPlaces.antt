@@ -1,60 +1,27 @@
 -- Where both ends of a live range stand once its contents are gone: under the deepest common ancestor, with no contained child ahead.
 -- DOM Standard, "Interface Range": delete the contents, extract.
-use Rattle.std.proofs.Common.{◌≡◌, ℕ, zero, suc, ◌+◌, ◌*◌, ◌<◌, ◌≤◌, Bool, true, false, List, [], ◌∷◌, ◌++◌, map, filter, find, drop, reverse, length, Some, refl, ap, sym, ◌∙◌, subst, arith, append_assoc, ⊎_elim}
-use Rattle.std.proofs.lemmas.Bool.{cases_lt, false≢true, lt-ltb}
-use Rattle.std.proofs.lemmas.List.{reverse-append, drop-append-le, length-reverse, map-append}
-use Rattle.std.specs.Ordering.{nat_cmp}
-use Rattle.std.specs.Cmp.Lexicographic.{slice_cmp}
-use Rattle.dom_model.specs.PlainLists.Lists.{hits, among, head_of, last_of}
-use Rattle.dom_model.specs.Forests.Forest.{Forest, occurs, parent_of, index_of, ancestors, root_of}
-use Rattle.dom_model.specs.Worlds.World.{Content}
-use Rattle.dom_model.specs.BoundaryPoints.Points.{path_places, place_of}
-use Rattle.dom_model.specs.MutationAlgorithms.Checks.{if_given}
-use Rattle.dom_model.specs.RangesAndContents.Ranges.{is_less, is_before}
-use Rattle.dom_model.proofs.Forests.Changes.{seen, nothing, just}
-use Rattle.dom_model.proofs.Forests.Climbing.{hits-append, hits-first, ancestors-there}
-use Rattle.dom_model.proofs.Forests.Paths.{parent-path, root-path}
-use Rattle.dom_model.proofs.Forests.Indices.{path-child}
-use Rattle.dom_model.proofs.BoundaryPoints.PointOrder.{nat_cmp-same, nat_cmp-greater, slice_cmp-ahead, order-above}
-use Rattle.dom_model.proofs.Forests.Chains.{root-child}
+use Rattle.std.proofs.Common.{◌≡◌, ℕ, zero, suc, ◌+◌, ◌*◌, ◌<◌, ◌≤◌, Bool, true, false, List, [], ◌∷◌, ◌++◌, filter, find, length, Some, refl, ap, sym, ◌∙◌, subst, arith, append_assoc}
+use Rattle.std.proofs.lemmas.{Bool.false≢true, Bool.lt-ltb, Bool.Decides.nat_tests}
+use Rattle.std.specs.{Ordering.nat_cmp, Cmp.Lexicographic.slice_cmp}
+use Rattle.dom_model.specs.Definitions.{hits, among, head_of, last_of, Forest, occurs, parent_of, index_of, ancestors, root_of, Content, path_places, place_of, if_given, is_less, is_before}
+use Rattle.dom_model.proofs.Forests.{Changes.seen, Changes.nothing, Changes.just, Climbing.hits-append, Climbing.hits-first, Climbing.ancestors-there, Paths.parent-path, Paths.root-path, Indices.path-child, Chains.root-child}
+use Rattle.dom_model.proofs.BoundaryPoints.{PointOrder.slice_cmp-ahead, PointOrder.order-above, OrderByWays.places-past}
 use Rattle.dom_model.proofs.Worlds.Parts.{path-there}
-use Rattle.dom_model.proofs.BoundaryPoints.RemovalOrder.{ancestors-split}
 use Rattle.dom_model.proofs.Soundness.SoundWorlds.{child_there}
 
 -- What stands ahead.
 
 not_less : (x y : ℕ) (xs : List ℕ) → y ≤ x → is_less (slice_cmp nat_cmp (x ∷ xs) (y ∷ [])) ≡ false
-not_less x y xs h =
-    ⊎_elim
-    (λ (lt : y < x). rw (nat_cmp-greater x y lt) refl)
-    (λ (le : x ≤ y). let e : x ≡ y = omega arith in rw (e, nat_cmp-same y) (more xs))
-    (cases_lt y x)
-  where
-    more : (xs : List ℕ) → is_less (slice_cmp nat_cmp xs []) ≡ false
-    more [] = refl
-    more (x ∷ xs) = refl
+not_less x y [] h = grind (arith, nat_tests)
+not_less x y (z ∷ zs) h = grind (arith, nat_tests)
 
 later_step : (i j : ℕ) (rest : List ℕ) (x : ℕ) → i ≤ j → is_less (slice_cmp nat_cmp ((2 * j + 1) ∷ (x ∷ rest)) ((2 * i + 1) ∷ (0 ∷ []))) ≡ false
-later_step i j rest x h =
-    ⊎_elim
-    (λ (lt : i < j). rw (nat_cmp-greater (2 * j + 1) (2 * i + 1) (omega arith)) refl)
-    (λ (le : j ≤ i). let e : i ≡ j = omega arith in rw (e, nat_cmp-same (2 * j + 1)) (not_less x 0 rest (omega arith)))
-    (cases_lt i j)
+later_step i j rest x h = grind (arith, nat_tests, not_less x 0 rest)
 
 module _ (f : Forest Content) (o : (m : ℕ) → occurs m f ≤ 1) where
   -- the places on the path of a node begin with those of each node above it
   places-above : (q n : ℕ) → 0 < occurs n f → 0 < hits q (ancestors n f) → (more : List ℕ) × (path_places f n ≡ path_places f q ++ more)
-  places-above q n hn h =
-      let s = ancestors-split f o q n hn h in
-      let hq : 0 < occurs q f = path-there f o n q h in
-      let a = ancestors-there q f hq in
-      let long : 1 ≤ length (reverse (ancestors q f)) = rw (length-reverse (ancestors q f), a.1) (omega arith) in (
-        map (λ m. 2 * index_of f m + 1) (reverse s.0),
-        ap (λ ns. map (λ m. 2 * index_of f m + 1) (drop 1 (reverse ns))) s.1
-            ∙ ap (λ ns. map (λ m. 2 * index_of f m + 1) (drop 1 ns)) (reverse-append s.0 (ancestors q f))
-            ∙ ap (map (λ m. 2 * index_of f m + 1)) (drop-append-le 1 (reverse (ancestors q f)) (reverse s.0) long)
-            ∙ map-append (λ m. 2 * index_of f m + 1) (drop 1 (reverse (ancestors q f))) (reverse s.0),
-      )
+  places-above q n hn h = places-past f o n q hn h (path-there f o n q h)
 
   -- a point inside a child is not ahead of a child that does not come later
   pub inside_not_before : (q p c n a : ℕ) → 0 < occurs n f → 0 < hits q (ancestors n f) → parent_of f q ≡ Some p → parent_of f c ≡ Some p → index_of f c ≤ index_of f q → is_before f (record { node = n; offset = a }) (record { node = c; offset = 0 }) ≡ false

@@ -1,31 +1,10 @@
 -- Worlds with the tree of a root: what appending, removing, copying and cutting data leave of that tree.
-use Rattle.std.proofs.Common.{◌≡◌, ℕ, zero, suc, ◌+◌, ◌<◌, ◌≤◌, ◌==◌, nat_lt, Bool, true, false, if◌then◌else◌, List, [], ◌∷◌, length, Option, Some, None, refl, ap, sym, ◌∙◌, subst, arith, ⊎_elim}
-use Rattle.std.proofs.lemmas.Bool.{cases_lt}
+use Rattle.std.proofs.Common.{◌≡◌, ℕ, zero, suc, ◌<◌, ◌≤◌, ◌==◌, nat_lt, Bool, true, false, if◌then◌else◌, List, [], ◌∷◌, length, Option, Some, None, refl, ap, sym, ◌∙◌, subst, arith, ⊎_elim}
+use Rattle.std.proofs.lemmas.{Bool.cases_lt, Bool.Decides.nat_tests}
+use Rattle.dom_model.specs.Definitions.{hits, or_else, left_out, Entry, EachNode, is_kind, spliced, Node, Forest, empty, node, occurs, one_at, tops, beside, tree_at, without, placed_root, put, in_document, adopted, with_node, entry_under, entry_in, parent_of, children_of, ancestors, Content, World, no_content, entry_has, tree_record_unless, emptied_fragment, taken_out, transients_made, removed_from, remove, remove_all, is_fragment, nodes_of, freed, node_document, put_in, put_all, insert_all, insert_nodes, append, named, renumbered, with_copies, content_in, data_of, with_data, cut_count, replace_data, remove_each, new_fragment}
 use Rattle.dom_model.specs.declared.Kind.TheVariants.{DocumentFragment}
-use Rattle.dom_model.specs.PlainLists.Lists.{hits, or_else, left_out}
-use Rattle.dom_model.specs.Forests.Arena.{Entry}
-use Rattle.dom_model.specs.Forests.EachNode.{EachNode}
-use Rattle.dom_model.specs.Forests.Kinds.{is_kind}
-use Rattle.dom_model.specs.Forests.Texts.{spliced}
-use Rattle.dom_model.specs.Forests.Forest.{Node, Forest, empty, node, occurs, one_at, tops, beside, tree_at, without, placed_root, put, in_document, adopted, with_node, entry_under, entry_in, parent_of, children_of, ancestors}
-use Rattle.dom_model.specs.Worlds.World.{Content, World, no_content}
-use Rattle.dom_model.specs.Forests.Nodes.{entry_has}
-use Rattle.dom_model.specs.MutationAlgorithms.Editing.{tree_record_unless, emptied_fragment, taken_out, transients_made, removed_from, remove, remove_all, is_fragment, nodes_of, freed, node_document, put_in, put_all, insert_all, insert_nodes, append}
-use Rattle.dom_model.specs.Worlds.Making.{named}
-use Rattle.dom_model.specs.DataAndCopies.Clones.{renumbered, with_copies}
-use Rattle.dom_model.specs.DataAndCopies.Data.{content_in, data_of, with_data, cut_count, replace_data, remove_each}
-use Rattle.dom_model.specs.RangesAndContents.Contents.{new_fragment}
 use Rattle.dom_model.proofs.PlainLists.Numbers.{same_or, same, apart}
-use Rattle.dom_model.proofs.Forests.Totals.{IsOnce, total-beside, total-tree_at, total-placed_under, total-cut, IsOnce-cut, occurs-without, without-absent, tree_at-absent, beside-empty}
-use Rattle.dom_model.proofs.Forests.Tops.{tops-beside, tops-without, tops-placed_under, hits-tops}
-use Rattle.dom_model.proofs.Forests.Below.{occurs-tree}
-use Rattle.dom_model.proofs.Forests.Climbing.{hits-append, hits-first, hits-ancestors}
-use Rattle.dom_model.proofs.Forests.EachNode.{EachNode-without}
-use Rattle.dom_model.proofs.Forests.Indices.{child-parent}
-use Rattle.dom_model.proofs.Forests.Listed.{hits-other}
-use Rattle.dom_model.proofs.Forests.Paths.{parent-path, root-path}
-use Rattle.dom_model.proofs.Forests.Undone.{tree_at-beside}
-use Rattle.dom_model.proofs.Forests.WaysMeeting.{above-itself}
+use Rattle.dom_model.proofs.Forests.{Totals.IsOnce, Totals.total-beside, Totals.total-tree_at, Totals.total-placed_under, Totals.total-cut, Totals.IsOnce-cut, Totals.occurs-without, Totals.without-absent, Totals.tree_at-absent, Totals.beside-empty, Tops.tops-beside, Tops.tops-without, Tops.tops-placed_under, Tops.hits-tops, Below.occurs-tree, Climbing.hits-append, Climbing.hits-first, Climbing.hits-ancestors, EachNode.EachNode-without, Indices.child-parent, Listed.hits-other, Paths.parent-path, Paths.root-path, Undone.tree_at-beside, WaysMeeting.above-itself}
 use Rattle.dom_model.proofs.MutationAlgorithms.OwnersKept.{EachNode-entry}
 use Rattle.dom_model.proofs.Worlds.SameShape.{IsAlike, occurs-alike, tops-alike, with_node-alike, with_tree-alike}
 use Rattle.dom_model.proofs.Soundness.SoundMaking.{once-renumbered}
@@ -34,13 +13,9 @@ use Rattle.dom_model.proofs.RangesAndContents.TreesOfRoots.{taken, occurs-left, 
 
 -- Lists and forests.
 
-kept_out : (c m : ℕ) (ns : List ℕ) → (c ≡ m → ⊥) → hits m (left_out c ns) ≡ hits m ns
+pub kept_out : (c m : ℕ) (ns : List ℕ) → (c ≡ m → ⊥) → hits m (left_out c ns) ≡ hits m ns
 kept_out c m [] ne = refl
-kept_out c m (n ∷ ns) ne =
-    elim (same_or n c) [
-      | same d t ↦ rw t (kept_out c m ns ne ∙ sym (hits-other m n ns (λ e. ne (sym d ∙ e))))
-      | apart nx t ↦ rw t (ap (λ k. (if n == m then 1 else 0) + k) (kept_out c m ns ne))
-    ]
+kept_out c m (n ∷ ns) ne = grind (arith, nat_tests, kept_out c m ns)
 
 module _ {X : Type 0} where
   tops-placed_root : (r n : ℕ) (t f : Forest X) → hits r (tops f) ≤ hits r (tops (placed_root n t f))
@@ -106,9 +81,6 @@ module _ (root low : ℕ) where
         let e = h.top in
         omega arith
 
-    pub once-tree : IsOnce t
-    once-tree m = let a = h.once m in let b = occurs-tree m root v.forest in let c = ap (λ (g : Forest Content). occurs m g) h.tree in omega arith
-
     pub inside-above : (n : ℕ) → 0 < occurs n t → (0 < occurs n v.forest) × (0 < hits root (ancestors n v.forest))
     inside-above n k =
         let a = ap (λ (g : Forest Content). occurs n g) h.tree in
@@ -125,11 +97,9 @@ module _ (root low : ℕ) where
     -- a node without a parent is not inside
     root-outside : (n : ℕ) → (n ≡ root → ⊥) → parent_of v.forest n ≡ None → occurs n t ≡ 0
     root-outside n ne e =
-        ⊎_elim
-        (λ (lt : 0 < occurs n t).
-        absurd (let i = inside-above n lt in let a = ap (hits root) (root-path v.forest h.once n i.0 e) in let b = hits-other root n [] ne in let c = i.1 in omega arith))
-        (λ (le : occurs n t ≤ 0). omega arith)
-        (cases_lt 0 (occurs n t))
+        let no : 0 < occurs n t → ⊥ = λ lt.
+        let i = inside-above n lt in let a = ap (hits root) (root-path v.forest h.once n i.0 e) in let b = hits-other root n [] ne in let c = i.1 in omega arith in
+        omega arith
 
     -- nor is a child of one that is not
     child-outside : (n m : ℕ) → occurs n t ≡ 0 → 0 < hits m (children_of v.forest n) → occurs m t ≡ 0
@@ -316,21 +286,13 @@ module _ (root low : ℕ) where
 
   pub copies-has : (document : ℕ) (g : Forest Content) (t : Forest Content) (v : World) → HasTree root low t v → HasTree root low t (with_copies document g v)
   copies-has document g t v h =
-      let there : root < v.made = (⊎_elim
-      (λ (lt : root < v.made). lt)
-      (λ (le : v.made ≤ root). absurd (let z = h.small root le in let a = hits-tops root v.forest in let b = h.top in omega arith))
-      (cases_lt root v.made)) in
-      let none = (once-renumbered document v.made g root).1 there in
+      let no : v.made ≤ root → ⊥ = λ le. let z = h.small root le in let a = hits-tops root v.forest in let b = h.top in omega arith in
+      let none = (once-renumbered document v.made g root).1 (omega arith) in
       record {
         once = λ m. (
             let a = total-beside (one_at m) v.forest (renumbered document v.made g) in
             let i = once-renumbered document v.made g m in
-            let b = h.once m in
-            let c = i.0 in
-            ⊎_elim
-            (λ (lt : m < v.made). let z = i.1 lt in omega arith)
-            (λ (le : v.made ≤ m). let z = h.small m le in omega arith)
-            (cases_lt m v.made));
+            grind (arith, h.once m, h.small m, i.0, i.1));
         small = λ m l. (
             let a = total-beside (one_at m) v.forest (renumbered document v.made g) in
             let z = h.small m (omega arith) in

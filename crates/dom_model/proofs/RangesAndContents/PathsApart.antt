@@ -1,12 +1,7 @@
 -- The paths from the deepest common ancestor down to two nodes have no node in common, so both together are at most as long as the forest is large.
-use Rattle.std.proofs.Common.{◌≡◌, ℕ, ◌+◌, ◌≤◌, Bool, true, false, if◌then◌else◌, List, [], ◌∷◌, ◌++◌, length, Option, Some, None, refl, arith}
-use Rattle.std.specs.Prelude.{filter, cond, unwrap_or}
-use Rattle.std.proofs.lemmas.List.{length-reverse}
-use Rattle.dom_model.specs.PlainLists.Lists.{among, head_of, or_list, up_to}
-use Rattle.dom_model.specs.Forests.Forest.{Forest, empty, node, total, size, ancestors, path_through}
-use Rattle.dom_model.specs.Worlds.World.{Content}
-use Rattle.dom_model.specs.RangesAndContents.Ranges.{common_ancestor}
-use Rattle.dom_model.specs.RangesAndContents.Contents.{path_below}
+use Rattle.std.proofs.Common.{◌≡◌, ℕ, ◌+◌, ◌≤◌, true, if◌then◌else◌, List, [], ◌∷◌, ◌++◌, length, Option, Some, None, refl, arith, filter, unwrap_or}
+use Rattle.std.proofs.lemmas.{Bool.cases_Bool, Bool.Decides.nat_tests, List.length-reverse}
+use Rattle.dom_model.specs.Definitions.{among, head_of, or_list, up_to, Forest, empty, node, total, size, ancestors, path_through, Content, common_ancestor, path_below}
 use Rattle.dom_model.proofs.PlainLists.Numbers.{same_or, same, apart}
 
 -- a weight of the numbers, over a list
@@ -47,24 +42,12 @@ module _ (others : List ℕ) where
   off_it n = if among n others then 0 else 1
 
   one_or_other : (n : ℕ) → off_it n + on_it n ≡ 1
-  one_or_other n = go (among n others)
-    where
-      go : (v : Bool) → (if v then 0 else 1) + (if v then 1 else 0) ≡ 1
-      go true = refl
-      go false = refl
+  one_or_other n = grind (arith, cases_Bool)
 
   -- what comes before the first that is on the other path is not on it
   up_to-off : (xs : List ℕ) (c : ℕ) → head_of (filter (λ a. among a others) xs) ≡ Some c → length (up_to c xs) ≤ along off_it xs
   up_to-off [] c h = omega arith
-  up_to-off (x ∷ xs) c h = go (λ k. up_to-off xs c k) (among x others) refl h
-    where
-      go : (head_of (filter (λ a. among a others) xs) ≡ Some c → length (up_to c xs) ≤ along off_it xs) → (v : Bool) → among x others ≡ v → head_of (cond v (x ∷ filter (λ a. among a others) xs) (filter (λ a. among a others) xs)) ≡ Some c → length (up_to c (x ∷ xs)) ≤ off_it x + along off_it xs
-      go later true e k =
-          let d : x ≡ c = cc k in
-          elim (same_or x c) [ same d2 t ↦ rw t (omega arith) | apart ne t ↦ absurd (ne d) ]
-      go later false e k =
-          let i = later k in
-          elim (same_or x c) [ same d2 t ↦ rw t (omega arith) | apart ne t ↦ rw (t, e) (omega arith) ]
+  up_to-off (x ∷ xs) c h = grind (arith, nat_tests, cases_Bool, up_to-off xs c)
 
   on-all : (xs : List ℕ) → ((x : ℕ) → among x xs ≡ true → among x others ≡ true) → length xs ≤ along on_it xs
   on-all [] h = omega arith
@@ -75,11 +58,7 @@ module _ (others : List ℕ) where
 
 length-up_to : (n : ℕ) (xs : List ℕ) → length (up_to n xs) ≤ length xs
 length-up_to n [] = omega arith
-length-up_to n (x ∷ xs) =
-    elim (same_or x n) [
-      | same e t ↦ rw t (omega arith)
-      | apart ne t ↦ rw t (omega (arith, length-up_to n xs))
-    ]
+length-up_to n (x ∷ xs) = grind (arith, nat_tests, length-up_to n xs)
 
 module _ {X : Type 0} where
   -- the ancestors of a node begin with it

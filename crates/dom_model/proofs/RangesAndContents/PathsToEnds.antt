@@ -1,44 +1,21 @@
 -- The path from an ancestor down to a node: what it is made of, and that all but its last may be drawn and have children. DOM Standard,
 -- "Trees", "Interface Range".
-use Rattle.std.proofs.Common.{◌≡◌, ℕ, zero, suc, ◌<◌, ◌≤◌, true, false, List, [], ◌∷◌, ◌++◌, reverse, length, Some, refl, ap, sym, ◌∙◌, subst, arith, Bool, if◌then◌else◌, filter, Option, None, unwrap_or}
-use Rattle.std.proofs.lemmas.Bool.{false≢true}
-use Rattle.std.proofs.lemmas.List.{reverse-append}
-use Rattle.dom_model.specs.declared.Kind.{Kind}
-use Rattle.dom_model.specs.declared.Kind.TheVariants.{Element, Text, ProcessingInstruction, Comment, Document, DocumentType, DocumentFragment}
-use Rattle.dom_model.specs.PlainLists.Lists.{hits, among, head_of, last_of, up_to}
-use Rattle.dom_model.specs.Forests.Kinds.{is_kind, is_character_data, may_be_parent, may_stand_in}
-use Rattle.dom_model.specs.Forests.Forest.{Forest, occurs, parent_of, ancestors, root_of}
-use Rattle.dom_model.specs.Worlds.World.{Content, World}
-use Rattle.dom_model.specs.Forests.Nodes.{kind_passes, is_of_kind}
-use Rattle.dom_model.specs.DataAndCopies.Data.{data_of}
-use Rattle.dom_model.specs.RangesAndContents.Contents.{path_below}
-use Rattle.dom_model.specs.Soundness.Sound.{IsSound}
-use Rattle.dom_model.specs.RangesAndContents.Ranges.{common_ancestor}
-use Rattle.dom_model.proofs.PlainLists.Numbers.{same_or, same, apart}
-use Rattle.dom_model.proofs.PlainLists.Members.{hits-last_of}
-use Rattle.dom_model.proofs.Forests.Changes.{seen, nothing, just}
-use Rattle.dom_model.proofs.Forests.Climbing.{hits-append, hits-first, ancestors-there, hits-reverse, among-hits, hits-among}
-use Rattle.dom_model.proofs.Forests.Paths.{parent-path, root-path}
+use Rattle.std.proofs.Common.{◌≡◌, ℕ, zero, suc, ◌<◌, ◌≤◌, true, false, List, [], ◌∷◌, ◌++◌, reverse, length, Some, refl, ap, sym, ◌∙◌, subst, arith, None, unwrap_or}
+use Rattle.std.proofs.lemmas.{Bool.false≢true, List.reverse-append, Bool.Decides.nat_tests}
+use Rattle.dom_model.specs.Definitions.{hits, among, last_of, up_to, is_kind, is_character_data, may_be_parent, may_stand_in, Forest, occurs, parent_of, ancestors, root_of, Content, World, kind_passes, is_of_kind, data_of, path_below, IsSound, common_ancestor}
+use Rattle.dom_model.specs.declared.{Kind.Kind, Kind.TheVariants.Document, Kind.TheVariants.DocumentType, Kind.TheVariants.DocumentFragment}
+use Rattle.dom_model.proofs.PlainLists.{Numbers.same_or, Numbers.same, Numbers.apart, Members.hits-last_of}
+use Rattle.dom_model.proofs.Forests.{Changes.seen, Changes.nothing, Changes.just, Climbing.hits-append, Climbing.hits-first, Climbing.ancestors-there, Climbing.hits-reverse, Climbing.among-hits, Climbing.hits-among, Paths.parent-path, Paths.root-path, Listed.hits-other, Mirrored.reverse-first}
 use Rattle.dom_model.proofs.BoundaryPoints.RootsKept.{hits-up_to}
-use Rattle.dom_model.proofs.Forests.Listed.{hits-other}
-use Rattle.dom_model.proofs.RangesAndContents.RangesCut.{no_doctype}
-use Rattle.dom_model.proofs.Soundness.SoundForests.{IsWood, entry_there, child-fits, parent-passes, parent_no_data, parent_no_doctype}
-use Rattle.dom_model.proofs.Soundness.SoundWorlds.{child_there}
-use Rattle.dom_model.proofs.Soundness.SoundAppending.{IsPlain}
-use Rattle.dom_model.proofs.Soundness.SoundPaths.{IsTail, IsHead}
-use Rattle.dom_model.proofs.RangesAndContents.Drawing.{passes_too}
-use Rattle.dom_model.proofs.RangesAndContents.DrawnPieces.{IsDrawable}
-use Rattle.dom_model.proofs.RangesAndContents.DrawnPaths.{ArePath, IsWithin, kind-drawn}
+use Rattle.dom_model.proofs.RangesAndContents.{RangesCut.no_doctype, DrawnPieces.IsDrawable, DrawnPaths.ArePath, DrawnPaths.IsWithin, DrawnPaths.kind-drawn, WaysBelow.first-passes}
+use Rattle.dom_model.proofs.Traversal.IteratorsStay.{filter-passes}
+use Rattle.dom_model.proofs.Soundness.{SoundForests.IsWood, SoundForests.entry_there, SoundForests.child-fits, SoundForests.parent-passes, SoundForests.parent_no_data, SoundWorlds.child_there, SoundAppending.IsPlain, SoundPaths.IsTail, SoundPaths.IsHead, SoundForests.passes-also}
 
 -- what stands below something is no Document and no fragment
 pub below_kinds : (parent k : Kind) → may_stand_in parent k ≡ true → (is_kind Document k ≡ false) × (is_kind DocumentFragment k ≡ false)
-below_kinds parent Element h = (refl, refl)
-below_kinds parent Text h = (refl, refl)
-below_kinds parent ProcessingInstruction h = (refl, refl)
-below_kinds parent Comment h = (refl, refl)
 below_kinds parent Document h = absurd (false≢true h)
-below_kinds parent DocumentType h = (refl, refl)
 below_kinds parent DocumentFragment h = absurd (false≢true h)
+below_kinds parent k h = (refl, refl)
 
 pub plain_below : (w : World) → IsSound w → (n u : ℕ) → parent_of w.forest n ≡ Some u → is_of_kind DocumentType w.forest n ≡ false → IsPlain w n
 plain_below w s n u e t =
@@ -54,25 +31,20 @@ pub holders_above : (f : Forest Content) (made : ℕ) → IsWood f made → (c u
 holders_above f made s c u x e h = go (length (ancestors u f)) c u (omega arith) e h
   where
     go : (k c u : ℕ) → length (ancestors u f) ≤ k → parent_of f c ≡ Some u → 0 < hits x (ancestors u f) → kind_passes may_be_parent f x ≡ true
-    go zero c u l e h = absurd (none (ancestors u f) l h)
-      where
-        none : (ns : List ℕ) → length ns ≤ 0 → 0 < hits x ns → ⊥
-        none [] l h = omega arith
-        none (n ∷ ns) l h = omega arith
+    go zero c u l e h = absurd (let i = ancestors-there u f (parent-path f s.once c u (child_there f c u e) e).0 in let j = rw i.1 at l in omega arith)
     go (suc k) c u l e h =
         let hc = child_there f c u e in
         let hu = (parent-path f s.once c u hc e).0 in
         elim (same_or u x) [
-          | same d t ↦ subst (λ m. kind_passes may_be_parent f m ≡ true) d (parent-passes s c u e hc)
-          | apart ne t ↦
+          | same d _ ↦ subst (λ m. kind_passes may_be_parent f m ≡ true) d (parent-passes s c u e hc)
+          | apart ne _ ↦
               elim (seen (parent_of f u)) [
-                | nothing i ↦ absurd (let a = ap (hits x) (root-path f s.once u hu i) in let b = hits-other x u [] ne in omega arith)
+                | nothing i ↦ absurd (let a = rw (root-path f s.once u hu i) at h in grind (arith, nat_tests))
                 | just v i ↦
                     let a = parent-path f s.once u v hu i in
-                    let b = ap (hits x) a.1 in
-                    let d = hits-other x u (ancestors v f) ne in
-                    let l2 = ap (λ ns. length ns) a.1 in
-                    go k u v (omega arith) i (omega arith)
+                    let h2 = rw a.1 at h in
+                    let l2 = rw a.1 at l in
+                    go k u v (omega arith) i (grind (arith, nat_tests))
               ]
         ]
 
@@ -88,30 +60,17 @@ below_has_parent f o p n x hn hp h = go (length (ancestors n f)) n (omega arith)
               let a = root-path f o n hn i in
               let hp2 = subst (λ ns. 0 < hits p ns) a hp in
               let h2 = subst (λ ns. 0 < hits x (up_to p ns)) a h in
-              absurd (alone n hp2 h2)
+              absurd (grind (arith, nat_tests))
           | just v i ↦
               let a = parent-path f o n v hn i in
               let hp2 = subst (λ ns. 0 < hits p ns) a.1 hp in
               let h2 = subst (λ ns. 0 < hits x (up_to p ns)) a.1 h in
-              let l2 = ap (λ ns. length ns) a.1 in
-              further n v i hp2 h2 (λ q r. go k v (omega arith) a.0 q r)
+              let l2 = rw a.1 at l in
+              elim (same_or n x) [
+                | same d _ ↦ (v, subst (λ m. parent_of f m ≡ Some v) d i)
+                | apart nx _ ↦ go k v (omega arith) a.0 (grind (arith, nat_tests)) (grind (arith, nat_tests))
+              ]
         ]
-      where
-        alone : (n : ℕ) → 0 < hits p (n ∷ []) → 0 < hits x (up_to p (n ∷ [])) → ⊥
-        alone n q r = elim (same_or n p) [ same d t ↦ (let j = rw t at r in omega arith) | apart ne t ↦ (let j = rw t at q in omega arith) ]
-
-        further : (n v : ℕ) → parent_of f n ≡ Some v → 0 < hits p (n ∷ ancestors v f) → 0 < hits x (up_to p (n ∷ ancestors v f)) → (0 < hits p (ancestors v f) → 0 < hits x (up_to p (ancestors v f)) → (u : ℕ) × (parent_of f x ≡ Some u)) → (u : ℕ) × (parent_of f x ≡ Some u)
-        further n v i q r more =
-            elim (same_or n p) [
-              | same d t ↦ absurd (let j = rw t at r in omega arith)
-              | apart ne t ↦
-                  let q2 = rw t at q in
-                  let r2 = rw t at r in
-                  elim (same_or n x) [
-                    | same d y ↦ (v, subst (λ m. parent_of f m ≡ Some v) d i)
-                    | apart nx y ↦ (let r3 = rw y at r2 in more (omega arith) (omega arith))
-                  ]
-            ]
 
 pub not_up_to : (p : ℕ) (ns : List ℕ) → hits p (up_to p ns) ≡ 0
 not_up_to p [] = refl
@@ -134,41 +93,53 @@ head_from w n (x ∷ y ∷ xs) h p =
     let i = h x (hits-first x (y ∷ xs)) in
     (i.0, i.1, head_from w n (y ∷ xs) (λ m z. h m (let j = hits-append m (x ∷ []) (y ∷ xs) in omega arith)) p)
 
+-- the path from an ancestor down to a node is empty, or ends in the node; all on it have parents, and all above the node have children
+data PathShape (w : World) (n : ℕ) : List ℕ → Type 0 where
+  top : PathShape w n []
+  down : (xs : List ℕ) → ((x : ℕ) → 0 < hits x xs → (q : ℕ) × (parent_of w.forest x ≡ Some q) × (kind_passes may_be_parent w.forest x ≡ true)) → (q : ℕ) → parent_of w.forest n ≡ Some q → PathShape w n (xs ++ n ∷ [])
+
+shape_is : (w : World) → IsSound w → (p n : ℕ) → 0 < occurs n w.forest → 0 < hits p (ancestors n w.forest) → PathShape w n (path_below w.forest p n)
+shape_is w s p n hn hp =
+    elim (seen (parent_of w.forest n)) [
+      | nothing e ↦ subst (λ ns. PathShape w n (reverse (up_to p ns))) (sym (root-path w.forest s.forest.once n hn e)) (at_root (subst (λ ns. 0 < hits p ns) (root-path w.forest s.forest.once n hn e) hp))
+      | just u e ↦
+          let a = parent-path w.forest s.forest.once n u hn e in
+          subst (λ ns. PathShape w n (reverse (up_to p ns))) (sym a.1) (below u e a.0 (subst (λ ns. 0 < hits p ns) a.1 hp))
+    ]
+  where
+    at_root : 0 < hits p (n ∷ []) → PathShape w n (reverse (up_to p (n ∷ [])))
+    at_root h = elim (same_or n p) [ same d y ↦ rw y top | apart ne y ↦ absurd (let j = rw y at h in omega arith) ]
+
+    below : (u : ℕ) → parent_of w.forest n ≡ Some u → 0 < occurs u w.forest → 0 < hits p (n ∷ ancestors u w.forest) → PathShape w n (reverse (up_to p (n ∷ ancestors u w.forest)))
+    below u e hu h =
+        elim (same_or n p) [
+          | same d y ↦ rw y top
+          | apart ne y ↦
+              let h2 = rw y at h in
+              let above = up_to p (ancestors u w.forest) in
+              let turned : reverse (n ∷ above) ≡ reverse above ++ n ∷ [] = reverse-append (n ∷ []) above in
+              rw y (subst (PathShape w n) (sym turned) (down (reverse above) (each u e hu (omega arith)) u e))
+        ]
+      where
+        each : (u : ℕ) → parent_of w.forest n ≡ Some u → 0 < occurs u w.forest → 0 < hits p (ancestors u w.forest) → (x : ℕ) → 0 < hits x (reverse (up_to p (ancestors u w.forest))) → (q : ℕ) × (parent_of w.forest x ≡ Some q) × (kind_passes may_be_parent w.forest x ≡ true)
+        each u e hu hp2 x z =
+            let a = hits-reverse x (up_to p (ancestors u w.forest)) in
+            let b = hits-up_to x p (ancestors u w.forest) in
+            let holds = holders_above w.forest w.made s.forest n u x e (omega arith) in
+            let q = below_has_parent w.forest s.forest.once p u x hu hp2 (omega arith) in
+            (q.0, q.1, holds)
+
 -- the path is empty, or ends in the node; all above it have children
 pub data PathTo (w : World) (n : ℕ) : List ℕ → Type 0 where
   no_path : PathTo w n []
   path_to : (xs : List ℕ) → ((x : ℕ) → 0 < hits x xs → IsPlain w x × (kind_passes may_be_parent w.forest x ≡ true)) → IsPlain w n → PathTo w n (xs ++ n ∷ [])
 
 pub path_is : (w : World) → IsSound w → (p n : ℕ) → 0 < occurs n w.forest → 0 < hits p (ancestors n w.forest) → is_of_kind DocumentType w.forest n ≡ false → PathTo w n (path_below w.forest p n)
-path_is w s p n hn hp t =
-    elim (seen (parent_of w.forest n)) [
-      | nothing e ↦ subst (λ ns. PathTo w n (reverse (up_to p ns))) (sym (root-path w.forest s.forest.once n hn e)) (at_root (subst (λ ns. 0 < hits p ns) (root-path w.forest s.forest.once n hn e) hp))
-      | just u e ↦
-          let a = parent-path w.forest s.forest.once n u hn e in
-          subst (λ ns. PathTo w n (reverse (up_to p ns))) (sym a.1) (below u e a.0 (subst (λ ns. 0 < hits p ns) a.1 hp))
-    ]
+path_is w s p n hn hp t = go (path_below w.forest p n) (shape_is w s p n hn hp)
   where
-    at_root : 0 < hits p (n ∷ []) → PathTo w n (reverse (up_to p (n ∷ [])))
-    at_root h = elim (same_or n p) [ same d y ↦ rw y no_path | apart ne y ↦ absurd (let j = rw y at h in omega arith) ]
-
-    below : (u : ℕ) → parent_of w.forest n ≡ Some u → 0 < occurs u w.forest → 0 < hits p (n ∷ ancestors u w.forest) → PathTo w n (reverse (up_to p (n ∷ ancestors u w.forest)))
-    below u e hu h =
-        elim (same_or n p) [
-          | same d y ↦ rw y no_path
-          | apart ne y ↦
-              let h2 = rw y at h in
-              let above = up_to p (ancestors u w.forest) in
-              let turned : reverse (n ∷ above) ≡ reverse above ++ n ∷ [] = reverse-append (n ∷ []) above in
-              rw y (subst (PathTo w n) (sym turned) (path_to (reverse above) (each u e hu (omega arith)) (plain_below w s n u e t)))
-        ]
-      where
-        each : (u : ℕ) → parent_of w.forest n ≡ Some u → 0 < occurs u w.forest → 0 < hits p (ancestors u w.forest) → (x : ℕ) → 0 < hits x (reverse (up_to p (ancestors u w.forest))) → IsPlain w x × (kind_passes may_be_parent w.forest x ≡ true)
-        each u e hu hp2 x z =
-            let a = hits-reverse x (up_to p (ancestors u w.forest)) in
-            let b = hits-up_to x p (ancestors u w.forest) in
-            let holds = holders_above w.forest w.made s.forest n u x e (omega arith) in
-            let q = below_has_parent w.forest s.forest.once p u x hu hp2 (omega arith) in
-            (plain_below w s x q.0 q.1 (no_doctype w.forest x holds), holds)
+    go : (ns : List ℕ) → PathShape w n ns → PathTo w n ns
+    go [] top = no_path
+    go ns (down xs above q e) = path_to xs (λ x z. let i = above x z in (plain_below w s x i.0 i.1 (no_doctype w.forest x i.2), i.2)) (plain_below w s n q e t)
 
 pub tail_of_path : (w : World) (offset n : ℕ) (path : List ℕ) → PathTo w n path → (kind_passes is_character_data w.forest n ≡ true → offset ≤ length (data_of w n)) → IsTail w offset path
 tail_of_path w offset n [] no_path k = tt
@@ -180,63 +151,26 @@ head_of_path w n path (path_to xs h p) = head_from w n xs h p
 
 -- The common ancestor of two nodes of one root is an ancestor of both.
 
-first-passing : (test : ℕ → Bool) (ns : List ℕ) (a : ℕ) → head_of (filter test ns) ≡ Some a → (0 < hits a ns) × (test a ≡ true)
-first-passing test [] a e = absurd (cc e)
-first-passing test (n ∷ ns) a e = go (test n) refl e (first-passing test ns a)
-  where
-    go : (b : Bool) → test n ≡ b → head_of (if b then n ∷ filter test ns else filter test ns) ≡ Some a → (head_of (filter test ns) ≡ Some a → (0 < hits a ns) × (test a ≡ true)) → (0 < hits a (n ∷ ns)) × (test a ≡ true)
-    go true t h more =
-        let u : Some n ≡ Some a = h in
-        let d : n ≡ a = cc u in
-        elim (same_or n a) [ same _ s ↦ (rw s (omega arith), ap test (sym d) ∙ t) | apart ne _ ↦ absurd (ne d) ]
-    go false t h more = let i = more h in let j = i.0 in (omega arith, i.1)
-
-none-passing : (test : ℕ → Bool) (ns : List ℕ) (a : ℕ) → head_of (filter test ns) ≡ None → 0 < hits a ns → test a ≡ false
-none-passing test [] a e h = absurd (omega arith)
-none-passing test (n ∷ ns) a e h = go (test n) refl e (none-passing test ns a)
-  where
-    go : (b : Bool) → test n ≡ b → head_of (if b then n ∷ filter test ns else filter test ns) ≡ None → (head_of (filter test ns) ≡ None → 0 < hits a ns → test a ≡ false) → test a ≡ false
-    go true t k more = absurd (let u : Some n ≡ None = k in cc u)
-    go false t k more = elim (same_or n a) [ same d s ↦ ap test (sym d) ∙ t | apart ne s ↦ more k (let j = rw s at h in omega arith) ]
-
 pub common-above : (f : Forest Content) (n m : ℕ) → 0 < occurs n f → root_of f n ≡ root_of f m → (0 < hits (common_ancestor f n m) (ancestors n f)) × (0 < hits (common_ancestor f n m) (ancestors m f))
-common-above f n m h e = go (head_of (filter (λ a. among a (ancestors m f)) (ancestors n f))) refl
+common-above f n m h e =
+    let i = ancestors-there n f h in
+    elim (seen (last_of (ancestors n f))) [
+      | nothing d ↦ absurd (some n i.0 (ap last_of (sym i.1) ∙ d))
+      | just r d ↦
+          let on_other = hits-among r (ancestors m f) (hits-last_of (ancestors m f) r (sym e ∙ d)) in
+          let c = first-passes (λ a. among a (ancestors m f)) (ancestors n f) r (hits-last_of (ancestors n f) r d) on_other in
+          let k = filter-passes (λ a. among a (ancestors m f)) (ancestors n f) c.0 c.1 in
+          subst (λ x. (0 < hits x (ancestors n f)) × (0 < hits x (ancestors m f))) (sym (ap (λ o. unwrap_or o n) c.1)) (k.0, among-hits c.0 (ancestors m f) k.1)
+    ]
   where
-    top : (r : Option ℕ) → last_of (ancestors n f) ≡ r → head_of (filter (λ a. among a (ancestors m f)) (ancestors n f)) ≡ None → ⊥
-    top None d k = let i = ancestors-there n f h in let l : last_of (n ∷ i.0) ≡ None = ap last_of (sym i.1) ∙ d in some n i.0 l
-      where
-        some : (x : ℕ) (xs : List ℕ) → last_of (x ∷ xs) ≡ None → ⊥
-        some x [] l = let u : Some x ≡ None = l in cc u
-        some x (y ∷ ys) l = some y ys l
-    top (Some r) d k =
-        let i = none-passing (λ a. among a (ancestors m f)) (ancestors n f) r k (hits-last_of (ancestors n f) r d) in
-        let j = hits-among r (ancestors m f) (hits-last_of (ancestors m f) r (sym e ∙ d)) in
-        false≢true (sym i ∙ j)
+    some : (x : ℕ) (xs : List ℕ) → last_of (x ∷ xs) ≡ None → ⊥
+    some x [] l = let u : Some x ≡ None = l in cc u
+    some x (y ∷ ys) l = some y ys l
 
-    go : (o : Option ℕ) → head_of (filter (λ a. among a (ancestors m f)) (ancestors n f)) ≡ o → (0 < hits (unwrap_or o n) (ancestors n f)) × (0 < hits (unwrap_or o n) (ancestors m f))
-    go None k = absurd (top (last_of (ancestors n f)) refl k)
-    go (Some a) k = let i = first-passing (λ a. among a (ancestors m f)) (ancestors n f) a k in (i.0, among-hits a (ancestors m f) i.1)
-
--- nodes that may be drawn, without data
-abbrev AreInner : ℕ → World → List ℕ → Type 0
-AreInner low v [] = Unit {0}
-AreInner low v (n ∷ ns) = IsDrawable low v n × (kind_passes is_character_data v.forest n ≡ false) × AreInner low v ns
-
-inner-append : (low : ℕ) (v : World) (ns : List ℕ) (n : ℕ) → AreInner low v ns → IsDrawable low v n → kind_passes is_character_data v.forest n ≡ false → AreInner low v (ns ++ n ∷ [])
-inner-append low v [] n h k d = (k, d, tt)
-inner-append low v (m ∷ ns) n h k d = (h.0, h.1, inner-append low v ns n h.2 k d)
-
-reverse-first : (n : ℕ) (ns : List ℕ) → reverse (n ∷ ns) ≡ reverse ns ++ n ∷ []
-reverse-first n ns = reverse-append (n ∷ []) ns
-
-inner-reverse : (low : ℕ) (v : World) (ns : List ℕ) → AreInner low v ns → AreInner low v (reverse ns)
-inner-reverse low v [] h = tt
-inner-reverse low v (n ∷ ns) h = subst (λ xs. AreInner low v xs) (sym (reverse-first n ns)) (inner-append low v (reverse ns) n (inner-reverse low v ns h.2) h.0 h.1)
-
-path-end : (low : ℕ) (v : World) (ns : List ℕ) (n : ℕ) → AreInner low v ns → IsDrawable low v n → ArePath low v (ns ++ n ∷ [])
+path-end : (low : ℕ) (v : World) (ns : List ℕ) (n : ℕ) → ((x : ℕ) → 0 < hits x ns → IsDrawable low v x × (kind_passes is_character_data v.forest x ≡ false)) → IsDrawable low v n → ArePath low v (ns ++ n ∷ [])
 path-end low v [] n h k = k
-path-end low v (m ∷ []) n h k = (h.0, h.1, k)
-path-end low v (m ∷ l ∷ ns) n h k = (h.0, h.1, path-end low v (l ∷ ns) n h.2 k)
+path-end low v (m ∷ []) n h k = let i = h m (hits-first m []) in (i.0, i.1, k)
+path-end low v (m ∷ l ∷ ns) n h k = let i = h m (hits-first m (l ∷ ns)) in (i.0, i.1, path-end low v (l ∷ ns) n (λ x z. h x (omega arith)) k)
 
 within-end : (offset : ℕ) (v : World) (ns : List ℕ) (n : ℕ) → (kind_passes is_character_data v.forest n ≡ true → offset ≤ length (data_of v n)) → IsWithin offset v (ns ++ n ∷ [])
 within-end offset v [] n h = h
@@ -259,50 +193,13 @@ module _ (low : ℕ) (v : World) (s : IsSound v) (old : (c q : ℕ) → parent_o
   child-drawn : (c q : ℕ) → 0 < occurs c v.forest → parent_of v.forest c ≡ Some q → is_of_kind DocumentType v.forest c ≡ false → IsDrawable low v c
   child-drawn c q h e d = record { old = old c q e; kind = kind-drawn v.forest v.made s.forest c q e h d }
 
-  inner : (common : ℕ) (ns : List ℕ) (q : ℕ) → ns ≡ ancestors q v.forest → 0 < occurs q v.forest → kind_passes may_be_parent v.forest q ≡ true → 0 < hits common ns → AreInner low v (up_to common ns)
-  inner common [] q e h p k = tt
-  inner common (x ∷ rest) q e h p k =
-      elim (same_or x common) [
-        | same d t ↦ rw t tt
-        | apart ne t ↦
-            let k2 = rw t at k in
-            rw t (elim (seen (parent_of v.forest q)) [
-              | nothing r ↦ absurd (let u : x ∷ rest ≡ q ∷ [] = e ∙ root-path v.forest s.forest.once q h r in let z : rest ≡ [] = cc u in let j = rw z at k2 in omega arith)
-              | just l r ↦
-                  let i = parent-path v.forest s.forest.once q l h r in
-                  let u : x ∷ rest ≡ q ∷ ancestors l v.forest = e ∙ i.1 in
-                  let xq : x ≡ q = cc u in
-                  let tail : rest ≡ ancestors l v.forest = cc u in
-                  let this = child-drawn q l h r (passes_too may_be_parent (is_kind DocumentType) false parent_no_doctype v.forest q p) in
-                  let bare = passes_too may_be_parent is_character_data false parent_no_data v.forest q p in (
-                    subst (λ m. IsDrawable low v m) (sym xq) this,
-                    subst (λ m. kind_passes is_character_data v.forest m ≡ false) (sym xq) bare,
-                    inner common rest l tail i.0 (parent-passes s.forest q l r h) (omega arith),
-                  )
-            ])
-      ]
-
   pub path-down : (common n : ℕ) → 0 < occurs n v.forest → is_of_kind DocumentType v.forest n ≡ false → 0 < hits common (ancestors n v.forest) → ArePath low v (path_below v.forest common n)
-  path-down common n h d k =
-      elim (seen (parent_of v.forest n)) [
-        | nothing r ↦
-            let e = root-path v.forest s.forest.once n h r in
-            let k2 : 0 < hits common (n ∷ []) = subst (λ ns. 0 < hits common ns) e k in
-            elim (same_or n common) [
-              | same _ t ↦ (let u : path_below v.forest common n ≡ [] = ap (λ ns. reverse (up_to common ns)) e ∙ (rw t refl) in subst (λ ns. ArePath low v ns) (sym u) tt)
-              | apart ne t ↦ absurd (let j = rw t at k2 in omega arith)
-            ]
-        | just q r ↦
-            let i = parent-path v.forest s.forest.once n q h r in
-            let k2 : 0 < hits common (n ∷ ancestors q v.forest) = subst (λ ns. 0 < hits common ns) i.1 k in
-            elim (same_or n common) [
-              | same _ t ↦ (let u : path_below v.forest common n ≡ [] = ap (λ ns. reverse (up_to common ns)) i.1 ∙ (rw t refl) in subst (λ ns. ArePath low v ns) (sym u) tt)
-              | apart ne t ↦
-                  let k3 = rw t at k2 in
-                  let u : path_below v.forest common n ≡ reverse (up_to common (ancestors q v.forest)) ++ n ∷ [] =
-                  ap (λ ns. reverse (up_to common ns)) i.1 ∙ (rw t (reverse-first n (up_to common (ancestors q v.forest)))) in
-                  let above = inner common (ancestors q v.forest) q refl i.0 (parent-passes s.forest n q r h) (omega arith) in
-                  subst (λ ns. ArePath low v ns) (sym u)
-                  (path-end low v (reverse (up_to common (ancestors q v.forest))) n (inner-reverse low v (up_to common (ancestors q v.forest)) above) (child-drawn n q h r d))
-            ]
-      ]
+  path-down common n h d k = go (path_below v.forest common n) (shape_is v s common n h k)
+    where
+      go : (ns : List ℕ) → PathShape v n ns → ArePath low v ns
+      go [] top = tt
+      go ns (down xs above q e) =
+          path-end low v xs n (λ x z.
+          let i = above x z in
+          (child-drawn x i.0 (child_there v.forest x i.0 i.1) i.1 (no_doctype v.forest x i.2), passes-also may_be_parent is_character_data false parent_no_data v.forest x i.2))
+          (child-drawn n q h e d)

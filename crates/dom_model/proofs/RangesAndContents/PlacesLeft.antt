@@ -1,35 +1,13 @@
 -- The new place of a live range is a boundary point of each forest that keeps the children ahead of it.
 use Rattle.std.proofs.Common.{◌≡◌, ℕ, zero, suc, ◌+◌, ◌<◌, ◌≤◌, ◌==◌, Bool, true, false, ◌&&◌, if◌then◌else◌, List, [], ◌∷◌, filter, find, take, length, Option, Some, None, unwrap_or, option_and_then, option_map, refl, ap, sym, ◌∙◌, subst, arith}
-use Rattle.std.proofs.lemmas.Bool.{false≢true}
-use Rattle.std.proofs.lemmas.List.{length-take-le}
+use Rattle.std.proofs.lemmas.{Bool.false≢true, List.length-take-le, Bool.Decides.nat_tests, Bool.false_from_ne_true}
+use Rattle.dom_model.specs.Definitions.{hits, among, head_of, place_in, left_out, Entry, is_character_data, may_be_parent, Node, Forest, occurs, entry_in, parent_of, children_of, index_of, ancestors, Content, Point, Range, if_given, entry_has, kind_passes, is_of_kind, is_before, point_after, common_ancestor, new_place, IsBoundary, IsRange}
 use Rattle.dom_model.specs.declared.Kind.TheVariants.{DocumentType}
-use Rattle.dom_model.specs.PlainLists.Lists.{hits, among, head_of, last_of, place_in, left_out}
-use Rattle.dom_model.specs.Forests.Arena.{Entry}
-use Rattle.dom_model.specs.Forests.Kinds.{is_character_data, may_be_parent}
-use Rattle.dom_model.specs.Forests.Forest.{Node, Forest, occurs, entry_in, parent_of, children_of, index_of, ancestors}
-use Rattle.dom_model.specs.Worlds.World.{Content, Point, Range}
-use Rattle.dom_model.specs.MutationAlgorithms.Checks.{if_given}
-use Rattle.dom_model.specs.Forests.Nodes.{entry_has, kind_passes, is_of_kind}
-use Rattle.dom_model.specs.RangesAndContents.Ranges.{is_before, point_after, common_ancestor}
-use Rattle.dom_model.specs.RangesAndContents.Contents.{new_place}
-use Rattle.dom_model.specs.Soundness.Sound.{IsBoundary, IsRange}
-use Rattle.dom_model.proofs.PlainLists.Numbers.{same_or, same, apart}
-use Rattle.dom_model.proofs.Forests.Changes.{seen, nothing, just}
-use Rattle.dom_model.proofs.Forests.Climbing.{hits-append, hits-first, among-hits, ancestors-there}
-use Rattle.dom_model.proofs.Forests.Entries.{HasNode-occurs, occurs-HasNode}
-use Rattle.dom_model.proofs.Forests.Paths.{parent-path, root-path}
-use Rattle.dom_model.proofs.PlainLists.Places.{place-there}
-use Rattle.dom_model.proofs.Forests.Indices.{child-listed, child-once, child-parent, index-child}
-use Rattle.dom_model.proofs.Forests.Chains.{way}
-use Rattle.dom_model.proofs.Forests.Listed.{hits-other, hits-itself}
-use Rattle.dom_model.proofs.RangesAndContents.RangesCut.{no_doctype}
-use Rattle.dom_model.proofs.Soundness.SoundForests.{IsWood, entry_there, parent_no_data, parent-passes}
+use Rattle.dom_model.proofs.PlainLists.{Places.place-there, Members.hits-last_of}
+use Rattle.dom_model.proofs.Forests.{Changes.seen, Changes.nothing, Changes.just, Climbing.hits-first, Climbing.among-hits, Climbing.ancestors-there, Entries.HasNode-occurs, Entries.occurs-HasNode, Paths.parent-path, Paths.root-path, Indices.child-listed, Indices.child-once, Indices.child-parent, Indices.index-child, Chains.way, Climbing.hits-among}
+use Rattle.dom_model.proofs.RangesAndContents.{RangesCut.no_doctype, PathsToEnds.holders_above, NewPlaces.past_not_before, NewPlaces.inside_not_before, NewPlaces.IsMeeting, NewPlaces.meeting, DrawnPaths.hits-take, OldTrees.kept_out}
+use Rattle.dom_model.proofs.Soundness.{SoundForests.IsWood, SoundForests.entry_there, SoundForests.parent_no_data, SoundForests.parent-passes, SoundWorlds.child_there, SoundEditing.holder_there, SoundPaths.other_kinds}
 use Rattle.dom_model.proofs.Worlds.Measured.{length-parent, length-left_out}
-use Rattle.dom_model.proofs.Soundness.SoundWorlds.{child_there}
-use Rattle.dom_model.proofs.Soundness.SoundEditing.{holder_there}
-use Rattle.dom_model.proofs.Soundness.SoundPaths.{other_kinds}
-use Rattle.dom_model.proofs.RangesAndContents.PathsToEnds.{holders_above}
-use Rattle.dom_model.proofs.RangesAndContents.NewPlaces.{past_not_before, inside_not_before, IsMeeting, meeting}
 
 -- the new place, under the deepest common ancestor
 pub record IsNewPlace (f : Forest Content) (r : Range) (q : Point) : Type 0 where
@@ -37,11 +15,6 @@ pub record IsNewPlace (f : Forest Content) (r : Range) (q : Point) : Type 0 wher
   pub may_hold : kind_passes may_be_parent f q.node ≡ true
   pub within : q.offset ≤ length (children_of f q.node)
   pub ahead : (c : ℕ) → parent_of f c ≡ Some q.node → index_of f c < q.offset → is_before f r.start (record { node = c; offset = 0 }) ≡ false
-
-last_listed : (c : ℕ) (ns : List ℕ) → last_of ns ≡ Some c → among c ns ≡ true
-last_listed c [] e = absurd (cc e)
-last_listed c (x ∷ []) e = elim (same_or x c) [ same d t ↦ rw t refl | apart ne t ↦ absurd (ne (let u : Some x ≡ Some c = e in cc u)) ]
-last_listed c (x ∷ y ∷ ns) e = elim (same_or x c) [ same d t ↦ rw t refl | apart ne t ↦ rw t (last_listed c (y ∷ ns) e) ]
 
 may_hold_no_data : (f : Forest Content) (n : ℕ) → 0 < occurs n f → kind_passes is_character_data f n ≡ false → is_of_kind DocumentType f n ≡ false → kind_passes may_be_parent f n ≡ true
 may_hold_no_data f n h c d =
@@ -66,32 +39,17 @@ module _ {f : Forest Content} {made : ℕ} (s : IsWood f made) (r : Range) (h : 
 
   -- a start node above the end node has no data
   no_data : among r.start.node (ancestors r.end.node f) ≡ true → kind_passes is_character_data f r.start.node ≡ false
-  no_data a = go (kind_passes is_character_data f r.start.node) refl
+  no_data a = false_from_ne_true (kind_passes is_character_data f r.start.node) above
     where
       above : kind_passes is_character_data f r.start.node ≡ true → ⊥
       above k =
-          elim (same_or r.start.node r.end.node) [
-            | same d t ↦ (let j = rw (t, k) at apart_data in false≢true (sym j))
-            | apart ne t ↦
-                elim (seen (parent_of f r.end.node)) [
-                  | nothing e ↦
-                      let p = root-path f s.once r.end.node he e in
-                      let i = among-hits r.start.node (ancestors r.end.node f) a in
-                      let j = ap (hits r.start.node) p in
-                      let l = hits-other r.start.node r.end.node [] (λ d. ne (sym d)) in
-                      omega arith
-                  | just u e ↦
-                      let p = parent-path f s.once r.end.node u he e in
-                      let i = among-hits r.start.node (ancestors r.end.node f) a in
-                      let j = ap (hits r.start.node) p.1 in
-                      let l = hits-other r.start.node r.end.node (ancestors u f) (λ d. ne (sym d)) in
-                      data_holds_nothing f r.start.node k (holders_above f made s r.end.node u r.start.node e (omega arith))
-                ]
+          let i = among-hits r.start.node (ancestors r.end.node f) a in
+          elim (seen (parent_of f r.end.node)) [
+            | nothing e ↦ (let j = rw (root-path f s.once r.end.node he e) at i in grind (arith, nat_tests))
+            | just u e ↦
+                let j = rw (parent-path f s.once r.end.node u he e).1 at i in
+                data_holds_nothing f r.start.node k (holders_above f made s r.end.node u r.start.node e (grind (arith, nat_tests)))
           ]
-
-      go : (v : Bool) → kind_passes is_character_data f r.start.node ≡ v → kind_passes is_character_data f r.start.node ≡ false
-      go true k = absurd (above k)
-      go false k = k
 
   at_start : among r.start.node (ancestors r.end.node f) ≡ true → IsNewPlace f r r.start
   at_start a =
@@ -107,7 +65,7 @@ module _ {f : Forest Content} {made : ℕ} (s : IsWood f made) (r : Range) (h : 
   met : among r.start.node (ancestors r.end.node f) ≡ false → IsMeeting f s.once (ancestors r.end.node f) r.start.node
   met a =
       let v = way f s.once r.start.node hs in
-      meeting f s.once (ancestors r.end.node f) v.0 r.start.node hs v.1 (last_listed v.0 (ancestors r.end.node f) (sym h.one_root ∙ v.1)) a
+      meeting f s.once (ancestors r.end.node f) v.0 r.start.node hs v.1 (hits-among v.0 (ancestors r.end.node f) (hits-last_of (ancestors r.end.node f) v.0 (sym h.one_root ∙ v.1))) a
 
   behind_nearest : (m : IsMeeting f s.once (ancestors r.end.node f) r.start.node) → IsNewPlace f r (record { node = m.above; offset = index_of f m.nearest + 1 })
   behind_nearest m =
@@ -136,39 +94,13 @@ module _ {f : Forest Content} {made : ℕ} (s : IsWood f made) (r : Range) (h : 
 pub length_within : (xs ys : List ℕ) → ((m : ℕ) → hits m xs ≤ 1) → ((m : ℕ) → 0 < hits m xs → 0 < hits m ys) → length xs ≤ length ys
 length_within [] ys once each = omega arith
 length_within (x ∷ xs) ys once each =
-    let i = length_within xs (left_out x ys) (λ m. let j = once m in let k = hits-append m (x ∷ []) xs in omega arith) others in
-    let a = length-left_out x ys in
-    let b = each x (hits-first x xs) in
-    omega arith
-  where
-    kept : (m : ℕ) → (x ≡ m → ⊥) → (ns : List ℕ) → hits m (left_out x ns) ≡ hits m ns
-    kept m ne [] = refl
-    kept m ne (n ∷ ns) =
-        elim (same_or n x) [
-          | same d t ↦ rw t (kept m ne ns ∙ sym (hits-other m n ns (λ e. ne (sym d ∙ e))))
-          | apart nx t ↦ rw t (ap (λ k. (if n == m then 1 else 0) + k) (kept m ne ns))
-        ]
-
-    others : (m : ℕ) → 0 < hits m xs → 0 < hits m (left_out x ys)
-    others m k =
-        elim (same_or x m) [
-          | same d t ↦ absurd (let o = once m in let i : hits m (x ∷ xs) ≡ hits m (m ∷ xs) = ap (λ z. hits m (z ∷ xs)) d in let j = hits-itself m xs in omega arith)
-          | apart ne t ↦ (let i = kept m ne ys in let j = each m (let l = hits-append m (x ∷ []) xs in omega arith) in omega arith)
-        ]
+    let i = length_within xs (left_out x ys) (λ m. let j = once m in omega arith) (λ m k. let o = once m in grind (arith, nat_tests, each m, kept_out x m ys)) in
+    omega (arith, length-left_out x ys, each x (hits-first x xs))
 
 taken_early : (k m : ℕ) (ns : List ℕ) → 0 < hits m (take k ns) → (place_in m ns < k) × (0 < hits m ns)
 taken_early zero m ns h = absurd (omega arith)
 taken_early (suc k) m [] h = absurd (omega arith)
-taken_early (suc k) m (n ∷ ns) h =
-    elim (same_or n m) [
-      | same e t ↦ rw t (omega arith, omega arith)
-      | apart ne t ↦ (let j = rw t at h in let i = taken_early k m ns (omega arith) in rw t ((let a = i.0 in omega arith), (let b = i.1 in omega arith)))
-    ]
-
-taken_once : (k m : ℕ) (ns : List ℕ) → hits m (take k ns) ≤ hits m ns
-taken_once zero m ns = omega arith
-taken_once (suc k) m [] = omega arith
-taken_once (suc k) m (n ∷ ns) = let i = taken_once k m ns in omega arith
+taken_early (suc k) m (n ∷ ns) h = (grind (arith, nat_tests, taken_early k m ns), grind (arith, nat_tests, taken_early k m ns))
 
 -- where the children ahead of the place stay, it is a boundary point
 pub place_stays : (f g : Forest Content) (made more : ℕ) → IsWood f made → IsWood g more → (q : Point) → kind_passes may_be_parent g q.node ≡ true → q.offset ≤ length (children_of f q.node) → ((c : ℕ) → parent_of f c ≡ Some q.node → index_of f c < q.offset → parent_of g c ≡ Some q.node) → IsBoundary g q
@@ -176,7 +108,7 @@ place_stays f g made more s t q may h kept =
     record {
       there = HasNode-occurs g q.node (holder_there g q.node may);
       kind = no_doctype g q.node may;
-      within = (let a = length-parent g q.node may in let b = length_within early (children_of g q.node) (λ m. let i = taken_once q.offset m (children_of f q.node) in let j = child-once f s.once m q.node in omega arith) listed in let c = length-take-le q.offset (children_of f q.node) h in omega arith);
+      within = (let a = length-parent g q.node may in let b = length_within early (children_of g q.node) (λ m. let i = hits-take m q.offset (children_of f q.node) in let j = child-once f s.once m q.node in omega arith) listed in let c = length-take-le q.offset (children_of f q.node) h in omega arith);
     }
   where
     early : List ℕ

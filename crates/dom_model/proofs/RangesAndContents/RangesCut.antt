@@ -1,26 +1,11 @@
 -- A live range is one after a node is cut from its parent, once its ends have given way.
-use Rattle.std.proofs.Common.{◌≡◌, ℕ, ◌-◌, ◌<◌, ◌≤◌, ◌==◌, nat_lt, Bool, true, false, ◌&&◌, if◌then◌else◌, Option, Some, None, refl, sym, ◌∙◌, subst, arith, ⊎_elim}
-use Rattle.std.proofs.lemmas.Bool.{cases_lt, false≢true}
+use Rattle.std.proofs.Common.{◌≡◌, ℕ, ◌-◌, ◌<◌, ◌≤◌, ◌==◌, nat_lt, Bool, true, false, ◌&&◌, if◌then◌else◌, Option, Some, None, refl, sym, ◌∙◌, subst, arith}
 use Rattle.std.proofs.lemmas.Bool.Decides.{nat_tests}
+use Rattle.dom_model.specs.Definitions.{hits, among, Entry, is_kind, may_be_parent, Node, Forest, occurs, one_at, cut, entry_in, HasNode, parent_of, children_of, index_of, inclusive_descendants, Content, Point, Range, Iterator, after_removal, moved_range, pre_removed, entry_has, kind_passes, is_of_kind, unit_count, node_length, IsBoundary, IsRange, IsIterator}
 use Rattle.dom_model.specs.declared.Kind.TheVariants.{DocumentType}
-use Rattle.dom_model.specs.PlainLists.Lists.{hits, among}
-use Rattle.dom_model.specs.Forests.Arena.{Entry}
-use Rattle.dom_model.specs.Forests.Kinds.{is_kind, may_be_parent}
-use Rattle.dom_model.specs.Forests.Forest.{Node, Forest, occurs, one_at, cut, entry_in, HasNode, parent_of, children_of, index_of, inclusive_descendants}
-use Rattle.dom_model.specs.Worlds.World.{Content, Point, Range, Iterator}
-use Rattle.dom_model.specs.BoundaryPoints.Points.{after_removal, moved_range}
-use Rattle.dom_model.specs.MutationAlgorithms.PreRemoval.{pre_removed}
-use Rattle.dom_model.specs.Forests.Nodes.{entry_has, kind_passes, is_of_kind}
-use Rattle.dom_model.specs.Worlds.Lengths.{unit_count, node_length}
-use Rattle.dom_model.specs.Soundness.Sound.{IsBoundary, IsRange, IsIterator}
-use Rattle.dom_model.proofs.PlainLists.Numbers.{same_or, same, apart}
-use Rattle.dom_model.proofs.Forests.Totals.{total-cut}
-use Rattle.dom_model.proofs.Forests.Entries.{HasNode-occurs, occurs-HasNode}
-use Rattle.dom_model.proofs.Forests.Paths.{parent-path}
 use Rattle.dom_model.proofs.PlainLists.Places.{place-there}
-use Rattle.dom_model.proofs.Forests.Indices.{child-listed, child-once, child-parent, index-child}
-use Rattle.dom_model.proofs.BoundaryPoints.RemovalOrder.{removal-order_kept}
-use Rattle.dom_model.proofs.BoundaryPoints.RootsKept.{root-removed}
+use Rattle.dom_model.proofs.Forests.{Totals.total-cut, Entries.HasNode-occurs, Entries.occurs-HasNode, Paths.parent-path, Indices.child-listed, Indices.child-once, Indices.child-parent, Indices.index-child}
+use Rattle.dom_model.proofs.BoundaryPoints.{RemovalOrder.removal-order_kept, RootsKept.root-removed}
 use Rattle.dom_model.proofs.Traversal.IteratorsStay.{root-pre_removed, reference-stays}
 use Rattle.dom_model.proofs.Soundness.SoundForests.{IsWood, parent_no_doctype, parent-passes}
 use Rattle.dom_model.proofs.Worlds.Measured.{kind-cut, length-cut, length-cut_parent, length-parent}
@@ -57,32 +42,14 @@ module _ {f : Forest Content} {made : ℕ} (s : IsWood f made) (p c : ℕ) (hc :
 
   length_kept : (n : ℕ) → (n ≡ p → ⊥) → node_length unit_count (cut c f) n ≡ node_length unit_count f n
   length_kept n ne =
-      length-cut f s.once c n
-      (⊎_elim
-      (λ (lt : 0 < hits c (children_of f n)). absurd (ne (let u : Some n ≡ Some p = sym (child-parent f s.once c n lt) ∙ par in cc u)))
-      (λ (le : hits c (children_of f n) ≤ 0). omega arith)
-      (cases_lt 0 (hits c (children_of f n))))
+      let no : 0 < hits c (children_of f n) → ⊥ = λ lt. ne (let u : Some n ≡ Some p = sym (child-parent f s.once c n lt) ∙ par in cc u) in
+      length-cut f s.once c n (omega arith)
 
   moved_within : (n a : ℕ) → ((n == p) && nat_lt (index_of f c) a) ≡ true → a ≤ node_length unit_count f n → a - 1 ≤ node_length unit_count (cut c f) n
-  moved_within n a d h =
-      elim (same_or n p) [
-        | same e t ↦
-            let i = length-cut_parent f s.once c p passes in
-            let l = listed in
-            let k : a ≤ node_length unit_count f p = subst (λ m. a ≤ node_length unit_count f m) e h in
-            subst (λ m. a - 1 ≤ node_length unit_count (cut c f) m) (sym e) (omega arith)
-        | apart ne t ↦ absurd (let u = rw t at d in false≢true u)
-      ]
+  moved_within n a d h = grind (arith, nat_tests, length-cut_parent f s.once c p passes, listed)
 
   kept_within : (n a : ℕ) → ((n == p) && nat_lt (index_of f c) a) ≡ false → a ≤ node_length unit_count f n → a ≤ node_length unit_count (cut c f) n
-  kept_within n a d h =
-      elim (same_or n p) [
-        | same e t ↦
-            let i = index_within in
-            let u : nat_lt (index_of f c) a ≡ false = rw t at d in
-            subst (λ m. a ≤ node_length unit_count (cut c f) m) (sym e) (grind (arith, nat_tests))
-        | apart ne t ↦ (let i = length_kept n ne in omega arith)
-      ]
+  kept_within n a d h = grind (arith, nat_tests, index_within, length_kept n)
 
   boundary_at : (q : Point) → IsBoundary f q → (v w : Bool) → ((q.node == p) && nat_lt (index_of f c) q.offset) ≡ w → IsBoundary (cut c f) (if v then record { node = p; offset = index_of f c } else (if w then record q { offset = q.offset - 1 } else q))
   boundary_at q b true w d =

@@ -1,13 +1,9 @@
 -- A map that leaves the points of some nodes leaves the live ranges of which no end stands elsewhere: a gap and a removal where no end stands.
 -- DOM Standard, "Live ranges".
-use Rattle.std.proofs.Common.{◌≡◌, ℕ, ◌==◌, Bool, false, ◌||◌, List, [], ◌∷◌, flat_map, Option, Some, None, refl, ap, sym, ◌∙◌}
-use Rattle.std.proofs.lemmas.Bool.{or_parts}
+use Rattle.std.proofs.Common.{◌≡◌, ℕ, ◌==◌, Bool, false, ◌||◌, List, [], ◌∷◌, flat_map, Option, Some, None, refl, ap, sym, ◌∙◌, arith}
+use Rattle.std.proofs.lemmas.{Bool.or_parts, Bool.Decides.nat_tests}
 use Rattle.std.specs.List.{list_any}
-use Rattle.dom_model.specs.PlainLists.Lists.{among}
-use Rattle.dom_model.specs.Worlds.World.{Point, Range}
-use Rattle.dom_model.specs.BoundaryPoints.Points.{after_gap, after_removal, map_ranges}
-use Rattle.dom_model.specs.MutationAlgorithms.Discarding.{nodes_of_range, nodes_unless_released}
-use Rattle.dom_model.proofs.PlainLists.Numbers.{same_or, same, apart}
+use Rattle.dom_model.specs.Definitions.{among, Point, Range, after_gap, after_removal, map_ranges, nodes_of_range, nodes_unless_released}
 
 -- the nodes in which ends of live ranges stand
 abbrev pub ends_of : List (Option Range) → List ℕ
@@ -25,11 +21,7 @@ ranges-left test move still (Some r ∷ rs) h =
 -- membership as a question asked of the list
 pub among-any : (n : ℕ) (xs : List ℕ) → among n xs ≡ list_any (λ m. m == n) xs
 among-any n [] = refl
-among-any n (x ∷ xs) =
-    elim (same_or x n) [
-      | same e t ↦ rw t refl
-      | apart ne t ↦ rw t (among-any n xs)
-    ]
+among-any n (x ∷ xs) = grind (arith, nat_tests, among-any n xs)
 
 -- two questions at once
 pub any-either : (a b : ℕ → Bool) (xs : List ℕ) → list_any a xs ≡ false → list_any b xs ≡ false → list_any (λ m. a m || b m) xs ≡ false

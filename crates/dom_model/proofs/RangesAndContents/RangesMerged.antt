@@ -1,18 +1,10 @@
 -- A live range is one after the ends in a Text, and those ahead of it, move into the Text before it.
 use Rattle.std.proofs.Common.{◌≡◌, ℕ, ◌+◌, ◌<◌, ◌≤◌, ◌==◌, Bool, true, false, ◌&&◌, if◌then◌else◌, [], Some, refl, ap, sym, ◌∙◌, subst, arith}
-use Rattle.std.proofs.lemmas.Bool.{false≢true}
+use Rattle.std.proofs.lemmas.{Bool.Decides.nat_tests, Bool.eqb-true, Bool.and_parts}
+use Rattle.dom_model.specs.Definitions.{Forest, occurs, parent_of, children_of, index_of, root_of, Content, Point, Range, after_merge, moved_range, is_of_kind, unit_count, node_length, IsBoundary, IsRange, IsUpTo}
 use Rattle.dom_model.specs.declared.Kind.TheVariants.{DocumentType}
-use Rattle.dom_model.specs.Forests.Forest.{Forest, occurs, parent_of, children_of, index_of, root_of}
-use Rattle.dom_model.specs.Worlds.World.{Content, Point, Range}
-use Rattle.dom_model.specs.BoundaryPoints.Points.{after_merge, moved_range}
-use Rattle.dom_model.specs.Forests.Nodes.{is_of_kind}
-use Rattle.dom_model.specs.Worlds.Lengths.{unit_count, node_length}
-use Rattle.dom_model.specs.Soundness.Sound.{IsBoundary, IsRange}
-use Rattle.dom_model.specs.DataAndCopies.Joinable.{IsUpTo}
 use Rattle.dom_model.proofs.PlainLists.Numbers.{same_or, same, apart}
-use Rattle.dom_model.proofs.Forests.Entries.{HasNode-occurs, occurs-HasNode}
-use Rattle.dom_model.proofs.Forests.Chains.{root-child}
-use Rattle.dom_model.proofs.Forests.Indices.{child-listed}
+use Rattle.dom_model.proofs.Forests.{Entries.HasNode-occurs, Entries.occurs-HasNode, Chains.root-child, Indices.child-listed}
 use Rattle.dom_model.proofs.BoundaryPoints.MergeOrder.{merge-in_place}
 use Rattle.dom_model.proofs.Soundness.SoundForests.{IsWood}
 use Rattle.dom_model.proofs.RangesAndContents.RangesSplit.{IsWithin}
@@ -41,11 +33,7 @@ module _ {g : Forest Content} {made : ℕ} (s : IsWood g made) (p into from base
       }
 
   of_parent : (n : ℕ) (w : Bool) → ((n == p) && w) ≡ true → n ≡ p
-  of_parent n w e =
-      elim (same_or n p) [
-        | same d t ↦ d
-        | apart ne t ↦ absurd (let k = rw t at e in false≢true k)
-      ]
+  of_parent n w e = eqb-true n p (and_parts (n == p) w e).0
 
   boundary-merged : (q : Point) → IsBoundary g q → IsWithin g q.node (joined q)
   boundary-merged q b =
@@ -71,9 +59,6 @@ module _ {g : Forest Content} {made : ℕ} (s : IsWood g made) (p into from base
         in_order = λ k. h.in_order (merge-in_place g s.once p into from base hinto hfrom pinto pfrom next bare bare_from r.start.node r.end.node r.start.offset r.end.offset (occurs-HasNode g r.start.node h.starts.there) (occurs-HasNode g r.end.node h.ends.there) us ue h.one_root k);
       }
 
-  parent-apart_from : p ≡ from → ⊥
-  parent-apart_from e = let h = rw (ap (children_of g) e ∙ bare_from) at (child-listed g s.once from p hfrom pfrom) in omega arith
-
   parent-apart_into : into ≡ p → ⊥
   parent-apart_into e = let h = rw (ap (children_of g) (sym e) ∙ bare) at (child-listed g s.once into p hinto pinto) in omega arith
 
@@ -89,11 +74,7 @@ module _ {g : Forest Content} {made : ℕ} (s : IsWood g made) (p into from base
       ]
     where
       at_place : (n a i : ℕ) → ((n == p) && (a == i)) ≡ false → n ≡ p → a ≡ i → ⊥
-      at_place n a i e d f =
-          elim (same_or n p) [
-            | same _ t ↦ elim (same_or a i) [ same _ u ↦ (let k = rw (t, u) at e in false≢true (sym k)) | apart ne u ↦ ne f ]
-            | apart ne t ↦ ne d
-          ]
+      at_place n a i e d f = grind (arith, nat_tests)
 
       go : (q.node ≡ from → ⊥) → (v : Bool) → ((q.node == p) && (q.offset == index_of g from)) ≡ v → IsPast from p (index_of g from) (if v then record { node = into; offset = base } else q)
       go ne true e = record { other_node = nodes-apart; other_place = λ d. absurd (parent-apart_into d) }
@@ -101,14 +82,4 @@ module _ {g : Forest Content} {made : ℕ} (s : IsWood g made) (p into from base
 
   -- the points of the first Text are within the data of both
   pub up_to-merged : (q : Point) → q.offset ≤ node_length unit_count g q.node → IsUpTo into base q → IsUpTo into (base + node_length unit_count g from) (joined q)
-  up_to-merged q h u =
-      elim (same_or q.node from) [
-        | same e t ↦
-            let k : q.offset ≤ node_length unit_count g from = subst (λ m. q.offset ≤ node_length unit_count g m) e h in
-            rw t (λ d. omega arith)
-        | apart ne t ↦ rw t (go ((q.node == p) && (q.offset == index_of g from)))
-      ]
-    where
-      go : (v : Bool) → IsUpTo into (base + node_length unit_count g from) (if v then record { node = into; offset = base } else q)
-      go true d = omega arith
-      go false d = (let k = u d in omega arith)
+  up_to-merged q h u d = grind (arith, nat_tests)

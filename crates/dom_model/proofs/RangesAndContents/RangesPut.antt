@@ -1,25 +1,11 @@
 -- A live range is one after a root is put under a node, once its ends have made room.
-use Rattle.std.proofs.Common.{◌≡◌, ℕ, ◌+◌, ◌<◌, ◌≤◌, ◌==◌, nat_lt, Bool, true, false, ◌&&◌, if◌then◌else◌, Option, None, refl, ap, sym, ◌∙◌, subst, arith, ⊎_elim}
-use Rattle.std.proofs.lemmas.Bool.{cases_lt, false≢true}
-use Rattle.std.specs.declared.cmp.Ordering.TheVariants.{Greater}
+use Rattle.std.proofs.Common.{◌≡◌, ℕ, ◌+◌, ◌<◌, ◌≤◌, ◌==◌, nat_lt, Bool, true, false, ◌&&◌, if◌then◌else◌, Option, None, refl, ap, sym, ◌∙◌, subst, arith, ⊎_elim, Greater}
+use Rattle.std.proofs.lemmas.{Bool.cases_lt, Bool.Decides.nat_tests, Bool.cases_Bool}
+use Rattle.dom_model.specs.Definitions.{is_kind, may_be_parent, Forest, occurs, one_at, tree_at, put, HasNode, parent_of, children_of, ancestors, root_of, Content, Point, Range, Iterator, after_gap, moved_range, order_of, kind_passes, is_of_kind, unit_count, node_length, IsBoundary, IsRange, IsIterator}
 use Rattle.dom_model.specs.declared.Kind.TheVariants.{DocumentType}
-use Rattle.dom_model.specs.Forests.Kinds.{is_kind, may_be_parent}
-use Rattle.dom_model.specs.Forests.Forest.{Forest, occurs, one_at, tree_at, put, HasNode, parent_of, children_of, ancestors, root_of}
-use Rattle.dom_model.specs.Worlds.World.{Content, Point, Range, Iterator}
-use Rattle.dom_model.specs.BoundaryPoints.Points.{after_gap, moved_range, order_of}
-use Rattle.dom_model.specs.Forests.Nodes.{kind_passes, is_of_kind}
-use Rattle.dom_model.specs.Worlds.Lengths.{unit_count, node_length}
-use Rattle.dom_model.specs.Soundness.Sound.{IsBoundary, IsRange, IsIterator}
-use Rattle.dom_model.proofs.PlainLists.Numbers.{same_or, same, apart}
-use Rattle.dom_model.proofs.Forests.Totals.{total-tree_at, total-put}
-use Rattle.dom_model.proofs.Forests.Climbing.{among-hits, hits-among, hits-ancestors}
-use Rattle.dom_model.proofs.Forests.Entries.{HasNode-occurs, occurs-HasNode}
-use Rattle.dom_model.proofs.PlainLists.Places.{place_before}
-use Rattle.dom_model.proofs.BoundaryPoints.PointOrder.{gap-node, gap-elsewhere}
-use Rattle.dom_model.proofs.Forests.TreeOrder.Flattened.{hits-numbers}
-use Rattle.dom_model.proofs.BoundaryPoints.GapOrder.{gap-order_kept}
-use Rattle.dom_model.proofs.BoundaryPoints.GapInside.{gap-order_inside}
-use Rattle.dom_model.proofs.BoundaryPoints.RootsKept.{one_root-put, reference-put, root-among, last-among}
+use Rattle.dom_model.proofs.PlainLists.{Numbers.same_or, Numbers.same, Numbers.apart, Places.place_before, Members.hits-last_of}
+use Rattle.dom_model.proofs.Forests.{Totals.total-tree_at, Totals.total-put, Climbing.hits-among, Climbing.hits-ancestors, Entries.HasNode-occurs, Entries.occurs-HasNode, TreeOrder.Flattened.hits-numbers}
+use Rattle.dom_model.proofs.BoundaryPoints.{PointOrder.gap-node, PointOrder.gap-elsewhere, GapOrder.gap-order_kept, GapInside.gap-order_inside, RootsKept.one_root-put, RootsKept.reference-put, RootsKept.root-among}
 use Rattle.dom_model.proofs.Soundness.SoundForests.{IsWood}
 use Rattle.dom_model.proofs.Worlds.Measured.{kind-put, length-put, length-put_parent}
 
@@ -31,21 +17,10 @@ module _ {f : Forest Content} {made : ℕ} (s : IsWood f made) (p c : ℕ) (b : 
   there-put n h = HasNode-occurs (put p c b f) n (subst (λ k. 0 < k) (sym (total-put (one_at n) p c b f (let o = s.once p in let t = total-tree_at (one_at p) c f in omega arith))) h)
 
   grown : (n a : ℕ) → (n == p) ≡ true → a ≤ node_length unit_count f n → a + 1 ≤ node_length unit_count (put p c b f) n
-  grown n a t h =
-      elim (same_or n p) [
-        | same e u ↦
-            let i = length-put_parent f s.once p c b hp hc root_is z passes in
-            let k : a ≤ node_length unit_count f p = subst (λ m. a ≤ node_length unit_count f m) e h in
-            subst (λ m. a + 1 ≤ node_length unit_count (put p c b f) m) (sym e) (omega arith)
-        | apart ne u ↦ absurd (false≢true (sym u ∙ t))
-      ]
+  grown n a t h = grind (arith, nat_tests, length-put_parent f s.once p c b hp hc root_is z passes)
 
   stays : (n a : ℕ) → a ≤ node_length unit_count f n → a ≤ node_length unit_count (put p c b f) n
-  stays n a h = go (n == p) refl
-    where
-      go : (v : Bool) → (n == p) ≡ v → a ≤ node_length unit_count (put p c b f) n
-      go true e = (let i = grown n a e h in omega arith)
-      go false e = (let i = length-put f s.once p c b hp hc root_is z n e in omega arith)
+  stays n a h = grind (arith, nat_tests, cases_Bool, grown n a, length-put f s.once p c b hp hc root_is z n)
 
   within : (q : Point) → q.offset ≤ node_length unit_count f q.node → (v w : Bool) → (q.node == p) ≡ v → (if v && w then record q { offset = q.offset + 1 } else q).offset ≤ node_length unit_count (put p c b f) q.node
   within q h true true e = grown q.node q.offset e h
@@ -71,7 +46,7 @@ module _ {f : Forest Content} {made : ℕ} (s : IsWood f made) (p c : ℕ) (b : 
       let i = hits-ancestors c n f s.once in
       let j = hits-ancestors c m f s.once in
       let a = root-among f s.once p c b hp hc root_is z n hn (hits-among c (ancestors n f) (omega arith)) in
-      let k = among-hits c (ancestors m f) (last-among f s.once p c b hp hc root_is z c (ancestors m f) (sym e ∙ a)) in
+      let k = hits-last_of (ancestors m f) c (sym e ∙ a) in
       omega arith
 
   order_put : (r : Range) → IsRange f r → order_of (put p c b f) (gap r.start) (gap r.end) ≡ Greater → ⊥
@@ -84,12 +59,8 @@ module _ {f : Forest Content} {made : ℕ} (s : IsWood f made) (p c : ℕ) (b : 
       let i : order_of (put p c b f) (gap r.start) (gap r.end) ≡ order_of (put p c b f) r.start r.end = ap (λ q. order_of (put p c b f) q (gap r.end)) a ∙ ap (order_of (put p c b f) r.start) d in
       h.in_order (sym (gap-order_inside f s.once p c b hp hc root_is z r.start.node r.end.node r.start.offset r.end.offset lt le) ∙ sym i ∙ g))
       (λ (out : occurs r.start.node (tree_at c f) ≤ 0).
-      let out_too : occurs r.end.node (tree_at c f) ≡ 0 =
-      ⊎_elim
-      (λ (lt : 0 < occurs r.end.node (tree_at c f)). absurd (let k = inside_too r.end.node r.start.node he (sym h.one_root) lt in omega arith))
-      (λ (le : occurs r.end.node (tree_at c f) ≤ 0). omega arith)
-      (cases_lt 0 (occurs r.end.node (tree_at c f))) in
-      h.in_order (sym (gap-order_kept f s.once p c b hp hc root_is z r.start.node r.end.node r.start.offset r.end.offset hs he (omega arith) out_too h.one_root) ∙ g))
+      let no : 0 < occurs r.end.node (tree_at c f) → ⊥ = λ lt. let k = inside_too r.end.node r.start.node he (sym h.one_root) lt in omega arith in
+      h.in_order (sym (gap-order_kept f s.once p c b hp hc root_is z r.start.node r.end.node r.start.offset r.end.offset hs he (omega arith) (omega arith) h.one_root) ∙ g))
       (cases_lt 0 (occurs r.start.node (tree_at c f)))
     where
       hs : 0 < occurs r.start.node f

@@ -1,17 +1,8 @@
 -- A live range is one after contents and node documents change, and after units take the place of others, once its ends have moved.
-use Rattle.std.proofs.Common.{◌≡◌, ℕ, ◌+◌, ◌-◌, ◌<◌, ◌≤◌, ◌==◌, nat_lt, nat_le, Bool, true, false, ◌&&◌, if◌then◌else◌, refl, ap, sym, ◌∙◌, subst, arith}
-use Rattle.std.proofs.lemmas.Bool.{false≢true}
-use Rattle.std.proofs.lemmas.Bool.Decides.{nat_tests}
+use Rattle.std.proofs.Common.{◌≡◌, ℕ, ◌+◌, ◌<◌, ◌≤◌, ◌==◌, true, false, ap, sym, ◌∙◌, subst, arith}
+use Rattle.std.proofs.lemmas.{Bool.Decides.nat_tests, Bool.cases_Bool}
+use Rattle.dom_model.specs.Definitions.{hits, is_kind, is_character_data, Forest, HasNode, root_of, Content, Point, Range, Iterator, after_splice, moved_range, kind_passes, is_of_kind, unit_count, node_length, IsBoundary, IsRange, IsIterator}
 use Rattle.dom_model.specs.declared.Kind.TheVariants.{DocumentType}
-use Rattle.dom_model.specs.PlainLists.Lists.{hits}
-use Rattle.dom_model.specs.Forests.Kinds.{is_kind, is_character_data}
-use Rattle.dom_model.specs.Forests.Forest.{Forest, HasNode, root_of}
-use Rattle.dom_model.specs.Worlds.World.{Content, Point, Range, Iterator}
-use Rattle.dom_model.specs.BoundaryPoints.Points.{after_splice, moved_range}
-use Rattle.dom_model.specs.Forests.Nodes.{kind_passes, is_of_kind}
-use Rattle.dom_model.specs.Worlds.Lengths.{unit_count, node_length}
-use Rattle.dom_model.specs.Soundness.Sound.{IsBoundary, IsRange, IsIterator}
-use Rattle.dom_model.proofs.PlainLists.Numbers.{same_or, same, apart}
 use Rattle.dom_model.proofs.Forests.Entries.{HasNode-occurs, occurs-HasNode}
 use Rattle.dom_model.proofs.BoundaryPoints.SpliceOrder.{splice-order_kept}
 use Rattle.dom_model.proofs.Soundness.SoundForests.{IsWood, data-childless}
@@ -52,31 +43,10 @@ module _ {f g : Forest Content} {made : ℕ} (s : IsWood f made) (a : IsAlike f 
   spliced_to q = after_splice n offset count added q
 
   splice-node : (q : Point) → (spliced_to q).node ≡ q.node
-  splice-node q = go ((q.node == n) && nat_lt offset q.offset) (nat_le q.offset (offset + count))
-    where
-      go : (v w : Bool) → (if v then (if w then record q { offset = offset } else record q { offset = q.offset - count + added }) else q).node ≡ q.node
-      go true true = refl
-      go true false = refl
-      go false w = refl
+  splice-node q = grind (arith, cases_Bool)
 
-  within_data : (x whole more : ℕ) → whole + count ≡ more + added → offset + count ≤ more → x ≤ more → (if nat_lt offset x then (if nat_le x (offset + count) then offset else x - count + added) else x) ≤ whole
-  within_data x whole more e h k = grind (arith, nat_tests)
-
-  offset_in : (q : Point) → q.offset ≤ node_length unit_count f q.node → (v w u : Bool) → (q.node == n) ≡ v → nat_lt offset q.offset ≡ w → nat_le q.offset (offset + count) ≡ u → (if v && w then (if u then record q { offset = offset } else record q { offset = q.offset - count + added }) else q).offset ≤ node_length unit_count g q.node
-  offset_in q h false w u e lt le = subst (λ k. q.offset ≤ k) (sym (others q.node e)) h
-  offset_in q h true w u e lt le =
-      elim (same_or q.node n) [
-        | same d t ↦
-            let h2 : q.offset ≤ node_length unit_count f n = subst (λ m. q.offset ≤ node_length unit_count f m) d h in
-            let k = rw (lt, le) at (within_data q.offset (node_length unit_count g n) (node_length unit_count f n) itself fits h2) in
-            subst (λ m. (if true && w then (if u then record q { offset = offset } else record q { offset = q.offset - count + added }) else q).offset ≤ node_length unit_count g m) (sym d) (chosen w u k)
-        | apart ne t ↦ absurd (false≢true (sym t ∙ e))
-      ]
-    where
-      chosen : (w u : Bool) → (if w then (if u then offset else q.offset - count + added) else q.offset) ≤ node_length unit_count g n → (if true && w then (if u then record q { offset = offset } else record q { offset = q.offset - count + added }) else q).offset ≤ node_length unit_count g n
-      chosen true true k = k
-      chosen true false k = k
-      chosen false u k = k
+  offset_in : (q : Point) → q.offset ≤ node_length unit_count f q.node → (spliced_to q).offset ≤ node_length unit_count g q.node
+  offset_in q h = grind (arith, nat_tests, others q.node)
 
   boundary-splice : (q : Point) → IsBoundary f q → IsBoundary g (spliced_to q)
   boundary-splice q b =
@@ -84,7 +54,7 @@ module _ {f g : Forest Content} {made : ℕ} (s : IsWood f made) (a : IsAlike f 
       record {
         there = subst (λ m. HasNode g m) (sym i) (there-alike a q.node b.there);
         kind = ap (λ m. is_of_kind DocumentType g m) i ∙ kind-alike a (is_kind DocumentType) q.node ∙ b.kind;
-        within = subst (λ m. (spliced_to q).offset ≤ node_length unit_count g m) (sym i) (offset_in q b.within (q.node == n) (nat_lt offset q.offset) (nat_le q.offset (offset + count)) refl refl refl);
+        within = subst (λ m. (spliced_to q).offset ≤ node_length unit_count g m) (sym i) (offset_in q b.within);
       }
 
   pub range-splice : (r : Range) → IsRange f r → IsRange g (moved_range spliced_to r)

@@ -1,20 +1,10 @@
 -- The boundary points of a Text that is split, once a new Text with what was beyond the offset stands after it, go to boundary points of the same tree.
 use Rattle.std.proofs.Common.{◌≡◌, ℕ, ◌+◌, ◌-◌, ◌<◌, ◌≤◌, ◌==◌, nat_lt, Bool, true, false, ◌&&◌, if◌then◌else◌, Some, refl, sym, ◌∙◌, subst, arith}
-use Rattle.std.proofs.lemmas.Bool.{false≢true}
+use Rattle.std.proofs.lemmas.Bool.{eqb-true, and_parts}
+use Rattle.dom_model.specs.Definitions.{may_be_parent, Forest, occurs, parent_of, children_of, index_of, root_of, Content, Point, after_split, kind_passes, is_of_kind, unit_count, node_length, IsBoundary}
 use Rattle.dom_model.specs.declared.Kind.TheVariants.{DocumentType}
-use Rattle.dom_model.specs.Forests.Kinds.{may_be_parent}
-use Rattle.dom_model.specs.Forests.Forest.{Forest, occurs, parent_of, children_of, index_of, root_of}
-use Rattle.dom_model.specs.Worlds.World.{Content, Point}
-use Rattle.dom_model.specs.BoundaryPoints.Points.{after_split}
-use Rattle.dom_model.specs.Forests.Nodes.{kind_passes, is_of_kind}
-use Rattle.dom_model.specs.Worlds.Lengths.{unit_count, node_length}
-use Rattle.dom_model.specs.Soundness.Sound.{IsBoundary}
-use Rattle.dom_model.proofs.PlainLists.Numbers.{same_or, same, apart}
-use Rattle.dom_model.proofs.Forests.Entries.{HasNode-occurs}
-use Rattle.dom_model.proofs.Forests.Paths.{parent-path}
 use Rattle.dom_model.proofs.PlainLists.Places.{place-there}
-use Rattle.dom_model.proofs.Forests.Indices.{child-listed, index-child}
-use Rattle.dom_model.proofs.Forests.Chains.{root-child}
+use Rattle.dom_model.proofs.Forests.{Entries.HasNode-occurs, Paths.parent-path, Indices.child-listed, Indices.index-child, Chains.root-child}
 use Rattle.dom_model.proofs.Soundness.SoundForests.{IsWood, parent-passes}
 use Rattle.dom_model.proofs.Worlds.Measured.{length-parent}
 use Rattle.dom_model.proofs.RangesAndContents.RangesCut.{no_doctype}
@@ -49,11 +39,7 @@ module _ {g : Forest Content} {made : ℕ} (s : IsWood g made) (p at c offset : 
   boundary-split q b = go ((q.node == at) && nat_lt offset q.offset) refl ((q.node == p) && (q.offset == index_of g at + 1)) refl
     where
       first : (n m : ℕ) (w : Bool) → ((n == m) && w) ≡ true → n ≡ m
-      first n m w e =
-          elim (same_or n m) [
-            | same d t ↦ d
-            | apart ne t ↦ absurd (let k = rw t at e in false≢true k)
-          ]
+      first n m w e = eqb-true n m (and_parts (n == m) w e).0
 
       go : (v : Bool) → ((q.node == at) && nat_lt offset q.offset) ≡ v → (w : Bool) → ((q.node == p) && (q.offset == index_of g at + 1)) ≡ w → IsWithin g q.node (if v then record { node = c; offset = q.offset - offset } else (if w then record { node = q.node; offset = index_of g at + 2 } else q))
       go true e w d =

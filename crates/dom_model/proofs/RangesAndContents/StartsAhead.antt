@@ -1,48 +1,18 @@
 -- Ranges that start ahead of a point; where a node comes in at a live range's start, the range starts at or ahead of that place once the
 -- node has left its parent. DOM Standard, "Interface Range": insert.
-use Rattle.std.proofs.Common.{◌≡◌, ℕ, zero, suc, ◌<◌, ◌≤◌, List, [], ◌∷◌, Some, slice_get, refl, ap, sym, ◌∙◌, subst, arith, ⊎_elim, ◌+◌, ◌-◌, ◌==◌, nat_lt, Bool, true, false, ◌&&◌, if◌then◌else◌, length, Option, None, option_map}
-use Rattle.std.proofs.lemmas.Bool.{cases_lt, lt-ltb, le-ltb}
-use Rattle.std.specs.Ordering.{nat_cmp}
-use Rattle.std.specs.declared.cmp.Ordering.TheVariants.{Greater}
-use Rattle.dom_model.specs.PlainLists.Lists.{hits, place_in, among, is_number, left_out}
-use Rattle.dom_model.specs.Forests.Forest.{Forest, occurs, cut, parent_of, ancestors, index_of, tree_at, children_of, next_of, inclusive_descendants}
-use Rattle.dom_model.specs.Worlds.World.{Content, Point, Range, World}
-use Rattle.dom_model.specs.BoundaryPoints.Points.{place_of, moved_range}
-use Rattle.dom_model.specs.Soundness.Sound.{IsBoundary, IsRange, IsSound}
-use Rattle.dom_model.specs.MutationAlgorithms.Editing.{remove, reference_child}
-use Rattle.dom_model.specs.RangesAndContents.Ranges.{range_at}
-use Rattle.dom_model.proofs.PlainLists.Numbers.{same_or, same, apart}
-use Rattle.dom_model.proofs.Forests.Paths.{up_with, ancestors-cut}
-use Rattle.dom_model.proofs.Forests.Indices.{path-child, child-once, child-parent, index-child}
-use Rattle.dom_model.proofs.BoundaryPoints.PointOrder.{nat_cmp-same, nat_cmp-less, order-one_node, order-above}
-use Rattle.dom_model.proofs.Forests.Chains.{root-child}
-use Rattle.dom_model.proofs.Soundness.SoundWorlds.{child_there}
-use Rattle.dom_model.proofs.RangesAndContents.RangesSet.{turned_round}
-use Rattle.dom_model.proofs.Forests.Climbing.{hits-ancestors, hits-not_among}
-use Rattle.dom_model.proofs.Forests.TreeOrder.Flattened.{hits-numbers}
-use Rattle.dom_model.proofs.Forests.Entries.{occurs-HasNode, children-cut}
-use Rattle.dom_model.proofs.PlainLists.Places.{place_before, place-absent, place-left_out}
+use Rattle.std.proofs.Common.{◌≡◌, ℕ, zero, suc, ◌<◌, ◌≤◌, List, [], ◌∷◌, Some, slice_get, refl, ap, sym, ◌∙◌, subst, arith, ◌+◌, ◌==◌, nat_lt, false, if◌then◌else◌, length, Option, None, option_map}
+use Rattle.std.proofs.lemmas.{Bool.lt-ltb, Bool.Decides.nat_tests, Bool.cases_Bool}
+use Rattle.dom_model.specs.Definitions.{hits, place_in, among, is_number, left_out, Forest, occurs, cut, parent_of, ancestors, index_of, tree_at, children_of, next_of, inclusive_descendants, Content, Point, Range, World, place_of, moved_range, IsBoundary, IsRange, IsSound, remove, reference_child, range_at}
+use Rattle.dom_model.proofs.PlainLists.{Numbers.same_or, Numbers.same, Numbers.apart, Places.place_before, Places.place-absent, Places.place-left_out}
+use Rattle.dom_model.proofs.Forests.{Paths.up_with, Paths.ancestors-cut, Indices.path-child, Indices.child-once, Indices.child-parent, Indices.index-child, Chains.root-child, Climbing.hits-ancestors, Climbing.hits-not_among, TreeOrder.Flattened.hits-numbers, Entries.occurs-HasNode, Entries.children-cut}
+use Rattle.dom_model.proofs.BoundaryPoints.{PointOrder.order-above, MovedPoints.range_at-moved, MovedPoints.leaves_by, MovedPoints.moves_remove, MovedPoints.leaves-remove, GapsKept.position, GapsKept.ahead, PointOrder.order-later}
+use Rattle.dom_model.proofs.Soundness.{SoundWorlds.child_there, SoundEditing.next_child, SoundPlacedNode.StartsAhead}
+use Rattle.dom_model.proofs.RangesAndContents.{RangesSet.turned_round, EndsGrown.boundary_ahead}
 use Rattle.dom_model.proofs.Worlds.Measured.{length-parent}
 use Rattle.dom_model.proofs.MutationAlgorithms.Loosened.{forest-remove}
-use Rattle.dom_model.proofs.Soundness.SoundEditing.{next_child}
-use Rattle.dom_model.proofs.BoundaryPoints.MovedPoints.{range_at-moved, leaves_by, moves_remove, leaves-remove}
-use Rattle.dom_model.proofs.BoundaryPoints.GapsKept.{position, ahead}
-use Rattle.dom_model.proofs.RangesAndContents.EndsGrown.{boundary_ahead}
-use Rattle.dom_model.proofs.Soundness.SoundPlacedNode.{StartsAhead}
 
 pub range_to : (f : Forest Content) (parent a b : ℕ) → IsBoundary f (record { node = parent; offset = a }) → IsBoundary f (record { node = parent; offset = b }) → a ≤ b → IsRange f (record { start = record { node = parent; offset = a }; end = record { node = parent; offset = b } })
-range_to f parent a b x y h =
-    record {
-      starts = x;
-      ends = y;
-      one_root = refl;
-      in_order = λ g.
-          let e = sym (order-one_node f parent a b) ∙ g in
-          ⊎_elim
-          (λ (lt : a < b). let d = sym (nat_cmp-less a b lt) ∙ e in cc d)
-          (λ (le : b ≤ a). let z : a ≡ b = omega arith in let d = sym (nat_cmp-same a) ∙ subst (λ k. nat_cmp a k ≡ Greater) (sym z) e in cc d)
-          (cases_lt a b);
-    }
+range_to f parent a b x y h = record { starts = x; ends = y; one_root = refl; in_order = λ g. order-later f parent a b h g }
 
 -- a point of a child comes before the point of the parent behind it
 pub from_child : (f : Forest Content) → ((m : ℕ) → occurs m f ≤ 1) → (t parent off b : ℕ) → parent_of f t ≡ Some parent → index_of f t < b → IsBoundary f (record { node = t; offset = off }) → IsBoundary f (record { node = parent; offset = b }) → IsRange f (record { start = record { node = t; offset = off }; end = record { node = parent; offset = b } })
@@ -61,29 +31,22 @@ from_child f o t parent off b e lt x y =
 
 up_with-there : (c : ℕ) (xs : List ℕ) → 0 < hits c xs → 0 < hits c (up_with c xs)
 up_with-there c [] h = omega arith
-up_with-there c (x ∷ xs) h =
-    elim (same_or x c) [
-      | same e t ↦ rw t (rw t (omega arith))
-      | apart ne t ↦ (let k = rw t at h in rw t (rw t (let i = up_with-there c xs (omega arith) in omega arith)))
-    ]
+up_with-there c (x ∷ xs) h = grind (arith, nat_tests, up_with-there c xs)
 
 -- what is outside a node that was cut was outside it before
 pub outside_before : (f : Forest Content) → ((m : ℕ) → occurs m f ≤ 1) → (n parent : ℕ) → 0 < occurs parent f → hits n (ancestors parent (cut n f)) ≡ 0 → hits n (ancestors parent f) ≡ 0
 outside_before f o n parent hp z =
-    ⊎_elim
-    (λ (lt : 0 < hits n (ancestors parent f)). absurd (let a = ap (hits n) (ancestors-cut f o n parent hp) in let b = up_with-there n (ancestors parent f) lt in omega arith))
-    (λ (le : hits n (ancestors parent f) ≤ 0). omega arith)
-    (cases_lt 0 (hits n (ancestors parent f)))
+    let a = ap (hits n) (ancestors-cut f o n parent hp) in
+    let no : 0 < hits n (ancestors parent f) → ⊥ = λ lt. let b = up_with-there n (ancestors parent f) lt in omega arith in
+    omega arith
 
 pub got_place : (ns : List ℕ) (k c : ℕ) → ((m : ℕ) → hits m ns ≤ 1) → slice_get ns k ≡ Some c → (place_in c ns ≡ k) × (0 < hits c ns)
 got_place [] k c o e = absurd (cc e)
-got_place (n ∷ ns) zero c o e = let d : n ≡ c = (let u : Some n ≡ Some c = e in cc u) in elim (same_or n c) [ same _ t ↦ rw t (refl, omega arith) | apart ne t ↦ absurd (ne d) ]
+got_place (n ∷ ns) zero c o e = let d : n ≡ c = (let u : Some n ≡ Some c = e in cc u) in (grind (arith, nat_tests), grind (arith, nat_tests))
 got_place (n ∷ ns) (suc k) c o e =
     let i = got_place ns k c (λ m. let j = o m in omega arith) e in
-    elim (same_or n c) [
-      | same d t ↦ absurd (let j = o c in let l = rw t at j in let x = i.1 in omega arith)
-      | apart ne t ↦ rw t ((let x = i.0 in omega arith), (let x = i.1 in omega arith))
-    ]
+    let j = o c in
+    (grind (arith, nat_tests), grind (arith, nat_tests))
 
 -- where the start is once a node has left
 pub start_left : (r n : ℕ) (w : World) (range range_out : Range) → range_at w r ≡ Some range → range_at (remove false n w) r ≡ Some range_out → range_out.start ≡ leaves_by (parent_of w.forest n) w n range.start
@@ -115,28 +78,21 @@ module _ (n : ℕ) (w : World) (s : IsSound w) (hn : 0 < occurs n w.forest) (p :
   -- a node that is no child stands nowhere among them
   no_child : (parent_of w.forest n ≡ Some p.node → ⊥) → place_in n ns ≡ length ns
   no_child ne =
-      place-absent n ns
-      (⊎_elim
-      (λ (lt : 0 < hits n ns). absurd (ne (child-parent w.forest s.forest.once n p.node lt)))
-      (λ (le : hits n ns ≤ 0). omega arith)
-      (cases_lt 0 (hits n ns)))
+      let no : 0 < hits n ns → ⊥ = λ lt. ne (child-parent w.forest s.forest.once n p.node lt) in
+      place-absent n ns (omega arith)
 
   node_left : left.node ≡ p.node
   node_left = go (parent_of w.forest n)
     where
       go : (o : Option ℕ) → (leaves_by o w n p).node ≡ p.node
       go None = refl
-      go (Some u) = rw not_inside (either ((p.node == u) && nat_lt (index_of w.forest n) p.offset))
-        where
-          either : (v : Bool) → (if v then record p { offset = p.offset - 1 } else p).node ≡ p.node
-          either true = refl
-          either false = refl
+      go (Some u) = rw not_inside (grind (arith, cases_Bool))
 
   offset_left : left.offset + (if nat_lt (place_in n ns) p.offset then 1 else 0) ≡ p.offset
   offset_left = go (parent_of w.forest n) refl
     where
       same_offset : place_in n ns ≡ length ns → p.offset + (if nat_lt (place_in n ns) p.offset then 1 else 0) ≡ p.offset
-      same_offset e = rw (le-ltb (place_in n ns) p.offset (omega arith)) (omega arith)
+      same_offset e = grind (arith, nat_tests)
 
       go : (o : Option ℕ) → parent_of w.forest n ≡ o → (leaves_by o w n p).offset + (if nat_lt (place_in n ns) p.offset then 1 else 0) ≡ p.offset
       go None e = same_offset (no_child (λ d. let x : None ≡ Some p.node = sym e ∙ d in cc x))
@@ -144,16 +100,9 @@ module _ (n : ℕ) (w : World) (s : IsSound w) (hn : 0 < occurs n w.forest) (p :
           elim (same_or p.node u) [
             | same d t ↦
                 let i : index_of w.forest n ≡ place_in n ns = index-child w.forest n p.node (e ∙ ap (λ x. Some x) (sym d)) in
-                rw (not_inside, t, i) (either (place_in n ns))
+                rw (not_inside, t, i) (grind (arith, nat_tests))
             | apart ne t ↦ rw (not_inside, t) (same_offset (no_child (λ d. let x : Some u ≡ Some p.node = sym e ∙ d in ne (sym (cc x)))))
           ]
-        where
-          either : (x : ℕ) → (if true && nat_lt x p.offset then record p { offset = p.offset - 1 } else p).offset + (if nat_lt x p.offset then 1 else 0) ≡ p.offset
-          either x =
-              ⊎_elim
-              (λ (lt : x < p.offset). rw (lt-ltb x p.offset lt) (omega arith))
-              (λ (le : p.offset ≤ x). rw (le-ltb x p.offset le) (omega arith))
-              (cases_lt x p.offset)
 
   abbrev reference : Option ℕ
   reference = reference_child w n (slice_get ns p.offset)

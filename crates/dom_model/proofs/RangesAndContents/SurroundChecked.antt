@@ -1,9 +1,7 @@
 -- Surround contents is all or nothing by its check: the check passes exactly where every step does. DOM Standard, "Interface Range".
-use Rattle.std.proofs.Common.{◌≡◌, ℕ, Some, None, refl, ap}
-use Rattle.std.specs.Prelude.{Ok, Err}
+use Rattle.std.proofs.Common.{◌≡◌, ℕ, Some, None, refl, ap, Ok, Err}
+use Rattle.dom_model.specs.Definitions.{World, Outcome, surround, refusal_in, check_whole_surround}
 use Rattle.dom_model.specs.declared.DomError.{DomError}
-use Rattle.dom_model.specs.Worlds.World.{World}
-use Rattle.dom_model.specs.RangesAndContents.Wrapping.{Outcome, surround, refusal_in, check_whole_surround}
 
 -- where the check passes, the steps do
 pub surround-allowed : (r n : ℕ) (w : World) → check_whole_surround r n w ≡ None → (v : World) × (surround r n w ≡ Ok v)

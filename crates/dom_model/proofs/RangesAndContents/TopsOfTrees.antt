@@ -1,32 +1,12 @@
 -- The contained nodes whose parent is not contained, in the tree of a node: by the trees of its children; and all or nothing of a tree in
 -- which neither end of the range stands. DOM Standard, "Interface Range".
-use Rattle.std.proofs.Common.{◌≡◌, ℕ, ◌<◌, Bool, true, false, not, ◌&&◌, if◌then◌else◌, List, [], ◌∷◌, ◌++◌, filter, flat_map, Option, Some, None, refl, ap, sym, ◌∙◌, subst, arith, append-nil}
+use Rattle.std.proofs.Common.{◌≡◌, ℕ, ◌<◌, Bool, true, false, not, ◌&&◌, if◌then◌else◌, List, [], ◌∷◌, ◌++◌, filter, flat_map, refl, ap, sym, ◌∙◌, subst, arith, append-nil, Less, Greater}
+use Rattle.std.proofs.Math.Bool.{and-false}
 use Rattle.std.proofs.lemmas.List.Elements.{filter-append}
-use Rattle.std.specs.declared.cmp.Ordering.TheVariants.{Less, Greater}
-use Rattle.dom_model.specs.PlainLists.Lists.{hits, is_same}
-use Rattle.dom_model.specs.Forests.Forest.{Forest, empty, node, occurs, numbers, tops, tree_at, parent_of, children_of, ancestors, root_of, inclusive_descendants}
-use Rattle.dom_model.specs.Forests.Arena.{children_in}
-use Rattle.dom_model.specs.Worlds.World.{Content, Range, World}
-use Rattle.dom_model.specs.Soundness.Sound.{IsRange, IsSound}
-use Rattle.dom_model.specs.BoundaryPoints.Points.{order_of}
-use Rattle.dom_model.specs.MutationAlgorithms.Checks.{if_given}
-use Rattle.dom_model.specs.Worlds.Lengths.{unit_count, node_length}
-use Rattle.dom_model.specs.RangesAndContents.Ranges.{is_less, is_before}
-use Rattle.dom_model.specs.RangesAndContents.Contents.{contained_in}
-use Rattle.dom_model.specs.TokenText.Tokens.{point}
+use Rattle.dom_model.specs.Definitions.{hits, is_same, Forest, empty, node, occurs, numbers, tops, tree_at, parent_of, children_of, ancestors, root_of, inclusive_descendants, children_in, Content, Range, World, IsRange, IsSound, order_of, if_given, unit_count, node_length, is_less, is_before, contained_in, point}
 use Rattle.dom_model.proofs.PlainLists.Numbers.{same_or, same, apart}
-use Rattle.dom_model.proofs.Forests.Changes.{seen, nothing, just}
-use Rattle.dom_model.proofs.Forests.Totals.{IsOnce}
-use Rattle.dom_model.proofs.Forests.Climbing.{hits-ancestors}
-use Rattle.dom_model.proofs.Forests.Entries.{occurs-HasNode}
-use Rattle.dom_model.proofs.Forests.Listed.{hits-other}
-use Rattle.dom_model.proofs.Forests.Paths.{parent-path, root-path}
-use Rattle.dom_model.proofs.Forests.Standing.{Tree, tree_of}
-use Rattle.dom_model.proofs.Forests.Below.{tree-top, tree-beyond, tree-kids, kids_once, no_top, occurs-tree}
-use Rattle.dom_model.proofs.Forests.TreeOrder.Flattened.{hits-numbers}
-use Rattle.dom_model.proofs.Forests.WaysMeeting.{above-root, above-itself}
-use Rattle.dom_model.proofs.RangesAndContents.TreesAside.{Aside, aside}
-use Rattle.dom_model.proofs.RangesAndContents.ListsByParts.{filter-nothing}
+use Rattle.dom_model.proofs.Forests.{Changes.seen, Changes.nothing, Changes.just, Totals.IsOnce, Climbing.hits-ancestors, Entries.occurs-HasNode, Listed.hits-other, Paths.parent-path, Paths.root-path, Standing.Tree, Standing.tree_of, Below.tree-top, Below.tree-beyond, Below.tree-kids, Below.kids_once, Below.no_top, Below.occurs-tree, TreeOrder.Flattened.hits-numbers, WaysMeeting.above-root, WaysMeeting.above-itself}
+use Rattle.dom_model.proofs.RangesAndContents.{TreesAside.Aside, TreesAside.aside, ListsByParts.filter-nothing, RangesSet.same-itself}
 
 module _ (f : Forest Content) (test : ℕ → Bool) where
   abbrev pub sifted : ℕ → List ℕ
@@ -74,14 +54,6 @@ module _ (w : World) (range : Range) where
 pub is_less-either : (v : Bool) → is_less (if v then Less else Greater) ≡ v
 is_less-either true = refl
 is_less-either false = refl
-
-same-itself : (o : Option ℕ) → is_same o o ≡ true
-same-itself None = refl
-same-itself (Some n) = elim (same_or n n) [ same e t ↦ t | apart ne t ↦ absurd (ne refl) ]
-
-and-false : (v : Bool) → (v && false) ≡ false
-and-false true = refl
-and-false false = refl
 
 module _ (w : World) (sound : IsSound w) (range : Range) (is : IsRange w.forest range) where
   hs : 0 < occurs range.start.node w.forest

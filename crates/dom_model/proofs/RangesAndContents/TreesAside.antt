@@ -1,21 +1,9 @@
 -- A point stands to all points of a tree alike where its own node is not in that tree: it is before them all, or after them all.
-use Rattle.std.proofs.Common.{◌≡◌, ℕ, ◌+◌, ◌*◌, ◌<◌, nat_lt, Bool, true, false, if◌then◌else◌, List, [], ◌∷◌, ◌++◌, refl, ap, sym, ◌∙◌, subst, arith}
+use Rattle.std.proofs.Common.{◌≡◌, ℕ, ◌+◌, ◌*◌, ◌<◌, nat_lt, Bool, true, false, if◌then◌else◌, List, [], ◌∷◌, ◌++◌, refl, ap, sym, ◌∙◌, subst, arith, Less, Greater}
 use Rattle.std.proofs.lemmas.Bool.{false≢true}
-use Rattle.std.specs.declared.cmp.Ordering.TheVariants.{Less, Greater}
-use Rattle.dom_model.specs.PlainLists.Lists.{hits, among}
-use Rattle.dom_model.specs.Forests.Forest.{Forest, occurs, index_of, ancestors, root_of}
-use Rattle.dom_model.specs.Worlds.World.{Content}
-use Rattle.dom_model.specs.BoundaryPoints.Points.{path_places, order_of}
-use Rattle.dom_model.specs.RangesAndContents.Ranges.{common_ancestor}
-use Rattle.dom_model.specs.RangesAndContents.Contents.{path_below}
-use Rattle.dom_model.specs.TokenText.Tokens.{point}
-use Rattle.dom_model.specs.Forests.Ways.{IsWay}
-use Rattle.dom_model.proofs.Forests.Totals.{IsOnce}
-use Rattle.dom_model.proofs.Forests.Chains.{index-apart}
-use Rattle.dom_model.proofs.Forests.Climbing.{hits-first, hits-among}
-use Rattle.dom_model.proofs.Forests.WaysMeeting.{above-twice}
-use Rattle.dom_model.proofs.BoundaryPoints.PointOrder.{order-above}
-use Rattle.dom_model.proofs.BoundaryPoints.OrderByWays.{path-through, order-below, order-beside}
+use Rattle.dom_model.specs.Definitions.{hits, among, Forest, occurs, index_of, ancestors, root_of, Content, path_places, order_of, common_ancestor, path_below, point, IsWay}
+use Rattle.dom_model.proofs.Forests.{Totals.IsOnce, Chains.index-apart, Climbing.hits-first, Climbing.hits-among, WaysMeeting.above-twice}
+use Rattle.dom_model.proofs.BoundaryPoints.{PointOrder.order-above, OrderByWays.path-through, OrderByWays.order-below, OrderByWays.order-beside}
 use Rattle.dom_model.proofs.RangesAndContents.WaysBelow.{fork, way-above}
 
 module _ (f : Forest Content) (o : IsOnce f) where

@@ -1,20 +1,8 @@
 -- What extracting leaves of the tree of a root: at each step of the paths the tree loses some children, or a node some units.
 use Rattle.std.proofs.Common.{◌≡◌, ℕ, ◌-◌, ◌<◌, ◌≤◌, Bool, true, false, if◌then◌else◌, List, [], ◌∷◌, take, drop, length, ap, sym, subst, arith}
-use Rattle.dom_model.specs.PlainLists.Lists.{hits, past, up_to}
-use Rattle.dom_model.specs.Forests.Arena.{children_in}
-use Rattle.dom_model.specs.Forests.Kinds.{is_character_data}
-use Rattle.dom_model.specs.Forests.Forest.{Forest, occurs, without, children_of, map_nodes}
-use Rattle.dom_model.specs.Forests.Texts.{substring}
-use Rattle.dom_model.specs.Worlds.World.{Content, World}
-use Rattle.dom_model.specs.Forests.Nodes.{entry_has, kind_passes}
-use Rattle.dom_model.specs.MutationAlgorithms.Editing.{node_document, append}
-use Rattle.dom_model.specs.DataAndCopies.Clones.{original, document_of_clone, clone_node}
-use Rattle.dom_model.specs.DataAndCopies.Data.{content_in, data_of, with_data}
-use Rattle.dom_model.specs.RangesAndContents.Contents.{new_fragment, clone_with, units_into, children_into, copy_into, tail_into, head_into}
+use Rattle.dom_model.specs.Definitions.{hits, past, up_to, children_in, is_character_data, Forest, occurs, without, children_of, map_nodes, substring, Content, World, entry_has, kind_passes, node_document, append, original, document_of_clone, clone_node, content_in, data_of, with_data, new_fragment, clone_with, units_into, children_into, copy_into, tail_into, head_into}
 use Rattle.dom_model.proofs.Forests.Climbing.{hits-first}
-use Rattle.dom_model.proofs.RangesAndContents.DrawnPaths.{hits-drop, hits-take, hits-past, hits-up_to}
-use Rattle.dom_model.proofs.RangesAndContents.TreesOfRoots.{taken}
-use Rattle.dom_model.proofs.RangesAndContents.OldTrees.{data_in, cut_data, HasTree, entry-tree, child-not_root, append-outside, IsOld, old-without, old-taken, old-cut, append-has, copies-has, fragment-has, replace-has}
+use Rattle.dom_model.proofs.RangesAndContents.{DrawnPaths.hits-drop, DrawnPaths.hits-take, DrawnPaths.hits-past, DrawnPaths.hits-up_to, TreesOfRoots.taken, OldTrees.data_in, OldTrees.cut_data, OldTrees.HasTree, OldTrees.entry-tree, OldTrees.child-not_root, OldTrees.append-outside, OldTrees.IsOld, OldTrees.old-without, OldTrees.old-taken, OldTrees.old-cut, OldTrees.append-has, OldTrees.copies-has, OldTrees.fragment-has, OldTrees.replace-has}
 
 abbrev pub has_data : Forest Content → ℕ → Bool
 has_data t n = kind_passes is_character_data t n
@@ -91,20 +79,22 @@ module _ (root low : ℕ) where
     some-has : (ns : List ℕ) → ((m : ℕ) → hits m ns ≤ hits m (children_of v.forest n)) → (into : ℕ) (u : Forest Content) (x : World) → low ≤ into → IsOld root low u → HasTree root low u x → HasTree root low (taken ns u) (children_into true into ns x)
     some-has ns le into u x l o g = children-has ns into u x (λ m i. child-not_root root low t v h n m (let j = le m in omega arith)) l o g
 
+  -- the last node of a path loses some units, or some children
+  last-has : (n into start count : ℕ) (ns : List ℕ) (t : Forest Content) (v : World) → 0 < occurs n t → low ≤ into → IsOld root low t → HasTree root low t v → ((m : ℕ) → hits m ns ≤ hits m (children_of v.forest n)) →
+      HasTree root low (if has_data t n then cut_data n start count t else taken ns t) (if kind_passes is_character_data v.forest n then units_into true into n start count v else copy_into into n (λ inner u. children_into true inner ns u) v)
+  last-has n into start count ns t v k l o h among =
+      subst (λ b. HasTree root low (if has_data t n then cut_data n start count t else taken ns t) (if b then units_into true into n start count v else copy_into into n (λ inner u. children_into true inner ns u) v)) (sym (same-kind n t v k h)) (go (has_data t n))
+    where
+      go : (b : Bool) → HasTree root low (if b then cut_data n start count t else taken ns t) (if b then units_into true into n start count v else copy_into into n (λ inner u. children_into true inner ns u) v)
+      go true = units-has n into start count t v k l o h
+      go false = copy-has into n t (taken ns t) v (λ inner u. children_into true inner ns u) l o (old-taken root low ns t o) h (λ inner x li hx. some-has n t v k h ns among inner t x li o hx)
+
   pub tail-has : (path : List ℕ) (into offset : ℕ) (t : Forest Content) (v : World) → low ≤ into → IsOld root low t → HasTree root low t v → AreIn path t → HasTree root low (tail_taken offset path t) (tail_into true into offset path v)
   tail-has [] into offset t v l o h i = h
   tail-has (n ∷ []) into offset t v l o h i =
-      subst (λ b. HasTree root low (tail_taken offset (n ∷ []) t) (if b then units_into true into n offset (length (data_of v n) - offset) v else copy_into into n (λ inner u. children_into true inner (drop offset (children_of v.forest n)) u) v)) (sym (same-kind n t v i.0 h))
-      (go (has_data t n))
-    where
-      go : (b : Bool) → HasTree root low (if b then cut_data n offset (length (data_in t n) - offset) t else taken (drop offset (children_of t n)) t) (if b then units_into true into n offset (length (data_of v n) - offset) v else copy_into into n (λ inner u. children_into true inner (drop offset (children_of v.forest n)) u) v)
-      go true =
-          subst (λ xs. HasTree root low (cut_data n offset (length xs - offset) t) (units_into true into n offset (length (data_of v n) - offset) v)) (same-data n t v i.0 h)
-          (units-has n into offset (length (data_of v n) - offset) t v i.0 l o h)
-      go false =
-          subst (λ ms. HasTree root low (taken (drop offset ms) t) (copy_into into n (λ inner u. children_into true inner (drop offset (children_of v.forest n)) u) v)) (same-children n t v i.0 h)
-          (copy-has into n t (taken (drop offset (children_of v.forest n)) t) v (λ inner u. children_into true inner (drop offset (children_of v.forest n)) u) l o (old-taken root low (drop offset (children_of v.forest n)) t o) h
-          (λ inner x li hx. some-has n t v i.0 h (drop offset (children_of v.forest n)) (λ m. hits-drop m offset (children_of v.forest n)) inner t x li o hx))
+      subst (λ xs. HasTree root low (if has_data t n then cut_data n offset (length xs - offset) t else taken (drop offset (children_of t n)) t) (tail_into true into offset (n ∷ []) v)) (same-data n t v i.0 h)
+      (subst (λ ms. HasTree root low (if has_data t n then cut_data n offset (length (data_of v n) - offset) t else taken (drop offset ms) t) (tail_into true into offset (n ∷ []) v)) (same-children n t v i.0 h)
+      (last-has n into offset (length (data_of v n) - offset) (drop offset (children_of v.forest n)) t v i.0 l o h (λ m. hits-drop m offset (children_of v.forest n))))
   tail-has (n ∷ m ∷ path) into offset t v l o h i =
       subst (λ ms. HasTree root low (taken (past m ms) (tail_taken offset (m ∷ path) t)) (tail_into true into offset (n ∷ m ∷ path) v)) (same-children n t v i.0 h)
       (copy-has into n t (taken (past m (children_of v.forest n)) (tail_taken offset (m ∷ path) t)) v (λ inner x. children_into true inner (past m (children_of v.forest n)) (tail_into true inner offset (m ∷ path) x)) l o
@@ -115,15 +105,8 @@ module _ (root low : ℕ) where
   pub head-has : (path : List ℕ) (into offset : ℕ) (t : Forest Content) (v : World) → low ≤ into → IsOld root low t → HasTree root low t v → StayIn path t → HasTree root low (head_taken offset path t) (head_into true into offset path v)
   head-has [] into offset t v l o h i = h
   head-has (n ∷ []) into offset t v l o h i =
-      subst (λ b. HasTree root low (head_taken offset (n ∷ []) t) (if b then units_into true into n 0 offset v else copy_into into n (λ inner u. children_into true inner (take offset (children_of v.forest n)) u) v)) (sym (same-kind n t v i h))
-      (go (has_data t n))
-    where
-      go : (b : Bool) → HasTree root low (if b then cut_data n 0 offset t else taken (take offset (children_of t n)) t) (if b then units_into true into n 0 offset v else copy_into into n (λ inner u. children_into true inner (take offset (children_of v.forest n)) u) v)
-      go true = units-has n into 0 offset t v i l o h
-      go false =
-          subst (λ ms. HasTree root low (taken (take offset ms) t) (copy_into into n (λ inner u. children_into true inner (take offset (children_of v.forest n)) u) v)) (same-children n t v i h)
-          (copy-has into n t (taken (take offset (children_of v.forest n)) t) v (λ inner u. children_into true inner (take offset (children_of v.forest n)) u) l o (old-taken root low (take offset (children_of v.forest n)) t o) h
-          (λ inner x li hx. some-has n t v i h (take offset (children_of v.forest n)) (λ m. hits-take m offset (children_of v.forest n)) inner t x li o hx))
+      subst (λ ms. HasTree root low (if has_data t n then cut_data n 0 offset t else taken (take offset ms) t) (head_into true into offset (n ∷ []) v)) (same-children n t v i h)
+      (last-has n into 0 offset (take offset (children_of v.forest n)) t v i l o h (λ m. hits-take m offset (children_of v.forest n)))
   head-has (n ∷ m ∷ path) into offset t v l o h i =
       subst (λ ms. HasTree root low (head_taken offset (m ∷ path) (taken (up_to m ms) t)) (head_into true into offset (n ∷ m ∷ path) v)) (same-children n t v i.0 h)
       (copy-has into n t (head_taken offset (m ∷ path) (taken (up_to m (children_of v.forest n)) t)) v (λ inner x. head_into true inner offset (m ∷ path) (children_into true inner (up_to m (children_of v.forest n)) x)) l o

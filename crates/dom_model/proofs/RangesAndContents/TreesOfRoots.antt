@@ -1,18 +1,9 @@
 -- The tree of a root as other trees are cut from it, go elsewhere and come: it loses the trees that are cut, and nothing else.
-use Rattle.std.proofs.Common.{◌≡◌, ℕ, ◌<◌, ◌≤◌, ◌==◌, nat_lt, true, false, if◌then◌else◌, List, [], ◌∷◌, ◌++◌, Option, Some, None, option_map, refl, ap, sym, ◌∙◌, arith, ⊎_elim}
-use Rattle.std.proofs.lemmas.Bool.{cases_lt}
-use Rattle.dom_model.specs.PlainLists.Lists.{hits, is_number, or_else, left_out}
-use Rattle.dom_model.specs.Forests.Arena.{Entry, children_in}
-use Rattle.dom_model.specs.Forests.Forest.{Node, Forest, empty, node, occurs, one_at, tops, beside, tree_at, without, placed_before, placed_under, placed_root, cut, put, in_document, adopted, map_nodes, entry_under, entry_in, parent_of, children_of}
-use Rattle.dom_model.specs.Worlds.World.{Content}
+use Rattle.std.proofs.Common.{◌≡◌, ℕ, ◌<◌, ◌≤◌, ◌==◌, nat_lt, true, false, if◌then◌else◌, List, [], ◌∷◌, ◌++◌, Option, Some, None, option_map, refl, ap, ◌∙◌, arith, inl, inr}
+use Rattle.std.proofs.lemmas.{Bool.cases_lt, Bool.Decides.nat_tests}
+use Rattle.dom_model.specs.Definitions.{hits, is_number, or_else, left_out, Entry, children_in, Node, Forest, empty, node, occurs, one_at, tops, beside, tree_at, without, placed_before, placed_under, placed_root, cut, put, in_document, adopted, map_nodes, entry_under, entry_in, parent_of, children_of, Content}
 use Rattle.dom_model.proofs.PlainLists.Numbers.{same_or, same, apart}
-use Rattle.dom_model.proofs.Forests.Totals.{IsOnce, total-beside, total-tree_at, tree_at-absent}
-use Rattle.dom_model.proofs.Forests.Tops.{tops-without, hits-tops}
-use Rattle.dom_model.proofs.Forests.Climbing.{hits-first}
-use Rattle.dom_model.proofs.Forests.Entries.{entry_under-absent}
-use Rattle.dom_model.proofs.Forests.Lying.{left_out-absent}
-use Rattle.dom_model.proofs.Forests.Undone.{tree_at-beside, without-beside, placed_under-absent}
-use Rattle.dom_model.proofs.Forests.Documents.{adopted-absent}
+use Rattle.dom_model.proofs.Forests.{Totals.IsOnce, Totals.total-beside, Totals.total-tree_at, Totals.tree_at-absent, Tops.tops-without, Tops.hits-tops, Climbing.hits-first, Entries.entry_under-absent, Lying.left_out-absent, Undone.tree_at-beside, Undone.without-beside, Undone.placed_under-absent, Documents.adopted-absent}
 use Rattle.dom_model.proofs.Worlds.SameShape.{occurs-alike, map-alike}
 
 -- the trees of the list go, one after another
@@ -31,27 +22,15 @@ module _ {X : Type 0} where
   pub tree-without : (r n : ℕ) (f : Forest X) → occurs r (tree_at n f) ≡ 0 → tree_at r (without n f) ≡ without n (tree_at r f)
   tree-without r n empty h = refl
   tree-without r n (node x kids rest) h =
-      elim (same_or x.number n) [
-        | same e t ↦
-            let k = rw t at h in
-            elim (same_or x.number r) [
-              | same d u ↦ absurd (let l = rw u at k in omega arith)
-              | apart ne u ↦ (let z : occurs r kids ≡ 0 = omega arith in rw (t, u, tree_at-absent r kids z) (tree-without r n rest (omega arith)))
-            ]
-        | apart nx t ↦
-            let k = rw t at h in
-            let b = total-beside (one_at r) (tree_at n kids) (tree_at n rest) in
-            let deeper = tree-without r n kids (omega arith) in
-            let later = tree-without r n rest (omega arith) in
-            elim (same_or x.number r) [
-              | same d u ↦ rw (t, u, t) (ap (λ (g : Forest X). node x (without n kids) g) later)
-              | apart ne u ↦
-                  rw (t, u)
-                  (ap (λ (g : Forest X). beside g (tree_at r (without n rest))) deeper
-                  ∙ ap (λ (g : Forest X). beside (without n (tree_at r kids)) g) later
-                  ∙ sym (without-beside n (tree_at r kids) (tree_at r rest)))
-            ]
-      ]
+      grind (
+        arith,
+        nat_tests,
+        total-beside (one_at r) (tree_at n kids) (tree_at n rest),
+        tree_at-absent r kids,
+        tree-without r n kids,
+        tree-without r n rest,
+        without-beside n (tree_at r kids) (tree_at r rest),
+      )
 
   tree-placed_root : (r n : ℕ) (t f : Forest X) → occurs r t ≡ 0 → tree_at r (placed_root n t f) ≡ tree_at r f
   tree-placed_root r n t empty z = tree_at-absent r t z
@@ -113,40 +92,17 @@ module _ {X : Type 0} where
   top-clear r n empty o h ne = refl
   top-clear r n (node x kids rest) o h ne =
       let oc = o r in
-      let a = total-tree_at (one_at r) n kids in
-      let b = total-tree_at (one_at r) n rest in
-      let s = total-beside (one_at r) (tree_at n kids) (tree_at n rest) in
-      elim (same_or x.number r) [
-        | same d u ↦
-            let k = rw u at oc in
-            elim (same_or x.number n) [
-              | same e t ↦ absurd (ne (sym e ∙ d))
-              | apart nx t ↦ rw t (omega arith)
-            ]
-        | apart nr u ↦
-            let k = rw u at oc in
-            let g = rw u at h in
-            let l = hits-tops r rest in
-            let later = top-clear r n rest (λ q. let y = o q in omega arith) (omega arith) ne in
-            elim (same_or x.number n) [
-              | same e t ↦ rw (t, u) (omega arith)
-              | apart nx t ↦ rw t (omega arith)
-            ]
-      ]
+      let l = hits-tops r rest in
+      let later = top-clear r n rest (λ q. let y = o q in omega arith) in
+      grind (arith, nat_tests, total-tree_at (one_at r) n kids, total-tree_at (one_at r) n rest, total-beside (one_at r) (tree_at n kids) (tree_at n rest))
 
   -- a root has no parent
   pub top-parent : (r : ℕ) (f : Forest X) → IsOnce f → 0 < hits r (tops f) → parent_of f r ≡ None
   top-parent r empty o h = absurd (omega arith)
   top-parent r (node x kids rest) o h =
       let oc = o r in
-      elim (same_or x.number r) [
-        | same d u ↦ rw u refl
-        | apart nr u ↦
-            let k = rw u at oc in
-            let g = rw u at h in
-            let l = hits-tops r rest in
-            rw (u, entry_under-absent (Some x.number) r kids (omega arith)) (top-parent r rest (λ q. let y = o q in omega arith) (omega arith))
-      ]
+      let l = hits-tops r rest in
+      grind (arith, nat_tests, entry_under-absent (Some x.number) r kids, top-parent r rest (λ q. let y = o q in omega arith))
 
   -- the entry of a node in the tree of a root is that in the whole
   pub entry-of_tree : (r n : ℕ) (f : Forest X) → IsOnce f → 0 < hits r (tops f) → 0 < occurs n (tree_at r f) → entry_in f n ≡ entry_in (tree_at r f) n
@@ -154,33 +110,17 @@ module _ {X : Type 0} where
   entry-of_tree r n (node x kids rest) o h i =
       let oc = o r in
       let on = o n in
-      elim (same_or x.number r) [
-        | same d u ↦
-            let k = rw u at oc in
-            let z : occurs r rest ≡ 0 = omega arith in
-            let j = rw (u, tree_at-absent r rest z) at i in
-            elim (same_or x.number n) [
-              | same e t ↦ rw (u, t) refl
-              | apart ne t ↦
-                  let l = rw t at j in
-                  let m = rw t at on in
-                  rw (u, tree_at-absent r rest z, t, entry_under-absent None n rest (omega arith)) refl
-            ]
-        | apart nr u ↦
-            let k = rw u at oc in
-            let g = rw u at h in
-            let top = hits-tops r rest in
-            let z : occurs r kids ≡ 0 = omega arith in
-            let j = rw (u, tree_at-absent r kids z) at i in
-            let t2 = total-tree_at (one_at n) r rest in
-            elim (same_or x.number n) [
-              | same e t ↦ absurd (let m = rw t at on in omega arith)
-              | apart ne t ↦
-                  let m = rw t at on in
-                  rw (u, tree_at-absent r kids z, t, entry_under-absent (Some x.number) n kids (omega arith))
-                  (entry-of_tree r n rest (λ q. let y = o q in omega arith) (omega arith) j)
-            ]
-      ]
+      let top = hits-tops r rest in
+      grind (
+        arith,
+        nat_tests,
+        tree_at-absent r kids,
+        tree_at-absent r rest,
+        entry_under-absent None n rest,
+        entry_under-absent (Some x.number) n kids,
+        total-tree_at (one_at n) r rest,
+        entry-of_tree r n rest (λ q. let y = o q in omega arith),
+      )
 
   -- what is left of an entry
   abbrev pub left_at : ℕ → Option (Entry (Node X)) → Option (Entry (Node X))
@@ -190,39 +130,35 @@ module _ {X : Type 0} where
   entry-without p c x empty o h = absurd (omega arith)
   entry-without p c x (node y kids rest) o h =
       let ox = o x in
-      let lk = occurs-left x c kids in
-      let lr = occurs-left x c rest in
-      elim (same_or y.number c) [
-        | same d u ↦
-            let k = rw u at h in
-            elim (same_or y.number x) [
-              | same e v ↦ absurd (let m = rw v at ox in omega arith)
-              | apart ne v ↦
-                  let m = rw v at ox in
-                  rw (u, v, entry_under-absent (Some y.number) x kids (omega arith)) (entry-without p c x rest (λ q. let z = o q in omega arith) k)
-            ]
-        | apart nc u ↦
-            let k = rw u at h in
-            elim (same_or y.number x) [
-              | same e v ↦ rw (u, v, tops-without c kids) refl
-              | apart ne v ↦
-                  let l = rw v at k in
-                  let m = rw v at ox in
-                  rw (u, v) (⊎_elim
-                  (λ (lt : 0 < occurs x (without c kids)).
-                  let a : occurs x rest ≡ 0 = omega arith in
-                  let b : occurs x (without c rest) ≡ 0 = omega arith in
-                  ap (λ q. or_else q (entry_under p x (without c rest))) (entry-without (Some y.number) c x kids (λ q. let z = o q in omega arith) lt)
-                  ∙ ap (or_else (left_at c (entry_under (Some y.number) x kids))) (entry_under-absent p x (without c rest) b ∙ sym (ap (left_at c) (entry_under-absent p x rest a)))
-                  ∙ both (entry_under (Some y.number) x kids) (entry_under p x rest))
-                  (λ (le : occurs x (without c kids) ≤ 0).
-                  let a : occurs x (without c kids) ≡ 0 = omega arith in
-                  let b : occurs x kids ≡ 0 = omega arith in
-                  ap (λ q. or_else q (entry_under p x (without c rest))) (entry_under-absent (Some y.number) x (without c kids) a ∙ sym (ap (left_at c) (entry_under-absent (Some y.number) x kids b)))
-                  ∙ ap (or_else (left_at c (entry_under (Some y.number) x kids))) (entry-without p c x rest (λ q. let z = o q in omega arith) (omega arith))
-                  ∙ both (entry_under (Some y.number) x kids) (entry_under p x rest))
-                  (cases_lt 0 (occurs x (without c kids))))
-            ]
+      let once_kids : IsOnce kids = λ q. let z = o q in omega arith in
+      let once_rest : IsOnce rest = λ q. let z = o q in omega arith in
+      elim (cases_lt 0 (occurs x (without c kids))) [
+        | inl lt ↦
+            let in_kids = entry-without (Some y.number) c x kids once_kids lt in
+            grind (
+              arith,
+              nat_tests,
+              occurs-left x c kids,
+              occurs-left x c rest,
+              tops-without c kids,
+              entry_under-absent p x (without c rest),
+              entry_under-absent p x rest,
+              entry_under-absent (Some y.number) x kids,
+              entry-without p c x rest once_rest,
+              both (entry_under (Some y.number) x kids) (entry_under p x rest),
+            )
+        | inr le ↦
+            grind (
+              arith,
+              nat_tests,
+              occurs-left x c kids,
+              occurs-left x c rest,
+              tops-without c kids,
+              entry_under-absent (Some y.number) x (without c kids),
+              entry_under-absent (Some y.number) x kids,
+              entry-without p c x rest once_rest,
+              both (entry_under (Some y.number) x kids) (entry_under p x rest),
+            )
       ]
     where
       both : (a b : Option (Entry (Node X))) → or_else (left_at c a) (left_at c b) ≡ left_at c (or_else a b)
@@ -233,21 +169,15 @@ module _ {X : Type 0} where
   pub tree-less : (x c d : ℕ) (t : Forest X) → occurs x (tree_at c (without d t)) ≤ occurs x (tree_at c t)
   tree-less x c d empty = omega arith
   tree-less x c d (node y kids rest) =
-      let a = tree-less x c d kids in
-      let b = tree-less x c d rest in
-      let l = occurs-left x d kids in
-      elim (same_or y.number d) [
-        | same e u ↦
-            elim (same_or y.number c) [
-              | same e2 v ↦ rw (u, v) (omega arith)
-              | apart ne v ↦ rw (u, v) (omega (arith, total-beside (one_at x) (tree_at c kids) (tree_at c rest)))
-            ]
-        | apart nd u ↦
-            elim (same_or y.number c) [
-              | same e2 v ↦ rw (u, v) (omega arith)
-              | apart ne v ↦ rw (u, v) (omega (arith, total-beside (one_at x) (tree_at c kids) (tree_at c rest), total-beside (one_at x) (tree_at c (without d kids)) (tree_at c (without d rest))))
-            ]
-      ]
+      grind (
+        arith,
+        nat_tests,
+        tree-less x c d kids,
+        tree-less x c d rest,
+        occurs-left x d kids,
+        total-beside (one_at x) (tree_at c kids) (tree_at c rest),
+        total-beside (one_at x) (tree_at c (without d kids)) (tree_at c (without d rest)),
+      )
 
   pub once-left : (c : ℕ) (t : Forest X) → IsOnce t → IsOnce (without c t)
   once-left c t o m = let a = o m in let b = occurs-left m c t in omega arith
@@ -285,35 +215,16 @@ module _ {X : Type 0} where
 pub tree-adopted : (r n d : ℕ) (f : Forest Content) → occurs n (tree_at r f) ≡ 0 → occurs r (tree_at n f) ≡ 0 → tree_at r (adopted n d f) ≡ tree_at r f
 tree-adopted r n d empty h k = refl
 tree-adopted r n d (node x kids rest) h k =
-    elim (same_or x.number n) [
-      | same e t ↦
-          let l = rw t at k in
-          elim (same_or x.number r) [
-            | same e2 u ↦ absurd (let m = rw u at l in omega arith)
-            | apart ne u ↦
-                let m = rw u at h in
-                let s = total-beside (one_at n) (tree_at r kids) (tree_at r rest) in
-                let v = rw u at l in
-                let z : occurs r kids ≡ 0 = omega arith in
-                let gone : occurs r (map_nodes (in_document d) (node x kids empty)) ≡ 0 = occurs-alike (map-alike (in_document d) (λ y. refl) (node x kids empty)) r ∙ (rw u (omega arith)) in
-                let beyond : tree_at r (node x kids rest) ≡ tree_at r rest = rw (u, tree_at-absent r kids z) refl in
-                rw t
-                (tree_at-beside r (map_nodes (in_document d) (node x kids empty)) (adopted n d rest)
-                ∙ ap (λ (g : Forest Content). beside g (tree_at r (adopted n d rest))) (tree_at-absent r (map_nodes (in_document d) (node x kids empty)) gone)
-                ∙ tree-adopted r n d rest (omega arith) (omega arith)
-                ∙ sym beyond)
-          ]
-      | apart nx t ↦
-          let l = rw t at k in
-          let s = total-beside (one_at r) (tree_at n kids) (tree_at n rest) in
-          elim (same_or x.number r) [
-            | same e2 u ↦
-                let m = rw u at h in
-                let i = rw t at m in
-                rw (t, u) (ap (λ (g : Forest Content). node x g (tree_at r (adopted n d rest))) (adopted-absent n d kids (omega arith)) ∙ ap (λ (g : Forest Content). node x kids g) (tree-adopted r n d rest (omega arith) (omega arith)))
-            | apart ne u ↦
-                let m = rw u at h in
-                let q = total-beside (one_at n) (tree_at r kids) (tree_at r rest) in
-                rw (t, u) (ap (λ (g : Forest Content). beside g (tree_at r (adopted n d rest))) (tree-adopted r n d kids (omega arith) (omega arith)) ∙ ap (λ (g : Forest Content). beside (tree_at r kids) g) (tree-adopted r n d rest (omega arith) (omega arith)))
-          ]
-    ]
+    let alike = occurs-alike (map-alike (in_document d) (λ y. refl) (node x kids empty)) r in
+    grind (
+      arith,
+      nat_tests,
+      total-beside (one_at r) (tree_at n kids) (tree_at n rest),
+      total-beside (one_at n) (tree_at r kids) (tree_at r rest),
+      tree_at-absent r kids,
+      tree_at-absent r (map_nodes (in_document d) (node x kids empty)),
+      tree_at-beside r (map_nodes (in_document d) (node x kids empty)) (adopted n d rest),
+      adopted-absent n d kids,
+      tree-adopted r n d kids,
+      tree-adopted r n d rest,
+    )

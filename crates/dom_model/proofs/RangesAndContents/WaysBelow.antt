@@ -1,63 +1,29 @@
 -- The deepest common ancestor of two nodes of one tree, and the ways from it down to them. DOM Standard, "Interface Range" (common ancestor container).
-use Rattle.std.proofs.Common.{◌≡◌, ℕ, zero, suc, ◌<◌, ◌≤◌, Bool, true, false, List, [], ◌∷◌, ◌++◌, reverse, length, Some, refl, ap, sym, ◌∙◌, subst, arith, ⊎_elim}
-use Rattle.std.specs.Prelude.{filter, cond, unwrap_or}
-use Rattle.std.proofs.lemmas.Bool.{cases_lt, false≢true}
-use Rattle.std.proofs.lemmas.List.{reverse-append}
-use Rattle.dom_model.specs.PlainLists.Lists.{hits, among, head_of, last_of, up_to}
-use Rattle.dom_model.specs.Forests.Forest.{Forest, occurs, tree_at, parent_of, ancestors, root_of}
-use Rattle.dom_model.specs.Worlds.World.{Content}
-use Rattle.dom_model.specs.RangesAndContents.Ranges.{common_ancestor}
-use Rattle.dom_model.specs.RangesAndContents.Contents.{path_below}
-use Rattle.dom_model.specs.Forests.Ways.{IsWay}
-use Rattle.dom_model.proofs.PlainLists.Numbers.{same_or, same, apart}
-use Rattle.dom_model.proofs.Forests.Changes.{seen, nothing, just}
-use Rattle.dom_model.proofs.Forests.Totals.{IsOnce, tree_at-absent}
-use Rattle.dom_model.proofs.Forests.Climbing.{hits-append, hits-reverse, hits-first, hits-among, among-hits, hits-ancestors, hits-self, ancestors-there}
-use Rattle.dom_model.proofs.Forests.Paths.{parent-path, root-path}
-use Rattle.dom_model.proofs.Forests.Chains.{way-last, way}
+use Rattle.std.proofs.Common.{◌≡◌, ℕ, zero, suc, ◌<◌, ◌≤◌, Bool, true, false, List, [], ◌∷◌, ◌++◌, reverse, length, Some, refl, ap, sym, ◌∙◌, subst, arith, inl, inr, filter, unwrap_or}
+use Rattle.std.proofs.lemmas.{Bool.cases_Bool, Bool.Decides.nat_tests, List.reverse-append}
+use Rattle.dom_model.specs.Definitions.{hits, among, head_of, last_of, up_to, Forest, occurs, parent_of, ancestors, root_of, Content, common_ancestor, path_below, IsWay}
+use Rattle.dom_model.proofs.PlainLists.{Numbers.same_or, Numbers.same, Numbers.apart, Members.hits-last_of}
+use Rattle.dom_model.proofs.Forests.{Changes.seen, Changes.nothing, Changes.just, Totals.IsOnce, Climbing.hits-append, Climbing.hits-reverse, Climbing.hits-first, Climbing.hits-among, Climbing.among-hits, Climbing.hits-self, Climbing.ancestors-there, Paths.parent-path, Paths.root-path, Chains.way-last, Chains.way}
 use Rattle.dom_model.proofs.BoundaryPoints.RemovalOrder.{ancestors-split}
 use Rattle.dom_model.proofs.Traversal.IteratorsStay.{filter-passes}
+use Rattle.dom_model.proofs.Worlds.Parts.{path-there}
 
 pub last-hits : (c : ℕ) (ns : List ℕ) → last_of ns ≡ Some c → 0 < hits c ns
-last-hits c [] e = absurd (cc e)
-last-hits c (x ∷ []) e = elim (same_or x c) [ same d t ↦ rw t (omega arith) | apart ne t ↦ absurd (ne (let u : Some x ≡ Some c = e in cc u)) ]
-last-hits c (x ∷ y ∷ ns) e = let i = last-hits c (y ∷ ns) e in omega arith
+last-hits c ns e = hits-last_of ns c e
 
 -- where one passes, there is a first that passes
-first-passes : (q : ℕ → Bool) (xs : List ℕ) (x : ℕ) → 0 < hits x xs → q x ≡ true → (c : ℕ) × (head_of (filter q xs) ≡ Some c)
+pub first-passes : (q : ℕ → Bool) (xs : List ℕ) (x : ℕ) → 0 < hits x xs → q x ≡ true → (c : ℕ) × (head_of (filter q xs) ≡ Some c)
 first-passes q [] x h e = absurd (omega arith)
-first-passes q (y ∷ xs) x h e = go (q y) refl (λ k. first-passes q xs x k e)
-  where
-    go : (v : Bool) → q y ≡ v → (0 < hits x xs → (c : ℕ) × (head_of (filter q xs) ≡ Some c)) → (c : ℕ) × (head_of (cond v (y ∷ filter q xs) (filter q xs)) ≡ Some c)
-    go true d later = (y, refl)
-    go false d later =
-        elim (same_or y x) [
-          | same s t ↦ absurd (false≢true (sym d ∙ ap q s ∙ e))
-          | apart ne t ↦ (let k = rw t at h in later (omega arith))
-        ]
+first-passes q (y ∷ xs) x h e =
+    elim (cases_Bool (q y)) [
+      | inl d ↦ (y, rw d refl)
+      | inr d ↦ (let c = first-passes q xs x (grind (arith, nat_tests)) e in (c.0, rw d c.1))
+    ]
 
 -- none before the first that passes does
 before-first : (q : ℕ → Bool) (xs : List ℕ) (c x : ℕ) → head_of (filter q xs) ≡ Some c → 0 < hits x (up_to c xs) → q x ≡ false
 before-first q [] c x e h = absurd (omega arith)
-before-first q (y ∷ xs) c x e h = go (λ k l. before-first q xs c x k l) (q y) refl e
-  where
-    go : (head_of (filter q xs) ≡ Some c → 0 < hits x (up_to c xs) → q x ≡ false) → (v : Bool) → q y ≡ v → head_of (cond v (y ∷ filter q xs) (filter q xs)) ≡ Some c → q x ≡ false
-    go later true d k =
-        let s : y ≡ c = cc k in
-        elim (same_or y c) [
-          | same s2 t ↦ absurd (let j = rw t at h in omega arith)
-          | apart ne t ↦ absurd (ne s)
-        ]
-    go later false d k =
-        elim (same_or y c) [
-          | same s2 t ↦ absurd (let j = rw t at h in omega arith)
-          | apart ne t ↦
-              let j = rw t at h in
-              elim (same_or y x) [
-                | same s t2 ↦ ap q (sym s) ∙ d
-                | apart ne2 t2 ↦ (let l = rw t2 at j in later k (omega arith))
-              ]
-        ]
+before-first q (y ∷ xs) c x e h = grind (arith, nat_tests, cases_Bool, before-first q xs c x)
 
 module _ (f : Forest Content) (o : IsOnce f) where
   -- the path below an inclusive ancestor is the way down from it
@@ -86,15 +52,7 @@ module _ (f : Forest Content) (o : IsOnce f) where
           ]
 
   ancestor-there : (a n : ℕ) → 0 < hits a (ancestors n f) → 0 < occurs a f
-  ancestor-there a n h =
-      ⊎_elim
-      (λ (lt : 0 < occurs a f). lt)
-      (λ (le : occurs a f ≤ 0).
-      let z : occurs a f ≡ 0 = omega arith in
-      let k = hits-ancestors a n f o in
-      let j : occurs n (tree_at a f) ≡ 0 = ap (λ (t : Forest Content). occurs n t) (tree_at-absent a f z) in
-      absurd (omega arith))
-      (cases_lt 0 (occurs a f))
+  ancestor-there a n h = path-there f o n a h
 
   -- what a way goes through is an inclusive ancestor of its end
   pub way-above : (u : ℕ) (ms : List ℕ) (n : ℕ) → 0 < occurs u f → 0 < occurs n f → IsWay f u ms n → 0 < hits u (ancestors n f)

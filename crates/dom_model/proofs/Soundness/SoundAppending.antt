@@ -1,31 +1,12 @@
 -- A node is put last under a root that may have children: a sound world is left. DOM Standard, "Mutation algorithms": append; "Interface Node": clone.
 use Rattle.std.proofs.Common.{◌≡◌, ℕ, ◌+◌, ◌<◌, ◌≤◌, ◌==◌, Bool, true, false, not, ◌&&◌, if◌then◌else◌, List, [], ◌∷◌, Option, Some, None, refl, ap, sym, ◌∙◌, subst, arith, ⊎_elim}
-use Rattle.std.proofs.lemmas.Bool.{cases_lt}
-use Rattle.dom_model.specs.declared.Kind.{Kind}
-use Rattle.dom_model.specs.declared.Kind.TheVariants.{Document, DocumentType, DocumentFragment}
-use Rattle.dom_model.specs.PlainLists.Lists.{hits, or_else}
-use Rattle.dom_model.specs.Forests.Arena.{Entry, parent_in}
-use Rattle.dom_model.specs.Forests.Kinds.{is_kind, may_be_parent}
-use Rattle.dom_model.specs.Forests.Forest.{Node, Forest, empty, node, occurs, tops, beside, tree_at, map_nodes, entry_under, entry_in, parent_of, children_of, ancestors, KindsFit}
-use Rattle.dom_model.specs.Worlds.World.{Content, World, no_content}
-use Rattle.dom_model.specs.Forests.Nodes.{entry_has, kind_passes, is_of_kind}
-use Rattle.dom_model.specs.Worlds.Making.{named}
-use Rattle.dom_model.specs.MutationAlgorithms.Editing.{node_document, nodes_of, append}
-use Rattle.dom_model.specs.DataAndCopies.Clones.{renumbered, alone_of, with_copies, document_of_clone, clone_node}
-use Rattle.dom_model.specs.DataAndCopies.Data.{with_data}
-use Rattle.dom_model.specs.RangesAndContents.Contents.{new_fragment, clone_with}
-use Rattle.dom_model.specs.Soundness.Sound.{IsSound}
-use Rattle.dom_model.specs.MutationAlgorithms.Insertable.{IsInsertable}
+use Rattle.std.proofs.lemmas.Bool.{cases_lt, eq-eqb}
+use Rattle.dom_model.specs.Definitions.{hits, or_else, Entry, parent_in, is_kind, may_be_parent, Node, Forest, empty, node, occurs, tops, beside, tree_at, map_nodes, entry_under, entry_in, parent_of, children_of, ancestors, KindsFit, Content, World, no_content, entry_has, kind_passes, is_of_kind, named, node_document, nodes_of, append, renumbered, alone_of, with_copies, document_of_clone, clone_node, with_data, new_fragment, clone_with, IsSound, IsInsertable}
+use Rattle.dom_model.specs.declared.{Kind.Kind, Kind.TheVariants.Document, Kind.TheVariants.DocumentType, Kind.TheVariants.DocumentFragment}
 use Rattle.dom_model.proofs.PlainLists.Numbers.{same_or, same, apart}
-use Rattle.dom_model.proofs.Forests.Totals.{tree_at-absent}
-use Rattle.dom_model.proofs.Forests.Climbing.{hits-first}
-use Rattle.dom_model.proofs.Forests.Entries.{entry_under-absent, occurs-HasNode}
-use Rattle.dom_model.proofs.Forests.Paths.{root-path}
-use Rattle.dom_model.proofs.Forests.Listed.{hits-other}
+use Rattle.dom_model.proofs.Forests.{Totals.tree_at-absent, Climbing.hits-first, Entries.entry_under-absent, Entries.occurs-HasNode, Paths.root-path, Listed.hits-other}
 use Rattle.dom_model.proofs.Worlds.Measured.{entry-joined}
-use Rattle.dom_model.proofs.Soundness.SoundMaking.{fits-original, sound-copies, sound-made_node}
-use Rattle.dom_model.proofs.Soundness.SoundTextContent.{entry-made, made-there}
-use Rattle.dom_model.proofs.Soundness.SoundInserting.{sound-insert}
+use Rattle.dom_model.proofs.Soundness.{SoundMaking.fits-original, SoundMaking.sound-copies, SoundMaking.sound-made_node, SoundTextContent.entry-made, SoundTextContent.made-there, SoundInserting.sound-insert}
 use Rattle.dom_model.proofs.MutationAlgorithms.Extending.{Extends, extends-beside, IsPut, put_by_insert, insert-made}
 
 -- a root that may have children
@@ -51,14 +32,18 @@ pub holder_stays : (w v : World) (moved : List ℕ) (into : ℕ) → Extends w.f
 holder_stays w v moved into a z h =
     record { there = a.there into h.there; root = a.parents into h.there z ∙ h.root; may_hold = a.kinds may_be_parent into h.there ∙ h.may_hold }
 
-pub plain_stays : (w v : World) (moved : List ℕ) (n : ℕ) → Extends w.forest v.forest moved → IsPlain w n → IsPlain v n
-plain_stays w v moved n a p =
+-- a node is plain whose kind is a plain node's
+pub plain_like : (w v : World) (n m : ℕ) → 0 < occurs m v.forest → ((test : Kind → Bool) → kind_passes test v.forest m ≡ kind_passes test w.forest n) → IsPlain w n → IsPlain v m
+plain_like w v n m there kinds p =
     record {
-      there = a.there n p.there;
-      no_document = a.kinds (is_kind Document) n p.there ∙ p.no_document;
-      no_doctype = a.kinds (is_kind DocumentType) n p.there ∙ p.no_doctype;
-      no_fragment = a.kinds (is_kind DocumentFragment) n p.there ∙ p.no_fragment;
+      there = there;
+      no_document = kinds (is_kind Document) ∙ p.no_document;
+      no_doctype = kinds (is_kind DocumentType) ∙ p.no_doctype;
+      no_fragment = kinds (is_kind DocumentFragment) ∙ p.no_fragment;
     }
+
+pub plain_stays : (w v : World) (moved : List ℕ) (n : ℕ) → Extends w.forest v.forest moved → IsPlain w n → IsPlain v n
+plain_stays w v moved n a p = plain_like w v n n (a.there n p.there) (λ test. a.kinds test n p.there) p
 
 -- Appending.
 
@@ -181,7 +166,7 @@ copy_top w s d n copied kids rest x e fits kind =
         entry-joined None w.made w.forest (renumbered d w.made copied)
         ∙ ap (λ o. or_else o (entry_in (renumbered d w.made copied) w.made)) (entry_under-absent None w.made w.forest absent)
         ∙ ap (λ c. entry_in (renumbered d w.made c) w.made) e
-        ∙ (elim (same_or w.made w.made) [ same _ t ↦ rw t refl | apart ne t ↦ absurd (ne refl) ])
+        ∙ (rw (eq-eqb w.made w.made refl) refl)
 
 kind_of_top : (w : World) (n : ℕ) (i : IsTop n None w.forest) (test : Kind → Bool) → kind_passes test w.forest n ≡ test i.top.label.kind
 kind_of_top w n i test = ap (entry_has test) i.found ∙ ap (λ (y : Node Content). test y.label.kind) i.value

@@ -1,48 +1,16 @@
 -- The contents of a live range, as a new fragment: extract and clone contents leave a sound world. DOM Standard, "Interface Range".
-use Rattle.std.proofs.Common.{◌≡◌, ℕ, ◌-◌, ◌<◌, Bool, true, false, ◌&&◌, ◌||◌, if◌then◌else◌, List, [], ◌∷◌, filter, Option, Some, None, unwrap_or, refl, ap, sym, ◌∙◌, subst, arith}
-use Rattle.std.proofs.lemmas.Bool.{false≢true}
-use Rattle.dom_model.specs.declared.Kind.TheVariants.{DocumentType, DocumentFragment}
-use Rattle.dom_model.specs.declared.DomError.{DomError}
-use Rattle.dom_model.specs.declared.DomError.TheVariants.{HierarchyRequestError}
-use Rattle.dom_model.specs.PlainLists.Lists.{hits, among, head_of, is_same}
-use Rattle.dom_model.specs.Forests.Kinds.{is_kind, is_character_data, may_be_parent}
-use Rattle.dom_model.specs.Forests.Forest.{Forest, empty, node, occurs, entry_in, parent_of, children_of, index_of, ancestors, root_of}
-use Rattle.dom_model.specs.Worlds.World.{Content, Point, Range, World, no_content}
-use Rattle.dom_model.specs.MutationAlgorithms.Checks.{has_kind}
-use Rattle.dom_model.specs.Forests.Nodes.{kind_passes, is_of_kind, same_root}
-use Rattle.dom_model.specs.Worlds.Lengths.{unit_count, node_length}
-use Rattle.dom_model.specs.Worlds.Making.{named}
-use Rattle.dom_model.specs.MutationAlgorithms.Editing.{node_document}
-use Rattle.dom_model.specs.RangesAndContents.Ranges.{is_less, is_before, is_collapsed, collapsed_at, range_at, with_range}
-use Rattle.dom_model.specs.RangesAndContents.Contents.{for_range, is_in_one_data, contained_in, new_place, new_fragment, units_into, common_of, contained_children, parts_into, contents_drawn, check_draw, check_extract, extracted, extract, clone_contents}
-use Rattle.dom_model.specs.Soundness.Sound.{IsRange, IsSound}
-use Rattle.dom_model.proofs.PlainLists.Numbers.{same_or, same, apart}
-use Rattle.dom_model.proofs.Forests.Entries.{occurs-HasNode}
-use Rattle.dom_model.proofs.Forests.Indices.{child-there}
-use Rattle.dom_model.proofs.Worlds.Measured.{entry-beside, parent-beside, children-beside}
-use Rattle.dom_model.proofs.Worlds.Parts.{path-there, ancestors-part, root-part, order-part, length-part, range-from_part}
-use Rattle.dom_model.proofs.Soundness.SoundWorlds.{IsLive, child_there}
-use Rattle.dom_model.proofs.Soundness.SoundEditing.{clear, holder_there}
-use Rattle.dom_model.proofs.Soundness.SoundNormalizing.{filter-passed}
-use Rattle.dom_model.proofs.Soundness.SoundAppending.{IsFragment, fragment_made}
-use Rattle.dom_model.proofs.Soundness.SoundCopies.{filled_units}
-use Rattle.dom_model.proofs.Soundness.SoundRangeSteps.{live_range, sound-with_range}
-use Rattle.dom_model.proofs.RangesAndContents.RangesSet.{range_at_point}
-use Rattle.dom_model.proofs.RangesAndContents.PlacesLeft.{IsNewPlace, place_is, place_stays}
-use Rattle.dom_model.proofs.Soundness.SoundDeleting.{not_contained, offset_of_start}
-use Rattle.dom_model.proofs.Soundness.SoundExtracting.{none_listed, common_above, sound-parts, parts_there, parts_kind, parts_parent}
+use Rattle.std.proofs.Common.{◌≡◌, ℕ, ◌-◌, ◌<◌, Bool, true, false, ◌||◌, if◌then◌else◌, List, [], ◌∷◌, filter, Option, Some, None, unwrap_or, refl, ap, sym, ◌∙◌, subst, arith}
+use Rattle.std.proofs.lemmas.{Bool.Decides.nat_tests, Bool.cases_Bool}
+use Rattle.dom_model.specs.Definitions.{hits, among, head_of, is_kind, is_character_data, may_be_parent, Forest, empty, node, occurs, entry_in, parent_of, children_of, index_of, ancestors, Content, Point, Range, World, no_content, has_kind, kind_passes, is_of_kind, unit_count, node_length, named, node_document, is_less, is_before, is_collapsed, collapsed_at, range_at, with_range, for_range, is_in_one_data, contained_in, new_place, new_fragment, units_into, common_of, contained_children, parts_into, contents_drawn, check_draw, check_extract, extracted, extract, clone_contents, IsRange, IsSound}
+use Rattle.dom_model.specs.declared.{Kind.TheVariants.DocumentType, Kind.TheVariants.DocumentFragment, DomError.DomError, DomError.TheVariants.HierarchyRequestError}
+use Rattle.dom_model.proofs.Forests.{Entries.occurs-HasNode, Indices.child-there}
+use Rattle.dom_model.proofs.Worlds.{Measured.entry-beside, Measured.parent-beside, Measured.children-beside, Parts.path-there, Parts.ancestors-part, Parts.root-part, Parts.order-part, Parts.length-part, Parts.range-from_part}
+use Rattle.dom_model.proofs.Soundness.{SoundWorlds.IsLive, SoundWorlds.child_there, SoundEditing.clear, SoundEditing.holder_there, SoundNormalizing.filter-passed, SoundAppending.IsFragment, SoundAppending.fragment_made, SoundCopies.filled_units, SoundRangeSteps.live_range, SoundRangeSteps.sound-with_range, SoundDeleting.not_contained, SoundDeleting.in_data, SoundDeleting.offset_of_start, SoundExtracting.none_listed, SoundExtracting.common_above, SoundExtracting.sound-parts, SoundExtracting.parts_there, SoundExtracting.parts_kind, SoundExtracting.parts_parent, SoundDrawing.IsFilled}
+use Rattle.dom_model.proofs.RangesAndContents.{RangesSet.range_at_point, PlacesLeft.IsNewPlace, PlacesLeft.place_is, PlacesLeft.place_stays}
 
 filter-kept : (p : ℕ → Bool) (ns : List ℕ) (m : ℕ) → 0 < hits m ns → p m ≡ true → 0 < hits m (filter p ns)
 filter-kept p [] m h e = absurd (omega arith)
-filter-kept p (n ∷ ns) m h e =
-    elim (same_or n m) [
-      | same d t ↦ rw (ap p d ∙ e) (rw t (omega arith))
-      | apart ne t ↦ (let k = rw t at h in let i = filter-kept p ns m (omega arith) e in either (p n) i)
-    ]
-  where
-    either : (v : Bool) → 0 < hits m (filter p ns) → 0 < hits m (if v then n ∷ filter p ns else filter p ns)
-    either true i = omega arith
-    either false i = i
+filter-kept p (n ∷ ns) m h e = grind (arith, nat_tests, filter-kept p ns m, cases_Bool (p n))
 
 module _ (moves : Bool) (r : Range) (w : World) (s : IsSound w) (h : IsRange w.forest r) (checked : check_draw w r ≡ None) where
   abbrev made : World
@@ -79,16 +47,13 @@ module _ (moves : Bool) (r : Range) (w : World) (s : IsSound w) (h : IsRange w.f
 
   same_contained : (m : ℕ) → 0 < occurs m w.forest → contained_in made r m ≡ contained_in w r m
   same_contained m k =
-      let a : same_root made.forest m r.start.node ≡ same_root w.forest m r.start.node =
-      ap (λ o. is_same o (root_of made.forest r.start.node)) (root-part w.forest made.forest s.forest.once fragment.drawn.sound.forest.once entries m k)
-      ∙ ap (is_same (root_of w.forest m)) (root-part w.forest made.forest s.forest.once fragment.drawn.sound.forest.once entries r.start.node hs) in
-      let b = same_before r.start (record { node = m; offset = 0 }) hs k in
-      let c : is_before made.forest (record { node = m; offset = node_length unit_count made.forest m }) r.end ≡ is_before w.forest (record { node = m; offset = node_length unit_count w.forest m }) r.end =
-      ap (λ l. is_before made.forest (record { node = m; offset = l }) r.end) (length-part w.forest made.forest s.forest.once fragment.drawn.sound.forest.once entries m k)
-      ∙ same_before (record { node = m; offset = node_length unit_count w.forest m }) r.end k he in
-      ap (λ x. x && (is_before made.forest r.start (record { node = m; offset = 0 }) && is_before made.forest (record { node = m; offset = node_length unit_count made.forest m }) r.end)) a
-      ∙ ap (λ x. same_root w.forest m r.start.node && (x && is_before made.forest (record { node = m; offset = node_length unit_count made.forest m }) r.end)) b
-      ∙ ap (λ x. same_root w.forest m r.start.node && (is_before w.forest r.start (record { node = m; offset = 0 }) && x)) c
+      cc (
+        root-part w.forest made.forest s.forest.once fragment.drawn.sound.forest.once entries m k,
+        root-part w.forest made.forest s.forest.once fragment.drawn.sound.forest.once entries r.start.node hs,
+        length-part w.forest made.forest s.forest.once fragment.drawn.sound.forest.once entries m k,
+        same_before r.start (record { node = m; offset = 0 }) hs k,
+        same_before (record { node = m; offset = node_length unit_count w.forest m }) r.end k he,
+      )
 
   -- no doctype is among the contained children
   doctypes : (m : ℕ) → 0 < hits m (contained_children made r) → is_of_kind DocumentType made.forest m ≡ false
@@ -102,25 +67,20 @@ module _ (moves : Bool) (r : Range) (w : World) (s : IsSound w) (h : IsRange w.f
 
   -- within one node with data
   one_data : is_in_one_data w r ≡ true → kind_passes is_character_data w.forest r.start.node ≡ true
-  one_data e = elim (same_or r.start.node r.end.node) [
-    | same d t ↦ (let j = rw t at e in j)
-    | apart ne t ↦ absurd (let j = rw t at e in false≢true j)
-  ]
+  one_data = in_data r w
 
-  sound-units : is_in_one_data w r ≡ true → IsSound (units_into moves w.made r.start.node r.start.offset (r.end.offset - r.start.offset) made)
-  sound-units e =
-      let k = one_data e in
-      let k2 : kind_passes is_character_data made.forest r.start.node ≡ true = fragment.drawn.extends.kinds is_character_data r.start.node hs ∙ k in
-      let f = filled_units moves w.made r.start.node r.start.offset (r.end.offset - r.start.offset) made fragment.drawn.sound fragment.holder (fragment.drawn.extends.there r.start.node hs) k2
-      (offset_of_start made r range_made k2) in
-      f.sound
+  units : is_in_one_data w r ≡ true → IsFilled made (units_into moves w.made r.start.node r.start.offset (r.end.offset - r.start.offset) made) []
+  units e =
+      let k : kind_passes is_character_data made.forest r.start.node ≡ true = fragment.drawn.extends.kinds is_character_data r.start.node hs ∙ one_data e in
+      filled_units moves w.made r.start.node r.start.offset (r.end.offset - r.start.offset) made fragment.drawn.sound fragment.holder (fragment.drawn.extends.there r.start.node hs) k
+      (offset_of_start made r range_made k)
 
   pub sound-drawn : IsSound (contents_drawn moves r w)
   sound-drawn = go (is_collapsed r) (is_in_one_data w r) refl
     where
       go : (c v : Bool) → is_in_one_data w r ≡ v → IsSound (if c then made else if v then units_into moves w.made r.start.node r.start.offset (r.end.offset - r.start.offset) made else parts_into moves w.made r made)
       go true v e = fragment.drawn.sound
-      go false true e = sound-units e
+      go false true e = (units e).sound
       go false false e = sound-parts moves w.made r made fragment.drawn.sound fragment.holder range_made doctypes
 
   -- the nodes that were there, and the fragment, are there
@@ -129,11 +89,7 @@ module _ (moves : Bool) (r : Range) (w : World) (s : IsSound w) (h : IsRange w.f
     where
       go : (c v : Bool) → is_in_one_data w r ≡ v → 0 < occurs m (if c then made else if v then units_into moves w.made r.start.node r.start.offset (r.end.offset - r.start.offset) made else parts_into moves w.made r made).forest
       go true v e = k
-      go false true e =
-          let d = one_data e in
-          let d2 : kind_passes is_character_data made.forest r.start.node ≡ true = fragment.drawn.extends.kinds is_character_data r.start.node hs ∙ d in
-          let f = filled_units moves w.made r.start.node r.start.offset (r.end.offset - r.start.offset) made fragment.drawn.sound fragment.holder (fragment.drawn.extends.there r.start.node hs) d2 (offset_of_start made r range_made d2) in
-          f.there m k
+      go false true e = (units e).there m k
       go false false e = parts_there moves w.made r made fragment.drawn.sound fragment.holder range_made doctypes m k
 
   pub there-drawn : (m : ℕ) → 0 < occurs m w.forest → 0 < occurs m (contents_drawn moves r w).forest

@@ -1,32 +1,11 @@
 -- Units and copies of nodes that go into a fragment leave a sound world. DOM Standard, "Interface Range": extract, clone the contents.
-use Rattle.std.proofs.Common.{◌≡◌, ℕ, ◌<◌, ◌≤◌, Bool, true, false, not, ◌&&◌, if◌then◌else◌, List, [], ◌∷◌, ◌++◌, length, Option, Some, None, refl, ap, sym, ◌∙◌, subst, arith, ⊎_elim}
-use Rattle.std.proofs.lemmas.Bool.{cases_lt, false≢true}
-use Rattle.dom_model.specs.declared.Kind.{Kind}
-use Rattle.dom_model.specs.declared.Kind.TheVariants.{Element, Text, ProcessingInstruction, Comment, Document, DocumentType, DocumentFragment}
-use Rattle.dom_model.specs.PlainLists.Lists.{hits}
-use Rattle.dom_model.specs.Forests.Arena.{Entry}
-use Rattle.dom_model.specs.Forests.Kinds.{is_kind, is_character_data, may_be_parent}
-use Rattle.dom_model.specs.Forests.Forest.{Node, occurs, entry_in, parent_of, children_of, ancestors}
-use Rattle.dom_model.specs.Forests.Texts.{substring, spliced}
-use Rattle.dom_model.specs.Worlds.World.{Content, World, no_content}
-use Rattle.dom_model.specs.Worlds.Making.{named}
-use Rattle.dom_model.specs.Forests.Nodes.{entry_has, kind_passes, is_of_kind}
-use Rattle.dom_model.specs.MutationAlgorithms.Editing.{node_document, nodes_of, append}
-use Rattle.dom_model.specs.DataAndCopies.Clones.{clone_node}
-use Rattle.dom_model.specs.DataAndCopies.Data.{data_of, with_data, cut_count, replace_data}
-use Rattle.dom_model.specs.RangesAndContents.Contents.{new_fragment, clone_with, cut_if, units_into}
-use Rattle.dom_model.specs.Soundness.Sound.{IsSound}
-use Rattle.dom_model.specs.MutationAlgorithms.Insertable.{IsInsertable}
-use Rattle.dom_model.proofs.Forests.Paths.{parent-path, root-path}
-use Rattle.dom_model.proofs.Forests.Indices.{child-parent}
-use Rattle.dom_model.proofs.Forests.Listed.{hits-other}
+use Rattle.std.proofs.Common.{◌≡◌, ℕ, ◌<◌, ◌≤◌, Bool, true, false, not, ◌&&◌, if◌then◌else◌, List, [], ◌∷◌, ◌++◌, length, Some, None, refl, ap, sym, ◌∙◌, subst, arith}
+use Rattle.dom_model.specs.Definitions.{hits, is_kind, is_character_data, may_be_parent, occurs, parent_of, children_of, ancestors, substring, spliced, World, no_content, named, entry_has, kind_passes, is_of_kind, node_document, nodes_of, append, clone_node, data_of, with_data, cut_count, replace_data, new_fragment, clone_with, cut_if, units_into, IsSound, IsInsertable}
+use Rattle.dom_model.specs.declared.{Kind.Kind, Kind.TheVariants.Text, Kind.TheVariants.Document, Kind.TheVariants.DocumentType, Kind.TheVariants.DocumentFragment}
+use Rattle.dom_model.proofs.Forests.{Paths.parent-path, Paths.root-path, Indices.child-parent, Listed.hits-other}
 use Rattle.dom_model.proofs.Worlds.SameShape.{IsAlike, with_node-alike, occurs-alike, parent-alike, kind-alike}
-use Rattle.dom_model.proofs.Soundness.SoundData.{sound-replace_data}
-use Rattle.dom_model.proofs.Soundness.SoundTextContent.{entry-made}
-use Rattle.dom_model.proofs.Soundness.SoundInserting.{sound-insert}
+use Rattle.dom_model.proofs.Soundness.{SoundData.sound-replace_data, SoundTextContent.entry-made, SoundInserting.sound-insert, SoundAppending.IsHolder, SoundAppending.IsPlain, SoundAppending.IsDrawn, SoundAppending.holder_stays, SoundAppending.IsAppended, SoundAppending.append-plain, SoundAppending.IsCopy, SoundAppending.clone_copy, SoundAppending.clone_with_copy, SoundAppending.IsFragment, SoundAppending.fragment_made, SoundDrawing.drawn-then, SoundDrawing.drawn-of, SoundDrawing.new_apart, SoundDrawing.new_not_hit, SoundDrawing.IsFilled, SoundDrawing.filled-then, SoundDrawing.filled_by_moves, SoundForests.passes-also, SoundAppending.plain_like}
 use Rattle.dom_model.proofs.MutationAlgorithms.Extending.{IsPut, put_by_insert, insert-made}
-use Rattle.dom_model.proofs.Soundness.SoundAppending.{IsHolder, IsPlain, IsDrawn, holder_stays, IsAppended, append-plain, IsCopy, clone_copy, clone_with_copy, IsFragment, fragment_made}
-use Rattle.dom_model.proofs.Soundness.SoundDrawing.{drawn-then, drawn-of, new_apart, new_not_hit, IsFilled, filled-then, filled_by_moves}
 
 -- A cut of data moves nothing.
 
@@ -43,23 +22,18 @@ filled-replace n offset count added w s k h =
     alike : IsAlike w.forest (replace_data n offset count added w).forest
     alike = with_node-alike (with_data (spliced offset (cut_count (length (data_of w n)) offset count) added (data_of w n))) (λ x. refl) n w.forest
 
-data_plain : (k : Kind) → is_character_data k ≡ true → (is_kind Document k ≡ false) × (is_kind DocumentType k ≡ false) × (is_kind DocumentFragment k ≡ false)
-data_plain Element h = absurd (false≢true h)
+pub data_plain : (k : Kind) → is_character_data k ≡ true → (is_kind Document k ≡ false) × (is_kind DocumentType k ≡ false) × (is_kind DocumentFragment k ≡ false)
 data_plain Text h = (refl, refl, refl)
-data_plain ProcessingInstruction h = (refl, refl, refl)
-data_plain Comment h = (refl, refl, refl)
-data_plain Document h = absurd (false≢true h)
-data_plain DocumentType h = absurd (false≢true h)
-data_plain DocumentFragment h = absurd (false≢true h)
+data_plain k h = (cc, cc, cc)
 
 pub plain_data : (w : World) (n : ℕ) → 0 < occurs n w.forest → kind_passes is_character_data w.forest n ≡ true → IsPlain w n
 plain_data w n h k =
-    let i = go (entry_in w.forest n) k in
-    record { there = h; no_document = i.0; no_doctype = i.1; no_fragment = i.2 }
-  where
-    go : (o : Option (Entry (Node Content))) → entry_has is_character_data o ≡ true → (entry_has (is_kind Document) o ≡ false) × (entry_has (is_kind DocumentType) o ≡ false) × (entry_has (is_kind DocumentFragment) o ≡ false)
-    go None k = absurd (false≢true k)
-    go (Some e) k = data_plain e.value.label.kind k
+    record {
+      there = h;
+      no_document = passes-also is_character_data (is_kind Document) false (λ j i. (data_plain j i).0) w.forest n k;
+      no_doctype = passes-also is_character_data (is_kind DocumentType) false (λ j i. (data_plain j i).1) w.forest n k;
+      no_fragment = passes-also is_character_data (is_kind DocumentFragment) false (λ j i. (data_plain j i).2) w.forest n k;
+    }
 
 -- Some units go into a fragment, by a copy of their node; where they are moved, they are cut.
 
@@ -79,7 +53,7 @@ filled_units moves into n offset count w s h hn k within = go moves
     p = plain_data w n hn k
 
     plain : IsPlain c w.made
-    plain = record { there = i.there; no_document = i.kinds (is_kind Document) ∙ p.no_document; no_doctype = i.kinds (is_kind DocumentType) ∙ p.no_doctype; no_fragment = i.kinds (is_kind DocumentFragment) ∙ p.no_fragment }
+    plain = plain_like w c n w.made i.there i.kinds p
 
     a : IsAppended c v w.made into
     a = append-plain c i.drawn.sound w.made into (holder_stays w c [] into i.drawn.extends refl h) plain (λ e. new_apart w s into w.made (omega arith) h.there (sym e))
@@ -123,7 +97,7 @@ module _ (into n : ℕ) (w : World) (s : IsSound w) (h : IsHolder w into) (p : I
   appended : IsAppended cloned held w.made into
   appended =
       append-plain cloned copy.drawn.sound w.made into (holder_stays w cloned [] into copy.drawn.extends refl h)
-      (record { there = copy.there; no_document = copy.kinds (is_kind Document) ∙ p.no_document; no_doctype = copy.kinds (is_kind DocumentType) ∙ p.no_doctype; no_fragment = copy.kinds (is_kind DocumentFragment) ∙ p.no_fragment })
+      (plain_like w cloned n w.made copy.there copy.kinds p)
       apart_into
 
   fragment : IsFragment held opened
@@ -224,9 +198,7 @@ module _ (into n : ℕ) (w : World) (s : IsSound w) (h : IsHolder w into) (p : I
 
         not_within : (m : ℕ) → 0 < occurs m w.forest → ((u : ℕ) → parent_of w.forest m ≡ Some u → hits u path ≡ 0) → hits m (children_of v.forest held.made) ≡ 0
         not_within m k far =
-            ⊎_elim
-            (λ (lt : 0 < hits m (children_of v.forest held.made)).
-            let e : parent_of w.forest m ≡ Some held.made = sym (kept m k far) ∙ child-parent v.forest f.sound.forest.once m held.made lt in
-            absurd (new_apart w s held.made held.made inner_new (parent-path w.forest s.forest.once m held.made k e).0 refl))
-            (λ (le : hits m (children_of v.forest held.made) ≤ 0). omega arith)
-            (cases_lt 0 (hits m (children_of v.forest held.made)))
+            let old : 0 < hits m (children_of v.forest held.made) → ⊥ = λ lt.
+            let e = sym (kept m k far) ∙ child-parent v.forest f.sound.forest.once m held.made lt in
+            new_apart w s held.made held.made inner_new (parent-path w.forest s.forest.once m held.made k e).0 refl in
+            omega arith

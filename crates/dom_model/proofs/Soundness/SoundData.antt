@@ -1,26 +1,12 @@
 -- Changes of data and of attributes leave a sound world. DOM Standard, "Interface CharacterData" (replace data), "Interface Element".
-use Rattle.std.proofs.Common.{◌≡◌, ℕ, ◌+◌, ◌≤◌, ◌==◌, Bool, true, false, if◌then◌else◌, List, [], ◌++◌, take, drop, length, Option, Some, None, All, option_map, refl, ap, sym, ◌∙◌, subst, arith, length-append, length-drop}
-use Rattle.std.proofs.lemmas.Bool.{false≢true}
-use Rattle.std.proofs.lemmas.Bool.Decides.{nat_tests}
-use Rattle.std.proofs.lemmas.List.{length-take-le}
-use Rattle.dom_model.specs.Forests.Arena.{Entry}
-use Rattle.dom_model.specs.Forests.Kinds.{is_character_data}
-use Rattle.dom_model.specs.Forests.Forest.{Node, Forest, with_node, entry_in}
-use Rattle.dom_model.specs.Forests.Attributes.{Attribute, with_attribute, without_attribute}
-use Rattle.dom_model.specs.Forests.Texts.{spliced}
-use Rattle.dom_model.specs.Worlds.World.{Content, Range, World}
-use Rattle.dom_model.specs.BoundaryPoints.Points.{after_splice}
-use Rattle.dom_model.specs.Forests.Nodes.{entry_has, kind_passes}
-use Rattle.dom_model.specs.Worlds.Lengths.{unit_count, length_in, node_length}
-use Rattle.dom_model.specs.DataAndCopies.Data.{content_in, data_of, attributes_of, with_data, with_attributes, cut_count, data_record, replace_units, replace_data, set_data, attribute_record, set_attribute, has_attribute, remove_attribute_if, remove_attribute, is_toggled_on, toggled, toggle_attribute}
-use Rattle.dom_model.specs.Soundness.Sound.{IsIterator, IsSound}
+use Rattle.std.proofs.Common.{◌≡◌, ℕ, ◌+◌, ◌≤◌, ◌==◌, Bool, true, false, List, [], ◌++◌, take, drop, length, Option, Some, None, All, refl, ap, sym, ◌∙◌, subst, arith, length-append, length-drop}
+use Rattle.std.proofs.lemmas.{Bool.false≢true, Bool.Decides.nat_tests, List.length-take-le, Bool.eq-eqb}
+use Rattle.dom_model.proofs.Worlds.{Measured.kept-with_node, SameShape.IsAlike, SameShape.bare_node, SameShape.with_node-alike, Measured.data_kind, Measured.entry-with_node}
+use Rattle.dom_model.specs.Definitions.{Entry, is_character_data, Node, Forest, with_node, entry_in, Attribute, with_attribute, without_attribute, spliced, Content, Range, World, after_splice, entry_has, kind_passes, unit_count, length_in, node_length, content_in, data_of, attributes_of, with_data, with_attributes, cut_count, data_record, replace_units, replace_data, set_data, attribute_record, set_attribute, has_attribute, remove_attribute_if, remove_attribute, is_toggled_on, toggled, toggle_attribute, IsSound}
 use Rattle.dom_model.proofs.PlainLists.Numbers.{same_or, same, apart}
 use Rattle.dom_model.proofs.Forests.Changes.{change_at}
-use Rattle.dom_model.proofs.Worlds.SameShape.{IsAlike, bare_node, with_node-alike}
-use Rattle.dom_model.proofs.Soundness.SoundForests.{IsWood-alike}
-use Rattle.dom_model.proofs.Worlds.Measured.{data_kind, entry-with_node}
+use Rattle.dom_model.proofs.Soundness.{SoundForests.IsWood-alike, SoundWorlds.IsLive, SoundWorlds.ranges-moved, SoundWorlds.ranges-kept, SoundWorlds.sound-on}
 use Rattle.dom_model.proofs.RangesAndContents.RangesSpliced.{range-alike, iterator-alike, there-alike, range-splice}
-use Rattle.dom_model.proofs.Soundness.SoundWorlds.{IsLive, each-kept, ranges-moved, ranges-kept, walkers-kept, registrations-kept, statics-kept}
 
 pub length-spliced : (at count : ℕ) (added units : List ℕ) → at + count ≤ length units → length (spliced at count added units) + count ≡ length units + length added
 length-spliced at count added units h =
@@ -54,22 +40,10 @@ module _ (change : Node Content → Node Content) (keeps : (x : Node Content) �
   kind x = ap (λ (y : Node Content). y.label.kind) (keeps x)
 
   pub length-other : (m : ℕ) → (m == n) ≡ false → node_length unit_count changed m ≡ node_length unit_count w.forest m
-  length-other m far = ap (length_in unit_count) (entry-with_node change number n m None w.forest) ∙ go (entry_in w.forest m)
-    where
-      go : (o : Option (Entry (Node Content))) → length_in unit_count (change_at change n m o) ≡ length_in unit_count o
-      go None = refl
-      go (Some e) = rw far refl
+  length-other m far = kept-with_node change number (length_in unit_count) n m (λ e. rw far refl) w.forest
 
   pub sound-changed : (ranges : List (Option Range)) → All (IsLive changed) ranges → IsSound (record w { forest = changed; ranges = ranges })
-  sound-changed ranges h =
-      record {
-        forest = IsWood-alike s.forest alike;
-        ranges = h;
-        iterators = each-kept (IsIterator w.forest) (IsIterator changed) (iterator-alike alike) w.iterators s.iterators;
-        walkers = walkers-kept w.forest changed (there-alike alike) w.walkers s.walkers;
-        registrations = registrations-kept w.forest changed (there-alike alike) w.observing.registrations s.registrations;
-        statics = statics-kept w.forest changed (there-alike alike) w.static_ranges s.statics;
-      }
+  sound-changed ranges h = sound-on w s changed w.made ranges (IsWood-alike s.forest alike) h (iterator-alike alike) (there-alike alike)
 
 -- Data.
 
@@ -95,13 +69,11 @@ sound-replace_units n offset count added w s k fits =
     itself : node_length unit_count g n + count ≡ node_length unit_count w.forest n + length added
     itself =
         let a : node_length unit_count g n ≡ length (spliced offset count added (data_of w n)) = ap (length_in unit_count) (entry-with_node change (λ x. refl) n n None w.forest) ∙ go (entry_in w.forest n) k in
-        let b = length-spliced offset count added (data_of w n) fits in
-        let c = whole in
-        omega arith
+        omega (arith, length-spliced offset count added (data_of w n) fits, whole)
       where
         go : (o : Option (Entry (Node Content))) → entry_has is_character_data o ≡ true → length_in unit_count (change_at change n n o) ≡ length (spliced offset count added (data_of w n))
         go None k = absurd (false≢true k)
-        go (Some e) k = elim (same_or n n) [ same _ t ↦ rw (t, data_kind e.value.label.kind k, k) refl | apart ne t ↦ absurd (ne refl) ]
+        go (Some e) k = rw (eq-eqb n n refl, data_kind e.value.label.kind k, k) refl
 
 pub cut_fits : (whole offset count : ℕ) → offset ≤ whole → offset + cut_count whole offset count ≤ whole
 cut_fits whole offset count h = grind (arith, nat_tests)
@@ -128,12 +100,8 @@ sound-with_attributes n attributes w s =
     g = with_node n (with_attributes attributes) w.forest
 
     lengths : (m : ℕ) → node_length unit_count g m ≡ node_length unit_count w.forest m
-    lengths m = ap (length_in unit_count) (entry-with_node (with_attributes attributes) (λ x. refl) n m None w.forest) ∙ go (entry_in w.forest m) (m == n)
-      where
-        go : (o : Option (Entry (Node Content))) → (v : Bool) → length_in unit_count (option_map (λ (e : Entry (Node Content)). record { value = if v then with_attributes attributes e.value else e.value; parent = e.parent; children = e.children }) o) ≡ length_in unit_count o
-        go None v = refl
-        go (Some e) true = refl
-        go (Some e) false = refl
+    lengths m =
+        kept-with_node (with_attributes attributes) (λ x. refl) (length_in unit_count) n m (λ e. elim (same_or m n) [ same _ t ↦ rw t refl | apart _ t ↦ rw t refl ]) w.forest
 
 sound-attribute_record : (n : ℕ) (name : List ℕ) (w : World) → IsSound w → IsSound (attribute_record n name w)
 sound-attribute_record n name w s = record { forest = s.forest; ranges = s.ranges; iterators = s.iterators; walkers = s.walkers; registrations = s.registrations; statics = s.statics }

@@ -1,70 +1,35 @@
 -- Deleting the contents of a live range leaves a sound world. DOM Standard, "Interface Range": delete contents.
-use Rattle.std.proofs.Common.{◌≡◌, ℕ, ◌-◌, ◌<◌, ◌≤◌, ◌==◌, Bool, true, false, not, ◌&&◌, if◌then◌else◌, List, [], ◌∷◌, length, Option, Some, None, refl, ap, sym, ◌∙◌, arith, ⊎_elim}
-use Rattle.std.proofs.lemmas.Bool.{cases_lt, false≢true}
-use Rattle.dom_model.specs.PlainLists.Lists.{hits}
-use Rattle.dom_model.specs.Forests.Kinds.{is_character_data, may_be_parent}
-use Rattle.dom_model.specs.Forests.Forest.{occurs, numbers, parent_of, index_of}
-use Rattle.dom_model.specs.Worlds.World.{Range, World}
-use Rattle.dom_model.specs.MutationAlgorithms.Checks.{if_given}
-use Rattle.dom_model.specs.Forests.Nodes.{kind_passes, same_root}
-use Rattle.dom_model.specs.MutationAlgorithms.Editing.{removed_from, remove}
-use Rattle.dom_model.specs.RangesAndContents.Ranges.{is_before, is_collapsed, collapsed_at, range_at}
-use Rattle.dom_model.specs.DataAndCopies.Data.{data_of, replace_data, remove_each}
-use Rattle.dom_model.specs.RangesAndContents.Contents.{for_range, is_in_one_data, cut_from, cut_up_to, contained_in, contained_tops, new_place, deleted_between, deleted, delete_contents}
-use Rattle.dom_model.specs.Soundness.Sound.{IsRange, IsSound}
-use Rattle.dom_model.proofs.PlainLists.Numbers.{same_or, same, apart}
-use Rattle.dom_model.proofs.Forests.Totals.{IsOnce-cut}
-use Rattle.dom_model.proofs.Forests.Climbing.{hits-append, hits-first}
-use Rattle.dom_model.proofs.Forests.Entries.{parent-cut}
-use Rattle.dom_model.proofs.Soundness.SoundWorlds.{IsLive, child_there, sound-remove}
-use Rattle.dom_model.proofs.Soundness.SoundData.{length-data, sound-replace_data}
-use Rattle.dom_model.proofs.Soundness.SoundEditing.{holder_there}
-use Rattle.dom_model.proofs.Soundness.SoundNormalizing.{each_kinds, filter-passed}
-use Rattle.dom_model.proofs.Soundness.SoundCopies.{filled-replace}
-use Rattle.dom_model.proofs.Soundness.SoundDrawing.{IsFilled}
-use Rattle.dom_model.proofs.Soundness.SoundRangeSteps.{live_range, sound-with_range}
-use Rattle.dom_model.proofs.RangesAndContents.RangesSet.{range_at_point}
-use Rattle.dom_model.proofs.RangesAndContents.PlacesLeft.{IsNewPlace, place_is, place_stays}
+use Rattle.std.proofs.Common.{◌≡◌, ℕ, ◌-◌, ◌<◌, ◌≤◌, Bool, true, false, not, ◌&&◌, if◌then◌else◌, List, [], ◌∷◌, length, Option, Some, None, refl, ◌∙◌, arith}
+use Rattle.std.proofs.lemmas.{Bool.Decides.nat_tests, Bool.and_left, Bool.and_right}
+use Rattle.dom_model.specs.Definitions.{hits, is_character_data, may_be_parent, occurs, numbers, parent_of, index_of, Range, World, if_given, kind_passes, same_root, removed_from, remove, is_before, is_collapsed, collapsed_at, range_at, data_of, replace_data, remove_each, for_range, is_in_one_data, cut_from, cut_up_to, contained_in, contained_tops, new_place, deleted_between, deleted, delete_contents, IsRange, IsSound}
+use Rattle.dom_model.proofs.Forests.{Totals.IsOnce-cut, Entries.parent-cut}
+use Rattle.dom_model.proofs.Soundness.{SoundWorlds.IsLive, SoundWorlds.child_there, SoundWorlds.sound-remove, SoundData.length-data, SoundData.sound-replace_data, SoundEditing.holder_there, SoundNormalizing.each_kinds, SoundNormalizing.filter-passed, SoundCopies.filled-replace, SoundDrawing.IsFilled, SoundRangeSteps.live_range, SoundRangeSteps.sound-with_range, SoundDrawing.filled_same}
+use Rattle.dom_model.proofs.RangesAndContents.{RangesSet.range_at_point, PlacesLeft.IsNewPlace, PlacesLeft.place_is, PlacesLeft.place_stays}
 
 -- a child that comes before the start is not contained
 pub not_contained : (w : World) (r : Range) (c : ℕ) → is_before w.forest r.start (record { node = c; offset = 0 }) ≡ false → contained_in w r c ≡ false
-not_contained w r c e = rw e (off (same_root w.forest c r.start.node))
-  where
-    off : (v : Bool) → (v && false) ≡ false
-    off true = refl
-    off false = refl
+not_contained w r c e = and_right (same_root w.forest c r.start.node) _ (and_left _ _ e)
 
 pub removed_parents : (ns : List ℕ) (w : World) → ((m : ℕ) → occurs m w.forest ≤ 1) → (m : ℕ) → hits m ns ≡ 0 → parent_of (remove_each ns w).forest m ≡ parent_of w.forest m
 removed_parents [] w o m z = refl
 removed_parents (n ∷ ns) w o m z =
     let i = one (parent_of w.forest n) in
-    let k = hits-append m (n ∷ []) ns in
     removed_parents ns (remove false n w) i.1 m (omega arith) ∙ i.0
   where
-    far : (m == n) ≡ false
-    far = elim (same_or m n) [ same e t ↦ absurd (let a = hits-first n ns in let b : hits n (n ∷ ns) ≡ 0 = ap (λ x. hits x (n ∷ ns)) (sym e) ∙ z in omega arith) | apart ne t ↦ t ]
-
     one : (p : Option ℕ) → (parent_of (removed_from false n p w).forest m ≡ parent_of w.forest m) × ((x : ℕ) → occurs x (removed_from false n p w).forest ≤ 1)
     one None = (refl, o)
-    one (Some p) = (parent-cut w.forest o n m ∙ (rw far refl), IsOnce-cut n w.forest o)
+    one (Some p) = (grind (arith, nat_tests, parent-cut w.forest o n m), IsOnce-cut n w.forest o)
 
 pub sound-remove_each : (ns : List ℕ) (w : World) → IsSound w → IsSound (remove_each ns w)
 sound-remove_each [] w s = s
 sound-remove_each (n ∷ ns) w s = sound-remove_each ns (remove false n w) (sound-remove false n w s)
 
-filled_cut_from : (n offset : ℕ) (w : World) → IsSound w → (kind_passes is_character_data w.forest n ≡ true → offset ≤ length (data_of w n)) → IsFilled w (cut_from n offset w) []
-filled_cut_from n offset w s h = go (kind_passes is_character_data w.forest n) refl
+filled_cut : (n offset count : ℕ) (w : World) → IsSound w → (kind_passes is_character_data w.forest n ≡ true → offset ≤ length (data_of w n)) → IsFilled w (if kind_passes is_character_data w.forest n then replace_data n offset count [] w else w) []
+filled_cut n offset count w s h = go (kind_passes is_character_data w.forest n) refl
   where
-    go : (v : Bool) → kind_passes is_character_data w.forest n ≡ v → IsFilled w (if v then replace_data n offset (length (data_of w n) - offset) [] w else w) []
-    go true e = filled-replace n offset (length (data_of w n) - offset) [] w s e (h e)
-    go false e = record { sound = s; there = λ m k. k; kinds = λ test m k. refl; parents = λ m k far. refl; made = omega arith }
-
-filled_cut_up_to : (n offset : ℕ) (w : World) → IsSound w → IsFilled w (cut_up_to n offset w) []
-filled_cut_up_to n offset w s = go (kind_passes is_character_data w.forest n) refl
-  where
-    go : (v : Bool) → kind_passes is_character_data w.forest n ≡ v → IsFilled w (if v then replace_data n 0 offset [] w else w) []
-    go true e = filled-replace n 0 offset [] w s e (omega arith)
-    go false e = record { sound = s; there = λ m k. k; kinds = λ test m k. refl; parents = λ m k far. refl; made = omega arith }
+    go : (v : Bool) → kind_passes is_character_data w.forest n ≡ v → IsFilled w (if v then replace_data n offset count [] w else w) []
+    go true e = filled-replace n offset count [] w s e (h e)
+    go false e = filled_same w s []
 
 pub offset_of_start : (w : World) (r : Range) → IsRange w.forest r → kind_passes is_character_data w.forest r.start.node ≡ true → r.start.offset ≤ length (data_of w r.start.node)
 offset_of_start w r h k = let i = h.starts.within in let j = length-data w.forest r.start.node k in omega arith
@@ -77,7 +42,7 @@ module _ (r : ℕ) (range : Range) (w : World) (s : IsSound w) (h : IsRange w.fo
   first = cut_from range.start.node range.start.offset w
 
   pub one : IsFilled w first []
-  one = filled_cut_from range.start.node range.start.offset w s (offset_of_start w range h)
+  one = filled_cut range.start.node range.start.offset (length (data_of w range.start.node) - range.start.offset) w s (offset_of_start w range h)
 
   abbrev tops : List ℕ
   tops = contained_tops w range
@@ -92,18 +57,13 @@ module _ (r : ℕ) (range : Range) (w : World) (s : IsSound w) (h : IsRange w.fo
   third = cut_up_to range.end.node range.end.offset second
 
   pub three : IsFilled second third []
-  three = filled_cut_up_to range.end.node range.end.offset second sound-second
+  three = filled_cut range.end.node 0 range.end.offset second sound-second (λ _. omega arith)
 
   -- a child ahead of the place is not removed
   not_removed : (c : ℕ) → parent_of w.forest c ≡ Some (new_place w.forest range).node → index_of w.forest c < (new_place w.forest range).offset → hits c tops ≡ 0
   not_removed c e lt =
-      ⊎_elim
-      (λ (listed : 0 < hits c tops).
-      let i = filter-passed (λ n. contained_in w range n && not (if_given (contained_in w range) (parent_of w.forest n))) (numbers w.forest) c listed in
-      let k = not_contained w range c (place.ahead c e lt) in
-      absurd (let j = rw k at i.0 in false≢true j))
-      (λ (le : hits c tops ≤ 0). omega arith)
-      (cases_lt 0 (hits c tops))
+      let out = not_contained w range c (place.ahead c e lt) in
+      grind (arith, filter-passed (λ n. contained_in w range n && not (if_given (contained_in w range) (parent_of w.forest n))) (numbers w.forest) c)
 
   kind_left : kind_passes may_be_parent third.forest (new_place w.forest range).node ≡ true
   kind_left =
@@ -132,10 +92,7 @@ module _ (r : ℕ) (range : Range) (w : World) (s : IsSound w) (h : IsRange w.fo
 
 -- a range within the data of one node
 pub in_data : (range : Range) (w : World) → is_in_one_data w range ≡ true → kind_passes is_character_data w.forest range.start.node ≡ true
-in_data range w e = elim (same_or range.start.node range.end.node) [
-  | same d t ↦ (let j = rw t at e in j)
-  | apart ne t ↦ absurd (let j = rw t at e in false≢true j)
-]
+in_data range w e = grind (arith, nat_tests)
 
 pub sound-deleted : (r : ℕ) (range : Range) (w : World) → IsSound w → IsRange w.forest range → IsSound (deleted r range w)
 sound-deleted r range w s h = go (is_collapsed range) (is_in_one_data w range) refl

@@ -1,27 +1,12 @@
 -- A tree that nothing names is discarded: a sound world is left.
 use Rattle.std.proofs.Common.{◌≡◌, ℕ, ◌<◌, Bool, false, ◌||◌, List, [], ◌∷◌, ◌++◌, flat_map, Option, Some, None, is_some, IfSome, All, slice_index_or, refl, sym, ◌∙◌, arith}
-use Rattle.std.proofs.lemmas.Bool.{false≢true, or_parts}
-use Rattle.std.proofs.lemmas.List.Elements.{All-nil, All-cons}
+use Rattle.std.proofs.lemmas.{Bool.false≢true, Bool.or_parts, List.Elements.All-nil, List.Elements.All-cons}
 use Rattle.std.specs.List.{list_any}
+use Rattle.dom_model.specs.Definitions.{among, Forest, occurs, one_at, tree_at, without, entry_in, HasNode, parent_of, inclusive_descendants, Content, Range, Iterator, Walker, Registration, World, Own, if_any, documents, nodes_of_range, nodes_of_iterator, nodes_of_walker, nodes_of_registration, nodes_unless_released, named_nodes, is_held_outside, is_in_use, discarded, Bounds, no_node, does, answer_discard, IsRange, IsIterator, IsWalker, IsRegistration, AreHeld, IsSound}
 use Rattle.dom_model.specs.declared.OwnError.TheVariants.{InUse}
-use Rattle.dom_model.specs.PlainLists.Lists.{among}
-use Rattle.dom_model.specs.Forests.Forest.{Forest, occurs, one_at, tree_at, without, entry_in, HasNode, parent_of, inclusive_descendants}
-use Rattle.dom_model.specs.Worlds.World.{Content, Range, Iterator, Walker, Registration, World}
-use Rattle.dom_model.specs.Commands.Reply.{Own}
-use Rattle.dom_model.specs.MutationAlgorithms.Discarding.{if_any, documents, nodes_of_range, nodes_of_iterator, nodes_of_walker, nodes_of_registration, nodes_unless_released, named_nodes, is_held_outside, is_in_use, discarded}
-use Rattle.dom_model.specs.Commands.Guards.{Bounds, no_node, does}
-use Rattle.dom_model.specs.Commands.AnswerDiscard.{answer_discard}
-use Rattle.dom_model.specs.Soundness.Sound.{IsRange, IsIterator, IsWalker, IsRegistration, AreHeld, IsSound}
-use Rattle.dom_model.proofs.Forests.Totals.{total-tree_at}
-use Rattle.dom_model.proofs.Forests.Lying.{Lies-without_root}
-use Rattle.dom_model.proofs.Forests.Climbing.{not_among-hits}
-use Rattle.dom_model.proofs.Forests.Entries.{Lies-entry_in, entry_under-Lies, HasNode-occurs, occurs-HasNode}
-use Rattle.dom_model.proofs.Forests.TreeOrder.Flattened.{hits-numbers}
-use Rattle.dom_model.proofs.Forests.Changes.{seen, nothing, just}
+use Rattle.dom_model.proofs.Forests.{Totals.total-tree_at, Lying.Lies-without_root, Climbing.not_among-hits, Entries.Lies-entry_in, Entries.entry_under-Lies, Entries.HasNode-occurs, Entries.occurs-HasNode, TreeOrder.Flattened.hits-numbers, Changes.seen, Changes.nothing, Changes.just}
 use Rattle.dom_model.proofs.Worlds.Parts.{range-to_part, iterator-to_part}
-use Rattle.dom_model.proofs.Soundness.SoundForests.{IsWood, IsWood-without}
-use Rattle.dom_model.proofs.Soundness.SoundMaking.{reference_there}
-use Rattle.dom_model.proofs.Soundness.SoundGuards.{sound-guarded}
+use Rattle.dom_model.proofs.Soundness.{SoundForests.IsWood, SoundForests.IsWood-without, SoundMaking.reference_there, SoundGuards.sound-guarded}
 
 -- no number of a list passes a test
 none_of : (p : ℕ → Bool) (xs ys : List ℕ) → list_any p (xs ++ ys) ≡ false → (list_any p xs ≡ false) × (list_any p ys ≡ false)
@@ -88,10 +73,7 @@ module _ (n : ℕ) (w : World) (s : IsSound w) (free : is_in_use w n ≡ false) 
   -- what is not inside stays
   stays : (m : ℕ) → is_inside m ≡ false → 0 < occurs m w.forest → 0 < occurs m rest
   stays m e h =
-      let i = not_among-hits m (inclusive_descendants w.forest n) e in
-      let j = hits-numbers m (tree_at n w.forest) in
-      let t = total-tree_at (one_at m) n w.forest in
-      omega arith
+      omega (arith, not_among-hits m (inclusive_descendants w.forest n) e, hits-numbers m (tree_at n w.forest), total-tree_at (one_at m) n w.forest)
 
   stays-node : (m : ℕ) → is_inside m ≡ false → HasNode w.forest m → HasNode rest m
   stays-node m e h = HasNode-occurs rest m (stays m e (occurs-HasNode w.forest m h))

@@ -1,22 +1,11 @@
 -- What extracting and cloning draw out of a tree: children, units, and copies of the nodes on a path. A sound world is left.
 -- DOM Standard, "Interface Range": extract, clone the contents.
-use Rattle.std.proofs.Common.{◌≡◌, ℕ, ◌<◌, ◌≤◌, Bool, true, false, List, [], ◌∷◌, ◌++◌, Some, None, refl, ap, sym, ◌∙◌, subst, arith, ⊎_elim}
-use Rattle.std.proofs.lemmas.Bool.{cases_lt}
+use Rattle.std.proofs.Common.{◌≡◌, ℕ, ◌<◌, ◌≤◌, Bool, true, false, List, [], ◌∷◌, ◌++◌, Some, None, refl, ap, sym, ◌∙◌, subst, arith}
+use Rattle.dom_model.proofs.Soundness.SoundAppending.{plain_like, IsHolder, IsPlain, IsDrawn, holder_stays, plain_stays, append-plain, clone_copy}
+use Rattle.dom_model.specs.Definitions.{hits, may_be_parent, occurs, parent_of, World, kind_passes, append, clone_node, child_into, children_into, IsSound}
 use Rattle.dom_model.specs.declared.Kind.{Kind}
-use Rattle.dom_model.specs.declared.Kind.TheVariants.{Document, DocumentType, DocumentFragment}
-use Rattle.dom_model.specs.PlainLists.Lists.{hits}
-use Rattle.dom_model.specs.Forests.Kinds.{is_kind, may_be_parent}
-use Rattle.dom_model.specs.Forests.Forest.{occurs, parent_of}
-use Rattle.dom_model.specs.Worlds.World.{World}
-use Rattle.dom_model.specs.Forests.Nodes.{kind_passes}
-use Rattle.dom_model.specs.MutationAlgorithms.Editing.{append}
-use Rattle.dom_model.specs.DataAndCopies.Clones.{clone_node}
-use Rattle.dom_model.specs.RangesAndContents.Contents.{child_into, children_into}
-use Rattle.dom_model.specs.Soundness.Sound.{IsSound}
-use Rattle.dom_model.proofs.Forests.Climbing.{hits-append, hits-first}
-use Rattle.dom_model.proofs.Forests.Listed.{hits-other}
-use Rattle.dom_model.proofs.MutationAlgorithms.Extending.{extends-then, extends-of}
-use Rattle.dom_model.proofs.Soundness.SoundAppending.{IsHolder, IsPlain, IsDrawn, holder_stays, plain_stays, append-plain, clone_copy}
+use Rattle.dom_model.proofs.Forests.{Climbing.hits-append, Climbing.hits-first, Listed.hits-other}
+use Rattle.dom_model.proofs.MutationAlgorithms.Extending.{extends-then, extends-of, extends-same}
 
 -- one step after another
 pub drawn-then : (w v u : World) (ns ms : List ℕ) → IsDrawn w v ns → IsDrawn v u ms → IsDrawn w u (ns ++ ms)
@@ -41,18 +30,14 @@ drawn_child false into n w s h p ne =
     let c = clone_node true n w in
     let i = clone_copy true n w s p.there in
     let holder = holder_stays w c [] into i.drawn.extends refl h in
-    let plain : IsPlain c w.made = record { there = i.there; no_document = i.kinds (is_kind Document) ∙ p.no_document; no_doctype = i.kinds (is_kind DocumentType) ∙ p.no_doctype; no_fragment = i.kinds (is_kind DocumentFragment) ∙ p.no_fragment } in
+    let plain = plain_like w c n w.made i.there i.kinds p in
     let a = append-plain c i.drawn.sound w.made into holder plain (λ e. new_apart w s into w.made (omega arith) h.there (sym e)) in
     drawn-of w (append w.made into c) ([] ++ w.made ∷ []) (n ∷ []) (λ m k z. new_not_hit w s w.made m (omega arith) k)
     (drawn-then w c (append w.made into c) [] (w.made ∷ []) i.drawn a.drawn)
 
 pub drawn_children : (moves : Bool) (into : ℕ) (ns : List ℕ) (w : World) → IsSound w → IsHolder w into → ((n : ℕ) → 0 < hits n ns → IsPlain w n) → hits into ns ≡ 0 → IsDrawn w (children_into moves into ns w) ns
 drawn_children moves into [] w s h plain z =
-    record {
-      sound = s;
-      extends = record { there = λ m k. k; kinds = λ test m k. refl; texts = λ m k. refl; tags = λ m k. refl; parents = λ m k l. refl };
-      made = omega arith;
-    }
+    record { sound = s; extends = extends-same w.forest w.forest refl; made = omega arith }
 drawn_children moves into (n ∷ ns) w s h plain z =
     let v = child_into moves into n w in
     let ne : n ≡ into → ⊥ = λ e. (let i = hits-first n ns in let k : hits n (n ∷ ns) ≡ 0 = ap (λ x. hits x (n ∷ ns)) e ∙ z in omega arith) in
@@ -70,6 +55,9 @@ pub record IsFilled (w v : World) (path : List ℕ) : Type 0 where
   pub kinds : (test : Kind → Bool) (m : ℕ) → 0 < occurs m w.forest → kind_passes test v.forest m ≡ kind_passes test w.forest m
   pub parents : (m : ℕ) → 0 < occurs m w.forest → ((u : ℕ) → parent_of w.forest m ≡ Some u → hits u path ≡ 0) → parent_of v.forest m ≡ parent_of w.forest m
   pub made : w.made ≤ v.made
+
+pub filled_same : (w : World) → IsSound w → (path : List ℕ) → IsFilled w w path
+filled_same w s path = record { sound = s; there = λ m h. h; kinds = λ test m h. refl; parents = λ m h far. refl; made = omega arith }
 
 pub filled-then : (w v u : World) (ps qs : List ℕ) → IsFilled w v ps → IsFilled v u qs → IsFilled w u (ps ++ qs)
 filled-then w v u ps qs a b =
@@ -95,11 +83,8 @@ filled_by_moves w v ns path a moved =
       there = a.extends.there;
       kinds = a.extends.kinds;
       parents = λ m h far.
-          a.extends.parents m h
-          (⊎_elim
-          (λ (lt : 0 < hits m ns). absurd (let i = moved m lt h in let z = far i.0 i.1 in let j = i.2 in omega arith))
-          (λ (le : hits m ns ≤ 0). omega arith)
-          (cases_lt 0 (hits m ns)));
+          let none : 0 < hits m ns → ⊥ = λ lt. (let i = moved m lt h in let z = far i.0 i.1 in omega (arith, i.2)) in
+          a.extends.parents m h (omega arith);
       made = a.made;
     }
 
@@ -112,10 +97,4 @@ holder_filled w v path into a h =
     }
 
 pub plain_filled : (w v : World) (path : List ℕ) (n : ℕ) → IsFilled w v path → IsPlain w n → IsPlain v n
-plain_filled w v path n a p =
-    record {
-      there = a.there n p.there;
-      no_document = a.kinds (is_kind Document) n p.there ∙ p.no_document;
-      no_doctype = a.kinds (is_kind DocumentType) n p.there ∙ p.no_doctype;
-      no_fragment = a.kinds (is_kind DocumentFragment) n p.there ∙ p.no_fragment;
-    }
+plain_filled w v path n a p = plain_like w v n n (a.there n p.there) (λ test. a.kinds test n p.there) p

@@ -1,32 +1,14 @@
 -- Pre-insert, append, replace, replace all and adopt leave a sound world. DOM Standard, "Mutation algorithms".
-use Rattle.std.proofs.Common.{◌≡◌, ℕ, ◌+◌, ◌<◌, ◌≤◌, Bool, true, false, not, ◌&&◌, ◌||◌, if◌then◌else◌, List, [], ◌∷◌, ◌++◌, Option, Some, None, IfSome, refl, ap, sym, ◌∙◌, subst, arith}
-use Rattle.std.proofs.lemmas.Bool.{false≢true}
-use Rattle.dom_model.specs.declared.Kind.TheVariants.{Text, Document, DocumentType}
-use Rattle.dom_model.specs.declared.DomError.{DomError}
-use Rattle.dom_model.specs.declared.DomError.TheVariants.{HierarchyRequestError}
-use Rattle.dom_model.specs.PlainLists.Lists.{hits, is_number, head_of, after, place_in, first_refusal}
-use Rattle.dom_model.specs.Forests.Arena.{list_under}
-use Rattle.dom_model.specs.Forests.Kinds.{is_kind, may_be_parent}
-use Rattle.dom_model.specs.Forests.Forest.{Forest, occurs, in_document, adopted, entry_in, parent_of, children_of, next_of, ancestors}
-use Rattle.dom_model.specs.Worlds.World.{Content, World}
-use Rattle.dom_model.specs.MutationAlgorithms.Checks.{if_given, common_conditions, check_insert, check_replace, kind_refuses, document_refuses, document_refuses_instead}
-use Rattle.dom_model.specs.Forests.Nodes.{kind_passes, is_of_kind}
-use Rattle.dom_model.specs.MutationAlgorithms.Editing.{remove, remove_all, insert, reference_child, pre_insert, replace, insert_if_any, added_by, replaced_record, replace_all, adopt}
-use Rattle.dom_model.specs.Soundness.Sound.{IsIterator, IsSound}
-use Rattle.dom_model.specs.MutationAlgorithms.Insertable.{IsChildOf, IsInsertable}
+use Rattle.std.proofs.Common.{◌≡◌, ℕ, ◌+◌, ◌<◌, ◌≤◌, Bool, true, false, not, ◌&&◌, if◌then◌else◌, List, [], ◌∷◌, ◌++◌, Option, Some, None, IfSome, refl, ap, sym, ◌∙◌, subst, arith}
+use Rattle.std.proofs.lemmas.{Bool.false≢true, Bool.Decides.nat_tests, Bool.not-false, Bool.or_parts, Bool.ne_eqb}
+use Rattle.dom_model.specs.Definitions.{hits, is_number, head_of, after, place_in, first_refusal, list_under, is_kind, may_be_parent, Forest, occurs, in_document, adopted, entry_in, parent_of, children_of, next_of, ancestors, Content, World, if_given, common_conditions, check_insert, check_replace, kind_refuses, document_refuses, document_refuses_instead, kind_passes, is_of_kind, remove, remove_all, insert, reference_child, pre_insert, replace, insert_if_any, added_by, replaced_record, replace_all, adopt, IsSound, IsChildOf, IsInsertable}
+use Rattle.dom_model.specs.declared.{Kind.TheVariants.Text, Kind.TheVariants.Document, Kind.TheVariants.DocumentType, DomError.DomError, DomError.TheVariants.HierarchyRequestError}
 use Rattle.dom_model.proofs.PlainLists.Numbers.{same_or, same, apart}
-use Rattle.dom_model.proofs.Forests.Changes.{seen, nothing, just}
-use Rattle.dom_model.proofs.Forests.Climbing.{not_among-hits}
-use Rattle.dom_model.proofs.Forests.PutBack.{hits-after, hits-head_of}
-use Rattle.dom_model.proofs.Forests.Entries.{occurs-HasNode}
-use Rattle.dom_model.proofs.Forests.Indices.{child-parent, child-once, child-there}
-use Rattle.dom_model.proofs.Worlds.SameShape.{IsAlike, with_tree-alike}
-use Rattle.dom_model.proofs.Soundness.SoundForests.{IsWood-alike}
-use Rattle.dom_model.proofs.Worlds.Measured.{length-adopted}
+use Rattle.dom_model.proofs.Forests.{Climbing.not_among-hits, PutBack.hits-after, PutBack.hits-head_of, Indices.child-parent, Indices.child-once, Indices.child-there, Entries.entry_under-absent}
+use Rattle.dom_model.proofs.Worlds.{SameShape.IsAlike, SameShape.with_tree-alike, Measured.length-adopted}
+use Rattle.dom_model.proofs.Soundness.{SoundForests.IsWood-alike, SoundWorlds.ranges-kept, SoundWorlds.child_there, SoundWorlds.sound-tree_record, SoundWorlds.sound-remove, SoundWorlds.sound-remove_all, SoundInserting.sound-insert, SoundWorlds.sound-on}
 use Rattle.dom_model.proofs.RangesAndContents.RangesSpliced.{range-alike, iterator-alike, there-alike}
-use Rattle.dom_model.proofs.Soundness.SoundWorlds.{each-kept, ranges-kept, walkers-kept, registrations-kept, statics-kept, child_there, sound-tree_record, sound-remove, sound-remove_all}
 use Rattle.dom_model.proofs.MutationAlgorithms.Loosened.{IsLoosened, loosened-remove, parent-remove, loosened-remove_all}
-use Rattle.dom_model.proofs.Soundness.SoundInserting.{sound-insert}
 
 -- What a check that refuses nothing tells.
 
@@ -43,17 +25,9 @@ clear {E} (c ∷ cs) h = go c.0 refl h (clear cs)
     go true e h more = absurd (let k : Some c.1 ≡ None = h in cc k)
     go false e h more = (e, more h)
 
-turned : (v : Bool) → not v ≡ false → v ≡ true
-turned true h = refl
-turned false h = absurd (false≢true (sym h))
-
-neither : (v w : Bool) → (v || w) ≡ false → w ≡ false
-neither true w h = absurd (false≢true (sym h))
-neither false w h = h
-
-number_is : (o : Option ℕ) (n : ℕ) → is_number o n ≡ true → o ≡ Some n
+pub number_is : (o : Option ℕ) (n : ℕ) → is_number o n ≡ true → o ≡ Some n
 number_is None n h = absurd (false≢true h)
-number_is (Some m) n h = elim (same_or m n) [ same e t ↦ ap (λ k. Some k) e | apart ne t ↦ absurd (false≢true (sym t ∙ h)) ]
+number_is (Some m) n h = grind (arith, nat_tests)
 
 -- what both checks tell
 pub record IsChecked (f : Forest Content) (parent n : ℕ) (child : Option ℕ) : Type 0 where
@@ -67,50 +41,33 @@ pub checks : (f : Forest Content) (parent n : ℕ) (child : Option ℕ) (more : 
 checks f parent n child more h =
     let c = clear (common_conditions f parent n child ++ more) h in
     record {
-      may_hold = turned (kind_passes may_be_parent f parent) c.0;
+      may_hold = not-false (kind_passes may_be_parent f parent) c.0;
       outside = not_among-hits n (ancestors parent f) c.1.0;
       child_of = given child c.1.1.0;
       no_document = c.1.1.1.0;
-      doctype_fits = neither (is_of_kind Text f n && is_of_kind Document f parent) (is_of_kind DocumentType f n && not (is_of_kind Document f parent)) c.1.1.1.1.0;
+      doctype_fits = (or_parts (is_of_kind Text f n && is_of_kind Document f parent) _ c.1.1.1.1.0).1;
     }
   where
     given : (o : Option ℕ) → if_given (λ c. not (is_number (parent_of f c) parent)) o ≡ false → IsChildOf f parent o
     given None k = tt
-    given (Some c) k = number_is (parent_of f c) parent (turned (is_number (parent_of f c) parent) k)
+    given (Some c) k = number_is (parent_of f c) parent (not-false (is_number (parent_of f c) parent) k)
 
 pub checks_insert : (f : Forest Content) (parent n : ℕ) (child : Option ℕ) → check_insert f parent n child ≡ None → IsChecked f parent n child
 checks_insert f parent n child c = checks f parent n child ((kind_refuses (λ k. document_refuses k f parent n child) f parent n, HierarchyRequestError) ∷ []) c
 
 pub holder_there : (f : Forest Content) (p : ℕ) → kind_passes may_be_parent f p ≡ true → 0 < occurs p f
-holder_there f p h =
-    elim (seen (entry_in f p)) [
-      | nothing e ↦ absurd (let k = rw e at h in false≢true k)
-      | just a e ↦ occurs-HasNode f p (rw e refl)
-    ]
+holder_there f p h = grind (arith, entry_under-absent None p f)
 
 -- The child that comes next.
 
 place-head : (d : ℕ) (ns : List ℕ) → head_of ns ≡ Some d → place_in d ns ≡ 0
 place-head d [] e = absurd (cc e)
-place-head d (n ∷ ns) e = elim (same_or n d) [ same _ t ↦ rw t refl | apart ne t ↦ absurd (ne (let k : Some n ≡ Some d = e in cc k)) ]
+place-head d (n ∷ ns) e = grind (arith, nat_tests)
 
 place-after : (n d : ℕ) (ns : List ℕ) → ((m : ℕ) → hits m ns ≤ 1) → after n ns ≡ Some d → place_in d ns ≡ place_in n ns + 1
 place-after n d [] o e = absurd (cc e)
 place-after n d (x ∷ ns) o e =
-    elim (same_or x n) [
-      | same s t ↦
-          let k = rw t at e in
-          elim (same_or x d) [
-            | same r u ↦ absurd (let i = o d in let j = hits-head_of ns d k in let i2 = rw u at i in omega arith)
-            | apart ne u ↦ rw (t, u) (let i = place-head d ns k in omega arith)
-          ]
-      | apart ne t ↦
-          let k = rw t at e in
-          elim (same_or x d) [
-            | same r u ↦ absurd (let i = o d in let j = hits-after n ns d k in let i2 = rw u at i in omega arith)
-            | apart nd u ↦ rw (t, u) (let i = place-after n d ns (λ m. let j = o m in omega arith) k in omega arith)
-          ]
-    ]
+    grind (arith, nat_tests, o d, hits-head_of ns d, place-head d ns, hits-after n ns d, place-after n d ns (λ m. let j = o m in omega arith))
 
 -- the node that follows a child is another child of its parent
 pub record IsNextOf (f : Forest Content) (parent n d : ℕ) : Type 0 where
@@ -237,7 +194,7 @@ module _ (child n parent : ℕ) (w : World) (s : IsSound w) (h : 0 < occurs n w.
 
   kept : (b : Option ℕ) → IsChildOf w.forest parent b → IfSome b (λ d. d ≡ child → ⊥) → IsChildOf removed.forest parent b
   kept None i ne = tt
-  kept (Some d) i ne = parent-remove true child w s child_stands d ∙ (elim (same_or d child) [ same e t ↦ absurd (ne e) | apart _ t ↦ rw t i ])
+  kept (Some d) i ne = parent-remove true child w s child_stands d ∙ (rw (ne_eqb d child ne) i)
 
   pub may_come_instead : IsInsertable removed.forest n parent (reference_child w n (next_of w.forest child))
   may_come_instead =
@@ -292,15 +249,8 @@ may_come_in w s parent n h c = may_come_before w s parent n None h c
 pub sound-adopted : (n document : ℕ) (w : World) → IsSound w → IsSound (record w { forest = adopted n document w.forest })
 sound-adopted n document w s =
     let a : IsAlike w.forest (adopted n document w.forest) = with_tree-alike (in_document document) (λ x. refl) n w.forest in
-    let there = there-alike a in
-    record {
-      forest = IsWood-alike s.forest a;
-      ranges = ranges-kept w.forest (adopted n document w.forest) (range-alike a (length-adopted n document w.forest)) w.ranges s.ranges;
-      iterators = each-kept (IsIterator w.forest) (IsIterator (adopted n document w.forest)) (iterator-alike a) w.iterators s.iterators;
-      walkers = walkers-kept w.forest (adopted n document w.forest) there w.walkers s.walkers;
-      registrations = registrations-kept w.forest (adopted n document w.forest) there w.observing.registrations s.registrations;
-      statics = statics-kept w.forest (adopted n document w.forest) there w.static_ranges s.statics;
-    }
+    sound-on w s (adopted n document w.forest) w.made w.ranges (IsWood-alike s.forest a)
+    (ranges-kept w.forest (adopted n document w.forest) (range-alike a (length-adopted n document w.forest)) w.ranges s.ranges) (iterator-alike a) (there-alike a)
 
 pub sound-adopt : (n document : ℕ) (w : World) → IsSound w → IsSound (adopt n document w)
 sound-adopt n document w s = sound-adopted n document (remove false n w) (sound-remove false n w s)

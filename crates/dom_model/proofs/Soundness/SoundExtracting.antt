@@ -1,65 +1,21 @@
 -- Extracting and cloning the contents of a live range leave a sound world. DOM Standard, "Interface Range": extract, clone the contents.
-use Rattle.std.proofs.Common.{◌≡◌, ℕ, ◌<◌, ◌≤◌, Bool, true, false, ◌||◌, List, [], ◌∷◌, filter, Some, None, unwrap_or, refl, ap, sym, ◌∙◌, subst, arith, ⊎_elim}
-use Rattle.std.proofs.lemmas.Bool.{cases_lt, false≢true}
+use Rattle.std.proofs.Common.{◌≡◌, ℕ, ◌<◌, Bool, false, List, [], ◌∷◌, Some, unwrap_or, refl, ap, sym, ◌∙◌, subst, arith}
+use Rattle.std.proofs.lemmas.{Bool.Decides.nat_tests, Bool.or_parts}
 use Rattle.std.specs.List.{list_any}
-use Rattle.dom_model.specs.declared.Kind.{Kind}
-use Rattle.dom_model.specs.declared.Kind.TheVariants.{DocumentType}
-use Rattle.dom_model.specs.PlainLists.Lists.{hits, among, head_of, last_of, up_to}
-use Rattle.dom_model.specs.Forests.Forest.{occurs, parent_of, children_of, ancestors}
-use Rattle.dom_model.specs.Worlds.World.{Range, World}
-use Rattle.dom_model.specs.Forests.Nodes.{kind_passes, is_of_kind}
-use Rattle.dom_model.specs.RangesAndContents.Contents.{contained_in, children_into, tail_into, head_into, path_below, common_of, contained_children, parts_into}
-use Rattle.dom_model.specs.Soundness.Sound.{IsRange, IsSound}
-use Rattle.dom_model.proofs.PlainLists.Numbers.{same_or, same, apart}
-use Rattle.dom_model.proofs.Forests.Climbing.{hits-first, among-hits, hits-among}
-use Rattle.dom_model.proofs.Forests.Entries.{occurs-HasNode}
-use Rattle.dom_model.proofs.Forests.PutBack.{hits-head_of}
-use Rattle.dom_model.proofs.Forests.Climbing.{hits-reverse}
+use Rattle.dom_model.specs.Definitions.{hits, among, last_of, up_to, occurs, parent_of, children_of, ancestors, Range, World, kind_passes, is_of_kind, contained_in, children_into, tail_into, head_into, path_below, common_of, contained_children, parts_into, IsRange, IsSound}
+use Rattle.dom_model.specs.declared.{Kind.Kind, Kind.TheVariants.DocumentType}
 use Rattle.dom_model.proofs.PlainLists.Members.{hits-last_of}
-use Rattle.dom_model.proofs.Forests.Indices.{child-parent, child-there}
-use Rattle.dom_model.proofs.Forests.Chains.{way}
-use Rattle.dom_model.proofs.Soundness.SoundNormalizing.{filter-passed}
-use Rattle.dom_model.proofs.Soundness.SoundAppending.{IsHolder, IsPlain, IsDrawn, holder_stays}
-use Rattle.dom_model.proofs.Soundness.SoundDrawing.{drawn_children, IsFilled, filled_by_moves, holder_filled, plain_filled}
-use Rattle.dom_model.proofs.Soundness.SoundPaths.{IsTail, IsHead, tail_filled, head_filled, head_filled_stays}
-use Rattle.dom_model.proofs.RangesAndContents.PathsToEnds.{plain_below, below_has_parent, path_without_top, path_is, tail_of_path, head_of_path}
-use Rattle.dom_model.proofs.Soundness.SoundDeleting.{offset_of_start}
+use Rattle.dom_model.proofs.Forests.{Climbing.hits-first, Climbing.among-hits, Climbing.hits-among, Entries.occurs-HasNode, Climbing.hits-reverse, Indices.child-parent, Indices.child-there, Chains.way}
+use Rattle.dom_model.proofs.Soundness.{SoundNormalizing.filter-passed, SoundAppending.IsHolder, SoundAppending.IsPlain, SoundAppending.IsDrawn, SoundAppending.holder_stays, SoundDrawing.drawn_children, SoundDrawing.IsFilled, SoundDrawing.filled_by_moves, SoundDrawing.holder_filled, SoundDrawing.plain_filled, SoundPaths.IsTail, SoundPaths.IsHead, SoundPaths.tail_filled, SoundPaths.head_filled, SoundPaths.head_filled_stays, SoundDeleting.offset_of_start}
+use Rattle.dom_model.proofs.RangesAndContents.{PathsToEnds.plain_below, PathsToEnds.below_has_parent, PathsToEnds.path_without_top, PathsToEnds.path_is, PathsToEnds.tail_of_path, PathsToEnds.head_of_path, WaysBelow.first-passes}
+use Rattle.dom_model.proofs.Traversal.IteratorsStay.{filter-passes}
 
 -- no number of a list passes the test
 pub none_listed : (p : ℕ → Bool) (ns : List ℕ) (m : ℕ) → list_any p ns ≡ false → 0 < hits m ns → p m ≡ false
 none_listed p [] m e h = absurd (omega arith)
-none_listed p (n ∷ ns) m e h =
-    elim (same_or n m) [
-      | same d t ↦ ap p (sym d) ∙ (first (p n) e)
-      | apart ne t ↦ none_listed p ns m (later (p n) e) (let k = rw t at h in omega arith)
-    ]
-  where
-    first : (v : Bool) → (v || list_any p ns) ≡ false → v ≡ false
-    first true e = absurd (false≢true (sym e))
-    first false e = refl
-
-    later : (v : Bool) → (v || list_any p ns) ≡ false → list_any p ns ≡ false
-    later true e = absurd (false≢true (sym e))
-    later false e = e
+none_listed p (n ∷ ns) m e h = grind (arith, nat_tests, none_listed p ns m, or_parts (p n) (list_any p ns) e)
 
 -- The deepest common ancestor is above both nodes.
-
-first_of_filter : (p : ℕ → Bool) (ns : List ℕ) (x : ℕ) → 0 < hits x ns → p x ≡ true → (y : ℕ) × (head_of (filter p ns) ≡ Some y)
-first_of_filter p [] x h e = absurd (omega arith)
-first_of_filter p (n ∷ ns) x h e = go (p n) refl (first_of_filter p ns x)
-  where
-    go : (v : Bool) → p n ≡ v → (0 < hits x ns → p x ≡ true → (y : ℕ) × (head_of (filter p ns) ≡ Some y)) → (y : ℕ) × (head_of (filter p (n ∷ ns)) ≡ Some y)
-    go true d more = (n, rw d refl)
-    go false d more =
-        elim (same_or n x) [
-          | same s t ↦ absurd (false≢true (sym d ∙ ap p s ∙ e))
-          | apart ne t ↦ (let i = more (let k = rw t at h in omega arith) e in (i.0, rw d i.1))
-        ]
-
-filter-head : (p : ℕ → Bool) (ns : List ℕ) (y : ℕ) → head_of (filter p ns) ≡ Some y → (0 < hits y ns) × (p y ≡ true)
-filter-head p ns y e =
-    let i = filter-passed p ns y (hits-head_of (filter p ns) y e) in
-    (i.1, i.0)
 
 pub common_above : (w : World) → IsSound w → (r : Range) → IsRange w.forest r → (0 < hits (common_of w r) (ancestors r.start.node w.forest)) × (0 < hits (common_of w r) (ancestors r.end.node w.forest))
 common_above w s r h =
@@ -69,8 +25,8 @@ common_above w s r h =
     let v = way f s.forest.once r.start.node hs in
     let in_start = last-hits (ancestors r.start.node f) v.0 v.1 in
     let in_end = last-hits (ancestors r.end.node f) v.0 (sym h.one_root ∙ v.1) in
-    let i = first_of_filter (λ a. among a (ancestors r.end.node f)) (ancestors r.start.node f) v.0 in_start (hits-among v.0 (ancestors r.end.node f) in_end) in
-    let j = filter-head (λ a. among a (ancestors r.end.node f)) (ancestors r.start.node f) i.0 i.1 in
+    let i = first-passes (λ a. among a (ancestors r.end.node f)) (ancestors r.start.node f) v.0 in_start (hits-among v.0 (ancestors r.end.node f) in_end) in
+    let j = filter-passes (λ a. among a (ancestors r.end.node f)) (ancestors r.start.node f) i.0 i.1 in
     let e : common_of w r ≡ i.0 = ap (λ o. unwrap_or o r.start.node) i.1 in
     (subst (λ x. 0 < hits x (ancestors r.start.node f)) (sym e) j.0, subst (λ x. 0 < hits x (ancestors r.end.node f)) (sym e) (among-hits i.0 (ancestors r.end.node f) j.1))
   where
@@ -106,14 +62,12 @@ module _ (moves : Bool) (into : ℕ) (r : Range) (w : World) (s : IsSound w) (ho
   -- a root is on no path
   off_path : (path : List ℕ) (n : ℕ) → path ≡ path_below w.forest p n → 0 < occurs n w.forest → 0 < hits p (ancestors n w.forest) → hits into path ≡ 0
   off_path path n e hn hp =
-      ⊎_elim
-      (λ (lt : 0 < hits into path).
+      let below : 0 < hits into path → ⊥ = λ lt.
       let a = ap (hits into) e in
       let b = hits-reverse into (up_to p (ancestors n w.forest)) in
       let q = below_has_parent w.forest s.forest.once p n into hn hp (omega arith) in
-      absurd (let k : None ≡ Some q.0 = sym holder.root ∙ q.1 in cc k))
-      (λ (le : hits into path ≤ 0). omega arith)
-      (cases_lt 0 (hits into path))
+      cc (holder.root, q.1) in
+      omega arith
 
   child_of : (m : ℕ) → 0 < hits m ns → (parent_of w.forest m ≡ Some p) × (0 < occurs m w.forest)
   child_of m k =
@@ -135,11 +89,7 @@ module _ (moves : Bool) (into : ℕ) (r : Range) (w : World) (s : IsSound w) (ho
       plain_filled w first start_path m one (plain_below w s m p i.0 (doctypes m k))
 
   into_unlisted : hits into ns ≡ 0
-  into_unlisted =
-      ⊎_elim
-      (λ (lt : 0 < hits into ns). absurd (let k : None ≡ Some p = sym holder.root ∙ (child_of into lt).0 in cc k))
-      (λ (le : hits into ns ≤ 0). omega arith)
-      (cases_lt 0 (hits into ns))
+  into_unlisted = grind (arith, child_of into, holder.root)
 
   holder_one : IsHolder first into
   holder_one = holder_filled w first start_path into one holder
@@ -175,10 +125,6 @@ module _ (moves : Bool) (into : ℕ) (r : Range) (w : World) (s : IsSound w) (ho
   pub parts_parent : (m : ℕ) → 0 < occurs m w.forest → parent_of w.forest m ≡ Some p → contained_in w r m ≡ false → parent_of (parts_into moves into r w).forest m ≡ Some p
   parts_parent m k e out =
       let a = parent_after_tail m k e in
-      let unlisted : hits m ns ≡ 0 =
-      ⊎_elim
-      (λ (lt : 0 < hits m ns). absurd (false≢true (sym out ∙ (filter-passed (contained_in w r) (children_of w.forest p) m lt).0)))
-      (λ (le : hits m ns ≤ 0). omega arith)
-      (cases_lt 0 (hits m ns)) in
+      let unlisted : hits m ns ≡ 0 = grind (arith, filter-passed (contained_in w r) (children_of w.forest p) m) in
       let b = two.extends.parents m (one.there m k) unlisted ∙ a in
       three.parents m (two.extends.there m (one.there m k)) (λ u d. let q : p ≡ u = (let x : Some p ≡ Some u = sym b ∙ d in cc x) in subst (λ x. hits x end_path ≡ 0) q (path_without_top w.forest p r.end.node)) ∙ b

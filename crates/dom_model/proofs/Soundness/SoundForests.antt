@@ -1,26 +1,10 @@
 -- A forest stays one as trees are cut, put, made, changed and taken away.
-use Rattle.std.proofs.Common.{◌≡◌, ℕ, suc, ◌<◌, ◌≤◌, true, false, List, [], ◌∷◌, ◌++◌, Option, Some, None, is_some, refl, ap, sym, ◌∙◌, subst, arith, ⊎_elim}
+use Rattle.std.proofs.Common.{◌≡◌, ℕ, suc, ◌<◌, ◌≤◌, true, false, List, [], ◌∷◌, ◌++◌, Option, Some, None, is_some, refl, ap, sym, ◌∙◌, subst, arith, ⊎_elim, Bool}
 use Rattle.std.proofs.lemmas.Bool.{cases_lt, false≢true}
-use Rattle.dom_model.specs.PlainLists.Lists.{hits}
-use Rattle.dom_model.specs.Forests.Arena.{Entry, parent_in}
-use Rattle.dom_model.specs.declared.Kind.{Kind}
-use Rattle.dom_model.specs.declared.Kind.TheVariants.{Element, Text, ProcessingInstruction, Comment, Document, DocumentType, DocumentFragment}
-use Rattle.dom_model.specs.Forests.Kinds.{is_kind, is_character_data, may_be_parent, may_stand_in, may_stand_under}
-use Rattle.dom_model.specs.Forests.Forest.{Node, Forest, empty, node, occurs, one_at, tops, beside, tree_at, without, cut, put, entry_in, parent_of, children_of, IsRising, KindsFit, IsForest}
-use Rattle.dom_model.specs.Worlds.World.{Content}
-use Rattle.dom_model.specs.Forests.Nodes.{entry_has, kind_passes}
-use Rattle.dom_model.specs.Forests.Lies.{Lies}
-use Rattle.dom_model.specs.MutationAlgorithms.Insertable.{may_stand_at}
+use Rattle.dom_model.specs.Definitions.{hits, Entry, parent_in, is_kind, is_character_data, may_be_parent, may_stand_in, may_stand_under, Node, Forest, empty, node, occurs, one_at, tops, beside, tree_at, without, cut, put, entry_in, parent_of, children_of, IsRising, KindsFit, IsForest, Content, entry_has, kind_passes, Lies, may_stand_at}
+use Rattle.dom_model.specs.declared.{Kind.Kind, Kind.TheVariants.Element, Kind.TheVariants.Document, Kind.TheVariants.DocumentType, Kind.TheVariants.DocumentFragment}
 use Rattle.dom_model.proofs.PlainLists.Numbers.{same_or, same, apart}
-use Rattle.dom_model.proofs.Forests.Changes.{seen, nothing, just}
-use Rattle.dom_model.proofs.Forests.Totals.{total-beside, total-tree_at, total-cut, total-put, occurs-without}
-use Rattle.dom_model.proofs.Forests.Tops.{IsRising-from, IsRising-left_out, IsRising-placed_root, tops-beside, tops-without, tops-placed_under, tops-tree_at, hits-tops}
-use Rattle.dom_model.proofs.Forests.Lying.{Lies-without_root}
-use Rattle.dom_model.proofs.Forests.Climbing.{hits-first}
-use Rattle.dom_model.proofs.Forests.Entries.{Lies-entry_in, HasNode-occurs}
-use Rattle.dom_model.proofs.Forests.Indices.{child-parent, child-there}
-use Rattle.dom_model.proofs.Forests.Paths.{parent-path}
-use Rattle.dom_model.proofs.Forests.KindsFitting.{KindsFit-beside, KindsFit-cut, KindsFit-without, KindsFit-under, KindsFit-placed_under}
+use Rattle.dom_model.proofs.Forests.{Changes.seen, Changes.nothing, Changes.just, Totals.total-beside, Totals.total-tree_at, Totals.total-cut, Totals.total-put, Totals.occurs-without, Tops.IsRising-from, Tops.IsRising-left_out, Tops.IsRising-placed_root, Tops.tops-beside, Tops.tops-without, Tops.tops-placed_under, Tops.tops-tree_at, Tops.hits-tops, Lying.Lies-without_root, Climbing.hits-first, Entries.Lies-entry_in, Entries.HasNode-occurs, Indices.child-parent, Indices.child-there, Paths.parent-path, KindsFitting.KindsFit-beside, KindsFitting.KindsFit-cut, KindsFitting.KindsFit-without, KindsFitting.KindsFit-under, KindsFitting.KindsFit-placed_under}
 use Rattle.dom_model.proofs.Worlds.SameShape.{IsAlike, occurs-alike, tops-alike, fits-alike}
 
 abbrev pub IsWood : Forest Content → ℕ → Type 0
@@ -30,41 +14,33 @@ IsWood f made = IsForest {X = Content} (record { forest = f; made = made })
 
 document_kind : (k : Kind) → is_kind k Document ≡ true → may_be_parent k ≡ true
 document_kind Element h = refl
-document_kind Text h = absurd (false≢true h)
-document_kind ProcessingInstruction h = absurd (false≢true h)
-document_kind Comment h = absurd (false≢true h)
 document_kind Document h = refl
-document_kind DocumentType h = absurd (false≢true h)
 document_kind DocumentFragment h = refl
+document_kind k h = absurd (false≢true h)
 
 -- only a node that may be a parent has a child
 pub parent_kind : (parent child : Kind) → may_stand_in parent child ≡ true → may_be_parent parent ≡ true
-parent_kind parent Element h = h
-parent_kind parent Text h = h
-parent_kind parent ProcessingInstruction h = h
-parent_kind parent Comment h = h
 parent_kind parent Document h = absurd (false≢true h)
 parent_kind parent DocumentType h = document_kind parent h
 parent_kind parent DocumentFragment h = absurd (false≢true h)
+parent_kind parent child h = h
 
 -- it has no data, and is no doctype
 pub parent_no_data : (k : Kind) → may_be_parent k ≡ true → is_character_data k ≡ false
 parent_no_data Element h = refl
-parent_no_data Text h = absurd (false≢true h)
-parent_no_data ProcessingInstruction h = absurd (false≢true h)
-parent_no_data Comment h = absurd (false≢true h)
-parent_no_data Document h = refl
-parent_no_data DocumentType h = refl
-parent_no_data DocumentFragment h = refl
+parent_no_data k h = cc
 
 pub parent_no_doctype : (k : Kind) → may_be_parent k ≡ true → is_kind DocumentType k ≡ false
-parent_no_doctype Element h = refl
-parent_no_doctype Text h = refl
-parent_no_doctype ProcessingInstruction h = refl
-parent_no_doctype Comment h = refl
-parent_no_doctype Document h = refl
 parent_no_doctype DocumentType h = absurd (false≢true h)
-parent_no_doctype DocumentFragment h = refl
+parent_no_doctype k h = refl
+
+-- what the kinds tell that pass a test
+pub passes-also : (test other : Kind → Bool) (v : Bool) → ((k : Kind) → test k ≡ true → other k ≡ v) → (f : Forest Content) (n : ℕ) → kind_passes test f n ≡ true → kind_passes other f n ≡ v
+passes-also test other v tells f n h = go (entry_in f n) h
+  where
+    go : (o : Option (Entry (Node Content))) → entry_has test o ≡ true → entry_has other o ≡ v
+    go None k = absurd (false≢true k)
+    go (Some e) k = tells e.value.label.kind k
 
 pub entry_there : (f : Forest Content) (n : ℕ) → 0 < occurs n f → (e : Entry (Node Content)) × (entry_in f n ≡ Some e)
 entry_there f n h =
@@ -74,11 +50,7 @@ entry_there f n h =
     ]
 
 value_same : (d e : Entry (Node Content)) → Some d ≡ Some e → d.value ≡ e.value
-value_same d e i = ap entry_value i
-  where
-    entry_value : Option (Entry (Node Content)) → Node Content
-    entry_value None = d.value
-    entry_value (Some a) = a.value
+value_same d e i = let k : d ≡ e = cc i in ap (λ (x : Entry (Node Content)). x.value) k
 
 fitting : (at : (ℕ → Option (Entry (Node Content)))) (n p : ℕ) (e above : Entry (Node Content)) → at n ≡ Some e → e.parent ≡ Some p → at p ≡ Some above →
     (q : Option ℕ) (k : Option Kind) (f : Forest Content) → Lies at q f → KindsFit k f → (q ≡ Some p → k ≡ Some above.value.label.kind) → 0 < occurs n f → may_stand_in above.value.label.kind e.value.label.kind ≡ true
@@ -177,21 +149,14 @@ module _ {f : Forest Content} {made : ℕ} (s : IsWood f made) where
   IsWood-beside g more m once old new rising kinds =
       record {
         once = λ n. let t = total-beside (one_at n) f g in
-            ⊎_elim
-            (λ (lt : n < made). let z = old n lt in let k = s.once n in omega arith)
-            (λ (le : made ≤ n). let z = s.small n le in let k = once n in omega arith)
-            (cases_lt n made);
+            grind (arith, old n, s.small n, s.once n, once n);
         small = λ n l. let t = total-beside (one_at n) f g in let z = s.small n (omega arith) in let k = new n l in omega arith;
         rising = rw (tops-beside f g) (risen 0 (tops f) (omega arith) s.rising (λ n h. below n h));
         kinds = KindsFit-beside None f g s.kinds kinds;
       }
     where
       below : (n : ℕ) → 0 < hits n (tops f) → n < made
-      below n h =
-          ⊎_elim
-          (λ (lt : n < made). lt)
-          (λ (le : made ≤ n). absurd (let z = s.small n le in let k = hits-tops n f in omega arith))
-          (cases_lt n made)
+      below n h = grind (arith, s.small n, hits-tops n f)
 
       risen : (low : ℕ) (ns : List ℕ) → low ≤ made → IsRising low ns → ((n : ℕ) → 0 < hits n ns → n < made) → IsRising low (ns ++ tops g)
       risen low [] l r h = IsRising-from made low (tops g) l rising

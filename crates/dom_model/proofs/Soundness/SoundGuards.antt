@@ -1,14 +1,9 @@
 -- What the refusals of a command tell of the step that they let through.
-use Rattle.std.proofs.Common.{◌≡◌, ℕ, ◌<◌, Bool, true, false, not, if◌then◌else◌, List, [], ◌∷◌, Option, Some, None, is_none, refl, sym}
-use Rattle.std.proofs.lemmas.Bool.{false≢true}
+use Rattle.std.proofs.Common.{◌≡◌, ℕ, ◌<◌, Bool, true, false, not, if◌then◌else◌, List, [], ◌∷◌, Option, Some, None, is_none, refl, arith}
+use Rattle.std.proofs.lemmas.Bool.{not-false}
+use Rattle.dom_model.specs.Definitions.{Forest, occurs, entry_in, Content, World, Reply, Step, refused, guarded, checked, IsSound}
 use Rattle.dom_model.specs.declared.DomError.{DomError}
-use Rattle.dom_model.specs.Forests.Forest.{Forest, occurs, entry_in}
-use Rattle.dom_model.specs.Worlds.World.{Content, World}
-use Rattle.dom_model.specs.Commands.Reply.{Reply}
-use Rattle.dom_model.specs.Commands.Guards.{Step, refused, guarded, checked}
-use Rattle.dom_model.specs.Soundness.Sound.{IsSound}
-use Rattle.dom_model.proofs.Forests.Changes.{seen, nothing, just}
-use Rattle.dom_model.proofs.Forests.Entries.{occurs-HasNode}
+use Rattle.dom_model.proofs.Forests.Entries.{entry_under-absent}
 use Rattle.dom_model.proofs.Soundness.SoundEditing.{AreClear}
 
 -- a step that is taken where no refusal holds
@@ -25,12 +20,7 @@ sound-checked None w step s k = k refl
 sound-checked (Some e) w step s k = s
 
 pub there_unless : (f : Forest Content) (n : ℕ) → is_none (entry_in f n) ≡ false → 0 < occurs n f
-there_unless f n h =
-    elim (seen (entry_in f n)) [
-      | nothing e ↦ absurd (let k = rw e at h in false≢true (sym k))
-      | just a e ↦ occurs-HasNode f n (rw e refl)
-    ]
+there_unless f n h = grind (arith, entry_under-absent None n f)
 
 pub passes_unless : (v : Bool) → not v ≡ false → v ≡ true
-passes_unless true h = refl
-passes_unless false h = absurd (false≢true (sym h))
+passes_unless = not-false

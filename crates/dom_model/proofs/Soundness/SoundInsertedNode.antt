@@ -1,47 +1,15 @@
 -- Inserting a node into a live range leaves a sound world. DOM Standard, "Interface Range": insert.
-use Rattle.std.proofs.Common.{◌≡◌, ℕ, ◌<◌, ◌≤◌, ◌==◌, Bool, true, false, ◌&&◌, ◌||◌, if◌then◌else◌, List, [], ◌∷◌, length, Option, Some, None, is_none, unwrap_or, slice_get, option_map, Ok, refl, ap, sym, ◌∙◌, subst, arith, ⊎_elim}
-use Rattle.std.proofs.lemmas.Bool.{cases_lt, false≢true, lt-ltb, le-ltb, or_parts}
-use Rattle.dom_model.specs.declared.Kind.{Kind}
-use Rattle.dom_model.specs.declared.Kind.TheVariants.{Element, Text, ProcessingInstruction, Comment, Document, DocumentType, DocumentFragment}
-use Rattle.dom_model.specs.declared.DomError.TheVariants.{HierarchyRequestError}
-use Rattle.dom_model.specs.PlainLists.Lists.{hits, among, place_in}
-use Rattle.dom_model.specs.Forests.Arena.{Entry}
-use Rattle.dom_model.specs.Forests.Kinds.{is_kind, is_character_data}
-use Rattle.dom_model.specs.Forests.Forest.{Node, Forest, occurs, cut, entry_in, parent_of, children_of, ancestors, index_of, inclusive_descendants}
-use Rattle.dom_model.specs.Worlds.World.{Content, Point, Range, World}
-use Rattle.dom_model.specs.BoundaryPoints.Points.{moved_range}
-use Rattle.dom_model.specs.MutationAlgorithms.Checks.{check_insert}
-use Rattle.dom_model.specs.Forests.Nodes.{entry_has, kind_passes, is_of_kind}
-use Rattle.dom_model.specs.MutationAlgorithms.Editing.{remove, reference_child}
-use Rattle.dom_model.specs.RangesAndContents.Ranges.{range_at}
-use Rattle.dom_model.specs.DataAndCopies.Data.{data_of, split}
-use Rattle.dom_model.specs.RangesAndContents.Contents.{for_range}
-use Rattle.dom_model.specs.RangesAndContents.Wrapping.{and_then, unless, is_text, reference_at, parent_by, parent_at, check_start, split_at, reference_after, placed_at, inserted_at, insert_node}
-use Rattle.dom_model.specs.Soundness.Sound.{IsBoundary, IsRange, IsSound}
-use Rattle.dom_model.proofs.PlainLists.Numbers.{same_or, same, apart}
-use Rattle.dom_model.proofs.Forests.Changes.{seen, nothing, just}
-use Rattle.dom_model.proofs.Forests.Entries.{occurs-HasNode}
-use Rattle.dom_model.proofs.Forests.Paths.{parent-path}
-use Rattle.dom_model.proofs.Forests.Indices.{child-listed, child-once, child-parent, index-child, index-cut}
+use Rattle.std.proofs.Common.{◌≡◌, ℕ, ◌<◌, ◌≤◌, ◌==◌, Bool, true, false, ◌&&◌, ◌||◌, List, [], ◌∷◌, length, Option, Some, None, is_none, unwrap_or, slice_get, option_map, Ok, refl, ap, sym, ◌∙◌, subst, arith}
+use Rattle.std.proofs.lemmas.{Bool.false≢true, Bool.or_parts, Bool.Decides.nat_tests, Bool.cond-true, Bool.cond-false, Bool.ne_eqb}
+use Rattle.dom_model.specs.Definitions.{hits, among, place_in, Entry, is_kind, is_character_data, Node, Forest, occurs, cut, entry_in, parent_of, children_of, ancestors, index_of, inclusive_descendants, Content, Point, Range, World, moved_range, check_insert, entry_has, kind_passes, is_of_kind, remove, reference_child, range_at, data_of, split, for_range, and_then, unless, is_text, reference_at, parent_by, parent_at, check_start, split_at, reference_after, placed_at, inserted_at, insert_node, IsBoundary, IsRange, IsSound}
+use Rattle.dom_model.specs.declared.{Kind.Kind, Kind.TheVariants.Element, Kind.TheVariants.Text, Kind.TheVariants.ProcessingInstruction, Kind.TheVariants.Comment, DomError.TheVariants.HierarchyRequestError}
 use Rattle.dom_model.proofs.PlainLists.Places.{place_before}
-use Rattle.dom_model.proofs.Forests.Chains.{place-apart}
-use Rattle.dom_model.proofs.Forests.Listed.{hits-other}
+use Rattle.dom_model.proofs.Forests.{Changes.seen, Changes.nothing, Changes.just, Entries.occurs-HasNode, Paths.parent-path, Indices.child-listed, Indices.child-once, Indices.child-parent, Indices.index-child, Indices.index-cut, Chains.place-apart, Listed.hits-other}
 use Rattle.dom_model.proofs.Worlds.Measured.{length-parent}
-use Rattle.dom_model.proofs.Soundness.SoundForests.{data-childless}
-use Rattle.dom_model.proofs.Soundness.SoundWorlds.{IsLive, child_there}
+use Rattle.dom_model.proofs.Soundness.{SoundForests.data-childless, SoundWorlds.IsLive, SoundWorlds.child_there, SoundData.length-data, SoundSplitting.text_has_data, SoundSplitting.sound-split, SoundEditing.clear, SoundPaths.may_hold_other, SoundDrawing.new_apart, SoundRangeSteps.live_range, SoundPlacedNode.Gives, SoundPlacedNode.gives-unless, SoundPlacedNode.gives-after, SoundPlacedNode.StartsAhead, SoundPlacedNode.placed-next}
 use Rattle.dom_model.proofs.MutationAlgorithms.Loosened.{forest-remove, parent-remove}
-use Rattle.dom_model.proofs.Soundness.SoundData.{length-data}
-use Rattle.dom_model.proofs.Soundness.SoundSplitting.{text_has_data, sound-split}
-use Rattle.dom_model.proofs.BoundaryPoints.SplitEnds.{IsParted, split_parts, keeps_split}
-use Rattle.dom_model.proofs.Soundness.SoundEditing.{clear}
-use Rattle.dom_model.proofs.Soundness.SoundPaths.{may_hold_other}
-use Rattle.dom_model.proofs.Soundness.SoundDrawing.{new_apart}
-use Rattle.dom_model.proofs.Soundness.SoundRangeSteps.{live_range}
-use Rattle.dom_model.proofs.BoundaryPoints.MovedPoints.{KeepsPoint, range_at-moved, leaves_by}
-use Rattle.dom_model.proofs.BoundaryPoints.GapsKept.{position, ahead}
-use Rattle.dom_model.proofs.RangesAndContents.EndsGrown.{boundary_ahead}
-use Rattle.dom_model.proofs.Soundness.SoundPlacedNode.{Gives, gives-unless, gives-after, StartsAhead, placed-next}
-use Rattle.dom_model.proofs.RangesAndContents.StartsAhead.{from_child, outside_before, got_place, start_left, outside_removed, starts_at_child}
+use Rattle.dom_model.proofs.BoundaryPoints.{SplitEnds.IsParted, SplitEnds.split_parts, SplitEnds.keeps_split, MovedPoints.KeepsPoint, MovedPoints.range_at-moved, MovedPoints.leaves_by, GapsKept.position, GapsKept.ahead}
+use Rattle.dom_model.proofs.RangesAndContents.{EndsGrown.boundary_ahead, StartsAhead.from_child, StartsAhead.outside_before, StartsAhead.got_place, StartsAhead.start_left, StartsAhead.outside_removed, StartsAhead.starts_at_child}
 
 -- The start stands in a Text, which is split: the node comes in before the new Text.
 module _ (r n parent : ℕ) (w : World) (range : Range) (s : IsSound w) (hn : 0 < occurs n w.forest) (e : range_at w r ≡ Some range) (h : IsRange w.forest range) (text : is_of_kind Text w.forest range.start.node ≡ true) (par : parent_of w.forest range.start.node ≡ Some parent) (other : range.start.node ≡ n → ⊥) where
@@ -87,27 +55,14 @@ module _ (r n parent : ℕ) (w : World) (range : Range) (s : IsSound w) (hn : 0 
 
   index_less : index_of (cut n apart_world.forest) p.node < index_of (cut n apart_world.forest) w.made
   index_less =
-      let far_text : (p.node == n) ≡ false = elim (same_or p.node n) [ same d t ↦ absurd (other d) | apart _ t ↦ t ] in
-      let far_new : (w.made == n) ≡ false = elim (same_or w.made n) [ same d t ↦ absurd (new_other d) | apart _ t ↦ t ] in
+      let far_text : (p.node == n) ≡ false = ne_eqb p.node n other in
+      let far_new : (w.made == n) ≡ false = ne_eqb w.made n new_other in
       let a = index-cut apart_world.forest sound_apart.forest.once n p.node parent far_text parts.parent_text in
       let b = index-cut apart_world.forest sound_apart.forest.once n w.made parent far_new parts.parent_new in
       let c = index-child apart_world.forest p.node parent parts.parent_text in
       let d = parts.next in
       let ne : place_in n ns ≡ index_of apart_world.forest p.node → ⊥ = λ x. elsewhere (x ∙ c) in
-      ⊎_elim
-      (λ (lt : place_in n ns < index_of apart_world.forest p.node).
-      let a2 = rw (lt-ltb (place_in n ns) (index_of apart_world.forest p.node) lt) at a in
-      let b2 = rw (lt-ltb (place_in n ns) (index_of apart_world.forest w.made) (omega arith)) at b in
-      omega arith)
-      (λ (le : index_of apart_world.forest p.node ≤ place_in n ns).
-      ⊎_elim
-      (λ (later : index_of apart_world.forest p.node < place_in n ns).
-      let a2 = rw (le-ltb (place_in n ns) (index_of apart_world.forest p.node) le) at a in
-      let b2 = rw (le-ltb (place_in n ns) (index_of apart_world.forest w.made) (omega arith)) at b in
-      omega arith)
-      (λ (here : place_in n ns ≤ index_of apart_world.forest p.node). absurd (ne (omega arith)))
-      (cases_lt (index_of apart_world.forest p.node) (place_in n ns)))
-      (cases_lt (place_in n ns) (index_of apart_world.forest p.node))
+      grind (arith, nat_tests)
 
   pub starts_at_text : StartsAhead r n parent (reference_child apart_world n (Some w.made)) (remove false n apart_world)
   starts_at_text so root k range_out d ho =
@@ -119,9 +74,9 @@ module _ (r n parent : ℕ) (w : World) (range : Range) (s : IsSound w) (hn : 0 
       let above = outside_before apart_world.forest sound_apart.forest.once n parent hp2.0 (subst (λ (g : Forest Content). hits n (ancestors parent g) ≡ 0) f k.outside) in
       let outside : hits n (ancestors p.node apart_world.forest) ≡ 0 = ap (hits n) hp2.1 ∙ hits-other n p.node (ancestors parent apart_world.forest) other ∙ above in
       let q = start_left r n apart_world (moved_range keeps.by.moves range) range_out range_apart d ∙ ap (leaves_by (parent_of apart_world.forest n) apart_world n) keeps.kept ∙ stays (parent_of apart_world.forest n) refl (outside_removed apart_world sound_apart n p.node ht2 outside) in
-      let par_out : parent_of out.forest p.node ≡ Some parent = parent-remove false n apart_world sound_apart ha p.node ∙ (elim (same_or p.node n) [ same x t ↦ absurd (other x) | apart _ t ↦ rw t parts.parent_text ]) in
-      let par_new : parent_of out.forest w.made ≡ Some parent = parent-remove false n apart_world sound_apart ha w.made ∙ (elim (same_or w.made n) [ same x t ↦ absurd (new_other x) | apart _ t ↦ rw t parts.parent_new ]) in
-      let ref_is : reference_child apart_world n (Some w.made) ≡ Some w.made = elim (same_or w.made n) [ same x t ↦ absurd (new_other x) | apart _ t ↦ rw t refl ] in
+      let par_out : parent_of out.forest p.node ≡ Some parent = parent-remove false n apart_world sound_apart ha p.node ∙ (rw (ne_eqb p.node n other) parts.parent_text) in
+      let par_new : parent_of out.forest w.made ≡ Some parent = parent-remove false n apart_world sound_apart ha w.made ∙ (rw (ne_eqb w.made n new_other) parts.parent_new) in
+      let ref_is : reference_child apart_world n (Some w.made) ≡ Some w.made = (rw (ne_eqb w.made n new_other) refl) in
       let place_is : position n parent (reference_child apart_world n (Some w.made)) out so root k ≡ index_of out.forest w.made = ap (λ b. place_before b (children_of out.forest parent)) ref_is ∙ sym (index-child out.forest w.made parent par_new) in
       let less : index_of out.forest p.node < index_of out.forest w.made = subst (λ (g : Forest Content). index_of g p.node < index_of g w.made) (sym f) index_less in
       subst (λ x. IsRange out.forest (record { start = x; end = ahead n parent (reference_child apart_world n (Some w.made)) out so root k })) (sym q)
@@ -132,29 +87,15 @@ module _ (r n parent : ℕ) (w : World) (range : Range) (s : IsSound w) (hn : 0 
 
       not_parent : (u : ℕ) → parent_of apart_world.forest n ≡ Some u → (p.node == u) ≡ false
       not_parent u i =
-          elim (same_or p.node u) [
-            | same x t ↦ absurd (let j = child-listed apart_world.forest sound_apart.forest.once n u (child_there apart_world.forest n u i) i in let l = rw (ap (children_of apart_world.forest) (sym x) ∙ bare) at j in omega arith)
-            | apart _ t ↦ t
-          ]
+          grind (arith, nat_tests, child-listed apart_world.forest sound_apart.forest.once n u (child_there apart_world.forest n u i) i, ap (hits n) bare)
 
       stays : (o : Option ℕ) → parent_of apart_world.forest n ≡ o → among p.node (inclusive_descendants apart_world.forest n) ≡ false → leaves_by o apart_world n p ≡ p
       stays None i a = refl
       stays (Some u) i a = rw (a, not_parent u i) refl
 
-if_true : {A : Type 0} (v : Bool) (a b : A) → v ≡ true → (if v then a else b) ≡ a
-if_true v a b e = rw e refl
-
-if_false : {A : Type 0} (v : Bool) (a b : A) → v ≡ false → (if v then a else b) ≡ b
-if_false v a b e = rw e refl
-
 no_data_kind : (k : Kind) → is_kind Text k ≡ false → is_kind ProcessingInstruction k ≡ false → is_kind Comment k ≡ false → is_character_data k ≡ false
 no_data_kind Element t i c = refl
-no_data_kind Text t i c = absurd (false≢true (sym t))
-no_data_kind ProcessingInstruction t i c = absurd (false≢true (sym i))
-no_data_kind Comment t i c = absurd (false≢true (sym c))
-no_data_kind Document t i c = refl
-no_data_kind DocumentType t i c = refl
-no_data_kind DocumentFragment t i c = refl
+no_data_kind k t i c = cc
 
 no_data : (f : Forest Content) (n : ℕ) → is_of_kind Text f n ≡ false → is_of_kind ProcessingInstruction f n ≡ false → is_of_kind Comment f n ≡ false → kind_passes is_character_data f n ≡ false
 no_data f n t i c = go (entry_in f n) t i c
@@ -177,13 +118,13 @@ inserted-next r n w range s hn e h =
     p = range.start
 
     other : (p.node == n) ≡ false → p.node ≡ n → ⊥
-    other t d = elim (same_or p.node n) [ same _ u ↦ false≢true (sym t ∙ u) | apart ne u ↦ ne d ]
+    other t d = grind (arith, nat_tests)
 
     in_text : is_text w p.node ≡ true → (parent : ℕ) → parent_of w.forest p.node ≡ Some parent → (p.node ≡ n → ⊥) → Gives w (placed_at r n (parent_at w p) (reference_child (split_at p w) n (reference_after w p)) (split_at p w))
     in_text t parent i ne =
-        let a : split_at p w ≡ split p.node p.offset w = if_true (is_text w p.node) (split p.node p.offset w) w t in
-        let b : reference_after w p ≡ Some w.made = if_true (is_text w p.node) (Some w.made) (reference_at w p) t in
-        let c : reference_at w p ≡ Some p.node = if_true (is_text w p.node) (Some p.node) (slice_get (children_of w.forest p.node) p.offset) t in
+        let a : split_at p w ≡ split p.node p.offset w = cond-true (is_text w p.node) (split p.node p.offset w) w t in
+        let b : reference_after w p ≡ Some w.made = cond-true (is_text w p.node) (Some w.made) (reference_at w p) t in
+        let c : reference_at w p ≡ Some p.node = cond-true (is_text w p.node) (Some p.node) (slice_get (children_of w.forest p.node) p.offset) t in
         let d : parent_at w p ≡ parent = ap (parent_by w p) c ∙ ap (λ o. unwrap_or o p.node) i in
         let v = split p.node p.offset w in
         let next = placed-next r n parent (reference_child v n (Some w.made)) v (sound_apart r n parent w range s hn e h t i ne) (there_apart r n parent w range s hn e h t i ne n hn) (starts_at_text r n parent w range s hn e h t i ne) in
@@ -195,9 +136,9 @@ inserted-next r n w range s hn e h =
     at_child : is_text w p.node ≡ false → (is_of_kind ProcessingInstruction w.forest p.node || is_of_kind Comment w.forest p.node) ≡ false → Gives w (placed_at r n (parent_at w p) (reference_child (split_at p w) n (reference_after w p)) (split_at p w))
     at_child t x =
         let got = slice_get (children_of w.forest p.node) p.offset in
-        let a : split_at p w ≡ w = if_false (is_text w p.node) (split p.node p.offset w) w t in
-        let c : reference_at w p ≡ got = if_false (is_text w p.node) (Some p.node) got t in
-        let b : reference_after w p ≡ got = if_false (is_text w p.node) (Some w.made) (reference_at w p) t ∙ c in
+        let a : split_at p w ≡ w = cond-false (is_text w p.node) (split p.node p.offset w) w t in
+        let c : reference_at w p ≡ got = cond-false (is_text w p.node) (Some p.node) got t in
+        let b : reference_after w p ≡ got = cond-false (is_text w p.node) (Some w.made) (reference_at w p) t ∙ c in
         let d : parent_at w p ≡ p.node = ap (parent_by w p) c ∙ parent_is got refl in
         let y = or_parts (is_of_kind ProcessingInstruction w.forest p.node) (is_of_kind Comment w.forest p.node) x in
         let hp = occurs-HasNode w.forest p.node h.starts.there in

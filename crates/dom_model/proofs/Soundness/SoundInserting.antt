@@ -1,64 +1,33 @@
 -- An insertion leaves a sound world. DOM Standard, "Mutation algorithms": insert, pre-insert, append.
-use Rattle.std.proofs.Common.{◌≡◌, ℕ, ◌<◌, ◌≤◌, Bool, true, false, not, ◌&&◌, if◌then◌else◌, List, [], ◌∷◌, ◌++◌, length, Option, Some, None, IfSome, refl, ap, sym, ◌∙◌, subst, arith, ⊎_elim}
-use Rattle.std.proofs.lemmas.Bool.{cases_lt, false≢true}
-use Rattle.dom_model.specs.declared.Kind.{Kind}
-use Rattle.dom_model.specs.declared.Kind.TheVariants.{Element, Text, ProcessingInstruction, Comment, Document, DocumentType, DocumentFragment}
-use Rattle.dom_model.specs.PlainLists.Lists.{hits}
-use Rattle.dom_model.specs.Forests.Kinds.{is_kind, may_be_parent, may_stand_in}
-use Rattle.dom_model.specs.Forests.Forest.{Forest, occurs, parent_of, children_of, ancestors}
-use Rattle.dom_model.specs.Worlds.World.{Content, World}
-use Rattle.dom_model.specs.Forests.Nodes.{is_of_kind}
-use Rattle.dom_model.specs.MutationAlgorithms.Editing.{remove, remove_all, is_fragment, nodes_of, emptied_fragment, freed, put_all, gap_before, previous_to, insert_all, insert_nodes, insert}
-use Rattle.dom_model.specs.Soundness.Sound.{IsSound}
-use Rattle.dom_model.specs.MutationAlgorithms.Insertable.{may_stand_at, IsPlaceable, ArePlaceable, IsChildOf, IsInsertable}
-use Rattle.dom_model.proofs.PlainLists.Numbers.{same_or, same, apart}
-use Rattle.dom_model.proofs.Forests.Climbing.{hits-append, ancestors-there}
-use Rattle.dom_model.proofs.Forests.Paths.{parent-path}
-use Rattle.dom_model.proofs.Forests.Indices.{child-parent, child-once, child-there}
+use Rattle.std.proofs.Common.{◌≡◌, ℕ, ◌<◌, ◌≤◌, Bool, true, false, not, ◌&&◌, List, [], ◌∷◌, ◌++◌, length, Option, Some, None, IfSome, refl, ap, sym, ◌∙◌, subst, arith}
+use Rattle.std.proofs.lemmas.{Bool.false≢true, Bool.cond-true, Bool.cond-false, Bool.eq-eqb, Bool.ne_eqb, Bool.Decides.nat_tests}
+use Rattle.dom_model.specs.Definitions.{hits, is_kind, may_be_parent, may_stand_in, Forest, occurs, parent_of, children_of, ancestors, Content, World, is_of_kind, remove, remove_all, is_fragment, nodes_of, emptied_fragment, freed, put_all, gap_before, previous_to, insert_all, insert_nodes, insert, IsSound, may_stand_at, IsPlaceable, ArePlaceable, IsChildOf, IsInsertable}
+use Rattle.dom_model.specs.declared.{Kind.Kind, Kind.TheVariants.Element, Kind.TheVariants.Document, Kind.TheVariants.DocumentType, Kind.TheVariants.DocumentFragment}
+use Rattle.dom_model.proofs.Forests.{Climbing.hits-append, Climbing.ancestors-there, Paths.parent-path, Indices.child-parent, Indices.child-once, Indices.child-there, Listed.hits-itself}
 use Rattle.dom_model.proofs.BoundaryPoints.RemovalOrder.{ancestors-split}
-use Rattle.dom_model.proofs.Soundness.SoundForests.{IsWood, entry_there, child-fits}
-use Rattle.dom_model.proofs.Soundness.SoundWorlds.{child_there, sound-record_unless, sound-tree_record, sound-remove, sound-remove_all}
+use Rattle.dom_model.proofs.Soundness.{SoundForests.IsWood, SoundForests.entry_there, SoundForests.child-fits, SoundWorlds.child_there, SoundWorlds.sound-record_unless, SoundWorlds.sound-tree_record, SoundWorlds.sound-remove, SoundWorlds.sound-remove_all, SoundPlacing.fits-kept, SoundPlacing.sound-put_all}
 use Rattle.dom_model.proofs.MutationAlgorithms.Loosened.{loosened-remove, parent-remove, loosened-remove_all, parent-remove_all, root-remove_all}
-use Rattle.dom_model.proofs.Soundness.SoundPlacing.{fits-kept, sound-put_all}
 
 -- Kinds.
 
 document_of : (k : Kind) → not (is_kind Document k) ≡ false → is_kind k Document ≡ true
-document_of Element h = absurd (false≢true (sym h))
-document_of Text h = absurd (false≢true (sym h))
-document_of ProcessingInstruction h = absurd (false≢true (sym h))
-document_of Comment h = absurd (false≢true (sym h))
 document_of Document h = refl
-document_of DocumentType h = absurd (false≢true (sym h))
-document_of DocumentFragment h = absurd (false≢true (sym h))
+document_of k h = absurd (false≢true (sym h))
 
 stands : (parent k : Kind) → may_be_parent parent ≡ true → is_kind Document k ≡ false → is_kind DocumentFragment k ≡ false → (is_kind DocumentType k && not (is_kind Document parent)) ≡ false → may_stand_in parent k ≡ true
-stands parent Element p d g t = p
-stands parent Text p d g t = p
-stands parent ProcessingInstruction p d g t = p
-stands parent Comment p d g t = p
 stands parent Document p d g t = absurd (false≢true (sym d))
 stands parent DocumentType p d g t = document_of parent t
 stands parent DocumentFragment p d g t = absurd (false≢true (sym g))
+stands parent k p d g t = p
 
 fragment_kind : (k : Kind) → is_kind DocumentFragment k ≡ true → k ≡ DocumentFragment
-fragment_kind Element h = absurd (false≢true h)
-fragment_kind Text h = absurd (false≢true h)
-fragment_kind ProcessingInstruction h = absurd (false≢true h)
-fragment_kind Comment h = absurd (false≢true h)
-fragment_kind Document h = absurd (false≢true h)
-fragment_kind DocumentType h = absurd (false≢true h)
 fragment_kind DocumentFragment h = refl
+fragment_kind k h = absurd (false≢true h)
 
 -- what stands in a fragment may stand wherever there may be children
 stands_too : (parent k : Kind) → may_be_parent parent ≡ true → may_stand_in DocumentFragment k ≡ true → may_stand_in parent k ≡ true
 stands_too parent Element p h = p
-stands_too parent Text p h = p
-stands_too parent ProcessingInstruction p h = p
-stands_too parent Comment p h = p
-stands_too parent Document p h = absurd (false≢true h)
-stands_too parent DocumentType p h = absurd (false≢true h)
-stands_too parent DocumentFragment p h = absurd (false≢true h)
+stands_too parent k p h = cc
 
 module _ {f : Forest Content} {made : ℕ} (s : IsWood f made) (n parent : ℕ) (child : Option ℕ) (k : IsInsertable f n parent child) where
   fits_alone : is_of_kind DocumentFragment f n ≡ false → may_stand_at f parent n ≡ true
@@ -86,43 +55,28 @@ module _ {f : Forest Content} {made : ℕ} (s : IsWood f made) (n parent : ℕ) 
   -- no child of the node is above the parent
   pub child_outside : (m : ℕ) → parent_of f m ≡ Some n → hits m (ancestors parent f) ≡ 0
   child_outside m e =
-      ⊎_elim
-      (λ (lt : 0 < hits m (ancestors parent f)).
+      let above : 0 < hits m (ancestors parent f) → ⊥ = λ lt.
       let i = ancestors-split f s.once m parent k.parent_there lt in
       let j = parent-path f s.once m n (child_there f m n e) e in
       let a = ancestors-there n f j.0 in
       let count = ap (hits n) (i.1 ∙ ap (λ ns. i.0 ++ ns) (j.1 ∙ ap (λ ns. m ∷ ns) a.1)) ∙ hits-append n i.0 (m ∷ n ∷ a.0) in
-      let o = k.outside in
-      absurd (elim (same_or n n) [ same _ t ↦ (let c2 = rw t at count in omega arith) | apart ne t ↦ ne refl ]))
-      (λ (le : hits m (ancestors parent f) ≤ 0). omega arith)
-      (cases_lt 0 (hits m (ancestors parent f)))
+      grind (arith, nat_tests, k.outside) in
+      omega arith
 
   -- nor is what it comes in before a child of it
   before_apart : (c : ℕ) → child ≡ Some c → hits c (children_of f n) ≡ 0
   before_apart c e =
-      ⊎_elim
-      (λ (lt : 0 < hits c (children_of f n)).
-      let p = child-parent f s.once c n lt in
       let q : parent_of f c ≡ Some parent = subst (λ o. IsChildOf f parent o) e k.before_child in
-      let same_parent : parent ≡ n = (let u : Some parent ≡ Some n = sym q ∙ p in cc u) in
       let a = ancestors-there parent f k.parent_there in
-      let o = k.outside in
-      let i : hits n (parent ∷ a.0) ≡ 0 = ap (hits n) (sym a.1) ∙ o in
-      absurd (elim (same_or parent n) [ same _ t ↦ (let j = rw t at i in omega arith) | apart ne t ↦ ne same_parent ]))
-      (λ (le : hits c (children_of f n) ≤ 0). omega arith)
-      (cases_lt 0 (hits c (children_of f n)))
+      let i : hits n (parent ∷ a.0) ≡ 0 = ap (hits n) (sym a.1) ∙ k.outside in
+      grind (arith, nat_tests, child-parent f s.once c n)
 
 ArePlaceable-from : (g : Forest Content) (parent : ℕ) (ns : List ℕ) → ((m : ℕ) → hits m ns ≤ 1) → ((m : ℕ) → 0 < hits m ns → IsPlaceable g parent m) → ArePlaceable g parent ns
 ArePlaceable-from g parent [] once each = tt
 ArePlaceable-from g parent (n ∷ ns) once each =
-    elim (same_or n n) [
-      | same e t ↦
-          let here : 0 < hits n (n ∷ ns) = rw t (omega arith) in
-          let o = once n in
-          let o2 = rw t at o in
-          (each n here, (omega arith), ArePlaceable-from g parent ns (λ m. let i = once m in omega arith) (λ m k. each m (omega arith)))
-      | apart ne t ↦ absurd (ne refl)
-    ]
+    let o = once n in
+    let i = hits-itself n ns in
+    (each n (omega arith), omega arith, ArePlaceable-from g parent ns (λ m. let i = once m in omega arith) (λ m k. each m (omega arith)))
 
 -- what is ready to be put in
 pub record IsReady (v : World) (parent : ℕ) (child : Option ℕ) (nodes : List ℕ) : Type 0 where
@@ -141,7 +95,7 @@ ready_alone n parent child w s k g =
       placeable = (
         record {
           there = subst (λ x. 0 < x) (sym (a.numbers n)) k.there;
-          root = parent-remove false n w s k.there n ∙ (elim (same_or n n) [ same e t ↦ rw t refl | apart ne t ↦ absurd (ne refl) ]);
+          root = parent-remove false n w s k.there n ∙ (rw (eq-eqb n n refl) refl);
           outside = let i = a.paths n parent k.parent_there in let j = k.outside in omega arith;
           fits = fits-kept w.forest v.forest a.kinds parent n ∙ fits_alone s.forest n parent child k g;
         },
@@ -153,7 +107,7 @@ ready_alone n parent child w s k g =
   where
     kept : (b : Option ℕ) → IsChildOf w.forest parent b → IfSome b (λ c. c ≡ n → ⊥) → IsChildOf (remove false n w).forest parent b
     kept None c ne = tt
-    kept (Some d) c ne = parent-remove false n w s k.there d ∙ (elim (same_or d n) [ same e t ↦ absurd (ne e) | apart _ t ↦ rw t c ])
+    kept (Some d) c ne = parent-remove false n w s k.there d ∙ (rw (ne_eqb d n ne) c)
 
 ready_children : (n parent : ℕ) (child : Option ℕ) (w : World) → IsSound w → IsInsertable w.forest n parent child → is_fragment w n ≡ true → IsReady (remove_all (children_of w.forest n) w) parent child (children_of w.forest n)
 ready_children n parent child w s k g =
@@ -184,25 +138,19 @@ sound-insert_all suppressed parent child nodes v r =
     sound-record_unless suppressed parent nodes [] (previous_to v.forest parent child) child (put_all parent child nodes (gap_before parent child (length nodes) v))
     (sound-put_all parent child nodes v r.sound r.parent_there r.placeable r.before_child)
 
-if_true : {A : Type 0} (v : Bool) (a b : A) → v ≡ true → (if v then a else b) ≡ a
-if_true v a b e = rw e refl
-
-if_false : {A : Type 0} (v : Bool) (a b : A) → v ≡ false → (if v then a else b) ≡ b
-if_false v a b e = rw e refl
-
 -- the nodes have left where they stood
 pub freed_ready : (n parent : ℕ) (child : Option ℕ) (w : World) → IsSound w → IsInsertable w.forest n parent child → IsReady (freed n (nodes_of w n) w) parent child (nodes_of w n)
 freed_ready n parent child w s k = go (is_fragment w n) refl
   where
     go : (v : Bool) → is_fragment w n ≡ v → IsReady (freed n (nodes_of w n) w) parent child (nodes_of w n)
     go false g =
-        let e : nodes_of w n ≡ n ∷ [] = if_false (is_fragment w n) (children_of w.forest n) (n ∷ []) g in
-        let d : freed n (n ∷ []) w ≡ remove false n w = if_false (is_fragment w n) (emptied_fragment n (n ∷ []) w) (remove false n w) g in
+        let e : nodes_of w n ≡ n ∷ [] = cond-false (is_fragment w n) (children_of w.forest n) (n ∷ []) g in
+        let d : freed n (n ∷ []) w ≡ remove false n w = cond-false (is_fragment w n) (emptied_fragment n (n ∷ []) w) (remove false n w) g in
         subst (λ ns. IsReady (freed n ns w) parent child ns) (sym e) (subst (λ v. IsReady v parent child (n ∷ [])) (sym d) (ready_alone n parent child w s k g))
     go true g =
         let ns = children_of w.forest n in
-        let e : nodes_of w n ≡ ns = if_true (is_fragment w n) ns (n ∷ []) g in
-        let d : freed n ns w ≡ emptied_fragment n ns w = if_true (is_fragment w n) (emptied_fragment n ns w) (remove false n w) g in
+        let e : nodes_of w n ≡ ns = cond-true (is_fragment w n) ns (n ∷ []) g in
+        let d : freed n ns w ≡ emptied_fragment n ns w = cond-true (is_fragment w n) (emptied_fragment n ns w) (remove false n w) g in
         let r = ready_children n parent child w s k g in
         subst (λ ms. IsReady (freed n ms w) parent child ms) (sym e)
         (subst (λ v. IsReady v parent child ns) (sym d)

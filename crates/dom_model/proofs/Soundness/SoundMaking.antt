@@ -1,22 +1,11 @@
 -- New trees leave a sound world: a node that is made, and the copies of a tree. DOM Standard, "Interface Document", "Interface Node" (clone).
-use Rattle.std.proofs.Common.{◌≡◌, ℕ, suc, ◌+◌, ◌<◌, ◌≤◌, Bool, true, false, Option, Some, None, refl, arith, ⊎_elim}
-use Rattle.std.proofs.lemmas.Bool.{cases_lt}
+use Rattle.std.proofs.Common.{◌≡◌, ℕ, suc, ◌+◌, ◌<◌, ◌≤◌, Bool, true, false, Option, Some, None, refl, arith}
+use Rattle.std.proofs.lemmas.Bool.Decides.{nat_tests}
+use Rattle.dom_model.specs.Definitions.{Label, Node, Forest, empty, node, occurs, one_at, size, tops, beside, tree_at, entry_in, HasNode, IsRising, KindsFit, Content, Iterator, World, made_node, renumbered, alone_of, original, with_copies, document_of_clone, clone_node, import_node, IsIterator, IsSound}
 use Rattle.dom_model.specs.declared.Kind.{Kind}
-use Rattle.dom_model.specs.Forests.Kinds.{Label}
-use Rattle.dom_model.specs.Forests.Forest.{Node, Forest, empty, node, occurs, one_at, size, tops, beside, tree_at, entry_in, HasNode, IsRising, KindsFit}
-use Rattle.dom_model.specs.Worlds.World.{Content, Iterator, World}
-use Rattle.dom_model.specs.Worlds.Making.{made_node}
-use Rattle.dom_model.specs.DataAndCopies.Clones.{renumbered, alone_of, original, with_copies, document_of_clone, clone_node, import_node}
-use Rattle.dom_model.specs.Soundness.Sound.{IsIterator, IsSound}
-use Rattle.dom_model.proofs.PlainLists.Numbers.{same_or, same, apart}
-use Rattle.dom_model.proofs.Forests.Totals.{total-beside, total-tree_at}
-use Rattle.dom_model.proofs.Forests.Entries.{HasNode-occurs, occurs-HasNode}
-use Rattle.dom_model.proofs.Forests.TreeOrder.Flattened.{hits-numbers}
-use Rattle.dom_model.proofs.Forests.KindsFitting.{KindsFit-root}
-use Rattle.dom_model.proofs.Soundness.SoundForests.{IsWood, IsWood-beside}
-use Rattle.dom_model.proofs.Worlds.Measured.{entry-beside}
-use Rattle.dom_model.proofs.Worlds.Parts.{range-from_part, iterator-from_part}
-use Rattle.dom_model.proofs.Soundness.SoundWorlds.{each-kept, ranges-kept, walkers-kept, registrations-kept, statics-kept}
+use Rattle.dom_model.proofs.Forests.{Totals.total-beside, Totals.total-tree_at, Entries.HasNode-occurs, Entries.occurs-HasNode, TreeOrder.Flattened.hits-numbers, KindsFitting.KindsFit-root}
+use Rattle.dom_model.proofs.Soundness.{SoundForests.IsWood, SoundForests.IsWood-beside, SoundWorlds.ranges-kept, SoundWorlds.sound-on}
+use Rattle.dom_model.proofs.Worlds.{Measured.entry-beside, Parts.range-from_part, Parts.iterator-from_part}
 
 -- the reference of an iterator is in the forest
 pub reference_there : (f : Forest Content) (i : Iterator) → IsIterator f i → 0 < occurs i.reference f
@@ -33,14 +22,8 @@ pub record AreNew (made more : ℕ) (g : Forest Content) : Type 0 where
 
 pub sound-beside : (g : Forest Content) (more : ℕ) (w : World) → IsSound w → AreNew w.made more g → IsSound (record w { forest = beside w.forest g; made = more })
 sound-beside g more w s a =
-    record {
-      forest = wood;
-      ranges = ranges-kept f h (range-from_part f h s.forest.once wood.once entries) w.ranges s.ranges;
-      iterators = each-kept (IsIterator f) (IsIterator h) (λ i k. iterator-from_part f h s.forest.once wood.once entries i (reference_there f i k) k) w.iterators s.iterators;
-      walkers = walkers-kept f h there w.walkers s.walkers;
-      registrations = registrations-kept f h there w.observing.registrations s.registrations;
-      statics = statics-kept f h there w.static_ranges s.statics;
-    }
+    sound-on w s h more w.ranges wood (ranges-kept f h (range-from_part f h s.forest.once wood.once entries) w.ranges s.ranges)
+    (λ i k. iterator-from_part f h s.forest.once wood.once entries i (reference_there f i k) k) there
   where
     f : Forest Content
     f = w.forest
@@ -63,9 +46,9 @@ new_node : (made : ℕ) (x : Node Content) → x.number ≡ made → AreNew made
 new_node made x e =
     record {
       later = omega arith;
-      once = λ n. elim (same_or x.number n) [ same _ t ↦ rw t (omega arith) | apart _ t ↦ rw t (omega arith) ];
-      old = λ n l. elim (same_or x.number n) [ same d t ↦ absurd (omega arith) | apart _ t ↦ rw t refl ];
-      new = λ n l. elim (same_or x.number n) [ same d t ↦ absurd (omega arith) | apart _ t ↦ rw t refl ];
+      once = λ n. grind (arith, nat_tests);
+      old = λ n l. grind (arith, nat_tests);
+      new = λ n l. grind (arith, nat_tests);
       rising = (omega arith, tt);
       kinds = (refl, tt, tt);
     }
@@ -82,18 +65,7 @@ once-renumbered d next empty n = (omega arith, λ l. refl, λ l. refl)
 once-renumbered d next (node x kids rest) n =
     let i = once-renumbered d (next + 1) kids n in
     let j = once-renumbered d (next + 1 + size kids) rest n in
-    elim (same_or next n) [
-      | same e t ↦ rw t (omega arith, λ l. absurd (omega arith), λ l. absurd (omega arith))
-      | apart ne t ↦
-          let o = i.0 in
-          let p = j.0 in
-          let once : 0 + (occurs n (renumbered d (next + 1) kids) + occurs n (renumbered d (next + 1 + size kids) rest)) ≤ 1 =
-          ⊎_elim
-          (λ (lt : n < next + 1 + size kids). let z = j.1 lt in omega arith)
-          (λ (le : next + 1 + size kids ≤ n). let z = i.2 le in omega arith)
-          (cases_lt n (next + 1 + size kids)) in
-          rw t (once, λ l. (let a = i.1 (omega arith) in let b = j.1 (omega arith) in omega arith), λ l. (let a = i.2 (omega arith) in let b = j.2 (omega arith) in omega arith))
-    ]
+    (grind (arith, nat_tests, i, j), λ l. grind (arith, nat_tests, i, j), λ l. grind (arith, nat_tests, i, j))
 
 rising-renumbered : (d low next : ℕ) (g : Forest Content) → low ≤ next → IsRising low (tops (renumbered d next g))
 rising-renumbered d low next empty l = tt

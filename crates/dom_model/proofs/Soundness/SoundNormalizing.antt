@@ -1,36 +1,11 @@
 -- Normalize leaves a sound world. DOM Standard, "Interface Node": normalize.
-use Rattle.std.proofs.Common.{◌≡◌, ℕ, ◌+◌, ◌<◌, ◌≤◌, ◌==◌, Bool, true, false, if◌then◌else◌, List, [], ◌∷◌, ◌++◌, filter, take_while, drop, length, Option, Some, None, refl, ap, sym, ◌∙◌, subst, arith, ⊎_elim}
-use Rattle.std.proofs.lemmas.Bool.{cases_lt, false≢true, le-ltb}
-use Rattle.dom_model.specs.declared.Kind.{Kind}
-use Rattle.dom_model.specs.declared.Kind.TheVariants.{Text}
-use Rattle.dom_model.specs.PlainLists.Lists.{hits, among, head_of, past, up_to}
-use Rattle.dom_model.specs.Forests.Arena.{Entry, list_under, siblings_in}
-use Rattle.dom_model.specs.Forests.Kinds.{is_kind}
-use Rattle.dom_model.specs.Forests.Forest.{Node, Forest, empty, node, occurs, one_at, tops, numbers, tree_at, entry_in, parent_of, children_of, inclusive_descendants}
-use Rattle.dom_model.specs.Forests.Texts.{spliced}
-use Rattle.dom_model.specs.Worlds.World.{Content, Point, World}
-use Rattle.dom_model.specs.BoundaryPoints.Points.{after_splice}
-use Rattle.dom_model.specs.Forests.Nodes.{entry_has, kind_passes, is_of_kind}
-use Rattle.dom_model.specs.Worlds.Lengths.{unit_count, node_length}
-use Rattle.dom_model.specs.MutationAlgorithms.Editing.{removed_from, remove}
-use Rattle.dom_model.specs.DataAndCopies.Data.{content_in, data_of, with_data, cut_count, replace_data, following_texts, joined_data, merged_ends, merge_ends, remove_each, join_following, normalize_text, is_descendant, text_descendants, normalize_each, normalize}
-use Rattle.dom_model.specs.Soundness.Sound.{IsRange, IsSound}
-use Rattle.dom_model.specs.DataAndCopies.Joinable.{Lives, IsUpTo, AreUpTo, AreJoinable}
-use Rattle.dom_model.proofs.PlainLists.Numbers.{same_or, same, apart}
-use Rattle.dom_model.proofs.Forests.Changes.{seen, nothing, just, change_at}
-use Rattle.dom_model.proofs.Forests.Totals.{IsOnce-cut, total-tree_at, tree_at-absent}
-use Rattle.dom_model.proofs.Forests.Tops.{tops-tree_at}
-use Rattle.dom_model.proofs.Forests.Climbing.{hits-append, among-hits, hits-first, hits-ancestors}
-use Rattle.dom_model.proofs.Forests.TreeOrder.Flattened.{hits-numbers}
-use Rattle.dom_model.proofs.Forests.Indices.{child-listed, child-once}
-use Rattle.dom_model.proofs.Forests.Paths.{root-path}
-use Rattle.dom_model.proofs.Worlds.SameShape.{IsAlike, children-alike, kind-alike, with_node-alike}
-use Rattle.dom_model.proofs.Forests.Listed.{hits-itself, parted_at, IsFront, front}
-use Rattle.dom_model.proofs.Worlds.Measured.{kind-cut, entry-with_node}
-use Rattle.dom_model.proofs.Soundness.SoundWorlds.{each-moved, sound-remove}
-use Rattle.dom_model.proofs.Soundness.SoundData.{length-data, length-spliced, cut_fits, sound-replace_data}
-use Rattle.dom_model.proofs.Soundness.SoundSplitting.{text_has_data}
-use Rattle.dom_model.proofs.Soundness.SoundJoining.{sound-joined}
+use Rattle.std.proofs.Common.{◌≡◌, ℕ, ◌+◌, ◌<◌, ◌≤◌, ◌==◌, Bool, true, false, if◌then◌else◌, List, [], ◌∷◌, ◌++◌, filter, take_while, drop, length, Option, Some, None, refl, ap, sym, ◌∙◌, subst, arith}
+use Rattle.std.proofs.lemmas.{Bool.false≢true, Bool.Decides.nat_tests, Bool.cases_Bool, Bool.ne_eqb, Bool.eq-eqb}
+use Rattle.dom_model.proofs.Worlds.{Parts.hits-dropped, Measured.kept-with_node, SameShape.IsAlike, SameShape.children-alike, SameShape.kind-alike, SameShape.with_node-alike, Measured.kind-cut, Measured.entry-with_node}
+use Rattle.dom_model.specs.Definitions.{hits, among, past, up_to, Entry, list_under, siblings_in, is_kind, Node, Forest, empty, node, occurs, one_at, tops, numbers, tree_at, entry_in, parent_of, children_of, inclusive_descendants, spliced, Content, Point, World, after_splice, entry_has, kind_passes, is_of_kind, unit_count, node_length, removed_from, remove, content_in, data_of, with_data, cut_count, replace_data, following_texts, joined_data, merged_ends, merge_ends, remove_each, join_following, normalize_text, is_descendant, text_descendants, normalize_each, normalize, IsRange, IsSound, Lives, IsUpTo, AreUpTo, AreJoinable}
+use Rattle.dom_model.specs.declared.{Kind.Kind, Kind.TheVariants.Text}
+use Rattle.dom_model.proofs.Forests.{Changes.seen, Changes.nothing, Changes.just, Changes.change_at, Totals.IsOnce-cut, Totals.total-tree_at, Totals.tree_at-absent, Tops.tops-tree_at, Climbing.hits-append, Climbing.among-hits, Climbing.hits-first, Climbing.hits-ancestors, TreeOrder.Flattened.hits-numbers, Indices.child-listed, Indices.child-once, Paths.root-path, Listed.hits-itself, Listed.parted_at, Listed.IsFront, Listed.front}
+use Rattle.dom_model.proofs.Soundness.{SoundWorlds.each-moved, SoundWorlds.sound-remove, SoundData.length-data, SoundData.length-spliced, SoundData.cut_fits, SoundData.sound-replace_data, SoundSplitting.text_has_data, SoundJoining.sound-joined}
 
 -- Kinds stay.
 
@@ -52,11 +27,7 @@ each_kinds (n ∷ ns) w o =
 
 merged-forest : (into base : ℕ) (ts : List ℕ) (w : World) → (merge_ends into base ts w).forest ≡ w.forest
 merged-forest into base [] w = refl
-merged-forest into base (t ∷ ts) w = merged-forest into (base + length (data_of w t)) ts (merged_ends t into base (parent_of w.forest t) w) ∙ one (parent_of w.forest t)
-  where
-    one : (o : Option ℕ) → (merged_ends t into base o w).forest ≡ w.forest
-    one None = refl
-    one (Some p) = refl
+merged-forest into base (t ∷ ts) w = merged-forest into (base + length (data_of w t)) ts (merged_ends t into base (parent_of w.forest t) w) ∙ (elim (seen (parent_of w.forest t)) [ nothing z ↦ rw z refl | just p z ↦ rw z refl ])
 
 -- A Text takes in those that follow it.
 
@@ -99,24 +70,11 @@ module _ (t p : ℕ) (w : World) (s : IsSound w) (text : is_of_kind Text w.fores
   -- none of them is the Text itself
   pub others : (m : ℕ) → 0 < hits m ts → m ≡ t → ⊥
   others m h e =
-      let a = child-once w.forest s.forest.once t p in
-      let b = ap (hits t) listed in
-      let c = hits-append t (up_to t (children_of w.forest p)) (t ∷ past t (children_of w.forest p)) in
-      let d = hits-itself t (past t (children_of w.forest p)) in
-      let f = ap (hits t) first_texts.all in
-      let g = hits-append t ts first_texts.behind in
-      let k : 0 < hits t ts = subst (λ x. 0 < hits x ts) e h in
-      omega arith
+      let kids = children_of w.forest p in
+      grind (arith, nat_tests, child-once w.forest s.forest.once t p, ap (hits t) listed, hits-append t (up_to t kids) (t ∷ past t kids), ap (hits t) first_texts.all, hits-append t ts first_texts.behind)
 
   data-other : (m : ℕ) → (m ≡ t → ⊥) → data_of joint m ≡ data_of w m
-  data-other m ne = ap (λ o. (content_in o).text) (entry-with_node change (λ x. refl) t m None w.forest) ∙ go (entry_in w.forest m)
-    where
-      far : (m == t) ≡ false
-      far = elim (same_or m t) [ same e u ↦ absurd (ne e) | apart _ u ↦ u ]
-
-      go : (o : Option (Entry (Node Content))) → (content_in (change_at change t m o)).text ≡ (content_in o).text
-      go None = refl
-      go (Some e) = rw far refl
+  data-other m ne = kept-with_node change (λ x. refl) (λ o. (content_in o).text) t m (λ e. rw (ne_eqb m t ne) refl) w.forest
 
   pub joined-same : (ns : List ℕ) → ((m : ℕ) → 0 < hits m ns → m ≡ t → ⊥) → joined_data joint ns ≡ joined_data w ns
   joined-same [] far = refl
@@ -132,7 +90,7 @@ module _ (t p : ℕ) (w : World) (s : IsSound w) (text : is_of_kind Text w.fores
     where
       go : (o : Option (Entry (Node Content))) → entry_has (is_kind Text) o ≡ true → length (content_in (change_at change t t o)).text ≡ length (spliced base count added (data_of w t))
       go None k = absurd (false≢true k)
-      go (Some e) k = elim (same_or t t) [ same _ u ↦ rw u refl | apart ne u ↦ absurd (ne refl) ]
+      go (Some e) k = rw (eq-eqb t t refl) refl
 
   ends_up_to : Lives (AreUpTo t base) joint.ranges
   ends_up_to = each-moved (IsRange w.forest) (AreUpTo t base) (after_splice t base count (length added)) (λ r h. (stays r.start h.starts.within, stays r.end h.ends.within)) w.ranges s.ranges
@@ -141,14 +99,7 @@ module _ (t p : ℕ) (w : World) (s : IsSound w) (text : is_of_kind Text w.fores
       whole = length-data w.forest t (text_has_data w t text)
 
       stays : (q : Point) → q.offset ≤ node_length unit_count w.forest q.node → IsUpTo t base (after_splice t base count (length added) q)
-      stays q h =
-          elim (same_or q.node t) [
-            | same e u ↦
-                let k : q.offset ≤ node_length unit_count w.forest t = subst (λ m. q.offset ≤ node_length unit_count w.forest m) e h in
-                let l = whole in
-                rw (u, le-ltb base q.offset (omega arith)) (λ d. omega arith)
-            | apart ne u ↦ rw u (λ d. absurd (ne d))
-          ]
+      stays q h = λ d. grind (arith, nat_tests, whole)
 
   pub joinable : AreJoinable joint t p base ts
   joinable =
@@ -177,12 +128,9 @@ module _ (t p : ℕ) (w : World) (s : IsSound w) (text : is_of_kind Text w.fores
 -- A Text that is a proper descendant of some node has a parent.
 
 -- the first number of a tree is its top's
-numbers-first : (n : ℕ) (g : Forest Content) → tops g ≡ n ∷ [] → numbers g ≡ n ∷ drop 1 (numbers g)
+pub numbers-first : (n : ℕ) (g : Forest Content) → tops g ≡ n ∷ [] → numbers g ≡ n ∷ drop 1 (numbers g)
 numbers-first n empty e = absurd (cc e)
-numbers-first n (node x kids rest) e = ap (λ m. m ∷ (numbers kids ++ numbers rest)) (same_top e)
-  where
-    same_top : x.number ∷ tops rest ≡ n ∷ [] → x.number ≡ n
-    same_top e = let k : Some x.number ≡ Some n = ap head_of e in cc k
+numbers-first n (node x kids rest) e = cc
 
 pub below_parent : (f : Forest Content) → ((m : ℕ) → occurs m f ≤ 1) → (n t : ℕ) → among t (drop 1 (inclusive_descendants f n)) ≡ true → (0 < occurs t f) × (p : ℕ) × (parent_of f t ≡ Some p)
 below_parent f o n t h =
@@ -194,29 +142,19 @@ below_parent f o n t h =
     under : 0 < hits t (drop 1 (numbers (tree_at n f)))
     under = among-hits t (drop 1 (numbers (tree_at n f))) h
 
-    dropped : (ns : List ℕ) → hits t (drop 1 ns) ≤ hits t ns
-    dropped [] = omega arith
-    dropped (x ∷ ns) = omega arith
-
     inside : 0 < occurs t (tree_at n f)
-    inside = let i = under in let j = dropped (numbers (tree_at n f)) in let k = hits-numbers t (tree_at n f) in omega arith
+    inside = omega (arith, under, hits-dropped t (numbers (tree_at n f)), hits-numbers t (tree_at n f))
 
     there : 0 < occurs t f
     there = let i = inside in let k = total-tree_at (one_at t) n f in omega arith
 
     top_there : 0 < occurs n f
     top_there =
-        ⊎_elim
-        (λ (lt : 0 < occurs n f). lt)
-        (λ (le : occurs n f ≤ 0). absurd (let k = ap (λ (g : Forest Content). occurs t g) (tree_at-absent n f (omega arith)) in let i = inside in omega arith))
-        (cases_lt 0 (occurs n f))
+        let none : occurs n f ≡ 0 → occurs t (tree_at n f) ≡ 0 = λ z. rw (tree_at-absent n f z) refl in
+        grind (arith, inside)
 
     at_top : parent_of f t ≡ None → t ≡ n
-    at_top e =
-        let a = ap (hits n) (root-path f o t there e) in
-        let b = hits-ancestors n t f o in
-        let i = inside in
-        elim (same_or t n) [ same d u ↦ d | apart ne u ↦ absurd (let c = rw u at a in omega arith) ]
+    at_top e = grind (arith, nat_tests, ap (hits n) (root-path f o t there e), hits-ancestors n t f o, inside)
 
     apart_top : t ≡ n → ⊥
     apart_top e =
@@ -226,8 +164,7 @@ below_parent f o n t h =
         let d = hits-numbers n (tree_at n f) in
         let g = total-tree_at (one_at n) n f in
         let i : 0 < hits n (drop 1 (numbers (tree_at n f))) = subst (λ x. 0 < hits x (drop 1 (numbers (tree_at n f)))) e under in
-        let k = o n in
-        omega arith
+        omega (arith, o n)
 
 -- One Text after another.
 
@@ -262,16 +199,7 @@ sound-normalize_each n (t ∷ ts) w s texts =
 -- what a filter lets through passes
 pub filter-passed : (p : ℕ → Bool) (ns : List ℕ) (m : ℕ) → 0 < hits m (filter p ns) → (p m ≡ true) × (0 < hits m ns)
 filter-passed p [] m h = absurd (omega arith)
-filter-passed p (n ∷ ns) m h = go (p n) refl (filter-passed p ns m)
-  where
-    go : (v : Bool) → p n ≡ v → (0 < hits m (filter p ns) → (p m ≡ true) × (0 < hits m ns)) → (p m ≡ true) × (0 < hits m (n ∷ ns))
-    go false e i = let k = rw e at h in let j = i k in (j.0, (let l = j.1 in omega arith))
-    go true e i =
-        let k = rw e at h in
-        elim (same_or n m) [
-          | same d u ↦ (ap p (sym d) ∙ e, rw u (omega arith))
-          | apart ne u ↦ (let k2 = rw u at k in let j = i (omega arith) in (j.0, rw u (let l = j.1 in omega arith)))
-        ]
+filter-passed p (n ∷ ns) m h = grind (arith, nat_tests, filter-passed p ns m, cases_Bool (p n))
 
 pub sound-normalize : (n : ℕ) (w : World) → IsSound w → IsSound (normalize n w)
 sound-normalize n w s = sound-normalize_each n (text_descendants w n) w s (λ t h. (filter-passed (is_of_kind Text w.forest) (drop 1 (inclusive_descendants w.forest n)) t h).0)

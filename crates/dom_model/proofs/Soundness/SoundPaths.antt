@@ -1,48 +1,26 @@
 -- The part of a tree that lies from a point to the end of an ancestor's child, or from its start to the point, goes into a fragment:
 -- a sound world is left. DOM Standard, "Interface Range": extract, clone the contents.
-use Rattle.std.proofs.Common.{◌≡◌, ℕ, zero, suc, ◌-◌, ◌<◌, ◌≤◌, Bool, true, false, if◌then◌else◌, List, [], ◌∷◌, take, drop, length, Some, refl, sym, ◌∙◌, subst, arith, ⊎_elim}
-use Rattle.std.proofs.lemmas.Bool.{cases_lt, false≢true}
-use Rattle.dom_model.specs.declared.Kind.{Kind}
-use Rattle.dom_model.specs.declared.Kind.TheVariants.{Element, Text, ProcessingInstruction, Comment, Document, DocumentType, DocumentFragment}
-use Rattle.dom_model.specs.PlainLists.Lists.{hits, past, up_to}
-use Rattle.dom_model.specs.Forests.Kinds.{is_kind, is_character_data, may_be_parent, may_stand_in}
-use Rattle.dom_model.specs.Forests.Forest.{occurs, parent_of, children_of}
-use Rattle.dom_model.specs.Worlds.World.{World}
-use Rattle.dom_model.specs.Forests.Nodes.{kind_passes, is_of_kind}
-use Rattle.dom_model.specs.MutationAlgorithms.Editing.{append}
-use Rattle.dom_model.specs.DataAndCopies.Clones.{clone_node}
-use Rattle.dom_model.specs.DataAndCopies.Data.{data_of}
-use Rattle.dom_model.specs.RangesAndContents.Contents.{units_into, children_into, copy_into, tail_into, head_into}
-use Rattle.dom_model.specs.Soundness.Sound.{IsSound}
-use Rattle.dom_model.proofs.Forests.Climbing.{hits-append, hits-first}
-use Rattle.dom_model.proofs.Forests.Indices.{child-parent, child-there}
+use Rattle.std.proofs.Common.{◌≡◌, ℕ, ◌-◌, ◌<◌, ◌≤◌, Bool, true, false, if◌then◌else◌, List, [], ◌∷◌, take, drop, length, Some, refl, sym, ◌∙◌, subst, arith}
+use Rattle.std.proofs.lemmas.Bool.{false≢true}
+use Rattle.dom_model.specs.Definitions.{hits, past, up_to, is_kind, is_character_data, may_be_parent, may_stand_in, occurs, parent_of, children_of, World, kind_passes, is_of_kind, append, clone_node, data_of, units_into, children_into, copy_into, tail_into, head_into, IsSound}
+use Rattle.dom_model.specs.declared.{Kind.Kind, Kind.TheVariants.Element, Kind.TheVariants.Document, Kind.TheVariants.DocumentType, Kind.TheVariants.DocumentFragment}
+use Rattle.dom_model.proofs.Forests.{Climbing.hits-append, Climbing.hits-first, Indices.child-parent, Indices.child-there, Listed.hits-other}
 use Rattle.dom_model.proofs.Traversal.IteratorsStay.{hits-past}
 use Rattle.dom_model.proofs.BoundaryPoints.RootsKept.{hits-up_to}
-use Rattle.dom_model.proofs.Forests.Listed.{hits-other}
-use Rattle.dom_model.proofs.Soundness.SoundForests.{entry_there, child-fits}
-use Rattle.dom_model.proofs.Soundness.SoundAppending.{IsHolder, IsPlain, IsDrawn, holder_stays, plain_stays}
-use Rattle.dom_model.proofs.Soundness.SoundDrawing.{drawn_children, new_apart, IsFilled, filled-then, filled-of, filled_by_moves, holder_filled, plain_filled}
-use Rattle.dom_model.proofs.Soundness.SoundCopies.{filled_units, opened, drawn_opened, holder_inner, inner_new, filled_copy}
+use Rattle.dom_model.proofs.Soundness.{SoundForests.entry_there, SoundForests.child-fits, SoundAppending.IsHolder, SoundAppending.IsPlain, SoundAppending.IsDrawn, SoundAppending.holder_stays, SoundAppending.plain_stays, SoundDrawing.drawn_children, SoundDrawing.new_apart, SoundDrawing.IsFilled, SoundDrawing.filled-then, SoundDrawing.filled-of, SoundDrawing.filled_by_moves, SoundDrawing.holder_filled, SoundDrawing.plain_filled, SoundCopies.filled_units, SoundCopies.opened, SoundCopies.drawn_opened, SoundCopies.holder_inner, SoundCopies.inner_new, SoundCopies.filled_copy, SoundAppending.plain_like, SoundDrawing.filled_same}
+use Rattle.dom_model.proofs.RangesAndContents.DrawnPaths.{hits-drop, hits-take}
 
 -- Kinds.
 
 child_kinds : (parent k : Kind) → is_kind Document parent ≡ false → may_stand_in parent k ≡ true → (is_kind Document k ≡ false) × (is_kind DocumentType k ≡ false) × (is_kind DocumentFragment k ≡ false)
-child_kinds parent Element d h = (refl, refl, refl)
-child_kinds parent Text d h = (refl, refl, refl)
-child_kinds parent ProcessingInstruction d h = (refl, refl, refl)
-child_kinds parent Comment d h = (refl, refl, refl)
 child_kinds parent Document d h = absurd (false≢true h)
 child_kinds parent DocumentType d h = absurd (no_document parent d h)
   where
     no_document : (k : Kind) → is_kind Document k ≡ false → is_kind k Document ≡ true → ⊥
-    no_document Element d h = false≢true h
-    no_document Text d h = false≢true h
-    no_document ProcessingInstruction d h = false≢true h
-    no_document Comment d h = false≢true h
     no_document Document d h = false≢true (sym d)
-    no_document DocumentType d h = false≢true h
-    no_document DocumentFragment d h = false≢true h
+    no_document k d h = false≢true h
 child_kinds parent DocumentFragment d h = absurd (false≢true h)
+child_kinds parent k d h = (refl, refl, refl)
 
 -- a child of a node that is no Document may stand wherever there may be children
 pub plain_child : (w : World) → IsSound w → (n c : ℕ) → is_of_kind Document w.forest n ≡ false → parent_of w.forest c ≡ Some n → 0 < occurs c w.forest → 0 < occurs n w.forest → IsPlain w c
@@ -56,12 +34,7 @@ plain_child w s n c d e hc hn =
 
 pub other_kinds : (k : Kind) → is_character_data k ≡ false → is_kind DocumentType k ≡ false → may_be_parent k ≡ true
 other_kinds Element c d = refl
-other_kinds Text c d = absurd (false≢true (sym c))
-other_kinds ProcessingInstruction c d = absurd (false≢true (sym c))
-other_kinds Comment c d = absurd (false≢true (sym c))
-other_kinds Document c d = refl
-other_kinds DocumentType c d = absurd (false≢true (sym d))
-other_kinds DocumentFragment c d = refl
+other_kinds k c d = cc
 
 pub may_hold_other : (w : World) (n : ℕ) → 0 < occurs n w.forest → kind_passes is_character_data w.forest n ≡ false → is_of_kind DocumentType w.forest n ≡ false → kind_passes may_be_parent w.forest n ≡ true
 may_hold_other w n h c d =
@@ -110,16 +83,6 @@ head_old w s new l [] t = refl
 head_old w s new l (n ∷ []) t = hits-other new n [] (new_apart w s n new l t.there)
 head_old w s new l (n ∷ m ∷ path) t = hits-other new n (m ∷ path) (new_apart w s n new l t.0.there) ∙ head_old w s new l (m ∷ path) t.2
 
-hits-dropped : (x k : ℕ) (ns : List ℕ) → hits x (drop k ns) ≤ hits x ns
-hits-dropped x zero ns = omega arith
-hits-dropped x (suc k) [] = omega arith
-hits-dropped x (suc k) (n ∷ ns) = let i = hits-dropped x k ns in omega arith
-
-hits-taken : (x k : ℕ) (ns : List ℕ) → hits x (take k ns) ≤ hits x ns
-hits-taken x zero ns = omega arith
-hits-taken x (suc k) [] = omega arith
-hits-taken x (suc k) (n ∷ ns) = let i = hits-taken x k ns in omega arith
-
 -- Some children of a node go into a fragment, in a world that has all that the node's had.
 module _ (moves : Bool) (w v : World) (s : IsSound w) (sv : IsSound v) (n inner : ℕ) (there : (m : ℕ) → 0 < occurs m w.forest → 0 < occurs m v.forest) (kinds : (test : Kind → Bool) (m : ℕ) → 0 < occurs m w.forest → kind_passes test v.forest m ≡ kind_passes test w.forest m) (hn : IsPlain w n) (new : w.made ≤ inner) (holder : IsHolder v inner) (ns : List ℕ) (children : (m : ℕ) → hits m ns ≤ hits m (children_of w.forest n)) where
   child_parent : (m : ℕ) → 0 < hits m ns → parent_of w.forest m ≡ Some n
@@ -131,20 +94,10 @@ module _ (moves : Bool) (w v : World) (s : IsSound w) (sv : IsSound v) (n inner 
   listed_plain : (m : ℕ) → 0 < hits m ns → IsPlain v m
   listed_plain m h =
       let hm = listed_there m h in
-      let p = plain_child w s n m hn.no_document (child_parent m h) hm hn.there in
-      record {
-        there = there m hm;
-        no_document = kinds (is_kind Document) m hm ∙ p.no_document;
-        no_doctype = kinds (is_kind DocumentType) m hm ∙ p.no_doctype;
-        no_fragment = kinds (is_kind DocumentFragment) m hm ∙ p.no_fragment;
-      }
+      plain_like w v m m (there m hm) (λ test. kinds test m hm) (plain_child w s n m hn.no_document (child_parent m h) hm hn.there)
 
   inner_unlisted : hits inner ns ≡ 0
-  inner_unlisted =
-      ⊎_elim
-      (λ (lt : 0 < hits inner ns). absurd (new_apart w s inner inner new (listed_there inner lt) refl))
-      (λ (le : hits inner ns ≤ 0). omega arith)
-      (cases_lt 0 (hits inner ns))
+  inner_unlisted = grind (arith, listed_there inner, s.forest.small inner)
 
   drawn_some : IsDrawn v (children_into moves inner ns v) ns
   drawn_some = drawn_children moves inner ns v sv holder listed_plain inner_unlisted
@@ -158,17 +111,9 @@ filled_more f v u n ns path a b moved =
       kinds = λ test m h. b.extends.kinds test m (a.there m h) ∙ a.kinds test m h;
       parents = λ m h far.
           let e = a.parents m h (λ x k. let z = far x k in let i = hits-append x (n ∷ []) path in omega arith) in
-          b.extends.parents m (a.there m h)
-          (⊎_elim
-          (λ (lt : 0 < hits m ns). absurd (let z = far n (moved m lt h) in let i = hits-first n path in omega arith))
-          (λ (le : hits m ns ≤ 0). omega arith)
-          (cases_lt 0 (hits m ns)))
-          ∙ e;
+          b.extends.parents m (a.there m h) (grind (arith, moved m, far n, hits-first n path)) ∙ e;
       made = (let i = a.made in let j = b.made in omega arith);
     }
-
-filled_same : (w : World) → IsSound w → (path : List ℕ) → IsFilled w w path
-filled_same w s path = record { sound = s; there = λ m h. h; kinds = λ test m h. refl; parents = λ m h far. refl; made = omega arith }
 
 -- some children of a node go into the fragment that goes into its copy
 filled_children : (moves : Bool) (into n : ℕ) (w : World) (s : IsSound w) (h : IsHolder w into) (p : IsPlain w n) (may : kind_passes may_be_parent w.forest n ≡ true) → (ns : List ℕ) → ((m : ℕ) → hits m ns ≤ hits m (children_of w.forest n)) → hits into (n ∷ []) ≡ 0 →
@@ -191,7 +136,7 @@ tail_filled moves into offset (n ∷ []) w s h off_path t = go (kind_passes is_c
   where
     go : (v : Bool) → kind_passes is_character_data w.forest n ≡ v → IsFilled w (if v then units_into moves into n offset (length (data_of w n) - offset) w else copy_into into n (λ inner x. children_into moves inner (drop offset (children_of w.forest n)) x) w) (n ∷ [])
     go true e = filled-of w _ [] (n ∷ []) (λ u z. refl) (filled_units moves into n offset (length (data_of w n) - offset) w s h t.0.there e (t.1 e))
-    go false e = filled_children moves into n w s h t.0 (may_hold_other w n t.0.there e t.0.no_doctype) (drop offset (children_of w.forest n)) (λ m. hits-dropped m offset (children_of w.forest n)) off_path
+    go false e = filled_children moves into n w s h t.0 (may_hold_other w n t.0.there e t.0.no_doctype) (drop offset (children_of w.forest n)) (λ m. hits-drop m offset (children_of w.forest n)) off_path
 tail_filled moves into offset (n ∷ m ∷ path) w s h off_path t =
     let o = drawn_opened into n w s h t.0 t.1 in
     let inner = (append w.made into (clone_node false n w)).made in
@@ -218,7 +163,7 @@ head_filled moves into offset (n ∷ []) w s h off_path t = go (kind_passes is_c
   where
     go : (v : Bool) → kind_passes is_character_data w.forest n ≡ v → IsFilled w (if v then units_into moves into n 0 offset w else copy_into into n (λ inner x. children_into moves inner (take offset (children_of w.forest n)) x) w) (n ∷ [])
     go true e = filled-of w _ [] (n ∷ []) (λ u z. refl) (filled_units moves into n 0 offset w s h t.there e (omega arith))
-    go false e = filled_children moves into n w s h t (may_hold_other w n t.there e t.no_doctype) (take offset (children_of w.forest n)) (λ m. hits-taken m offset (children_of w.forest n)) off_path
+    go false e = filled_children moves into n w s h t (may_hold_other w n t.there e t.no_doctype) (take offset (children_of w.forest n)) (λ m. hits-take m offset (children_of w.forest n)) off_path
 head_filled moves into offset (n ∷ m ∷ path) w s h off_path t =
     let o = drawn_opened into n w s h t.0 t.1 in
     let inner = (append w.made into (clone_node false n w)).made in

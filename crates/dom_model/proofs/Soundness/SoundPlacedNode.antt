@@ -1,25 +1,13 @@
 -- A node leaves its parent and comes in before a reference; a live range that is collapsed then goes around it: a sound world is left.
 -- DOM Standard, "Interface Range": insert.
 use Rattle.std.proofs.Common.{◌≡◌, ℕ, ◌<◌, Bool, true, false, if◌then◌else◌, Option, Some, None, option_map, Ok, Err, refl, ap, sym, ◌∙◌, subst}
+use Rattle.std.proofs.lemmas.Bool.{eq-eqb}
+use Rattle.dom_model.specs.Definitions.{Forest, occurs, parent_of, Content, Point, Range, World, moved_range, check_insert, remove, reference_child, pre_insert, insert, is_collapsed, range_at, with_range, for_range, Outcome, and_then, unless, try_pre_insert, offset_past, end_if_collapsed, placed_at, IsRange, IsSound, IsChildOf, IsInsertable}
 use Rattle.dom_model.specs.declared.DomError.{DomError}
-use Rattle.dom_model.specs.Forests.Forest.{Forest, occurs, parent_of}
-use Rattle.dom_model.specs.Worlds.World.{Content, Point, Range, World}
-use Rattle.dom_model.specs.BoundaryPoints.Points.{moved_range}
-use Rattle.dom_model.specs.MutationAlgorithms.Checks.{check_insert}
-use Rattle.dom_model.specs.MutationAlgorithms.Editing.{remove, reference_child, pre_insert, insert}
-use Rattle.dom_model.specs.RangesAndContents.Ranges.{is_collapsed, range_at, with_range}
-use Rattle.dom_model.specs.RangesAndContents.Contents.{for_range}
-use Rattle.dom_model.specs.RangesAndContents.Wrapping.{Outcome, and_then, unless, try_pre_insert, offset_past, end_if_collapsed, placed_at}
-use Rattle.dom_model.specs.Soundness.Sound.{IsRange, IsSound}
-use Rattle.dom_model.specs.MutationAlgorithms.Insertable.{IsChildOf, IsInsertable}
 use Rattle.dom_model.proofs.PlainLists.Numbers.{same_or, same, apart}
-use Rattle.dom_model.proofs.Soundness.SoundWorlds.{IsLive, sound-remove}
-use Rattle.dom_model.proofs.MutationAlgorithms.Loosened.{loosened-remove, parent-remove}
-use Rattle.dom_model.proofs.Soundness.SoundEditing.{checks_insert, insertable}
-use Rattle.dom_model.proofs.MutationAlgorithms.Extending.{put_by_insert}
-use Rattle.dom_model.proofs.Soundness.SoundRangeSteps.{live_range, sound-with_range}
-use Rattle.dom_model.proofs.BoundaryPoints.MovedPoints.{range_at-moved}
-use Rattle.dom_model.proofs.BoundaryPoints.GapsKept.{ahead}
+use Rattle.dom_model.proofs.Soundness.{SoundWorlds.IsLive, SoundWorlds.sound-remove, SoundEditing.checks_insert, SoundEditing.insertable, SoundRangeSteps.live_range, SoundRangeSteps.sound-with_range}
+use Rattle.dom_model.proofs.MutationAlgorithms.{Loosened.loosened-remove, Loosened.parent-remove, Extending.put_by_insert}
+use Rattle.dom_model.proofs.BoundaryPoints.{MovedPoints.range_at-moved, GapsKept.ahead}
 use Rattle.dom_model.proofs.RangesAndContents.EndsGrown.{after, sound_after, behind, behind_is, keeps, range_behind}
 
 -- a sound world, with all nodes that were there
@@ -116,7 +104,7 @@ placed-next r n parent reference w s h starts = gives-after w out (and_then (try
     a = next-remove false n w s h
 
     root : parent_of (remove false n w).forest n ≡ None
-    root = parent-remove false n w s h n ∙ (elim (same_or n n) [ same e t ↦ rw t refl | apart ne t ↦ absurd (ne refl) ])
+    root = parent-remove false n w s h n ∙ (rw (eq-eqb n n refl) refl)
 
     same_reference : (o : World) → parent_of o.forest n ≡ None → (b : Option ℕ) → IsChildOf o.forest parent b → reference_child o n b ≡ b
     same_reference o i None c = refl

@@ -1,34 +1,15 @@
 -- Roots that are put under a node, one after another, leave a sound world. DOM Standard, "Mutation algorithms": insert.
-use Rattle.std.proofs.Common.{◌≡◌, ℕ, suc, ◌+◌, ◌<◌, ◌≤◌, ◌==◌, nat_lt, nat_le, Bool, true, false, ◌&&◌, if◌then◌else◌, List, [], ◌∷◌, length, Option, Some, None, option_map, All, refl, ap, sym, ◌∙◌, subst, arith, append-nil}
-use Rattle.std.proofs.lemmas.Bool.{le-ltb}
-use Rattle.std.proofs.lemmas.Bool.Decides.{nat_tests}
+use Rattle.std.proofs.Common.{◌≡◌, ℕ, suc, ◌+◌, ◌<◌, ◌==◌, nat_le, Bool, true, false, if◌then◌else◌, List, [], ◌∷◌, length, Option, Some, None, All, refl, ap, sym, ◌∙◌, subst, arith, append-nil}
+use Rattle.std.proofs.lemmas.{Bool.Decides.nat_tests, Bool.ne_eqb}
 use Rattle.std.proofs.Math.Path.{fun_ext}
+use Rattle.dom_model.proofs.BoundaryPoints.{PointOrder.map_ranges-twice, GapOrder.gap-more}
+use Rattle.dom_model.specs.Definitions.{hits, may_be_parent, may_stand_in, Forest, occurs, one_at, tree_at, put, in_document, adopted, HasNode, parent_of, children_of, index_of, ancestors, Content, Point, Range, World, after_gap, moved_range, map_ranges, kind_passes, node_document, put_in, put_all, gap_before, IsBoundary, IsRange, IsSound, may_stand_at, IsPlaceable, ArePlaceable, IsChildOf, Lives}
 use Rattle.dom_model.specs.declared.Kind.{Kind}
-use Rattle.dom_model.specs.PlainLists.Lists.{hits}
-use Rattle.dom_model.specs.Forests.Kinds.{may_be_parent, may_stand_in}
-use Rattle.dom_model.specs.Forests.Forest.{Forest, occurs, one_at, tree_at, put, in_document, adopted, HasNode, parent_of, children_of, index_of, ancestors}
-use Rattle.dom_model.specs.Worlds.World.{Content, Point, Range, World}
-use Rattle.dom_model.specs.BoundaryPoints.Points.{after_gap, moved_range, map_ranges}
-use Rattle.dom_model.specs.Forests.Nodes.{kind_passes}
-use Rattle.dom_model.specs.Worlds.Lengths.{unit_count, node_length}
-use Rattle.dom_model.specs.MutationAlgorithms.Editing.{node_document, put_in, put_all, gap_before}
-use Rattle.dom_model.specs.Soundness.Sound.{IsBoundary, IsRange, IsIterator, IsSound}
-use Rattle.dom_model.specs.MutationAlgorithms.Insertable.{may_stand_at, IsPlaceable, ArePlaceable, IsChildOf}
-use Rattle.dom_model.specs.DataAndCopies.Joinable.{Lives}
-use Rattle.dom_model.proofs.PlainLists.Numbers.{same_or, same, apart}
-use Rattle.dom_model.proofs.Forests.Totals.{total-tree_at, total-put}
-use Rattle.dom_model.proofs.Forests.Climbing.{hits-ancestors, hits-not_among}
-use Rattle.dom_model.proofs.Forests.Entries.{HasNode-occurs, occurs-HasNode, parent-put}
-use Rattle.dom_model.proofs.Forests.Paths.{ancestors-put}
 use Rattle.dom_model.proofs.PlainLists.Places.{place_before}
-use Rattle.dom_model.proofs.Forests.Indices.{index-child, index-put}
-use Rattle.dom_model.proofs.BoundaryPoints.GapOrder.{gap-more}
-use Rattle.dom_model.proofs.Soundness.SoundForests.{parent_kind, entry_there, IsWood-alike, IsWood-put}
-use Rattle.dom_model.proofs.Worlds.SameShape.{IsAlike, with_tree-alike, occurs-alike, parent-alike, ancestors-alike, kind-alike, index-alike}
-use Rattle.dom_model.proofs.Worlds.Measured.{kind-put, length-parent, length-adopted}
-use Rattle.dom_model.proofs.RangesAndContents.RangesPut.{range-put, iterator-put}
-use Rattle.dom_model.proofs.RangesAndContents.RangesSpliced.{range-alike, iterator-alike, there-alike}
-use Rattle.dom_model.proofs.Soundness.SoundWorlds.{IsLive, each-moved, each-kept, walkers-kept, registrations-kept, statics-kept, child_there}
+use Rattle.dom_model.proofs.Forests.{Totals.total-tree_at, Totals.total-put, Climbing.hits-ancestors, Climbing.hits-not_among, Entries.HasNode-occurs, Entries.occurs-HasNode, Entries.parent-put, Paths.ancestors-put, Indices.index-child, Indices.index-put, Changes.seen, Changes.nothing, Changes.just}
+use Rattle.dom_model.proofs.Soundness.{SoundForests.parent_kind, SoundForests.entry_there, SoundForests.IsWood-alike, SoundForests.IsWood-put, SoundWorlds.IsLive, SoundWorlds.each-moved, SoundWorlds.each-kept, SoundWorlds.child_there, SoundWorlds.sound-on}
+use Rattle.dom_model.proofs.Worlds.{SameShape.IsAlike, SameShape.with_tree-alike, SameShape.occurs-alike, SameShape.parent-alike, SameShape.ancestors-alike, SameShape.kind-alike, SameShape.index-alike, Measured.kind-put, Measured.length-parent, Measured.length-adopted}
+use Rattle.dom_model.proofs.RangesAndContents.{RangesPut.range-put, RangesPut.iterator-put, RangesSpliced.range-alike, RangesSpliced.iterator-alike, RangesSpliced.there-alike}
 
 pub parent_by_fit : (f : Forest Content) (p c : ℕ) → 0 < occurs p f → 0 < occurs c f → may_stand_at f p c ≡ true → kind_passes may_be_parent f p ≡ true
 parent_by_fit f p c hp hc k =
@@ -45,31 +26,12 @@ fits-kept f g kinds p c =
 
 -- Gaps.
 
-map_ranges-after : (g h k : Point → Point) → ((p : Point) → g (h p) ≡ k p) → (rs : List (Option Range)) → map_ranges g (map_ranges h rs) ≡ map_ranges k rs
-map_ranges-after g h k e [] = refl
-map_ranges-after g h k e (r ∷ rs) = rw (map_ranges-after g h k e rs) (ap (λ x. x ∷ map_ranges k rs) (each r))
-  where
-    each : (r : Option Range) → option_map (moved_range g) (option_map (moved_range h) r) ≡ option_map (moved_range k) r
-    each None = refl
-    each (Some r) = rw (e r.start, e r.end) refl
-
 pub map_ranges-same : (g : Point → Point) → ((p : Point) → g p ≡ p) → (rs : List (Option Range)) → map_ranges g rs ≡ rs
 map_ranges-same g e [] = refl
-map_ranges-same g e (r ∷ rs) = rw (map_ranges-same g e rs) (ap (λ x. x ∷ rs) (each r))
-  where
-    each : (r : Option Range) → option_map (moved_range g) r ≡ r
-    each None = refl
-    each (Some r) = rw (e r.start, e r.end) refl
+map_ranges-same g e (r ∷ rs) = rw (map_ranges-same g e rs) (elim (seen r) [ nothing z ↦ rw z refl | just x z ↦ rw (z, e x.start, e x.end) refl ])
 
-gap-none : (parent index : ℕ) (p : Point) → after_gap parent index 0 p ≡ p
-gap-none parent index p = go ((p.node == parent) && nat_lt index p.offset)
-  where
-    same_offset : p.offset + 0 ≡ p.offset
-    same_offset = omega arith
-
-    go : (v : Bool) → (if v then record p { offset = p.offset + 0 } else p) ≡ p
-    go true = ap (λ x. record p { offset = x }) same_offset
-    go false = refl
+pub gap-none : (parent index : ℕ) (p : Point) → after_gap parent index 0 p ≡ p
+gap-none parent index p = grind arith
 
 pub gap_before-none : (parent : ℕ) (child : Option ℕ) (w : World) → gap_before parent child 0 w ≡ w
 gap_before-none parent None w = refl
@@ -82,14 +44,7 @@ gap_each P Q parent None w c p ranged keeps h = each-kept P Q (λ r k. subst Q (
   where
     -- no point of the parent is past its last child
     past : (q : Point) → IsBoundary w.forest q → after_gap parent (length (children_of w.forest parent)) 1 q ≡ q
-    past q b =
-        elim (same_or q.node parent) [
-          | same e t ↦
-              let i = length-parent w.forest parent p in
-              let j : q.offset ≤ node_length unit_count w.forest parent = subst (λ n. q.offset ≤ node_length unit_count w.forest n) e b.within in
-              rw (t, le-ltb (length (children_of w.forest parent)) q.offset (omega arith)) refl
-          | apart ne t ↦ rw t refl
-        ]
+    past q b = grind (arith, nat_tests, length-parent w.forest parent p, b.within)
 
     past_all : (r : Range) → IsRange w.forest r → moved_range (after_gap parent (length (children_of w.forest parent)) 1) r ≡ r
     past_all r k = rw (past r.start k.starts, past r.end k.ends) refl
@@ -130,14 +85,8 @@ module _ (parent n : ℕ) (child : Option ℕ) (w : World) (s : IsSound w) (hp :
 
   placed : (rs : List (Option Range)) → All (IsLive after_adoption) rs → IsSound (record w { forest = after_adoption; ranges = rs })
   placed rs h =
-      record {
-        forest = IsWood-alike (IsWood-put s.forest parent n child hp k.there k.root apart_from k.fits) renamed;
-        ranges = h;
-        iterators = each-kept (IsIterator w.forest) (IsIterator after_adoption) (λ i j. iterator-alike renamed i (iterator-put s.forest parent n child hp k.there k.root apart_from passes i j)) w.iterators s.iterators;
-        walkers = walkers-kept w.forest after_adoption there_placed w.walkers s.walkers;
-        registrations = registrations-kept w.forest after_adoption there_placed w.observing.registrations s.registrations;
-        statics = statics-kept w.forest after_adoption there_placed w.static_ranges s.statics;
-      }
+      sound-on w s after_adoption w.made rs (IsWood-alike (IsWood-put s.forest parent n child hp k.there k.root apart_from k.fits) renamed) h
+      (λ i j. iterator-alike renamed i (iterator-put s.forest parent n child hp k.there k.root apart_from passes i j)) there_placed
 
   -- What is left for the nodes that follow.
 
@@ -164,12 +113,12 @@ module _ (parent n : ℕ) (child : Option ℕ) (w : World) (s : IsSound w) (hp :
       ∙ moved (index_of w.forest c) (place_before child (children_of w.forest parent)) (ap (λ b. place_before b (children_of w.forest parent)) d ∙ sym j)
     where
       moved : (x k : ℕ) → k ≡ x → x + (if parent == parent then (if nat_le k x then 1 else 0) else 0) ≡ x + 1
-      moved x k e = elim (same_or parent parent) [ same d t ↦ rw t (grind (arith, nat_tests)) | apart ne t ↦ absurd (ne refl) ]
+      moved x k e = grind (arith, nat_tests)
 
   -- another root may be put there still
   still_placeable : (m : ℕ) → (n ≡ m → ⊥) → IsPlaceable w.forest parent m → IsPlaceable after_adoption parent m
   still_placeable m ne h =
-      let far : (m == n) ≡ false = elim (same_or m n) [ same e t ↦ absurd (ne (sym e)) | apart _ t ↦ t ] in
+      let far = ne_eqb m n (λ e. ne (sym e)) in
       record {
         there = subst (λ x. 0 < x) (sym (occurs_placed m)) h.there;
         root = parent_placed m h.there ∙ (rw far h.root);
@@ -180,10 +129,7 @@ module _ (parent n : ℕ) (child : Option ℕ) (w : World) (s : IsSound w) (hp :
   pub all_placeable : (ns : List ℕ) → hits n ns ≡ 0 → ArePlaceable w.forest parent ns → ArePlaceable after_adoption parent ns
   all_placeable [] z h = tt
   all_placeable (m ∷ ns) z h =
-      elim (same_or m n) [
-        | same e t ↦ absurd (let i = rw t at z in omega arith)
-        | apart ne t ↦ (let i = rw t at z in (still_placeable m (λ e. ne (sym e)) h.0, h.1, all_placeable ns (omega arith) h.2))
-      ]
+      (still_placeable m (λ e. grind (arith, nat_tests)) h.0, h.1, all_placeable ns (omega arith) h.2)
 
   pub child_placed : (b : Option ℕ) → IsChildOf w.forest parent b → IsChildOf after_adoption parent b
   child_placed None c = tt
@@ -206,8 +152,8 @@ gap-apart parent n (Some d) more w s hp k c =
     let i = index_placed parent n (Some d) w s hp k d c refl in
     ap (λ rs. record w { forest = after_adoption parent n (Some d) w s hp k; ranges = rs })
     (sym (ap (λ x. map_ranges (after_gap parent x more) (map_ranges (after_gap parent (index_of w.forest d) 1) w.ranges)) i
-    ∙ map_ranges-after (after_gap parent (index_of w.forest d + 1) more) (after_gap parent (index_of w.forest d) 1) (after_gap parent (index_of w.forest d) (1 + more))
-    (gap-more parent (index_of w.forest d) 1 more) w.ranges))
+    ∙ map_ranges-twice (after_gap parent (index_of w.forest d + 1) more) (after_gap parent (index_of w.forest d) 1) w.ranges
+    ∙ ap (λ (g : Point → Point). map_ranges g w.ranges) (fun_ext (gap-more parent (index_of w.forest d) 1 more))))
 
 pub placed-forest : (parent n : ℕ) (child : Option ℕ) (w : World) (s : IsSound w) (hp : 0 < occurs parent w.forest) (k : IsPlaceable w.forest parent n) → (put_in parent child n (gap_before parent child 1 w)).forest ≡ after_adoption parent n child w s hp k
 placed-forest parent n None w s hp k = refl

@@ -1,71 +1,32 @@
 -- A split leaves a sound world. DOM Standard, "Interface Text": split.
-use Rattle.std.proofs.Common.{◌≡◌, ℕ, ◌+◌, ◌-◌, ◌<◌, ◌≤◌, ◌==◌, Bool, true, false, if◌then◌else◌, [], ◌∷◌, length, Option, Some, None, refl, ap, sym, ◌∙◌, subst, arith, length-drop}
-use Rattle.std.proofs.lemmas.Bool.{false≢true}
-use Rattle.dom_model.specs.declared.Kind.{Kind}
-use Rattle.dom_model.specs.declared.Kind.TheVariants.{Element, Text, ProcessingInstruction, Comment, Document, DocumentType, DocumentFragment}
-use Rattle.dom_model.specs.PlainLists.Lists.{or_else}
-use Rattle.dom_model.specs.Forests.Arena.{Entry, parent_in, children_in}
-use Rattle.dom_model.specs.Forests.Kinds.{is_kind, is_character_data}
-use Rattle.dom_model.specs.Forests.Forest.{Node, Forest, empty, node, occurs, one_at, tree_at, put, entry_in, parent_of, children_of, next_of, index_of}
-use Rattle.dom_model.specs.Worlds.World.{Content, Point, Range, World}
-use Rattle.dom_model.specs.BoundaryPoints.Points.{after_gap, after_split, moved_range, map_ranges, order_of}
-use Rattle.dom_model.specs.Forests.Nodes.{entry_has, kind_passes, is_of_kind}
-use Rattle.dom_model.specs.Worlds.Lengths.{unit_count, length_in, node_length}
-use Rattle.dom_model.specs.Worlds.Making.{made_node, named, with_text}
-use Rattle.dom_model.specs.MutationAlgorithms.Editing.{tree_record, removed_from, remove, is_fragment, nodes_of, freed, node_document, put_in, gap_before, previous_to, insert_nodes, insert}
-use Rattle.dom_model.specs.DataAndCopies.Data.{content_in, data_of, replace_data, tail_of, split_off, split}
-use Rattle.dom_model.specs.Soundness.Sound.{IsBoundary, IsRange, IsSound}
-use Rattle.dom_model.specs.DataAndCopies.Joinable.{Lives}
-use Rattle.dom_model.specs.MutationAlgorithms.Insertable.{IsPlaceable, IsChildOf}
-use Rattle.dom_model.proofs.PlainLists.Numbers.{same_or, same, apart}
-use Rattle.dom_model.proofs.Forests.Totals.{total-beside}
-use Rattle.dom_model.proofs.Forests.Climbing.{hits-ancestors}
-use Rattle.dom_model.proofs.Forests.Entries.{occurs-HasNode, entry_under-absent}
-use Rattle.dom_model.proofs.Forests.Paths.{parent-path}
+use Rattle.std.proofs.Common.{◌≡◌, ℕ, ◌+◌, ◌-◌, ◌<◌, ◌≤◌, ◌==◌, Bool, true, false, [], ◌∷◌, length, Option, Some, None, refl, ap, sym, ◌∙◌, subst, arith, length-drop}
+use Rattle.std.proofs.lemmas.{Bool.false≢true, Bool.eq-eqb, Bool.ne_eqb, Bool.cond-false, Bool.Decides.nat_tests}
+use Rattle.dom_model.specs.Definitions.{or_else, parent_in, children_in, is_kind, is_character_data, Node, Forest, empty, node, occurs, one_at, tree_at, put, entry_in, parent_of, children_of, next_of, index_of, Content, Point, Range, World, after_gap, after_split, moved_range, map_ranges, order_of, entry_has, kind_passes, is_of_kind, unit_count, length_in, node_length, made_node, named, with_text, tree_record, removed_from, remove, is_fragment, nodes_of, freed, node_document, put_in, gap_before, previous_to, insert_nodes, insert, content_in, data_of, replace_data, tail_of, split_off, split, IsBoundary, IsRange, IsSound, Lives, IsPlaceable, IsChildOf, hits}
+use Rattle.dom_model.specs.declared.{Kind.Kind, Kind.TheVariants.Text, Kind.TheVariants.DocumentType, Kind.TheVariants.DocumentFragment}
 use Rattle.dom_model.proofs.PlainLists.Places.{place_before}
-use Rattle.dom_model.proofs.Forests.Indices.{child-listed}
-use Rattle.dom_model.proofs.Forests.Siblings.{place-next}
+use Rattle.dom_model.proofs.Forests.{Totals.total-beside, Climbing.hits-ancestors, Entries.occurs-HasNode, Entries.entry_under-absent, Paths.parent-path, Indices.child-listed, Siblings.place-next}
 use Rattle.dom_model.proofs.BoundaryPoints.SplitOrder.{inside-childless, split_point, index-split, index-new, split-order_kept}
-use Rattle.dom_model.proofs.Worlds.SameShape.{IsAlike, index-alike, order-alike}
-use Rattle.dom_model.proofs.Soundness.SoundForests.{IsWood, entry_there, data-childless, parent-passes}
-use Rattle.dom_model.proofs.Worlds.Measured.{entry-joined, entry-beside, kind-beside, length-beside, parent-beside, length-put, length-adopted}
+use Rattle.dom_model.proofs.Worlds.{SameShape.IsAlike, SameShape.index-alike, SameShape.order-alike, Measured.entry-joined, Measured.entry-beside, Measured.kind-beside, Measured.length-beside, Measured.parent-beside, Measured.length-put, Measured.length-adopted, Parts.range-from_part}
+use Rattle.dom_model.proofs.Soundness.{SoundForests.IsWood, SoundForests.entry_there, SoundForests.data-childless, SoundForests.parent-passes, SoundWorlds.each-moved, SoundPlacing.gap_each, SoundPlacing.sound-put_one, SoundPlacing.after_put, SoundPlacing.after_adoption, SoundPlacing.renamed, SoundPlacing.range_placed, SoundPlacing.occurs_placed, SoundPlacing.parent_placed, SoundPlacing.kind_placed, SoundPlacing.placed-forest, SoundMaking.sound-made_node, SoundData.length-data, SoundData.sound-replace_data, SoundEditing.next_child, SoundForests.passes-also}
 use Rattle.dom_model.proofs.RangesAndContents.RangesSplit.{IsWithin, boundary-split}
-use Rattle.dom_model.proofs.Worlds.Parts.{range-from_part}
-use Rattle.dom_model.proofs.Soundness.SoundWorlds.{each-moved}
-use Rattle.dom_model.proofs.Soundness.SoundPlacing.{gap_each, sound-put_one, after_put, after_adoption, renamed, range_placed, occurs_placed, parent_placed, kind_placed, placed-forest}
-use Rattle.dom_model.proofs.Soundness.SoundMaking.{sound-made_node}
-use Rattle.dom_model.proofs.Soundness.SoundData.{length-data, sound-replace_data}
-use Rattle.dom_model.proofs.Soundness.SoundEditing.{next_child}
 
 -- A root that is no fragment is inserted: it is put, with a gap and a record.
 
-if_false : {A : Type 0} (v : Bool) (a b : A) → v ≡ false → (if v then a else b) ≡ b
-if_false v a b e = rw e refl
-
 pub insert-root : (n parent : ℕ) (child : Option ℕ) (w : World) → is_fragment w n ≡ false → parent_of w.forest n ≡ None → insert false n parent child w ≡ tree_record parent (n ∷ []) [] (previous_to w.forest parent child) child (put_in parent child n (gap_before parent child 1 w))
 insert-root n parent child w g r =
-    let a : nodes_of w n ≡ n ∷ [] = if_false (is_fragment w n) (children_of w.forest n) (n ∷ []) g in
-    let b : freed n (n ∷ []) w ≡ remove false n w = if_false (is_fragment w n) _ (remove false n w) g in
+    let a : nodes_of w n ≡ n ∷ [] = cond-false (is_fragment w n) (children_of w.forest n) (n ∷ []) g in
+    let b : freed n (n ∷ []) w ≡ remove false n w = cond-false (is_fragment w n) _ (remove false n w) g in
     let c : remove false n w ≡ w = ap (λ p. removed_from false n p w) r in
     ap (λ ns. insert_nodes false n parent child ns w) a
     ∙ ap (λ v. tree_record parent (n ∷ []) [] (previous_to v.forest parent child) child (put_in parent child n (gap_before parent child 1 v))) (b ∙ c)
 
 text_data : (k : Kind) → is_kind Text k ≡ true → is_character_data k ≡ true
-text_data Element h = absurd (false≢true h)
 text_data Text h = refl
-text_data ProcessingInstruction h = absurd (false≢true h)
-text_data Comment h = absurd (false≢true h)
-text_data Document h = absurd (false≢true h)
-text_data DocumentType h = absurd (false≢true h)
-text_data DocumentFragment h = absurd (false≢true h)
+text_data k h = absurd (false≢true h)
 
 -- a Text has data
 pub text_has_data : (w : World) (n : ℕ) → is_of_kind Text w.forest n ≡ true → kind_passes is_character_data w.forest n ≡ true
-text_has_data w n h = go (entry_in w.forest n) h
-  where
-    go : (o : Option (Entry (Node Content))) → entry_has (is_kind Text) o ≡ true → entry_has is_character_data o ≡ true
-    go None k = absurd (false≢true k)
-    go (Some e) k = text_data e.value.label.kind k
+text_has_data w n h = passes-also (is_kind Text) is_character_data true text_data w.forest n h
 
 -- the Text that gets what is beyond the offset
 abbrev pub new_text : ℕ → ℕ → World → Node Content
@@ -89,7 +50,7 @@ module _ (n parent offset : ℕ) (w : World) (s : IsSound w) (hn : 0 < occurs n 
   entry-new =
       entry-joined None w.made w.forest (node new_node empty empty)
       ∙ ap (λ o. or_else o (entry_in (node new_node empty empty) w.made)) (entry_under-absent None w.made w.forest absent)
-      ∙ (elim (same_or w.made w.made) [ same e t ↦ rw t refl | apart ne t ↦ absurd (ne refl) ])
+      ∙ (rw (eq-eqb w.made w.made refl) refl)
 
   pub there-new : 0 < occurs w.made made.forest
   there-new = occurs-HasNode made.forest w.made (rw entry-new refl)
@@ -158,12 +119,12 @@ module _ (n parent offset : ℕ) (w : World) (s : IsSound w) (hn : 0 < occurs n 
   pub par-parted : parent_of parted n ≡ Some parent
   par-parted =
       parent_placed parent w.made (next_of made.forest n) made sm (there-old parent hp) placeable n (there-old n hn)
-      ∙ (elim (same_or n w.made) [ same e t ↦ absurd (apart-new n hn e) | apart ne t ↦ rw t par-made ])
+      ∙ (rw (ne_eqb n w.made (apart-new n hn)) par-made)
 
   pub par-new : parent_of parted w.made ≡ Some parent
   par-new =
       parent_placed parent w.made (next_of made.forest n) made sm (there-old parent hp) placeable w.made there-new
-      ∙ (elim (same_or w.made w.made) [ same e t ↦ rw t refl | apart ne t ↦ absurd (ne refl) ])
+      ∙ (rw (eq-eqb w.made w.made refl) refl)
 
   alike : IsAlike (after_put parent w.made (next_of made.forest n) made sm (there-old parent hp) placeable) parted
   alike = renamed parent w.made (next_of made.forest n) made sm (there-old parent hp) placeable
@@ -180,10 +141,7 @@ module _ (n parent offset : ℕ) (w : World) (s : IsSound w) (hn : 0 < occurs n 
   -- lengths: only the parent's is another
   apart-parent : (m : ℕ) → children_of made.forest m ≡ [] → (m == parent) ≡ false
   apart-parent m e =
-      elim (same_or m parent) [
-        | same d t ↦ absurd (let k = child-listed made.forest sm.forest.once n parent (there-old n hn) par-made in let j = rw (ap (children_of made.forest) (sym d) ∙ e) at k in omega arith)
-        | apart ne t ↦ t
-      ]
+      grind (arith, nat_tests, child-listed made.forest sm.forest.once n parent (there-old n hn) par-made, ap (hits n) e)
 
   apart_inside : occurs parent (tree_at w.made made.forest) ≡ 0
   apart_inside = inside-childless made.forest sm.forest.once w.made parent bare-new (there-old parent hp) (apart-new parent hp)

@@ -1,24 +1,11 @@
 -- Surrounding the contents of a live range leaves a sound world. DOM Standard, "Interface Range": surroundContents.
 use Rattle.std.proofs.Common.{◌≡◌, ℕ, ◌<◌, Bool, true, false, ◌||◌, if◌then◌else◌, List, [], ◌∷◌, Option, Some, None, IfSome, Ok, refl, ap, sym, ◌∙◌, subst}
+use Rattle.dom_model.specs.Definitions.{Forest, occurs, children_of, Content, Range, World, check_insert, remove_all, reference_child, pre_insert, replaced_record, replace_all, is_collapsed, collapsed_at, around, range_at, with_range, for_range, is_in_one_data, new_place, contents_drawn, check_draw, check_extract, extracted, extract, and_then, unless, try_pre_insert, insert_node, check_surround, try_extract, selected, try_select, surrounded, surround, IsRange, IsSound}
 use Rattle.dom_model.specs.declared.DomError.{DomError}
-use Rattle.dom_model.specs.Forests.Forest.{Forest, occurs, children_of}
-use Rattle.dom_model.specs.Worlds.World.{Content, Range, World}
-use Rattle.dom_model.specs.MutationAlgorithms.Checks.{check_insert}
-use Rattle.dom_model.specs.MutationAlgorithms.Editing.{remove_all, reference_child, pre_insert, replaced_record, replace_all}
-use Rattle.dom_model.specs.RangesAndContents.Ranges.{is_collapsed, collapsed_at, around, range_at, with_range}
-use Rattle.dom_model.specs.RangesAndContents.Contents.{for_range, is_in_one_data, new_place, contents_drawn, check_draw, check_extract, extracted, extract}
-use Rattle.dom_model.specs.RangesAndContents.Wrapping.{and_then, unless, try_pre_insert, insert_node, check_surround, try_extract, selected, try_select, surrounded, surround}
-use Rattle.dom_model.specs.Soundness.Sound.{IsRange, IsSound}
 use Rattle.dom_model.proofs.Forests.Indices.{child-there}
-use Rattle.dom_model.proofs.Soundness.SoundWorlds.{IsLive}
-use Rattle.dom_model.proofs.MutationAlgorithms.Loosened.{IsLoosened, loosened-remove_all}
-use Rattle.dom_model.proofs.Soundness.SoundEditing.{sound-pre_insert, sound-replace_all, checks_insert, insertable}
-use Rattle.dom_model.proofs.MutationAlgorithms.Extending.{put_by_insert}
-use Rattle.dom_model.proofs.Soundness.SoundRangeSteps.{live_range, sound-with_range}
+use Rattle.dom_model.proofs.Soundness.{SoundWorlds.IsLive, SoundEditing.sound-pre_insert, SoundEditing.sound-replace_all, SoundEditing.checks_insert, SoundEditing.insertable, SoundRangeSteps.live_range, SoundRangeSteps.sound-with_range, SoundContents.sound-extracted, SoundContents.there-drawn, SoundContents.fragment-drawn, SoundPlacedNode.IsNext, SoundPlacedNode.Gives, SoundPlacedNode.gives-then, SoundPlacedNode.gives-unless, SoundPlacedNode.gives-after, SoundPlacedNode.next-then, SoundInsertedNode.insert-next}
+use Rattle.dom_model.proofs.MutationAlgorithms.{Loosened.IsLoosened, Loosened.loosened-remove_all, Extending.put_by_insert}
 use Rattle.dom_model.proofs.RangesAndContents.RangesSet.{range_selected}
-use Rattle.dom_model.proofs.Soundness.SoundContents.{sound-extracted, there-drawn, fragment-drawn}
-use Rattle.dom_model.proofs.Soundness.SoundPlacedNode.{IsNext, Gives, gives-then, gives-unless, gives-after, next-then}
-use Rattle.dom_model.proofs.Soundness.SoundInsertedNode.{insert-next}
 
 pre_insert-next : (n parent : ℕ) (child : Option ℕ) (w : World) → IsSound w → 0 < occurs n w.forest → Gives w (try_pre_insert n parent child w)
 pre_insert-next n parent child w s h =

@@ -1,28 +1,11 @@
 -- Setting text content leaves a sound world. DOM Standard, "Interface Node": textContent; string replace all.
-use Rattle.std.proofs.Common.{◌≡◌, ℕ, ◌<◌, ◌≤◌, Bool, true, false, not, ◌&&◌, List, [], ◌∷◌, Some, None, refl, ap, sym, ◌∙◌, subst, arith, ⊎_elim}
-use Rattle.std.proofs.lemmas.Bool.{cases_lt}
-use Rattle.dom_model.specs.declared.Kind.{Kind}
-use Rattle.dom_model.specs.declared.Kind.TheVariants.{Element, Text, ProcessingInstruction, Comment, Document, DocumentType, DocumentFragment}
-use Rattle.dom_model.specs.PlainLists.Lists.{hits, or_else}
-use Rattle.dom_model.specs.Forests.Arena.{Entry}
-use Rattle.dom_model.specs.Forests.Kinds.{Label, is_kind, is_character_data, may_be_parent}
-use Rattle.dom_model.specs.Forests.Forest.{Node, Forest, empty, node, occurs, one_at, entry_in, ancestors}
-use Rattle.dom_model.specs.Worlds.World.{Content, World}
-use Rattle.dom_model.specs.Forests.Nodes.{entry_has, kind_passes, is_of_kind}
-use Rattle.dom_model.specs.Worlds.Making.{made_node, named, with_text}
-use Rattle.dom_model.specs.MutationAlgorithms.Editing.{node_document}
-use Rattle.dom_model.specs.DataAndCopies.Data.{by_kind, string_replace_all, set_text_content_by, set_text_content}
-use Rattle.dom_model.specs.Soundness.Sound.{IsSound}
-use Rattle.dom_model.specs.MutationAlgorithms.Insertable.{IsInsertable}
-use Rattle.dom_model.proofs.PlainLists.Numbers.{same_or, same, apart}
-use Rattle.dom_model.proofs.Forests.Changes.{seen, nothing, just}
-use Rattle.dom_model.proofs.Forests.Totals.{total-beside}
-use Rattle.dom_model.proofs.Forests.Entries.{entry_under-absent, occurs-HasNode}
-use Rattle.dom_model.proofs.Worlds.Measured.{entry-joined, entry-beside, kind-beside}
-use Rattle.dom_model.proofs.Worlds.Parts.{path-there, ancestors-part}
-use Rattle.dom_model.proofs.Soundness.SoundMaking.{sound-made_node}
-use Rattle.dom_model.proofs.Soundness.SoundEditing.{sound-replace_all, holder_there}
-use Rattle.dom_model.proofs.Soundness.SoundData.{sound-set_data}
+use Rattle.std.proofs.Common.{◌≡◌, ℕ, ◌<◌, Bool, true, false, not, ◌&&◌, List, [], ◌∷◌, Some, None, refl, ap, sym, ◌∙◌, subst, arith}
+use Rattle.std.proofs.lemmas.Bool.{eq-eqb}
+use Rattle.dom_model.specs.Definitions.{hits, or_else, Entry, Label, is_kind, is_character_data, may_be_parent, Node, Forest, empty, node, occurs, one_at, entry_in, ancestors, Content, World, entry_has, kind_passes, is_of_kind, made_node, named, with_text, node_document, by_kind, string_replace_all, set_text_content_by, set_text_content, IsSound, IsInsertable}
+use Rattle.dom_model.specs.declared.{Kind.Kind, Kind.TheVariants.Element, Kind.TheVariants.Text, Kind.TheVariants.ProcessingInstruction, Kind.TheVariants.Comment, Kind.TheVariants.Document, Kind.TheVariants.DocumentType, Kind.TheVariants.DocumentFragment}
+use Rattle.dom_model.proofs.Forests.{Changes.seen, Changes.nothing, Changes.just, Totals.total-beside, Entries.entry_under-absent, Entries.occurs-HasNode}
+use Rattle.dom_model.proofs.Worlds.{Measured.entry-joined, Measured.entry-beside, Measured.kind-beside, Parts.path-there, Parts.ancestors-part}
+use Rattle.dom_model.proofs.Soundness.{SoundMaking.sound-made_node, SoundEditing.sound-replace_all, SoundEditing.holder_there, SoundData.sound-set_data}
 
 -- A new node, a root that no node is in.
 module _ (document : ℕ) (label : Label) (body : Content) (w : World) (s : IsSound w) where
@@ -42,7 +25,7 @@ module _ (document : ℕ) (label : Label) (body : Content) (w : World) (s : IsSo
   entry-made =
       entry-joined None w.made w.forest (node new empty empty)
       ∙ ap (λ o. or_else o (entry_in (node new empty empty) w.made)) (entry_under-absent None w.made w.forest absent)
-      ∙ (elim (same_or w.made w.made) [ same e t ↦ rw t refl | apart ne t ↦ absurd (ne refl) ])
+      ∙ (rw (eq-eqb w.made w.made refl) refl)
 
   pub made-there : 0 < occurs w.made made.forest
   made-there = occurs-HasNode made.forest w.made (rw entry-made refl)
@@ -53,10 +36,7 @@ module _ (document : ℕ) (label : Label) (body : Content) (w : World) (s : IsSo
   pub made-outside : (m : ℕ) → 0 < occurs m w.forest → hits w.made (ancestors m made.forest) ≡ 0
   made-outside m h =
       let e = ap (hits w.made) (ancestors-part w.forest made.forest s.forest.once sm.forest.once (λ k i. entry-beside w.forest (node new empty empty) k i) m h) in
-      ⊎_elim
-      (λ (lt : 0 < hits w.made (ancestors m w.forest)). absurd (let i = path-there w.forest s.forest.once m w.made lt in let z = absent in omega arith))
-      (λ (le : hits w.made (ancestors m w.forest) ≤ 0). omega arith)
-      (cases_lt 0 (hits w.made (ancestors m w.forest)))
+      grind (arith, path-there w.forest s.forest.once m w.made, absent)
 
   pub made-insertable : (n : ℕ) → is_kind Document label.kind ≡ false → is_kind DocumentType label.kind ≡ false → kind_passes may_be_parent w.forest n ≡ true → IsInsertable made.forest w.made n None
   made-insertable n d t k =

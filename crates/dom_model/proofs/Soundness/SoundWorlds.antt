@@ -1,19 +1,8 @@
 -- The parts of a sound world, and what a removal leaves of them. DOM Standard, "Mutation algorithms": remove.
-use Rattle.std.proofs.Common.{◌≡◌, ℕ, ◌<◌, ◌≤◌, ◌==◌, Bool, true, false, List, [], ◌∷◌, length, map, filter, Option, Some, None, IfSome, All, option_map, unwrap_or, slice_index_or, refl, sym, subst, ⊎_elim}
-use Rattle.std.proofs.lemmas.Bool.{cases_lt}
-use Rattle.std.proofs.lemmas.List.{get_or_past}
-use Rattle.std.proofs.lemmas.List.Elements.{All-map, All-weaker, All-append, All-filter, All-nil}
-use Rattle.dom_model.specs.Forests.Forest.{Forest, occurs, one_at, cut, entry_in, HasNode, parent_of, ancestors, previous_of, next_of}
-use Rattle.dom_model.specs.Worlds.World.{Content, Point, Range, Walker, Registration, Mutation, World}
-use Rattle.dom_model.specs.BoundaryPoints.Points.{moved_range, map_ranges}
-use Rattle.dom_model.specs.MutationAlgorithms.PreRemoval.{pre_removed}
-use Rattle.dom_model.specs.MutationObservers.Observing.{registered_on, standing_on, transient_of}
-use Rattle.dom_model.specs.MutationAlgorithms.Editing.{queued, tree_record, tree_record_unless, taken_out, transients_made, removed_from, remove, remove_all}
-use Rattle.dom_model.specs.Soundness.Sound.{IsRange, IsIterator, IsWalker, IsRegistration, AreHeld, IsSound}
-use Rattle.dom_model.specs.DataAndCopies.Joinable.{Lives}
-use Rattle.dom_model.proofs.Forests.Changes.{seen, nothing, just}
-use Rattle.dom_model.proofs.Forests.Totals.{total-cut}
-use Rattle.dom_model.proofs.Forests.Entries.{HasNode-occurs, occurs-HasNode}
+use Rattle.std.proofs.Common.{◌≡◌, ℕ, ◌<◌, ◌≤◌, ◌==◌, Bool, true, false, List, [], ◌∷◌, length, map, filter, Option, Some, None, IfSome, All, option_map, unwrap_or, slice_index_or, refl, sym, subst, ⊎_elim, arith}
+use Rattle.std.proofs.lemmas.{Bool.cases_lt, List.get_or_past, List.Elements.All-map, List.Elements.All-weaker, List.Elements.All-append, List.Elements.All-filter, List.Elements.All-nil}
+use Rattle.dom_model.specs.Definitions.{Forest, occurs, one_at, cut, HasNode, parent_of, ancestors, previous_of, next_of, Content, Point, Range, Walker, Registration, Mutation, World, moved_range, map_ranges, pre_removed, registered_on, standing_on, transient_of, queued, tree_record, tree_record_unless, taken_out, transients_made, removed_from, remove, remove_all, IsRange, IsIterator, IsWalker, IsRegistration, AreHeld, IsSound, Lives, IsForest, Iterator}
+use Rattle.dom_model.proofs.Forests.{Totals.total-cut, Entries.HasNode-occurs, Entries.occurs-HasNode, Entries.entry_under-absent}
 use Rattle.dom_model.proofs.Soundness.SoundForests.{IsWood-cut}
 use Rattle.dom_model.proofs.RangesAndContents.RangesCut.{range-cut, iterator-cut}
 
@@ -66,6 +55,19 @@ registrations-kept f g there rs h = All-weaker (IsRegistration f) (IsRegistratio
 pub statics-kept : (f g : Forest Content) → ((n : ℕ) → HasNode f n → HasNode g n) → (rs : List (Option Range)) → All (λ (r : Option Range). IfSome r (AreHeld f)) rs → All (λ (r : Option Range). IfSome r (AreHeld g)) rs
 statics-kept f g there rs h = each-kept (AreHeld f) (AreHeld g) (λ r k. record { start = there r.start.node k.start; end = there r.end.node k.end }) rs h
 
+-- a world on another forest, which has all nodes of its own
+pub sound-on : (w : World) → IsSound w → (g : Forest Content) (made : ℕ) (ranges : List (Option Range)) → IsForest (record { forest = g; made = made }) → All (IsLive g) ranges → ((i : Iterator) → IsIterator w.forest i → IsIterator g i) → ((n : ℕ) → HasNode w.forest n → HasNode g n) →
+    IsSound (record w { forest = g; made = made; ranges = ranges })
+sound-on w s g made ranges wood live inside there =
+    record {
+      forest = wood;
+      ranges = live;
+      iterators = each-kept (IsIterator w.forest) (IsIterator g) inside w.iterators s.iterators;
+      walkers = walkers-kept w.forest g there w.walkers s.walkers;
+      registrations = registrations-kept w.forest g there w.observing.registrations s.registrations;
+      statics = statics-kept w.forest g there w.static_ranges s.statics;
+    }
+
 -- a change that is noted
 pub sound-queued : (m : Mutation) (w : World) → IsSound w → IsSound (queued m w)
 sound-queued m w s = record { forest = s.forest; ranges = s.ranges; iterators = s.iterators; walkers = s.walkers; registrations = s.registrations; statics = s.statics }
@@ -116,11 +118,7 @@ sound-transients n parent w h s =
 
 -- a node with a parent is there
 pub child_there : (f : Forest Content) (n p : ℕ) → parent_of f n ≡ Some p → 0 < occurs n f
-child_there f n p h =
-    elim (seen (entry_in f n)) [
-      | nothing e ↦ absurd (let k : None ≡ Some p = rw e at h in cc k)
-      | just a e ↦ occurs-HasNode f n (rw e refl)
-    ]
+child_there f n p h = grind (arith, entry_under-absent None n f)
 
 pub there_after_cut : (f : Forest Content) (c n : ℕ) → HasNode f n → HasNode (cut c f) n
 there_after_cut f c n h = HasNode-occurs (cut c f) n (subst (λ k. 0 < k) (sym (total-cut (one_at n) c f)) (occurs-HasNode f n h))

@@ -1,17 +1,8 @@
 -- Tests for dialogues, in each of which a list without members says that nothing was missed: after each command, each live range end stands
 -- where its marker stands in the token texts that are edited all the way, those texts are the world's but for their markers, and the edits
 -- leave of a world what the command leaves of its nesting, data and live ranges.
-use Rattle.std.specs.Prelude.{ℕ, ◌==◌, Bool, true, false, not, ◌&&◌, List, [], ◌∷◌, map, filter, length, Option, Some, None}
-use Rattle.dom_model.specs.Forests.Forest.{tops}
-use Rattle.dom_model.specs.Worlds.World.{Range, World, first_world}
-use Rattle.dom_model.specs.Commands.Command.{Command}
-use Rattle.dom_model.specs.Commands.Table.{Row}
-use Rattle.dom_model.specs.Commands.Line.{command_within}
-use Rattle.dom_model.specs.Commands.Output.{lines_of}
-use Rattle.dom_model.specs.TokenText.Tokens.{Token, Open, Close, OneUnit, Mark, same_side, same_point, unmarked, tokens_among, texts_of, all_on_texts, marked_ranges}
-use Rattle.dom_model.specs.TokenText.Edits.{all_on_world}
-use Rattle.dom_model.specs.Commands.Answer.{Bounds, answer}
-use Rattle.dom_model.specs.TokenText.CommandEdits.{command_edits, unless_refused, commands_among}
+use Rattle.std.proofs.Common.{ℕ, ◌==◌, Bool, true, false, not, ◌&&◌, List, [], ◌∷◌, map, filter, length, Option, Some, None}
+use Rattle.dom_model.specs.Definitions.{tops, Range, World, first_world, Command, Row, lines_of, Token, Open, Close, OneUnit, Mark, same_side, same_point, unmarked, tokens_among, texts_of, all_on_texts, marked_ranges, all_on_world, Bounds, answer, command_edits, unless_refused, commands_among, command_within}
 
 abbrev pub same_token : Token → Token → Bool
 same_token (Open n) (Open m) = n == m

@@ -1,4 +1,5 @@
 -- Forests that the token texts cannot tell apart, and the trees beside a tree that changes.
+pub mod WaysToTrees
 pub mod TreesAlike
 pub mod TreesAlikeAfter
 pub mod TreesPlaced

@@ -1,14 +1,7 @@
 -- A test for dialogues, where a list without members says that nothing was missed: the text of a range, what deleting and extracting leave,
 -- and the fragments, are what lies between the range's markers.
-use Rattle.std.specs.Prelude.{ℕ, Bool, true, false, ◌&&◌, List, [], ◌∷◌, flat_map, bytes_eq}
-use Rattle.std.specs.List.{list_any}
-use Rattle.dom_model.specs.Worlds.World.{World, first_world}
-use Rattle.dom_model.specs.Commands.Command.{Command, RangeText, DeleteContents, ExtractContents, CloneContents}
-use Rattle.dom_model.specs.Commands.Reply.{Reply, Done, Answer, Units}
-use Rattle.dom_model.specs.Commands.Table.{Row}
-use Rattle.dom_model.specs.TokenText.Tokens.{Token, is_mark_of, unmarked, texts_of, tokens_among}
-use Rattle.dom_model.specs.TokenText.Between.{before_mark, after_mark, between, left_before, left_after, text_of_range, same_shape, fragment_shape}
-use Rattle.dom_model.specs.Commands.Answer.{Bounds, answer}
+use Rattle.std.specs.{Prelude.ℕ, Prelude.Bool, Prelude.true, Prelude.false, Prelude.◌&&◌, Prelude.List, Prelude.[], Prelude.◌∷◌, Prelude.flat_map, Prelude.bytes_eq, List.list_any}
+use Rattle.dom_model.specs.Definitions.{World, first_world, Command, RangeText, DeleteContents, ExtractContents, CloneContents, Reply, Done, Answer, Units, Row, Token, is_mark_of, unmarked, texts_of, tokens_among, before_mark, after_mark, between, left_before, left_after, text_of_range, same_shape, fragment_shape, Bounds, answer}
 use Rattle.dom_model.proofs.TokenText.Agreement.{all_same, same_token, missed, commands_read}
 
 abbrev pub if_marked : Bool → List Token → List Token

@@ -1,11 +1,7 @@
 -- Each end of a live range stands in its marker's gap before and after an edit, as the token texts show: a Text comes in ahead of its
 -- siblings, data is replaced, a Text is split. In the texts `start` and `end` are the two markers of a range of that number.
-use Rattle.std.specs.Prelude.{◌≡◌, refl, ℕ, true, false, List, [], ◌∷◌, Option, Some}
-use Rattle.dom_model.specs.Worlds.World.{Range, World, first_world}
-use Rattle.dom_model.specs.Commands.Command.{Command, CreateElement, CreateText, AppendChild, CreateRange, SetStart, SetEnd, InsertBefore, ReplaceData, SplitText}
-use Rattle.dom_model.specs.TokenText.Tokens.{Token, Open, Close, OneUnit, Mark, Removal, Insertion, Splice, Parting, point, texts_of, all_on_texts, marked_ranges}
-use Rattle.dom_model.specs.Commands.Answer.{Bounds}
-use Rattle.dom_model.specs.TokenText.CommandEdits.{edits_of, world_past}
+use Rattle.std.proofs.Common.{◌≡◌, refl, ℕ, true, false, List, [], ◌∷◌, Option, Some}
+use Rattle.dom_model.specs.Definitions.{Range, World, first_world, Command, CreateElement, CreateText, AppendChild, CreateRange, SetStart, SetEnd, InsertBefore, ReplaceData, SplitText, Token, Open, Close, OneUnit, Mark, Removal, Insertion, Splice, Parting, point, texts_of, all_on_texts, marked_ranges, Bounds, edits_of, world_past}
 
 abbrev bounds : Bounds
 bounds = record { numbers = 4294967295; line = 1048576 }

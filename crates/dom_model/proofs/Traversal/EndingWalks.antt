@@ -1,13 +1,8 @@
 -- Walks that end: steps that go through a list of trees, and on, back or up from a node inside them, make at most two moves for each node.
 use Rattle.std.proofs.Common.{◌≡◌, ℕ, zero, suc, ◌+◌, ◌*◌, ◌≤◌, Option, Some, None, refl, ap, sym, ◌∙◌, subst, arith, ◌⊎◌, ⊎_elim}
-use Rattle.dom_model.specs.PlainLists.Lists.{head_of, last_of}
-use Rattle.dom_model.specs.Forests.Arena.{Entry, parent_in, children_in, next_in, previous_in}
-use Rattle.dom_model.specs.Forests.Forest.{Node, Forest, empty, node, occurs, size, tops}
-use Rattle.dom_model.specs.Traversal.WalkSteps.{Stand, at, leaving, ended, at_or, up_to_parent}
-use Rattle.dom_model.specs.Traversal.Ending.{HasEnded}
-use Rattle.dom_model.proofs.Forests.Standing.{top, inside, beyond, whereabouts, Stands}
-use Rattle.dom_model.proofs.Traversal.WalksForward.{Finds, Finds-ended, Finds-more, Finds-at, Finds-leaving, Finds-same}
-use Rattle.dom_model.proofs.Traversal.WalksBackward.{last_again}
+use Rattle.dom_model.specs.Definitions.{head_of, last_of, Entry, parent_in, children_in, next_in, previous_in, Node, Forest, empty, node, occurs, size, tops, Stand, at, leaving, ended, at_or, up_to_parent, HasEnded}
+use Rattle.dom_model.proofs.Forests.{Whereabouts.top, Whereabouts.inside, Whereabouts.beyond, Whereabouts.whereabouts, Standing.Stands}
+use Rattle.dom_model.proofs.Traversal.{WalksForward.Finds, WalksForward.Finds-ended, WalksForward.Finds-more, WalksForward.Finds-at, WalksForward.Finds-leaving, WalksForward.Finds-same, WalksBackward.last_again}
 
 pub HasEnded-more : (step : Stand → Stand) (moves more : ℕ) (stand : Stand) → HasEnded step moves stand → moves ≤ more → HasEnded step more stand
 HasEnded-more step moves more (ended found) h le = tt

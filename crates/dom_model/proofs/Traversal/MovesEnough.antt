@@ -1,28 +1,11 @@
 -- The moves that a walk by steps is allowed are always enough, whatever the walker's root is: it has ended then, and with more moves it finds the same.
 use Rattle.std.proofs.Common.{◌≡◌, ℕ, ◌+◌, ◌*◌, ◌<◌, ◌≤◌, ◌==◌, Bool, true, false, ◌||◌, if◌then◌else◌, List, [], ◌∷◌, ◌++◌, Option, Some, None, refl, ap, sym, ◌∙◌, subst, arith, ◌⊎◌, inl, inr}
-use Rattle.dom_model.specs.declared.Verdict.{Verdict}
-use Rattle.dom_model.specs.declared.Verdict.TheVariants.{Accept, Skip, Reject}
-use Rattle.dom_model.specs.PlainLists.Lists.{head_of, last_of, after, before}
-use Rattle.dom_model.specs.Forests.Arena.{Entry, parent_in, children_in, list_under, next_in, previous_in}
-use Rattle.dom_model.specs.Forests.Forest.{Node, Forest, empty, node, occurs, one_at, size, tops, tree_at, entry_in, children_of, parent_of, ancestors, root_of}
-use Rattle.dom_model.specs.Worlds.World.{Filter}
-use Rattle.dom_model.specs.Traversal.Filters.{verdict_on, accepts}
-use Rattle.dom_model.specs.Traversal.WalkSteps.{Stand, leaving, ended, at_or, come_to, come_back_to, up_to_parent, walked, moves_allowed, parent_arrived, parent_step, first_child_arrived, past_child, first_child_step, next_sibling_arrived, past_sibling, next_sibling_step, past_node, next_step, previous_arrived, back_past_node, previous_step, parent_by_steps, first_child_by_steps, next_sibling_by_steps, next_by_steps, previous_by_steps, size_under}
-use Rattle.dom_model.specs.Traversal.Walks.{mirrored}
-use Rattle.dom_model.specs.Forests.Lies.{Lies}
-use Rattle.dom_model.specs.Traversal.Ending.{HasEnded}
+use Rattle.dom_model.specs.Definitions.{head_of, last_of, after, before, Entry, parent_in, children_in, list_under, next_in, previous_in, Node, Forest, empty, node, occurs, one_at, size, tops, tree_at, entry_in, children_of, parent_of, ancestors, root_of, Filter, verdict_on, accepts, Stand, leaving, ended, at_or, come_to, come_back_to, up_to_parent, walked, moves_allowed, parent_arrived, parent_step, first_child_arrived, past_child, first_child_step, next_sibling_arrived, past_sibling, next_sibling_step, past_node, next_step, previous_arrived, back_past_node, previous_step, parent_by_steps, first_child_by_steps, next_sibling_by_steps, next_by_steps, previous_by_steps, mirrored, Lies, HasEnded}
+use Rattle.dom_model.specs.declared.{Verdict.Verdict, Verdict.TheVariants.Accept, Verdict.TheVariants.Skip, Verdict.TheVariants.Reject}
 use Rattle.dom_model.proofs.PlainLists.Numbers.{same_or, same, apart}
-use Rattle.dom_model.proofs.Forests.Totals.{IsOnce}
-use Rattle.dom_model.proofs.Forests.Entries.{Lies-entry_in}
-use Rattle.dom_model.proofs.Traversal.IteratorsStay.{tree_at-inside}
+use Rattle.dom_model.proofs.Forests.{Totals.IsOnce, Entries.Lies-entry_in, Whereabouts.top, Whereabouts.inside, Whereabouts.beyond, Whereabouts.whereabouts, Standing.Tree, Standing.tree_of, Below.Below, Below.below, Below.size-tree, Below.tree-there, Below.tree-top, Below.tree-beyond, Mirrored.IsOnce-mirrored, Mirrored.total-mirrored}
+use Rattle.dom_model.proofs.Traversal.{IteratorsStay.tree_at-inside, Shown.above, Shown.ancestors-above, WalksForward.Finds, WalksForward.Finds-found, WalksMirrored.walked-agree, WalksMirrored.first-mirrored, WalksMirrored.moves-mirrored, WalksMirrored.child_step-mirrored, WalksMirrored.sibling_step-mirrored, WalksMirrored.child_steps-mirrored, WalksMirrored.sibling_steps-mirrored, WalksMirrored.last_child_step, WalksMirrored.last_child_by_steps, WalksMirrored.previous_sibling_step, WalksMirrored.previous_sibling_by_steps, EndingWalks.HasEnded-more, EndingWalks.HasEnded-agree, EndingWalks.Ends, EndingWalks.Ends-ended, EndingWalks.Ends-more, EndingWalks.Ends-leaving, EndingWalks.Ends-same, EndingWalks.EndsOr, EndingWalks.at_end, EndingWalks.goes_on, EndingWalks.Ends-or, EndingWalks.IsOnward, EndingWalks.through-ends, EndingWalks.on_from-ends, EndingWalks.Entered, EndingWalks.passed_over, EndingWalks.gone_into, EndingWalks.IsReturning, EndingWalks.back_from-ends, EndingWalks.IsClimbing, EndingWalks.climb-ends}
 use Rattle.dom_model.proofs.BoundaryPoints.RootsKept.{last_of-behind}
-use Rattle.dom_model.proofs.Forests.Standing.{top, inside, beyond, whereabouts, Tree, tree_of}
-use Rattle.dom_model.proofs.Traversal.Shown.{above, ancestors-above}
-use Rattle.dom_model.proofs.Forests.Below.{Below, below, size-tree, tree-there, tree-top, tree-beyond}
-use Rattle.dom_model.proofs.Traversal.WalksForward.{Finds, Finds-found}
-use Rattle.dom_model.proofs.Forests.Mirrored.{IsOnce-mirrored, total-mirrored}
-use Rattle.dom_model.proofs.Traversal.WalksMirrored.{walked-agree, first-mirrored, moves-mirrored, child_step-mirrored, sibling_step-mirrored, child_steps-mirrored, sibling_steps-mirrored, last_child_step, last_child_by_steps, previous_sibling_step, previous_sibling_by_steps}
-use Rattle.dom_model.proofs.Traversal.EndingWalks.{HasEnded-more, HasEnded-agree, Ends, Ends-ended, Ends-more, Ends-leaving, Ends-same, EndsOr, at_end, goes_on, Ends-or, IsOnward, through-ends, on_from-ends, Entered, passed_over, gone_into, IsReturning, back_from-ends, IsClimbing, climb-ends}
 
 -- a stand that a test may end
 tested : (v : Bool) (found : Option ℕ) (stand : Stand) → EndsOr (if v then ended found else stand) stand
@@ -110,11 +93,7 @@ module _ {X : Type 0} (f : Forest X) (o : IsOnce f) (filter : Filter) (root curr
   current_tree = tree_of f o current there
 
   current_size : size current_tree.kids ≤ nodes
-  current_size =
-      let i = ap size current_tree.tree in
-      let j = ap size (tree_at-inside current up_top.root f o up_top.in_tree) in
-      let k = size-tree current (tree_at up_top.root f) in
-      omega arith
+  current_size = grind (arith, tree_at-inside current up_top.root f o up_top.in_tree, size-tree current (tree_at up_top.root f))
 
   module _ (step : Stand → Stand) (arrive past : ℕ → Stand) where
     onward-leaving : IsOnward (entry_in f) step arrive past → Ends step (leaving current) (2 * nodes)
@@ -268,8 +247,4 @@ module _ {X : Type 0} (f : Forest X) (o : IsOnce f) (filter : Filter) (root curr
 
 -- no more moves than four for each node there is
 pub moves-bounded : {X : Type 0} (f : Forest X) (filter : Filter) (root current : ℕ) → moves_allowed f filter root current ≤ 4 * size f
-moves-bounded f filter root current = let i = under (root_of f current) in omega arith
-  where
-    under : (r : Option ℕ) → size_under f filter root current r ≤ size f
-    under None = omega arith
-    under (Some r) = size-tree r f
+moves-bounded f filter root current = grind (arith, size-tree)

@@ -1,27 +1,13 @@
 -- Steps backwards: through a list of trees from its end, and back from a node inside them, until the walk comes up to the node above.
 -- To the previous node: the steps find the first accepted node of the list.
 use Rattle.std.proofs.Common.{◌≡◌, ℕ, suc, ◌+◌, ◌*◌, ◌==◌, Bool, true, false, if◌then◌else◌, List, [], ◌∷◌, ◌++◌, reverse, Option, Some, None, refl, ap, sym, ◌∙◌, subst, arith}
-use Rattle.std.specs.Prelude.{find}
-use Rattle.std.specs.Option.{option_or}
+use Rattle.std.specs.{Prelude.find, Option.option_or}
 use Rattle.std.proofs.lemmas.List.{reverse-append}
-use Rattle.dom_model.specs.declared.Verdict.{Verdict}
-use Rattle.dom_model.specs.declared.Verdict.TheVariants.{Accept, Skip, Reject}
-use Rattle.dom_model.specs.PlainLists.Lists.{among, last_of}
-use Rattle.dom_model.specs.Forests.Arena.{Entry, parent_in, children_in, previous_in}
-use Rattle.dom_model.specs.Forests.Forest.{Node, Forest, empty, node, occurs, size, tops, ancestors, entry_in}
-use Rattle.dom_model.specs.Worlds.World.{Filter}
-use Rattle.dom_model.specs.Traversal.Filters.{is_accept, is_reject, verdict_on, accepts, rejects}
-use Rattle.dom_model.specs.Traversal.WalkSteps.{Stand, at, leaving, ended, at_or, come_back_to, up_to_parent, moves_allowed, previous_step, previous_by_steps}
-use Rattle.dom_model.specs.Traversal.Walks.{preceding_list}
+use Rattle.dom_model.specs.Definitions.{among, last_of, Entry, parent_in, children_in, previous_in, Node, Forest, empty, node, occurs, size, tops, ancestors, entry_in, Filter, is_accept, is_reject, verdict_on, accepts, rejects, Stand, at, leaving, ended, at_or, come_back_to, up_to_parent, moves_allowed, previous_step, previous_by_steps, preceding_list}
+use Rattle.dom_model.specs.declared.{Verdict.Verdict, Verdict.TheVariants.Accept, Verdict.TheVariants.Skip, Verdict.TheVariants.Reject}
 use Rattle.dom_model.proofs.PlainLists.Numbers.{same_or, same, apart}
-use Rattle.dom_model.proofs.Forests.Totals.{IsOnce}
-use Rattle.dom_model.proofs.Forests.Climbing.{hits-first}
-use Rattle.dom_model.proofs.Forests.Standing.{top, inside, beyond, whereabouts, Stands, or_none}
-use Rattle.dom_model.proofs.Traversal.Shown.{shown, shown_before}
-use Rattle.dom_model.proofs.Forests.Below.{is_apart_from, at_itself}
-use Rattle.dom_model.proofs.Traversal.ListsOfWalks.{preceding_list-root, preceding_list-below}
-use Rattle.dom_model.proofs.Traversal.WalksForward.{Finds, Finds-ended, Finds-more, Finds-at, Finds-leaving, Finds-same, Finds-found, joined, told, accepted, skipped, rejected}
-use Rattle.dom_model.proofs.Traversal.WalksFound.{allowed, root_tree, from_root}
+use Rattle.dom_model.proofs.Forests.{Totals.IsOnce, Climbing.hits-first, Whereabouts.top, Whereabouts.inside, Whereabouts.beyond, Whereabouts.whereabouts, Standing.Stands, Standing.or_none, Below.is_apart_from, Below.at_itself}
+use Rattle.dom_model.proofs.Traversal.{Shown.shown, Shown.shown_before, ListsOfWalks.preceding_list-root, ListsOfWalks.preceding_list-below, WalksForward.Finds, WalksForward.Finds-ended, WalksForward.Finds-more, WalksForward.Finds-at, WalksForward.Finds-leaving, WalksForward.Finds-same, WalksForward.Finds-found, WalksForward.joined, WalksForward.told, WalksForward.accepted, WalksForward.skipped, WalksForward.rejected, WalksFound.allowed, WalksFound.root_tree, WalksFound.from_root}
 
 pub last_again : (n : ℕ) (ns : List ℕ) (other : Stand) → at_or (last_of (n ∷ ns)) other ≡ at_or (last_of ns) (at n)
 last_again n [] other = refl
@@ -54,22 +40,13 @@ module _ {X : Type 0} (entry : ℕ → Option (Entry (Node X))) (says : ℕ → 
   shows_before n g = shown_before (λ n. is_reject (says n)) n g
 
   join_back : (ns ms : List ℕ) (found : Option ℕ) → option_or (first_of (reverse ms)) (option_or (first_of (reverse ns)) found) ≡ option_or (first_of (reverse (ns ++ ms))) found
-  join_back ns ms found =
-      joined (λ n. is_accept (says n)) (reverse ms) (reverse ns) found
-      ∙ ap (λ ks. option_or (first_of ks) found) (sym (reverse-append ns ms))
+  join_back ns ms found = grind (arith, joined, reverse-append ns ms)
 
   backwards : (p : ℕ) (passed : Option ℕ) (x : Node X) (kids rest : Forest X) → Stands entry p passed (node x kids rest) → (x.number == root) ≡ false → back x.number ≡ at_or passed (arrived p)
-  backwards p passed x kids rest s t =
-      ap (λ (v : Bool). at_or (previous_in entry x.number) (if v then ended None else up_to_parent arrived (parent_in (entry x.number)))) t
-      ∙ ap (λ (o : Option ℕ). at_or o (up_to_parent arrived (parent_in (entry x.number)))) s.2
-      ∙ ap (λ (e : Option (Entry (Node X))). at_or passed (up_to_parent arrived (parent_in e))) s.0
+  backwards p passed x kids rest s t = grind arith
 
   come : IsBackward → (p : ℕ) (passed : Option ℕ) (x : Node X) (kids rest : Forest X) (v : Verdict) → Stands entry p passed (node x kids rest) → (x.number == root) ≡ false → says x.number ≡ v → step (at x.number) ≡ come_back_to v x.number (last_of (tops kids)) (at_or passed (arrived p))
-  come f p passed x kids rest v s t e =
-      f.comes x.number
-      ∙ ap (λ (w : Verdict). come_back_to w x.number (last_of (children_in (entry x.number))) (back x.number)) e
-      ∙ ap (λ (i : Option (Entry (Node X))). come_back_to v x.number (last_of (children_in i)) (back x.number)) s.0
-      ∙ ap (come_back_to v x.number (last_of (tops kids))) (backwards p passed x kids rest s t)
+  come f p passed x kids rest v s t e = grind arith
 
   -- up to a node that is left
   at_arrived : (n moves : ℕ) (found : Option ℕ) → (n == root) ≡ false → Finds step (leaving n) moves found → Finds step (arrived n) moves (option_or (first_of (n ∷ [])) found)
@@ -88,9 +65,7 @@ module _ {X : Type 0} (entry : ℕ → Option (Entry (Node X))) (says : ℕ → 
 
   -- what is found at the node itself, and of it
   at_own : (x : Node X) (kids : Forest X) (v : Verdict) (found : Option ℕ) → says x.number ≡ v → option_or (first_of (reverse (if is_reject v then [] else shows kids))) (option_or (if is_accept v then Some x.number else None) found) ≡ option_or (first_of (reverse (own x kids))) found
-  at_own x kids v found e =
-      sym (ap (λ (w : Verdict). option_or (first_of (reverse (if is_reject w then [] else shows kids))) (option_or (if is_accept w then Some x.number else None) found)) e)
-      ∙ join_back (x.number ∷ []) (if is_reject (says x.number) then [] else shows kids) found
+  at_own x kids v found e = grind (arith, join_back (x.number ∷ []))
 
   come_back : IsBackward → (p : ℕ) (passed : Option ℕ) (x : Node X) (kids rest : Forest X) (moves : ℕ) (found : Option ℕ) → Stands entry p passed (node x kids rest) → (x.number == root) ≡ false → GoesBack x.number kids → Finds step (at_or passed (arrived p)) moves found → Finds step (at x.number) (suc (suc moves) + 2 * size kids) (option_or (first_of (reverse (own x kids))) found)
   come_back f p passed x kids rest moves found s t into on =

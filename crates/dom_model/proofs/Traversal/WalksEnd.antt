@@ -1,16 +1,9 @@
 -- A walk by steps that ends, and what it finds: each step leaves fewer moves, and finds the same.
 -- Four moves for each node of the forest are enough for the walks of a tree walker.
 use Rattle.std.proofs.Common.{◌≡◌, ℕ, zero, suc, ◌*◌, ◌<◌, ◌==◌, false, Option, None, refl, ap, sym, ◌∙◌, subst, arith}
-use Rattle.dom_model.specs.PlainLists.Lists.{head_of, last_of}
-use Rattle.dom_model.specs.Forests.Forest.{Forest, occurs, size, children_of}
-use Rattle.dom_model.specs.Worlds.World.{Filter}
-use Rattle.dom_model.specs.Traversal.WalkSteps.{Stand, at, leaving, ended, at_or, walked, moves_allowed, parent_step, first_child_step, next_sibling_step, next_step, previous_step, parent_by_steps, first_child_by_steps, next_sibling_by_steps, next_by_steps, previous_by_steps}
-use Rattle.dom_model.specs.Traversal.Ending.{HasEnded, moves_left, Leads, LeadsOn}
+use Rattle.dom_model.specs.Definitions.{head_of, last_of, Forest, occurs, size, children_of, Filter, Stand, at, leaving, ended, at_or, walked, moves_allowed, parent_step, first_child_step, next_sibling_step, next_step, previous_step, parent_by_steps, first_child_by_steps, next_sibling_by_steps, next_by_steps, previous_by_steps, HasEnded, moves_left, Leads, LeadsOn}
 use Rattle.dom_model.proofs.Forests.Totals.{IsOnce}
-use Rattle.dom_model.proofs.Traversal.WalksForward.{Finds}
-use Rattle.dom_model.proofs.Traversal.EndingWalks.{HasEnded-more}
-use Rattle.dom_model.proofs.Traversal.WalksMirrored.{last_child_step, last_child_by_steps, previous_sibling_step, previous_sibling_by_steps}
-use Rattle.dom_model.proofs.Traversal.MovesEnough.{moves-bounded, parent-ends, parent-enough, first_child-ends, first_child-enough, last_child-ends, last_child-enough, next_sibling-ends, next_sibling-enough, previous_sibling-ends, previous_sibling-enough, next-ends, next-enough, previous-ends, previous-enough}
+use Rattle.dom_model.proofs.Traversal.{WalksForward.Finds, EndingWalks.HasEnded-more, WalksMirrored.last_child_step, WalksMirrored.last_child_by_steps, WalksMirrored.previous_sibling_step, WalksMirrored.previous_sibling_by_steps, MovesEnough.moves-bounded, MovesEnough.parent-ends, MovesEnough.parent-enough, MovesEnough.first_child-ends, MovesEnough.first_child-enough, MovesEnough.last_child-ends, MovesEnough.last_child-enough, MovesEnough.next_sibling-ends, MovesEnough.next_sibling-enough, MovesEnough.previous_sibling-ends, MovesEnough.previous_sibling-enough, MovesEnough.next-ends, MovesEnough.next-enough, MovesEnough.previous-ends, MovesEnough.previous-enough}
 
 -- a walk ends with so many moves, and finds
 pub record Walks (step : Stand → Stand) (moves : ℕ) (stand : Stand) (found : Option ℕ) : Type 0 where
@@ -48,37 +41,30 @@ Leads-then i j =
 pub LeadsOn-then : {step : Stand → Stand} {moves : ℕ} {stand other third : Stand} → LeadsOn step moves stand other → Leads step moves other third → LeadsOn step moves stand third
 LeadsOn-then i j = record { leads = Leads-then i.leads j; fewer = λ h. let a = i.fewer h in let b = j.left (i.leads.ends h) in omega arith }
 
+-- a step from a stand, which takes one of the moves
+on-next : (step : Stand → Stand) (moves : ℕ) (stand next : Stand) → (HasEnded step (suc moves) stand → HasEnded step moves (step stand)) → walked step (suc moves) stand ≡ walked step moves (step stand) → moves_left step (suc moves) stand ≡ suc (moves_left step moves (step stand)) → step stand ≡ next → LeadsOn step (suc moves) stand next
+on-next step moves stand next comes finds left e = record {
+  leads = record {
+    ends = λ h. HasEnded-more step moves (suc moves) next (there h) (omega arith);
+    finds = λ h. finds ∙ ap (walked step moves) e ∙ sym (one_more step moves next (there h)).finds;
+    left = λ h. omega (arith, fewer h);
+  };
+  fewer = fewer;
+}
+  where
+    there : HasEnded step (suc moves) stand → HasEnded step moves next
+    there h = subst (λ s. HasEnded step moves s) e (comes h)
+
+    fewer : HasEnded step (suc moves) stand → moves_left step (suc moves) next < moves_left step (suc moves) stand
+    fewer h = omega (arith, (one_more step moves next (there h)).left, ap (moves_left step moves) e, left)
+
 pub LeadsOn-at : (step : Stand → Stand) (moves n : ℕ) (next : Stand) → step (at n) ≡ next → LeadsOn step moves (at n) next
 LeadsOn-at step zero n next e = record { leads = record { ends = λ h. absurd h; finds = λ h. absurd h; left = λ h. absurd h }; fewer = λ h. absurd h }
-LeadsOn-at step (suc moves) n next e = record { leads = record { ends = on; finds = found; left = λ h. let i = fewer h in omega arith }; fewer = fewer }
-  where
-    there : HasEnded step moves (step (at n)) → HasEnded step moves next
-    there h = subst (λ s. HasEnded step moves s) e h
-
-    on : HasEnded step moves (step (at n)) → HasEnded step (suc moves) next
-    on h = HasEnded-more step moves (suc moves) next (there h) (omega arith)
-
-    found : HasEnded step moves (step (at n)) → walked step moves (step (at n)) ≡ walked step (suc moves) next
-    found h = ap (walked step moves) e ∙ sym (one_more step moves next (there h)).finds
-
-    fewer : HasEnded step moves (step (at n)) → moves_left step (suc moves) next < suc (moves_left step moves (step (at n)))
-    fewer h = let i = (one_more step moves next (there h)).left in let j = ap (moves_left step moves) e in omega arith
+LeadsOn-at step (suc moves) n next e = on-next step moves (at n) next (λ h. h) refl refl e
 
 pub LeadsOn-leaving : (step : Stand → Stand) (moves n : ℕ) (next : Stand) → step (leaving n) ≡ next → LeadsOn step moves (leaving n) next
 LeadsOn-leaving step zero n next e = record { leads = record { ends = λ h. absurd h; finds = λ h. absurd h; left = λ h. absurd h }; fewer = λ h. absurd h }
-LeadsOn-leaving step (suc moves) n next e = record { leads = record { ends = on; finds = found; left = λ h. let i = fewer h in omega arith }; fewer = fewer }
-  where
-    there : HasEnded step moves (step (leaving n)) → HasEnded step moves next
-    there h = subst (λ s. HasEnded step moves s) e h
-
-    on : HasEnded step moves (step (leaving n)) → HasEnded step (suc moves) next
-    on h = HasEnded-more step moves (suc moves) next (there h) (omega arith)
-
-    found : HasEnded step moves (step (leaving n)) → walked step moves (step (leaving n)) ≡ walked step (suc moves) next
-    found h = ap (walked step moves) e ∙ sym (one_more step moves next (there h)).finds
-
-    fewer : HasEnded step moves (step (leaving n)) → moves_left step (suc moves) next < suc (moves_left step moves (step (leaving n)))
-    fewer h = let i = (one_more step moves next (there h)).left in let j = ap (moves_left step moves) e in omega arith
+LeadsOn-leaving step (suc moves) n next e = on-next step moves (leaving n) next (λ h. h) refl refl e
 
 -- a walk goes on to what it finds
 pub Walks-on : {step : Stand → Stand} {moves : ℕ} {stand other : Stand} {found : Option ℕ} → Walks step moves stand found → Leads step moves stand other → Walks step moves other found

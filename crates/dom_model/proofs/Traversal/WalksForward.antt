@@ -1,18 +1,11 @@
 -- Steps forwards: through a list of trees in tree order, and on from a node inside them, until the walk comes up to the node above.
 -- The lemmas are of any steps that go into a node, on to its next sibling and up to its parent.
 use Rattle.std.proofs.Common.{◌≡◌, ℕ, zero, suc, ◌+◌, ◌*◌, ◌<◌, ◌≤◌, Bool, List, [], ◌∷◌, ◌++◌, Option, Some, None, refl, ap, sym, ◌∙◌, subst, arith}
-use Rattle.std.specs.Prelude.{find}
-use Rattle.std.specs.Option.{option_or}
+use Rattle.std.specs.{Prelude.find, Option.option_or}
 use Rattle.std.proofs.lemmas.List.Folds.{find-append}
-use Rattle.dom_model.specs.declared.Verdict.{Verdict}
-use Rattle.dom_model.specs.declared.Verdict.TheVariants.{Accept, Skip, Reject}
-use Rattle.dom_model.specs.PlainLists.Lists.{hits, head_of}
-use Rattle.dom_model.specs.Forests.Arena.{Entry, parent_in, children_in, next_in}
-use Rattle.dom_model.specs.Forests.Forest.{Node, Forest, empty, node, occurs, size, tops}
-use Rattle.dom_model.specs.Traversal.Filters.{is_accept, is_reject}
-use Rattle.dom_model.specs.Traversal.WalkSteps.{Stand, at, leaving, ended, at_or, come_to, up_to_parent, walked}
-use Rattle.dom_model.proofs.Forests.Climbing.{hits-append, hits-first}
-use Rattle.dom_model.proofs.Forests.Standing.{top, inside, beyond, whereabouts, Stands}
+use Rattle.dom_model.specs.Definitions.{hits, head_of, Entry, parent_in, children_in, next_in, Node, Forest, empty, node, occurs, size, tops, is_accept, is_reject, Stand, at, leaving, ended, at_or, come_to, up_to_parent, walked}
+use Rattle.dom_model.specs.declared.{Verdict.Verdict, Verdict.TheVariants.Accept, Verdict.TheVariants.Skip, Verdict.TheVariants.Reject}
+use Rattle.dom_model.proofs.Forests.{Climbing.hits-append, Climbing.hits-first, Whereabouts.top, Whereabouts.inside, Whereabouts.beyond, Whereabouts.whereabouts, Standing.Stands}
 use Rattle.dom_model.proofs.Traversal.Shown.{shown, shown_after, above}
 
 -- a walk from where it stands finds `found`, with any number of moves from `moves` on
@@ -96,16 +89,10 @@ module _ {X : Type 0} (entry : ℕ → Option (Entry (Node X))) (says : ℕ → 
   shows_after n g = shown_after (λ n. is_reject (says n)) n g
 
   onwards : (p : ℕ) (passed : Option ℕ) (x : Node X) (kids rest : Forest X) → Stands entry p passed (node x kids rest) → Passes x.number → past x.number ≡ at_or (head_of (tops rest)) (arrive p)
-  onwards p passed x kids rest s w =
-      w.on
-      ∙ ap (λ (o : Option ℕ). at_or o (up_to_parent arrive (parent_in (entry x.number)))) s.1
-      ∙ ap (λ (e : Option (Entry (Node X))). at_or (head_of (tops rest)) (up_to_parent arrive (parent_in e))) s.0
+  onwards p passed x kids rest s w = grind arith
 
   come : IsForward → (p : ℕ) (passed : Option ℕ) (x : Node X) (kids rest : Forest X) (v : Verdict) → Stands entry p passed (node x kids rest) → says x.number ≡ v → step (at x.number) ≡ come_to v x.number (head_of (tops kids)) (past x.number)
-  come f p passed x kids rest v s e =
-      f.comes x.number
-      ∙ ap (λ (w : Verdict). come_to w x.number (head_of (children_in (entry x.number))) (past x.number)) e
-      ∙ ap (λ (i : Option (Entry (Node X))). come_to v x.number (head_of (children_in i)) (past x.number)) s.0
+  come f p passed x kids rest v s e = grind arith
 
   -- through a list of trees, then up
   pub through : IsForward → (p : ℕ) (passed : Option ℕ) (g : Forest X) (other : Stand) (moves : ℕ) (found : Option ℕ) → Stands entry p passed g → ((n : ℕ) → 0 < occurs n g → Passes n) → Finds step (arrive p) moves found → Finds step other moves found → Finds step (at_or (head_of (tops g)) other) (moves + 2 * size g) (option_or (first_of (shows g)) found)

@@ -1,23 +1,11 @@
 -- The steps of a tree walker find the first accepted node of their move's list, where its root is an inclusive ancestor of its current node:
 -- to the parent, to the first child and to the next node. The moves that are allowed are enough.
 use Rattle.std.proofs.Common.{◌≡◌, ℕ, suc, ◌+◌, ◌*◌, ◌<◌, ◌≤◌, ◌==◌, true, false, if◌then◌else◌, [], ◌∷◌, ◌++◌, Option, Some, None, refl, ap, sym, ◌∙◌, subst, arith}
-use Rattle.std.specs.Prelude.{find}
-use Rattle.std.specs.Option.{option_or}
-use Rattle.dom_model.specs.PlainLists.Lists.{among, head_of}
-use Rattle.dom_model.specs.Forests.Arena.{Entry, parent_in, children_in}
-use Rattle.dom_model.specs.Forests.Forest.{Node, Forest, empty, node, occurs, size, tops, tree_at, ancestors, entry_in}
-use Rattle.dom_model.specs.Worlds.World.{Filter}
-use Rattle.dom_model.specs.Traversal.Filters.{verdict_on, accepts, rejects}
-use Rattle.dom_model.specs.Traversal.WalkSteps.{leaving, ended, at_or, up_to_parent, walked, moves_allowed, parent_arrived, parent_step, parent_by_steps, first_child_arrived, past_child, first_child_step, first_child_by_steps, past_node, next_step, next_by_steps}
-use Rattle.dom_model.specs.Traversal.Walks.{child_list, following_list, ancestor_list}
+use Rattle.std.specs.{Prelude.find, Option.option_or}
+use Rattle.dom_model.specs.Definitions.{among, head_of, Entry, parent_in, children_in, Node, Forest, empty, node, occurs, size, tops, tree_at, ancestors, entry_in, Filter, verdict_on, accepts, rejects, leaving, ended, at_or, up_to_parent, walked, moves_allowed, parent_arrived, parent_step, parent_by_steps, first_child_arrived, past_child, first_child_step, first_child_by_steps, past_node, next_step, next_by_steps, child_list, following_list, ancestor_list}
 use Rattle.dom_model.proofs.PlainLists.Numbers.{same_or, same, apart}
-use Rattle.dom_model.proofs.Forests.Totals.{IsOnce}
-use Rattle.dom_model.proofs.Forests.Climbing.{among-hits, hits-first, hits-ancestors}
-use Rattle.dom_model.proofs.Forests.Standing.{top, inside, beyond, whereabouts, Stands, Tree, tree_of, or_none}
-use Rattle.dom_model.proofs.Traversal.Shown.{shown, shown_after, above}
-use Rattle.dom_model.proofs.Forests.Below.{Below, below, occurs-tree, tree-there, size-ancestor, no_top, part_absent, part_size, is_apart_from, at_itself}
-use Rattle.dom_model.proofs.Traversal.ListsOfWalks.{child_list-tree, following_list-root, following_list-below, ancestor_list-root, ancestor_list-below}
-use Rattle.dom_model.proofs.Traversal.WalksForward.{Finds, Finds-ended, Finds-more, Finds-leaving, Finds-found, joined, IsForward, Passes, through, on_from}
+use Rattle.dom_model.proofs.Forests.{Totals.IsOnce, Climbing.among-hits, Climbing.hits-first, Climbing.hits-ancestors, Whereabouts.top, Whereabouts.inside, Whereabouts.beyond, Whereabouts.whereabouts, Standing.Stands, Standing.Tree, Standing.tree_of, Standing.or_none, Below.Below, Below.below, Below.occurs-tree, Below.tree-there, Below.size-ancestor, Below.no_top, Below.part_absent, Below.part_size, Below.is_apart_from, Below.at_itself}
+use Rattle.dom_model.proofs.Traversal.{Shown.shown, Shown.shown_after, Shown.above, ListsOfWalks.child_list-tree, ListsOfWalks.following_list-root, ListsOfWalks.following_list-below, ListsOfWalks.ancestor_list-root, ListsOfWalks.ancestor_list-below, WalksForward.Finds, WalksForward.Finds-ended, WalksForward.Finds-more, WalksForward.Finds-leaving, WalksForward.Finds-found, WalksForward.joined, WalksForward.IsForward, WalksForward.Passes, WalksForward.through, WalksForward.on_from}
 
 module _ {X : Type 0} (f : Forest X) (o : IsOnce f) (filter : Filter) (root current : ℕ) (within : among root (ancestors current f) ≡ true) where
   -- the current node is in the tree of the root
@@ -32,18 +20,10 @@ module _ {X : Type 0} (f : Forest X) (o : IsOnce f) (filter : Filter) (root curr
 
   -- the moves are enough for the tree of the root
   pub allowed : (t : Tree f root) → 4 * (1 + size t.kids) ≤ moves_allowed f filter root current
-  allowed t =
-      let i = size-ancestor filter root current root current f o (let k = o current in let l = current_there in omega arith) (among-hits root (ancestors current f) within) in
-      let j = rw t.tree at i in
-      omega arith
+  allowed t = grind (arith, size-ancestor filter root current root current f o, current_there, among-hits root (ancestors current f) within)
 
   pub allowed_there : current ≡ root → (t : Tree f current) → 4 * size t.kids ≤ moves_allowed f filter root current
-  allowed_there e t =
-      let u = tree_of f o root root_there in
-      let i = ap (λ n. size (tree_at n f)) e in
-      let j = rw (t.tree, u.tree) at i in
-      let k = allowed u in
-      omega arith
+  allowed_there e t = grind (arith, tree_of f o root root_there, allowed)
 
   pub is_apart : (n : ℕ) (g : Forest X) → occurs root g ≡ 0 → 0 < occurs n g → (n == root) ≡ false
   is_apart n g z h = is_apart_from root n g z h

@@ -1,20 +1,9 @@
 -- Walks backwards: the steps in the mirrored forest are steps to last children and previous siblings in the forest itself.
-use Rattle.std.proofs.Common.{◌≡◌, ℕ, zero, suc, ◌*◌, ◌==◌, Bool, true, false, ◌||◌, if◌then◌else◌, List, [], ◌∷◌, Option, Some, None, refl, ap, sym, ◌∙◌}
-use Rattle.std.specs.Prelude.{find}
-use Rattle.dom_model.specs.declared.Verdict.{Verdict}
-use Rattle.dom_model.specs.declared.Move.{Move}
-use Rattle.dom_model.specs.declared.Move.TheVariants.{ParentNode, FirstChild, LastChild, PreviousSibling, NextSibling, PreviousNode, NextNode}
-use Rattle.dom_model.specs.PlainLists.Lists.{among, head_of, last_of}
-use Rattle.dom_model.specs.Forests.Forest.{Forest, size, tree_at, parent_of, children_of, previous_of, ancestors, root_of}
-use Rattle.dom_model.specs.Worlds.World.{Filter, Walker}
-use Rattle.dom_model.specs.Traversal.Filters.{is_accept, verdict_on, accepts}
-use Rattle.dom_model.specs.Traversal.WalkSteps.{Stand, at, leaving, ended, at_or, come_to, up_to_parent, walked, size_under, moves_allowed, last_child, first_child_arrived, past_child, first_child_step, first_child_by_steps, next_sibling_arrived, past_sibling, next_sibling_step, next_sibling_by_steps}
-use Rattle.dom_model.specs.Traversal.Walks.{mirrored, child_list, sibling_list, walk_list, found_by_steps, is_inside_root, found_where, walk_found}
-use Rattle.dom_model.proofs.Forests.Totals.{IsOnce}
-use Rattle.dom_model.proofs.Forests.Mirrored.{head_of-reverse, total-mirrored, IsOnce-mirrored, tree-mirrored, parent-mirrored, children-mirrored, verdict-mirrored, next-mirrored, ancestors-mirrored}
-use Rattle.dom_model.proofs.Traversal.WalksFound.{parent-found, first_child-found, next-found}
-use Rattle.dom_model.proofs.Traversal.WalksToSiblings.{next_sibling-found}
-use Rattle.dom_model.proofs.Traversal.WalksBackward.{previous-found}
+use Rattle.std.proofs.Common.{arith, ◌≡◌, ℕ, zero, suc, ◌==◌, Bool, true, ◌||◌, if◌then◌else◌, List, [], ◌∷◌, Option, Some, None, refl, ap, ◌∙◌, find}
+use Rattle.dom_model.specs.Definitions.{among, head_of, last_of, Forest, parent_of, children_of, previous_of, ancestors, Filter, Walker, is_accept, verdict_on, accepts, Stand, at, leaving, ended, at_or, come_to, up_to_parent, walked, moves_allowed, last_child, first_child_arrived, past_child, first_child_step, first_child_by_steps, next_sibling_arrived, past_sibling, next_sibling_step, next_sibling_by_steps, mirrored, child_list, sibling_list, walk_list, found_by_steps, walk_found}
+use Rattle.dom_model.specs.declared.{Move.Move, Move.TheVariants.ParentNode, Move.TheVariants.FirstChild, Move.TheVariants.LastChild, Move.TheVariants.PreviousSibling, Move.TheVariants.NextSibling, Move.TheVariants.PreviousNode, Move.TheVariants.NextNode}
+use Rattle.dom_model.proofs.Forests.{Totals.IsOnce, Mirrored.head_of-reverse, Mirrored.total-mirrored, Mirrored.IsOnce-mirrored, Mirrored.tree-mirrored, Mirrored.parent-mirrored, Mirrored.children-mirrored, Mirrored.verdict-mirrored, Mirrored.next-mirrored, Mirrored.ancestors-mirrored}
+use Rattle.dom_model.proofs.Traversal.{WalksFound.parent-found, WalksFound.first_child-found, WalksFound.next-found, WalksToSiblings.next_sibling-found, WalksBackward.previous-found}
 
 find-agree : (p q : ℕ → Bool) → ((n : ℕ) → p n ≡ q n) → (ns : List ℕ) → find p ns ≡ find q ns
 find-agree p q e [] = refl
@@ -65,22 +54,13 @@ module _ {X : Type 0} (f : Forest X) (o : IsOnce f) (filter : Filter) where
 
   module _ (root current : ℕ) where
     pub moves-mirrored : moves_allowed (mirrored f) filter root current ≡ moves_allowed f filter root current
-    moves-mirrored = ap (λ ns. 4 * size_under (mirrored f) filter root current (last_of ns)) (ancestors-mirrored current f o) ∙ ap (λ n. 4 * n) (same_size (root_of f current))
-      where
-        same_size : (r : Option ℕ) → size_under (mirrored f) filter root current r ≡ size_under f filter root current r
-        same_size None = refl
-        same_size (Some r) = ap size (tree-mirrored r f) ∙ total-mirrored (λ _. 1) (tree_at r f)
+    moves-mirrored = grind (arith, ancestors-mirrored current f o, tree-mirrored, total-mirrored)
 
     past_child-mirrored : (n : ℕ) → past_child (mirrored f) filter root current n ≡ past_child_back f filter root current n
-    past_child-mirrored n =
-        ap (λ (m : Option ℕ). at_or m (up_to_parent (first_child_arrived f filter root current) (parent_of (mirrored f) n))) (next-mirrored f o n)
-        ∙ ap (λ (p : Option ℕ). at_or (previous_of f n) (up_to_parent (first_child_arrived f filter root current) p)) (parent-mirrored f o n)
+    past_child-mirrored n = grind (arith, next-mirrored f o n, parent-mirrored f o n)
 
     pub child_step-mirrored : (stand : Stand) → first_child_step (mirrored f) filter root current stand ≡ last_child_step f filter root current stand
-    child_step-mirrored (at n) =
-        ap (λ (v : Verdict). come_to v n (head_of (children_of (mirrored f) n)) (past_child (mirrored f) filter root current n)) (verdict-mirrored f o filter n)
-        ∙ ap (λ (m : Option ℕ). come_to (verdict_on f filter n) n m (past_child (mirrored f) filter root current n)) (first-mirrored n)
-        ∙ ap (come_to (verdict_on f filter n) n (last_of (children_of f n))) (past_child-mirrored n)
+    child_step-mirrored (at n) = grind (arith, verdict-mirrored f o filter n, first-mirrored n, past_child-mirrored n)
     child_step-mirrored (leaving n) = past_child-mirrored n
     child_step-mirrored (ended found) = refl
 
@@ -101,10 +81,7 @@ module _ {X : Type 0} (f : Forest X) (o : IsOnce f) (filter : Filter) where
         ∙ ap (at_or (previous_of f n)) (up-agree (next_sibling_arrived (mirrored f) filter root current) (next_sibling_arrived f filter root current) arrived-mirrored (parent_of f n))
 
     pub sibling_step-mirrored : (stand : Stand) → next_sibling_step (mirrored f) filter root current stand ≡ previous_sibling_step f filter root current stand
-    sibling_step-mirrored (at n) =
-        ap (λ (v : Verdict). come_to v n (head_of (children_of (mirrored f) n)) (past_sibling (mirrored f) filter root current n)) (verdict-mirrored f o filter n)
-        ∙ ap (λ (m : Option ℕ). come_to (verdict_on f filter n) n m (past_sibling (mirrored f) filter root current n)) (first-mirrored n)
-        ∙ ap (come_to (verdict_on f filter n) n (last_of (children_of f n))) (past_sibling-mirrored n)
+    sibling_step-mirrored (at n) = grind (arith, verdict-mirrored f o filter n, first-mirrored n, past_sibling-mirrored n)
     sibling_step-mirrored (leaving n) = past_sibling-mirrored n
     sibling_step-mirrored (ended found) = refl
 
@@ -144,8 +121,4 @@ module _ {X : Type 0} (f : Forest X) (o : IsOnce f) where
 
   -- so a walk is found by steps, whatever its root is
   pub walk-by_steps : (move : Move) (w : Walker) → walk_found move f w ≡ found_by_steps move f w.filter w.root w.current
-  walk-by_steps move w = go (is_inside_root f w) refl
-    where
-      go : (v : Bool) → is_inside_root f w ≡ v → found_where v move f w ≡ found_by_steps move f w.filter w.root w.current
-      go true e = sym (steps-found move w.filter w.root w.current e)
-      go false e = refl
+  walk-by_steps move w = grind (arith, steps-found move w.filter w.root w.current)

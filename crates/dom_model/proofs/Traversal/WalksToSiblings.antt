@@ -1,26 +1,10 @@
 -- The steps of a tree walker to the next sibling find the first accepted node of the move's list, where its root is an inclusive ancestor of its current node.
 use Rattle.std.proofs.Common.{◌≡◌, ℕ, ◌+◌, ◌*◌, ◌<◌, ◌≤◌, ◌==◌, Bool, true, false, ◌||◌, if◌then◌else◌, List, [], ◌∷◌, ◌++◌, Option, Some, None, refl, ap, sym, ◌∙◌, subst, arith, ⊎_elim}
-use Rattle.std.specs.Prelude.{find}
-use Rattle.std.specs.Option.{option_or}
-use Rattle.std.proofs.lemmas.Bool.{false≢true, cases_Bool}
-use Rattle.std.proofs.lemmas.List.Folds.{find-append}
-use Rattle.dom_model.specs.PlainLists.Lists.{hits, among}
-use Rattle.dom_model.specs.Forests.Forest.{Forest, empty, node, occurs, size, tree_at, ancestors, entry_in}
-use Rattle.dom_model.specs.Worlds.World.{Filter}
-use Rattle.dom_model.specs.Traversal.Filters.{verdict_on, accepts, rejects}
-use Rattle.dom_model.specs.Traversal.WalkSteps.{leaving, ended, walked, moves_allowed, next_sibling_arrived, past_sibling, next_sibling_step, next_sibling_by_steps}
-use Rattle.dom_model.specs.Traversal.Walks.{ancestor_list, sibling_list, sibling_list_under}
-use Rattle.dom_model.proofs.PlainLists.Numbers.{same_or, same, apart}
-use Rattle.dom_model.proofs.Forests.Totals.{IsOnce, beside-empty}
-use Rattle.dom_model.proofs.Forests.Changes.{seen, nothing, just}
-use Rattle.dom_model.proofs.Forests.Climbing.{hits-append, hits-first, hits-ancestors}
-use Rattle.dom_model.proofs.Traversal.IteratorsStay.{tree_at-inside}
-use Rattle.dom_model.proofs.Forests.Standing.{or_none}
-use Rattle.dom_model.proofs.Traversal.Shown.{shown_after, above, hits-above, ancestors-above}
-use Rattle.dom_model.proofs.Forests.Below.{Below, below, occurs-tree, size-tree, path_through_tree, kids_total, is_apart_from, at_itself}
-use Rattle.dom_model.proofs.Traversal.ListsOfWalks.{top_apart, ancestor_list-root, ancestor_list-below, sibling_list-below}
-use Rattle.dom_model.proofs.Traversal.WalksForward.{Finds, Finds-ended, Finds-same, IsForward, Passes, on_from}
-use Rattle.dom_model.proofs.Traversal.WalksFound.{allowed, root_tree, from_root}
+use Rattle.std.specs.{Prelude.find, Option.option_or}
+use Rattle.std.proofs.lemmas.{Bool.Decides.nat_tests, Bool.false≢true, Bool.cases_Bool, List.Folds.find-append}
+use Rattle.dom_model.specs.Definitions.{hits, among, Forest, empty, node, occurs, size, tree_at, ancestors, entry_in, Filter, verdict_on, accepts, rejects, leaving, ended, walked, moves_allowed, next_sibling_arrived, past_sibling, next_sibling_step, next_sibling_by_steps, sibling_list, sibling_list_under}
+use Rattle.dom_model.proofs.Forests.{Totals.IsOnce, Totals.beside-empty, Changes.seen, Changes.nothing, Changes.just, Climbing.hits-append, Climbing.hits-first, Climbing.hits-ancestors, Standing.or_none, Below.Below, Below.below, Below.occurs-tree, Below.size-tree, Below.path_through_tree, Below.kids_total, Below.is_apart_from, Below.at_itself}
+use Rattle.dom_model.proofs.Traversal.{IteratorsStay.tree_at-inside, Shown.shown_after, Shown.above, Shown.hits-above, Shown.ancestors-above, ListsOfWalks.top_apart, ListsOfWalks.ancestor_list-below, ListsOfWalks.sibling_list-below, WalksForward.Finds, WalksForward.Finds-ended, WalksForward.Finds-same, WalksForward.IsForward, WalksForward.Passes, WalksForward.on_from, WalksFound.allowed, WalksFound.root_tree, WalksFound.from_root}
 
 -- what is found passes the test and stands in the list
 pub find-holds : (test : ℕ → Bool) (ns : List ℕ) (t : ℕ) → find test ns ≡ Some t → (test t ≡ true) × (0 < hits t ns)
@@ -40,16 +24,7 @@ find-holds test (n ∷ ns) t e =
 -- where nothing is found, nothing passes
 pub find-none : (test : ℕ → Bool) (ns : List ℕ) (m : ℕ) → find test ns ≡ None → 0 < hits m ns → test m ≡ false
 find-none test [] m e h = absurd (omega arith)
-find-none test (n ∷ ns) m e h =
-    ⊎_elim
-    (λ (i : test n ≡ true). absurd (let k = rw i at e in cc k))
-    (λ (i : test n ≡ false).
-    let k = rw i at e in
-    elim (same_or n m) [
-      | same d t ↦ subst (λ l. test l ≡ false) d i
-      | apart ne t ↦ (let l = rw t at h in find-none test ns m k (omega arith))
-    ])
-    (cases_Bool (test n))
+find-none test (n ∷ ns) m e h = grind (arith, find-none test ns m)
 
 -- nothing is found ahead of what is found
 find-ahead : (test : ℕ → Bool) (ns ms : List ℕ) (t : ℕ) → find test (ns ++ t ∷ ms) ≡ Some t → hits t ns ≡ 0 → find test ns ≡ None
@@ -120,17 +95,7 @@ module _ {X : Type 0} (f : Forest X) (o : IsOnce f) (filter : Filter) (root curr
     part_size t h = let i = size-tree t tree in let j = rw (tree_in t h, (below_ancestor t h).whole.tree) at i in omega arith
 
     part_root : (t : ℕ) → (h : 0 < hits t (above current tree)) → occurs root (below_ancestor t h).whole.kids ≡ 0
-    part_root t h =
-        elim (same_or root t) [
-          | same e v ↦ subst (λ m. occurs m (below_ancestor t h).whole.kids ≡ 0) (sym e) (below_ancestor t h).no_top
-          | apart ne v ↦
-              let off : (b.whole.top.number == t) ≡ false = subst (λ m. (m == t) ≡ false) (sym b.whole.is_top) v in
-              let i = rw (off, beside-empty (tree_at t b.whole.kids)) at (tree_in t h ∙ (below_ancestor t h).whole.tree) in
-              let j = occurs-tree root t b.whole.kids in
-              let k = rw i at j in
-              let l = b.no_top in
-              omega arith
-        ]
+    part_root t h = grind (arith, beside-empty (tree_at t b.whole.kids), tree_in t h, occurs-tree root t b.whole.kids)
 
     part_free : (t : ℕ) → (h : 0 < hits t (above current tree)) → find stops (above current tree) ≡ Some t → (m : ℕ) → 0 < hits m (above current (below_ancestor t h).whole.kids) → stops m ≡ false
     part_free t h e m k =
@@ -160,8 +125,4 @@ module _ {X : Type 0} (f : Forest X) (o : IsOnce f) (filter : Filter) (root curr
         ]
 
   pub next_sibling-found : next_sibling_by_steps f filter root current ≡ find (accepts f filter) (sibling_list f filter root current)
-  next_sibling-found =
-      elim (same_or current root) [
-        | same e t ↦ rw t (sym (ap (λ ns. find (accepts f filter) (sibling_list_under f filter current (find stops ns))) (ap (ancestor_list f root) e ∙ ancestor_list-root f root (root_tree f o filter root current within))))
-        | apart ne t ↦ rw t (sibling-found_below (from_root f o filter root current within ne))
-      ]
+  next_sibling-found = grind (arith, nat_tests, root_tree f o filter root current within, sibling-found_below, from_root f o filter root current within)

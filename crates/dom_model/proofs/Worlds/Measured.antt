@@ -1,56 +1,28 @@
 -- The kinds and lengths of nodes as trees are cut and put, as data is changed, and as trees come in last.
 use Rattle.std.proofs.Common.{◌≡◌, ℕ, ◌+◌, ◌<◌, ◌≤◌, ◌==◌, Bool, true, false, if◌then◌else◌, List, [], ◌∷◌, length, Option, Some, None, is_some, option_map, refl, ap, sym, ◌∙◌, arith}
-use Rattle.std.proofs.lemmas.Bool.{false≢true}
-use Rattle.dom_model.specs.PlainLists.Lists.{hits, is_number, or_else, entered, left_out}
-use Rattle.dom_model.specs.Forests.Arena.{Entry, parent_in, children_in}
-use Rattle.dom_model.specs.declared.Kind.{Kind}
-use Rattle.dom_model.specs.declared.Kind.TheVariants.{Element, Text, ProcessingInstruction, Comment, Document, DocumentType, DocumentFragment}
-use Rattle.dom_model.specs.Forests.Kinds.{is_kind, is_character_data, may_be_parent}
-use Rattle.dom_model.specs.Forests.Forest.{Node, Forest, empty, node, occurs, tops, beside, tree_at, cut, put, map_nodes, with_node, in_document, adopted, entry_under, entry_in, parent_of, children_of}
-use Rattle.dom_model.specs.Worlds.World.{Content}
-use Rattle.dom_model.specs.Forests.Nodes.{entry_has, kind_passes}
-use Rattle.dom_model.specs.Worlds.Lengths.{length_of, length_in, node_length, unit_count}
+use Rattle.std.proofs.lemmas.{Bool.false≢true, Bool.Decides.nat_tests, Bool.cond-true, Bool.eq-eqb}
+use Rattle.dom_model.specs.Definitions.{hits, or_else, entered, left_out, Entry, parent_in, children_in, is_kind, is_character_data, may_be_parent, Node, Forest, empty, node, occurs, tops, beside, tree_at, cut, put, map_nodes, with_node, in_document, adopted, entry_under, entry_in, parent_of, children_of, Content, entry_has, kind_passes, length_of, length_in, node_length, unit_count}
+use Rattle.dom_model.specs.declared.{Kind.Kind, Kind.TheVariants.DocumentType}
 use Rattle.dom_model.proofs.PlainLists.Numbers.{same_or, same, apart}
-use Rattle.dom_model.proofs.Forests.Changes.{cut_at, link_at, change_at}
-use Rattle.dom_model.proofs.Forests.Lying.{left_out-absent, tops-with_node}
-use Rattle.dom_model.proofs.Forests.Entries.{entry-cut, entry-put, entry_under-there, children-cut, children-put}
+use Rattle.dom_model.proofs.Forests.{Changes.cut_at, Changes.link_at, Changes.change_at, Lying.left_out-absent, Lying.tops-with_node, Entries.entry-cut, Entries.entry-put, Entries.entry_under-there, Entries.children-cut, Entries.children-put, Changes.seen, Changes.nothing, Changes.just}
 use Rattle.dom_model.proofs.Soundness.SoundForests.{parent_no_data}
 
 pub length-left_out : (c : ℕ) (ns : List ℕ) → length (left_out c ns) + hits c ns ≡ length ns
 length-left_out c [] = refl
-length-left_out c (n ∷ ns) =
-    let i = length-left_out c ns in
-    elim (same_or n c) [
-      | same e t ↦ rw t (omega arith)
-      | apart ne t ↦ rw t (omega arith)
-    ]
+length-left_out c (n ∷ ns) = grind (arith, nat_tests, length-left_out c ns)
 
 pub length-entered : (b : Option ℕ) (c : ℕ) (ns : List ℕ) → length (entered b c ns) ≡ length ns + 1
 length-entered b c [] = refl
-length-entered b c (n ∷ ns) =
-    let i = length-entered b c ns in
-    elim (is_number b n) as (λ v. length (if v then c ∷ n ∷ ns else n ∷ entered b c ns) ≡ length (n ∷ ns) + 1) [
-      | true ↦ omega arith
-      | false ↦ omega arith
-    ]
+length-entered None c (n ∷ ns) = grind (arith, length-entered None c ns)
+length-entered (Some k) c (n ∷ ns) = grind (arith, nat_tests, length-entered (Some k) c ns)
 
 length_kind : (k : Kind) → may_be_parent k ≡ true → is_kind k DocumentType ≡ false
-length_kind Element h = refl
-length_kind Text h = absurd (false≢true h)
-length_kind ProcessingInstruction h = absurd (false≢true h)
-length_kind Comment h = absurd (false≢true h)
-length_kind Document h = refl
 length_kind DocumentType h = absurd (false≢true h)
-length_kind DocumentFragment h = refl
+length_kind k h = refl
 
 pub data_kind : (k : Kind) → is_character_data k ≡ true → is_kind k DocumentType ≡ false
-data_kind Element h = absurd (false≢true h)
-data_kind Text h = refl
-data_kind ProcessingInstruction h = refl
-data_kind Comment h = refl
-data_kind Document h = absurd (false≢true h)
 data_kind DocumentType h = absurd (false≢true h)
-data_kind DocumentFragment h = absurd (false≢true h)
+data_kind k h = refl
 
 -- the length of a node that may be a parent is the number of its children
 pub length-parent : (f : Forest Content) (p : ℕ) → kind_passes may_be_parent f p ≡ true → node_length unit_count f p ≡ length (children_of f p)
@@ -67,19 +39,19 @@ same_length a b v c = rw (v, c) refl
 -- A cut.
 
 module _ (f : Forest Content) (o : (m : ℕ) → occurs m f ≤ 1) (c : ℕ) where
-  pub kind-cut : (test : Kind → Bool) (n : ℕ) → kind_passes test (cut c f) n ≡ kind_passes test f n
-  kind-cut test n = ap (entry_has test) (entry-cut f o c n) ∙ go (entry_in f n)
+  -- what is read of an entry
+  pub kept-cut : {A : Type 0} (read : Option (Entry (Node Content)) → A) (n : ℕ) → ((e : Entry (Node Content)) → read (cut_at c n (Some e)) ≡ read (Some e)) → read (entry_in (cut c f) n) ≡ read (entry_in f n)
+  kept-cut read n keeps = ap read (entry-cut f o c n) ∙ go (entry_in f n)
     where
-      go : (e : Option (Entry (Node Content))) → entry_has test (cut_at c n e) ≡ entry_has test e
+      go : (e : Option (Entry (Node Content))) → read (cut_at c n e) ≡ read e
       go None = refl
-      go (Some e) = refl
+      go (Some e) = keeps e
+
+  pub kind-cut : (test : Kind → Bool) (n : ℕ) → kind_passes test (cut c f) n ≡ kind_passes test f n
+  kind-cut test n = kept-cut (entry_has test) n (λ e. refl)
 
   pub length-cut : (n : ℕ) → hits c (children_of f n) ≡ 0 → node_length unit_count (cut c f) n ≡ node_length unit_count f n
-  length-cut n h = ap (length_in unit_count) (entry-cut f o c n) ∙ go (entry_in f n) h
-    where
-      go : (e : Option (Entry (Node Content))) → hits c (children_in e) ≡ 0 → length_in unit_count (cut_at c n e) ≡ length_in unit_count e
-      go None h = refl
-      go (Some e) h = rw (left_out-absent c e.children h) refl
+  length-cut n h = ap (length_in unit_count) (entry-cut f o c n) ∙ (elim (seen (entry_in f n)) [ nothing z ↦ rw z refl | just e z ↦ rw (z, left_out-absent c e.children (rw z at h)) refl ])
 
   pub length-cut_parent : (p : ℕ) → kind_passes may_be_parent f p ≡ true → node_length unit_count (cut c f) p + hits c (children_of f p) ≡ node_length unit_count f p
   length-cut_parent p h =
@@ -92,30 +64,25 @@ module _ (f : Forest Content) (o : (m : ℕ) → occurs m f ≤ 1) (c : ℕ) whe
 -- A put.
 
 module _ (f : Forest Content) (o : (m : ℕ) → occurs m f ≤ 1) (p c : ℕ) (b : Option ℕ) (hp : 0 < occurs p f) (hc : 0 < occurs c f) (r : parent_of f c ≡ None) (z : occurs p (tree_at c f) ≡ 0) where
-  pub kind-put : (test : Kind → Bool) (n : ℕ) → kind_passes test (put p c b f) n ≡ kind_passes test f n
-  kind-put test n = ap (entry_has test) (entry-put f o p c b hp hc r z n) ∙ go (entry_in f n)
+  pub kept-put : {A : Type 0} (read : Option (Entry (Node Content)) → A) (n : ℕ) → ((e : Entry (Node Content)) → read (link_at p b c n (Some e)) ≡ read (Some e)) → read (entry_in (put p c b f) n) ≡ read (entry_in f n)
+  kept-put read n keeps = ap read (entry-put f o p c b hp hc r z n) ∙ go (entry_in f n)
     where
-      go : (e : Option (Entry (Node Content))) → entry_has test (link_at p b c n e) ≡ entry_has test e
+      go : (e : Option (Entry (Node Content))) → read (link_at p b c n e) ≡ read e
       go None = refl
-      go (Some e) = refl
+      go (Some e) = keeps e
+
+  pub kind-put : (test : Kind → Bool) (n : ℕ) → kind_passes test (put p c b f) n ≡ kind_passes test f n
+  kind-put test n = kept-put (entry_has test) n (λ e. refl)
 
   pub length-put : (n : ℕ) → (n == p) ≡ false → node_length unit_count (put p c b f) n ≡ node_length unit_count f n
-  length-put n h = ap (length_in unit_count) (entry-put f o p c b hp hc r z n) ∙ go (entry_in f n)
-    where
-      go : (e : Option (Entry (Node Content))) → length_in unit_count (link_at p b c n e) ≡ length_in unit_count e
-      go None = refl
-      go (Some e) = rw h refl
+  length-put n h = kept-put (length_in unit_count) n (λ e. rw h refl)
 
   pub length-put_parent : kind_passes may_be_parent f p ≡ true → node_length unit_count (put p c b f) p ≡ node_length unit_count f p + 1
   length-put_parent h =
       let a = length-parent f p h in
       let d = length-parent (put p c b f) p (kind-put may_be_parent p ∙ h) in
-      let k : children_of (put p c b f) p ≡ entered b c (children_of f p) = children-put f o p c b hp hc r z p hp ∙ here in
-      let e = ap length k ∙ length-entered b c (children_of f p) in
-      omega arith
-    where
-      here : (if p == p then entered b c (children_of f p) else children_of f p) ≡ entered b c (children_of f p)
-      here = elim (same_or p p) [ same e t ↦ rw t refl | apart ne t ↦ absurd (ne refl) ]
+      let k : children_of (put p c b f) p ≡ entered b c (children_of f p) = children-put f o p c b hp hc r z p hp ∙ cond-true (p == p) _ _ (eq-eqb p p refl) in
+      omega (arith, ap length k ∙ length-entered b c (children_of f p))
 
 -- Trees that come in last.
 
@@ -174,6 +141,13 @@ module _ (change : Node Content → Node Content) (number : (x : Node Content) �
       both None b = refl
       both (Some a) b = refl
 
+  pub kept-with_node : {A : Type 0} (read : Option (Entry (Node Content)) → A) (n m : ℕ) → ((e : Entry (Node Content)) → read (change_at change n m (Some e)) ≡ read (Some e)) → (f : Forest Content) → read (entry_in (with_node n change f) m) ≡ read (entry_in f m)
+  kept-with_node read n m keeps f = ap read (entry-with_node n m None f) ∙ go (entry_in f m)
+    where
+      go : (o : Option (Entry (Node Content))) → read (change_at change n m o) ≡ read o
+      go None = refl
+      go (Some e) = keeps e
+
 -- Another node document changes no length.
 
 abbrev pub unplaced : Node Content → Node Content
@@ -210,12 +184,16 @@ adopted-unplaced n d (node x kids rest) =
       | apart ne t ↦ rw t (rw (adopted-unplaced n d kids, adopted-unplaced n d rest) refl)
     ]
 
-pub length-adopted : (n d : ℕ) (f : Forest Content) (m : ℕ) → node_length unit_count (adopted n d f) m ≡ node_length unit_count f m
-length-adopted n d f m = sym (measured (adopted n d f)) ∙ ap (λ g. node_length unit_count g m) (adopted-unplaced n d f) ∙ measured f
+-- what is read of an entry but not of a node document stays
+pub kept-adopted : {A : Type 0} (read : Option (Entry (Node Content)) → A) → ((e : Entry (Node Content)) → read (unplaced_entry (Some e)) ≡ read (Some e)) → (n d : ℕ) (f : Forest Content) (m : ℕ) → read (entry_in (adopted n d f) m) ≡ read (entry_in f m)
+kept-adopted read keeps n d f m = sym (measured (adopted n d f)) ∙ ap (λ g. read (entry_in g m)) (adopted-unplaced n d f) ∙ measured f
   where
-    measured : (g : Forest Content) → node_length unit_count (map_nodes unplaced g) m ≡ node_length unit_count g m
-    measured g = ap (length_in unit_count) (entry-unplaced None m g) ∙ go (entry_in g m)
+    measured : (g : Forest Content) → read (entry_in (map_nodes unplaced g) m) ≡ read (entry_in g m)
+    measured g = ap read (entry-unplaced None m g) ∙ go (entry_in g m)
       where
-        go : (e : Option (Entry (Node Content))) → length_in unit_count (unplaced_entry e) ≡ length_in unit_count e
+        go : (o : Option (Entry (Node Content))) → read (unplaced_entry o) ≡ read o
         go None = refl
-        go (Some e) = refl
+        go (Some e) = keeps e
+
+pub length-adopted : (n d : ℕ) (f : Forest Content) (m : ℕ) → node_length unit_count (adopted n d f) m ≡ node_length unit_count f m
+length-adopted n d f m = kept-adopted (length_in unit_count) (λ e. refl) n d f m

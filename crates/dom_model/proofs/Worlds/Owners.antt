@@ -1,25 +1,12 @@
 -- Every node document is a Document of the forest, wherever the trees go. DOM Standard, "Interface Node" (node document).
-use Rattle.std.proofs.Common.{◌≡◌, ℕ, zero, suc, ◌<◌, Bool, true, false, List, [], ◌∷◌, ◌++◌, map, Option, None, is_some, refl, ap, sym, ◌∙◌, arith}
+use Rattle.std.proofs.Common.{◌≡◌, ℕ, suc, ◌<◌, Bool, true, false, List, [], ◌∷◌, ◌++◌, map, Option, None, is_some, refl, ap, sym, ◌∙◌, arith}
 use Rattle.std.proofs.lemmas.Bool.{false≢true, or_parts}
 use Rattle.std.specs.List.{list_any}
+use Rattle.dom_model.specs.Definitions.{among, is_kind, Node, Forest, empty, node, occurs, one_at, rows, beside, tree_at, without, cut, put, in_document, adopted, entry_in, parent_of, inclusive_descendants, EachNode, Content, entry_has, is_of_kind, documents, is_held_outside, IsOwned, HasOwners}
 use Rattle.dom_model.specs.declared.Kind.TheVariants.{Document}
-use Rattle.dom_model.specs.PlainLists.Lists.{among}
-use Rattle.dom_model.specs.Forests.Kinds.{is_kind}
-use Rattle.dom_model.specs.Forests.Forest.{Node, Row, Forest, empty, node, occurs, one_at, rows, beside, tree_at, without, cut, put, in_document, adopted, entry_in, parent_of, inclusive_descendants}
-use Rattle.dom_model.specs.Forests.EachNode.{EachNode}
-use Rattle.dom_model.specs.Worlds.World.{Content}
-use Rattle.dom_model.specs.Forests.Nodes.{entry_has, is_of_kind}
-use Rattle.dom_model.specs.MutationAlgorithms.Discarding.{documents, is_held_outside}
-use Rattle.dom_model.specs.Soundness.Owners.{IsOwned, HasOwners}
-use Rattle.dom_model.proofs.Forests.Changes.{seen, nothing, just}
-use Rattle.dom_model.proofs.Forests.Totals.{IsOnce, total-tree_at}
-use Rattle.dom_model.proofs.Forests.Lying.{Lies-without_root}
-use Rattle.dom_model.proofs.Forests.Climbing.{not_among-hits}
-use Rattle.dom_model.proofs.Forests.Entries.{entry_under-absent, Lies-entry_in, entry_under-Lies, HasNode-occurs}
-use Rattle.dom_model.proofs.Forests.TreeOrder.Flattened.{hits-numbers}
-use Rattle.dom_model.proofs.Forests.EachNode.{EachNode-beside, EachNode-cut, EachNode-put, EachNode-without, EachNode-with_tree}
-use Rattle.dom_model.proofs.Worlds.SameShape.{with_tree-alike, kind-alike}
-use Rattle.dom_model.proofs.Worlds.Measured.{kind-cut, kind-put, kind-beside}
+use Rattle.dom_model.specs.Forests.Forest.{Row}
+use Rattle.dom_model.proofs.Forests.{Changes.seen, Changes.nothing, Changes.just, Totals.IsOnce, Totals.total-tree_at, Lying.Lies-without_root, Climbing.not_among-hits, Entries.entry_under-absent, Entries.Lies-entry_in, Entries.entry_under-Lies, Entries.HasNode-occurs, TreeOrder.Flattened.hits-numbers, EachNode.EachNode-beside, EachNode.EachNode-cut, EachNode.EachNode-put, EachNode.EachNode-without, EachNode.EachNode-with_tree}
+use Rattle.dom_model.proofs.Worlds.{SameShape.with_tree-alike, SameShape.kind-alike, Measured.kind-cut, Measured.kind-put, Measured.kind-beside}
 
 -- what holds of each node gives what follows from it
 pub EachNode-each : {X : Type 0} (P Q : Node X → Type 0) → ((x : Node X) → P x → Q x) → (f : Forest X) → EachNode P f → EachNode Q f
@@ -45,11 +32,7 @@ HasOwners-adopted n d f e h =
 
 -- a node of a kind is there
 pub kind-there : (f : Forest Content) (n : ℕ) → is_of_kind Document f n ≡ true → 0 < occurs n f
-kind-there f n e = go (occurs n f) refl
-  where
-    go : (k : ℕ) → occurs n f ≡ k → 0 < occurs n f
-    go zero z = absurd (let i = entry_under-absent None n f z in let j = rw i at e in false≢true j)
-    go (suc k) z = omega arith
+kind-there f n e = grind (arith, entry_under-absent None n f)
 
 -- a new root: a Document in itself, or a node in a Document of the forest
 pub HasOwners-new_root : (f : Forest Content) (x : Node Content) → IsOwned (beside f (node x empty empty)) x → HasOwners f → HasOwners (beside f (node x empty empty))

@@ -1,46 +1,19 @@
 -- A forest that is part of another: its nodes stand in the other as they do in it. What it has of ranges and iterators is so in both.
-use Rattle.std.proofs.Common.{◌≡◌, ℕ, zero, suc, ◌+◌, ◌*◌, ◌<◌, ◌≤◌, List, [], ◌∷◌, ◌++◌, map, drop, reverse, length, Option, Some, None, IsSome, refl, ap, sym, ◌∙◌, subst, arith, ⊎_elim}
-use Rattle.std.proofs.lemmas.Bool.{cases_lt}
-use Rattle.std.proofs.lemmas.List.{reverse-append}
+use Rattle.std.proofs.Common.{◌≡◌, ℕ, zero, suc, ◌+◌, ◌*◌, ◌<◌, ◌≤◌, List, [], ◌∷◌, ◌++◌, map, drop, reverse, length, Option, Some, None, IsSome, refl, ap, sym, ◌∙◌, subst, arith}
+use Rattle.dom_model.specs.Definitions.{hits, last_of, place_in, parent_in, children_in, list_under, is_kind, Forest, occurs, tree_at, entry_in, parent_of, index_of, ancestors, root_of, inclusive_descendants, Content, Point, Range, Iterator, place_of, order_of, entry_has, is_of_kind, unit_count, length_in, node_length, IsBoundary, IsRange, IsIterator}
 use Rattle.dom_model.specs.declared.Kind.TheVariants.{DocumentType}
-use Rattle.dom_model.specs.PlainLists.Lists.{hits, last_of, place_in}
-use Rattle.dom_model.specs.Forests.Arena.{parent_in, children_in, list_under}
-use Rattle.dom_model.specs.Forests.Kinds.{is_kind}
-use Rattle.dom_model.specs.Forests.Forest.{Forest, occurs, tree_at, entry_in, parent_of, index_of, ancestors, root_of, inclusive_descendants}
-use Rattle.dom_model.specs.Worlds.World.{Content, Point, Range, Iterator}
-use Rattle.dom_model.specs.BoundaryPoints.Points.{place_of, order_of}
-use Rattle.dom_model.specs.Forests.Nodes.{entry_has, is_of_kind}
-use Rattle.dom_model.specs.Worlds.Lengths.{unit_count, length_in, node_length}
-use Rattle.dom_model.specs.Soundness.Sound.{IsBoundary, IsRange, IsIterator}
-use Rattle.dom_model.proofs.PlainLists.Numbers.{same_or, same, apart}
-use Rattle.dom_model.proofs.Forests.Changes.{seen, nothing, just}
-use Rattle.dom_model.proofs.Forests.Totals.{tree_at-absent}
-use Rattle.dom_model.proofs.Forests.Climbing.{hits-append, hits-ancestors, ancestors-there}
-use Rattle.dom_model.proofs.Forests.Entries.{HasNode-occurs, occurs-HasNode}
-use Rattle.dom_model.proofs.Forests.Paths.{parent-path, root-path}
-use Rattle.dom_model.proofs.Forests.TreeOrder.Flattened.{hits-numbers}
+use Rattle.dom_model.proofs.Forests.{Changes.seen, Changes.nothing, Changes.just, Totals.tree_at-absent, Climbing.hits-ancestors, Climbing.ancestors-there, Entries.HasNode-occurs, Entries.occurs-HasNode, Paths.parent-path, Paths.root-path, TreeOrder.Flattened.hits-numbers, Climbing.hits-reverse}
+use Rattle.dom_model.proofs.PlainLists.Mapped.{map-same}
 
-map_agree : (F G : ℕ → ℕ) (ns : List ℕ) → ((m : ℕ) → 0 < hits m ns → F m ≡ G m) → map F ns ≡ map G ns
-map_agree F G [] h = refl
-map_agree F G (n ∷ ns) h =
-    let i : F n ≡ G n = h n (elim (same_or n n) [ same e t ↦ rw t (omega arith) | apart ne t ↦ absurd (ne refl) ]) in
-    rw (i, map_agree F G ns (λ m k. h m (omega arith))) refl
-
-hits-dropped : (n : ℕ) (xs : List ℕ) → hits n (drop 1 xs) ≤ hits n xs
+pub hits-dropped : (n : ℕ) (xs : List ℕ) → hits n (drop 1 xs) ≤ hits n xs
 hits-dropped n [] = omega arith
 hits-dropped n (x ∷ xs) = omega arith
-
-hits-turned : (n : ℕ) (xs : List ℕ) → hits n (reverse xs) ≡ hits n xs
-hits-turned n [] = refl
-hits-turned n (x ∷ xs) = ap (hits n) (reverse-append (x ∷ []) xs) ∙ hits-append n (reverse xs) (x ∷ []) ∙ (let i = hits-turned n xs in omega arith)
 
 -- a node on a path is in the forest
 pub path-there : (f : Forest Content) → ((m : ℕ) → occurs m f ≤ 1) → (n m : ℕ) → 0 < hits m (ancestors n f) → 0 < occurs m f
 path-there f o n m h =
-    ⊎_elim
-    (λ (lt : 0 < occurs m f). lt)
-    (λ (le : occurs m f ≤ 0). absurd (let i = hits-ancestors m n f o in let k = ap (λ (t : Forest Content). occurs n t) (tree_at-absent m f (omega arith)) in omega arith))
-    (cases_lt 0 (occurs m f))
+    let none : occurs m f ≡ 0 → occurs n (tree_at m f) ≡ 0 = λ z. rw (tree_at-absent m f z) refl in
+    grind (arith, hits-ancestors m n f o)
 
 module _ (f g : Forest Content) (of : (m : ℕ) → occurs m f ≤ 1) (og : (m : ℕ) → occurs m g ≤ 1) (same_entry : (m : ℕ) → 0 < occurs m f → entry_in g m ≡ entry_in f m) where
   pub there-part : (n : ℕ) → 0 < occurs n f → 0 < occurs n g
@@ -78,8 +51,8 @@ module _ (f g : Forest Content) (of : (m : ℕ) → occurs m f ≤ 1) (og : (m :
   place-part p h =
       ap (λ ns. map (λ m. 2 * index_of g m + 1) (drop 1 (reverse ns)) ++ (2 * p.offset) ∷ []) (ancestors-part p.node h)
       ∙ ap (λ ns. ns ++ (2 * p.offset) ∷ [])
-      (map_agree (λ m. 2 * index_of g m + 1) (λ m. 2 * index_of f m + 1) (drop 1 (reverse (ancestors p.node f)))
-      (λ m k. ap (λ i. 2 * i + 1) (index-part m (path-there f of p.node m (let a = hits-dropped m (reverse (ancestors p.node f)) in let b = hits-turned m (ancestors p.node f) in omega arith)))))
+      (map-same (λ m. 2 * index_of g m + 1) (λ m. 2 * index_of f m + 1) (drop 1 (reverse (ancestors p.node f)))
+      (λ m k. ap (λ i. 2 * i + 1) (index-part m (path-there f of p.node m (let a = hits-dropped m (reverse (ancestors p.node f)) in let b = hits-reverse m (ancestors p.node f) in omega arith)))))
 
   pub order-part : (p q : Point) → 0 < occurs p.node f → 0 < occurs q.node f → order_of g p q ≡ order_of f p q
   order-part p q hp hq = rw (place-part p hp, place-part q hq) refl

@@ -1,13 +1,8 @@
 -- Forests of one shape: the same numbers and labels stand in the same places. Data and node documents may differ.
 use Rattle.std.proofs.Common.{◌≡◌, ℕ, ◌+◌, ◌*◌, ◌==◌, Bool, true, false, if◌then◌else◌, [], ◌∷◌, ◌++◌, map, drop, reverse, Option, Some, None, option_map, refl, ap, sym, ◌∙◌, subst}
 use Rattle.std.proofs.Math.Path.{fun_ext}
+use Rattle.dom_model.specs.Definitions.{or_else, place_in, Entry, parent_in, children_in, list_under, Node, Forest, empty, node, total, occurs, one_at, tops, numbers, beside, tree_at, map_nodes, with_node, with_tree, entry_under, entry_in, parent_of, children_of, index_of, ancestors, root_of, inclusive_descendants, KindsFit, Content, Point, no_content, place_of, order_of, entry_has, kind_passes}
 use Rattle.dom_model.specs.declared.Kind.{Kind}
-use Rattle.dom_model.specs.PlainLists.Lists.{or_else, place_in}
-use Rattle.dom_model.specs.Forests.Arena.{Entry, parent_in, children_in, list_under}
-use Rattle.dom_model.specs.Forests.Forest.{Node, Forest, empty, node, total, occurs, one_at, tops, numbers, beside, tree_at, map_nodes, with_node, with_tree, entry_under, entry_in, parent_of, children_of, index_of, ancestors, root_of, inclusive_descendants, KindsFit}
-use Rattle.dom_model.specs.Worlds.World.{Content, Point, no_content}
-use Rattle.dom_model.specs.BoundaryPoints.Points.{place_of, order_of}
-use Rattle.dom_model.specs.Forests.Nodes.{entry_has, kind_passes}
 use Rattle.dom_model.proofs.PlainLists.Numbers.{same_or, same, apart}
 
 -- a node without its node document and contents
@@ -89,26 +84,22 @@ module _ {f g : Forest Content} (a : IsAlike f g) where
   pub inside-alike : (n : ℕ) → inclusive_descendants g n ≡ inclusive_descendants f n
   inside-alike n = agreeing (λ h. inclusive_descendants h n) (λ h. ap (λ t. numbers t) (tree_at-bare n h) ∙ numbers-bare (tree_at n h)) a
 
-  pub parent-alike : (n : ℕ) → parent_of g n ≡ parent_of f n
-  parent-alike n = agreeing (λ h. parent_of h n) (λ h. ap parent_in (entry-bare None n h) ∙ go (entry_in h n)) a
+  -- what is read of an entry but not of a node document or contents
+  reading : {A : Type 0} (read : Option (Entry (Node Content)) → A) → ((e : Entry (Node Content)) → read (bare_entry (Some e)) ≡ read (Some e)) → (n : ℕ) → read (entry_in g n) ≡ read (entry_in f n)
+  reading read keeps n = agreeing (λ h. read (entry_in h n)) (λ h. ap read (entry-bare None n h) ∙ go (entry_in h n)) a
     where
-      go : (e : Option (Entry (Node Content))) → parent_in (bare_entry e) ≡ parent_in e
+      go : (o : Option (Entry (Node Content))) → read (bare_entry o) ≡ read o
       go None = refl
-      go (Some e) = refl
+      go (Some e) = keeps e
+
+  pub parent-alike : (n : ℕ) → parent_of g n ≡ parent_of f n
+  parent-alike n = reading parent_in (λ e. refl) n
 
   pub children-alike : (n : ℕ) → children_of g n ≡ children_of f n
-  children-alike n = agreeing (λ h. children_of h n) (λ h. ap children_in (entry-bare None n h) ∙ go (entry_in h n)) a
-    where
-      go : (e : Option (Entry (Node Content))) → children_in (bare_entry e) ≡ children_in e
-      go None = refl
-      go (Some e) = refl
+  children-alike n = reading children_in (λ e. refl) n
 
   pub kind-alike : (test : Kind → Bool) (n : ℕ) → kind_passes test g n ≡ kind_passes test f n
-  kind-alike test n = agreeing (λ h. kind_passes test h n) (λ h. ap (entry_has test) (entry-bare None n h) ∙ go (entry_in h n)) a
-    where
-      go : (e : Option (Entry (Node Content))) → entry_has test (bare_entry e) ≡ entry_has test e
-      go None = refl
-      go (Some e) = refl
+  kind-alike test n = reading (entry_has test) (λ e. refl) n
 
   pub fits-alike : KindsFit None f → KindsFit None g
   fits-alike k = bare-fits None g (subst (λ (h : Forest Content). KindsFit None h) (sym a.bare_same) (fits-bare None f k))

@@ -1,6 +1,6 @@
 use Rattle.std.proofs.Common.{sym, ◌∙◌, Bool}
 use Rattle.std.specs.List.{list_any}
-use Rattle.dom_model.specs.Forests.Attributes.{Attribute, is_attribute}
+use Rattle.dom_model.specs.Definitions.{Attribute, is_attribute}
 use Rattle.dom_attrs.proofs.AttributeLemmas.{passes_more, one_fails}
 use Rattle.dom_attrs.proofs.Attrs.are_among.Goals as goal
 

@@ -1,5 +1,5 @@
 use Rattle.std.proofs.Common.{◌≡◌, true, take}
-use Rattle.dom_model.specs.Forests.Attributes.{are_among}
+use Rattle.dom_model.specs.Definitions.{are_among}
 use Rattle.dom_attrs.proofs.Attrs.are_among.Given as goal
 
 abbrev pub invariant-loop-index : goal.invariant-loop-index

@@ -1,7 +1,6 @@
-use Rattle.std.proofs.Common.{List, subst, tests, rules}
-use Rattle.std.specs.Prelude.{bytes_eq}
+use Rattle.std.proofs.Common.{List, subst, tests, rules, bytes_eq}
 use Rattle.std.specs.List.{IsDistinct}
-use Rattle.dom_model.specs.Forests.Attributes.{Attribute, attribute_names}
+use Rattle.dom_model.specs.Definitions.{Attribute, attribute_names}
 use Rattle.dom_attrs.specs.Entries.{entries_in}
 use Rattle.dom_attrs.proofs.EntriesLemmas.{distinct_names}
 use Rattle.dom_attrs.proofs.Attrs.len.Goals as goal

@@ -1,9 +1,7 @@
-use Rattle.std.proofs.Common.{ap, sym, refl, ◌∙◌, option_copied}
-use Rattle.std.specs.Prelude.{bytes_eq}
-use Rattle.dom_model.specs.Forests.Attributes.{Attribute}
+use Rattle.std.proofs.Common.{ap, sym, refl, ◌∙◌, option_copied, bytes_eq}
+use Rattle.dom_model.specs.Definitions.{Attribute}
 use Rattle.dom_attrs.specs.Entries.{attributes_of}
-use Rattle.dom_attrs.proofs.AttributeLemmas.{has_value}
-use Rattle.dom_attrs.proofs.EntriesLemmas.{list_any-lookup}
+use Rattle.dom_attrs.proofs.{AttributeLemmas.has_value, EntriesLemmas.list_any-lookup}
 use Rattle.dom_attrs.proofs.entries.has_in.Goals as goal
 
 pub returns-in-None : goal.returns-in-None

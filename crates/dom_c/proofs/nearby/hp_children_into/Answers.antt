@@ -1,7 +1,5 @@
-use Rattle.std.proofs.Common.{◌≡◌, tests, rules, false, ap, ◌∙◌}
-use Rattle.std.specs.Prelude.{Some, Err}
-use Rattle.dom_model.specs.Forests.Forest.{children_of}
-use Rattle.dom_model.specs.Worlds.World.{World}
+use Rattle.std.proofs.Common.{◌≡◌, tests, rules, false, ap, ◌∙◌, Some, Err}
+use Rattle.dom_model.specs.Definitions.{children_of, World}
 use Rattle.dom_session.specs.Links.{count_in, laid_over}
 use Rattle.dom_wire.specs.Sessions.{StandsFor}
 use Rattle.dom_c.specs.Nearby.{children_over, told_as, status_of_read}

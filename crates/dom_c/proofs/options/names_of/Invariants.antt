@@ -1,5 +1,4 @@
-use Rattle.std.proofs.Common.{◌≡◌, [], drop}
-use Rattle.std.specs.Prelude.{map, string_bytes}
+use Rattle.std.proofs.Common.{◌≡◌, [], drop, map, string_bytes}
 use Rattle.dom_c.specs.Lists.{names_from}
 use Rattle.dom_c.proofs.options.names_of.Given as goal
 

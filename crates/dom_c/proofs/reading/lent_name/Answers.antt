@@ -1,5 +1,4 @@
-use Rattle.std.proofs.Common.{◌∙◌, sym, ap}
-use Rattle.std.specs.Prelude.{Ok}
+use Rattle.std.proofs.Common.{◌∙◌, sym, ap, Ok}
 use Rattle.dom_c.proofs.Names.{name_in-ok, name_in-err}
 use Rattle.dom_c.proofs.reading.lent_name.Goals as goal
 

@@ -1,5 +1,4 @@
-use Rattle.std.proofs.Common.{◌∙◌, sym, ap, tests, rules}
-use Rattle.std.specs.Prelude.{Ok}
+use Rattle.std.proofs.Common.{◌∙◌, sym, ap, tests, rules, Ok}
 use Rattle.dom_c.proofs.Names.{name_in-ok, name_in-err}
 use Rattle.dom_c.proofs.reading.name_of.Goals as goal
 

@@ -1,6 +1,5 @@
-use Rattle.std.proofs.Common.{arith, ◌+◌, ◌∷◌, drop, sym, ap, ◌∙◌}
+use Rattle.std.proofs.Common.{arith, ◌+◌, ◌∷◌, drop, sym, ap, ◌∙◌, map}
 use Rattle.std.proofs.lemmas.List.{drop_all}
-use Rattle.std.specs.Prelude.{map}
 use Rattle.dom_c.specs.Records.{record_told}
 use Rattle.dom_c.proofs.Copies.{next-left, copied-next, copied-all}
 use Rattle.dom_c.proofs.records.lay_over.Goals as goal

@@ -1,10 +1,8 @@
 use Rattle.std.proofs.Common.{◌≡◌, ℕ, List, [], ◌∷◌, length, refl, ap, sym, ◌∙◌, subst, arith, unwrap_or}
-use Rattle.dom_model.specs.Forests.Forest.{size}
-use Rattle.dom_model.specs.DataAndCopies.Clones.{original, with_copies}
+use Rattle.dom_model.specs.Definitions.{size, original, with_copies}
 use Rattle.dom_edit.specs.Whole.{Follows}
 use Rattle.dom_clone.specs.declared.waiting.Waiting.{Waiting}
-use Rattle.dom_clone.proofs.Left.{left-then, left-copying}
-use Rattle.dom_clone.proofs.Partial.{some-copied, first-held, copying-starts, copied-alone, copying-ends, next-held, parent-held, may-stand, more-to_come, original-held, next-made, copying-goes_on}
+use Rattle.dom_clone.proofs.{Left.left-then, Left.left-copying, Partial.some-copied, Partial.first-held, Partial.copying-starts, Partial.copied-alone, Partial.copying-ends, Partial.next-held, Partial.parent-held, Partial.may-stand, Partial.more-to_come, Partial.original-held, Partial.next-made, Partial.copying-goes_on}
 use Rattle.dom_clone.proofs.copying.copy_tree.Goals as goal
 
 no_items : (ws : List (Waiting ℕ)) → length ws ≡ 0 → ws ≡ []

@@ -1,5 +1,5 @@
 use Rattle.std.proofs.Common.{◌≡◌, ◌+◌, ◌-◌, unwrap_or}
-use Rattle.dom_model.specs.Forests.Forest.{size, tree_at}
+use Rattle.dom_model.specs.Definitions.{size, tree_at}
 use Rattle.dom_clone.proofs.Partial.{IsCopying}
 use Rattle.dom_clone.proofs.copying.copy_tree.Given as goal
 

@@ -1,6 +1,5 @@
 use Rattle.std.proofs.Common.{length}
-use Rattle.dom_model.specs.Forests.Forest.{inclusive_descendants}
-use Rattle.dom_model.specs.PlainLists.Lists.{from_first}
+use Rattle.dom_model.specs.Definitions.{inclusive_descendants, from_first}
 use Rattle.dom_clone.proofs.Walks.{AreWalking}
 use Rattle.dom_clone.proofs.equality.is_equal.Given as goal
 

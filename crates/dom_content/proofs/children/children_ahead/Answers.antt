@@ -1,5 +1,5 @@
 -- From the first child on.
-use Rattle.dom_model.specs.Forests.Forest.{children_of}
+use Rattle.dom_model.specs.Definitions.{children_of}
 use Rattle.dom_model.proofs.Forests.Indices.{child-once}
 use Rattle.dom_edit.proofs.AmongChildren.{IsAmong-head}
 use Rattle.dom_content.proofs.children.children_ahead.Goals as goal

@@ -1,12 +1,10 @@
 -- Each step takes one child, up to the one that ends the list.
 use Rattle.std.proofs.Common.{true, false, [], ◌∷◌, refl, sym, ◌∙◌, append_assoc, append-nil}
-use Rattle.dom_model.specs.Forests.Forest.{children_of}
+use Rattle.dom_model.specs.Definitions.{children_of}
 use Rattle.dom_edit.specs.Places.{ahead_of}
-use Rattle.dom_edit.proofs.AmongChildren.{from_optional-given, parent-among}
-use Rattle.dom_edit.proofs.Placing.{ahead-here, ahead-on, ahead-none}
-use Rattle.dom_content.proofs.ChildrenBetween.{given-is}
+use Rattle.dom_edit.proofs.{AmongChildren.from_optional-given, AmongChildren.parent-among, Placing.ahead-here, Placing.ahead-on, Placing.ahead-none}
+use Rattle.dom_content.proofs.{ChildrenBetween.given-is, children.children_between.Goals.in-Some+then-eq, children.children_between.Goals.in-None}
 use Rattle.dom_content.proofs.children.children_between.Goals as goal
-use Rattle.dom_content.proofs.children.children_between.Goals.{in-Some+then-eq, in-None}
 
 pub children_from-child-items-requires : goal.children_from-child-items-requires
 children_from-child-items-requires c = parent-among c.args.tree.now c.sound.ensures c.args.parent c.args.from c.requires.child

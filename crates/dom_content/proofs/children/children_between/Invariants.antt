@@ -1,6 +1,6 @@
 -- The children that were passed are in the list, and the others are to come.
 use Rattle.std.proofs.Common.{◌≡◌, ◌++◌}
-use Rattle.dom_model.specs.Forests.Forest.{children_of}
+use Rattle.dom_model.specs.Definitions.{children_of}
 use Rattle.dom_edit.specs.Places.{from_optional, ahead_of}
 use Rattle.dom_content.proofs.children.children_between.Given as goal
 

@@ -1,7 +1,6 @@
 -- From the first child on, ahead of the child at the offset.
-use Rattle.std.proofs.Common.{◌≡◌, ℕ, List, ap, ◌∙◌, subst}
-use Rattle.std.specs.Prelude.{IfOk}
-use Rattle.dom_model.specs.Forests.Forest.{children_of}
+use Rattle.std.proofs.Common.{◌≡◌, ℕ, List, ap, ◌∙◌, subst, IfOk}
+use Rattle.dom_model.specs.Definitions.{children_of}
 use Rattle.dom_model.proofs.Forests.Indices.{child-once}
 use Rattle.dom_edit.specs.Places.{ahead_of, from_optional}
 use Rattle.dom_edit.proofs.AmongChildren.{IsAmong-head, from_optional-head}

@@ -1,11 +1,8 @@
 -- What stands behind the first path, between the two, and ahead of the second.
 use Rattle.std.proofs.Common.{ℕ, List, ◌++◌, ap, sym, ◌∙◌, subst}
-use Rattle.dom_model.specs.Worlds.World.{Point, Range}
-use Rattle.dom_model.specs.RangesAndContents.BesidePaths.{tail_nodes, head_nodes}
-use Rattle.dom_edit.specs.Inserting.{AreThere}
-use Rattle.dom_edit.specs.Whole.{unwatched}
-use Rattle.dom_content.proofs.DrawnContents.{first-held, last-held}
-use Rattle.dom_content.proofs.TopsOfPaths.{tops-of_parts}
+use Rattle.dom_model.specs.Definitions.{Point, Range, tail_nodes, head_nodes}
+use Rattle.dom_edit.specs.{Inserting.AreThere, Whole.unwatched}
+use Rattle.dom_content.proofs.{DrawnContents.first-held, DrawnContents.last-held, TopsOfPaths.tops-of_parts}
 use Rattle.dom_content.proofs.contained.contained_tops.Goals as goal
 
 pub tail_nodes-requires : goal.tail_nodes-requires

@@ -1,5 +1,5 @@
 -- Each step takes the children ahead of one node of the path, down to the deepest.
-use Rattle.dom_model.specs.RangesAndContents.BesidePaths.{head_nodes}
+use Rattle.dom_model.specs.Definitions.{head_nodes}
 use Rattle.std.proofs.Common.{◌≡◌, ◌+◌, ◌-◌, ◌++◌, drop, length, refl, ap, sym, ◌∙◌, arith}
 use Rattle.std.proofs.lemmas.Grind.{common_steps}
 use Rattle.dom_edit.specs.Whole.{unwatched}

@@ -1,5 +1,5 @@
 -- What stands ahead of the part of the path that was passed is in the list.
-use Rattle.dom_model.specs.RangesAndContents.BesidePaths.{head_nodes}
+use Rattle.dom_model.specs.Definitions.{head_nodes}
 use Rattle.std.proofs.Common.{◌≡◌, ◌-◌, ◌++◌, drop}
 use Rattle.dom_edit.specs.Whole.{unwatched}
 use Rattle.dom_content.proofs.contained.head_nodes.Given as goal

@@ -1,10 +1,7 @@
 -- The point's node itself, or the last node inside the child ahead of the point.
 use Rattle.std.proofs.Common.{◌-◌, slice_get, ap, sym, subst, ◌∙◌, arith}
-use Rattle.dom_model.specs.PlainLists.Lists.{after}
-use Rattle.dom_model.specs.Forests.Forest.{HasNode, children_of, inclusive_descendants}
-use Rattle.dom_model.specs.Worlds.World.{Point}
-use Rattle.dom_content.proofs.NodesAhead.{ahead-itself, ahead-inside, child-held, ahead-as}
-use Rattle.dom_content.proofs.NodesBehind.{behind-itself, behind-childless, behind-child}
+use Rattle.dom_model.specs.Definitions.{after, HasNode, children_of, inclusive_descendants, Point}
+use Rattle.dom_content.proofs.{NodesAhead.ahead-itself, NodesAhead.ahead-inside, NodesAhead.child-held, NodesAhead.ahead-as, NodesBehind.behind-itself, NodesBehind.behind-childless, NodesBehind.behind-child}
 use Rattle.dom_content.proofs.contained.last_ahead.Goals as goal
 
 pub returns-then-offset-eq0-clause-ahead : goal.returns-then-offset-eq0-clause-ahead

@@ -1,5 +1,5 @@
 -- Each step takes the children behind one node of the path, from the deepest on.
-use Rattle.dom_model.specs.RangesAndContents.BesidePaths.{tail_nodes}
+use Rattle.dom_model.specs.Definitions.{tail_nodes}
 use Rattle.std.proofs.Common.{◌≡◌, ◌-◌, ◌++◌, drop, length, ap, ◌∙◌, arith}
 use Rattle.std.proofs.lemmas.Grind.{common_steps}
 use Rattle.dom_edit.specs.Whole.{unwatched}

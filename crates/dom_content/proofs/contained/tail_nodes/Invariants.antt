@@ -1,5 +1,5 @@
 -- What stands behind the part of the path that was passed is in the list.
-use Rattle.dom_model.specs.RangesAndContents.BesidePaths.{tail_nodes}
+use Rattle.dom_model.specs.Definitions.{tail_nodes}
 use Rattle.std.proofs.Common.{◌≡◌, ◌-◌, ◌<◌, ◌≤◌, drop, length}
 use Rattle.dom_edit.specs.Whole.{unwatched}
 use Rattle.dom_content.proofs.contained.tail_nodes.Given as goal

@@ -1,11 +1,8 @@
 -- The steps of the definition, one after another.
-use Rattle.std.proofs.Common.{ap, ◌∙◌, is_some, arith}
+use Rattle.std.proofs.Common.{ap, ◌∙◌, is_some, arith, Option}
 use Rattle.std.proofs.lemmas.Grind.{common_steps}
-use Rattle.std.specs.Prelude.{Option}
-use Rattle.dom_model.specs.Worlds.World.{Point, Range}
-use Rattle.dom_content.proofs.RangeTexts.{range-held}
-use Rattle.dom_content.proofs.PartsGathered.{way-from_top, place-by_parts}
-use Rattle.dom_content.proofs.DeletedBetween.{tops-there, end-there, place-left, live-still, follows-deleted_between}
+use Rattle.dom_model.specs.Definitions.{Point, Range}
+use Rattle.dom_content.proofs.{RangeTexts.range-held, PartsGathered.way-from_top, PartsGathered.place-by_parts, DeletedBetween.tops-there, DeletedBetween.end-there, DeletedBetween.place-left, DeletedBetween.live-still, DeletedBetween.follows-deleted_between}
 use Rattle.dom_content.proofs.deleting.delete_between.Goals as goal
 
 pub remove_each-requires-clause-held : goal.remove_each-requires-clause-held

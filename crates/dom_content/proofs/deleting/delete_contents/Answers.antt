@@ -1,7 +1,6 @@
 -- The markers stand by the edits of the token text, and what lay between them is gone.
 use Rattle.std.proofs.lemmas.Result.{on_ok_weaker}
-use Rattle.dom_content.proofs.ContentsMarked.{markers-deleted}
-use Rattle.dom_content.proofs.ContentsLeft.{left-deleted}
+use Rattle.dom_content.proofs.{ContentsMarked.markers-deleted, ContentsLeft.left-deleted}
 use Rattle.dom_content.proofs.deleting.delete_contents.Goals as goal
 
 pub returns-clause-markers : goal.returns-clause-markers

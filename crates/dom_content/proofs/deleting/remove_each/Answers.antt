@@ -1,7 +1,6 @@
 -- Each node takes its turn.
 use Rattle.dom_edit.proofs.NodesKept.{labels-then}
-use Rattle.dom_content.proofs.LabelsKept.{labels-none}
-use Rattle.dom_content.proofs.EachRemoved.{leaving-node, leaving-next, leaving-end}
+use Rattle.dom_content.proofs.{LabelsKept.labels-none, EachRemoved.leaving-node, EachRemoved.leaving-next, EachRemoved.leaving-end}
 use Rattle.dom_content.proofs.deleting.remove_each.Goals as goal
 
 pub remove-requires-clause-held : goal.remove-requires-clause-held

@@ -1,11 +1,9 @@
 -- Both ends are set at once.
 use Rattle.std.proofs.Common.{ap, ◌∙◌}
-use Rattle.dom_model.specs.RangesAndContents.Ranges.{collapsed_at}
+use Rattle.dom_model.specs.Definitions.{collapsed_at}
 use Rattle.dom_ranges.specs.Tables.{RangeTable}
 use Rattle.dom_edit.specs.Keeping.{present}
-use Rattle.dom_edit.proofs.Leaving.{held-covered}
-use Rattle.dom_edit.proofs.NodesKept.{nodes-ranged}
-use Rattle.dom_edit.proofs.WatchersKept.{present-set}
+use Rattle.dom_edit.proofs.{Leaving.held-covered, NodesKept.nodes-ranged, WatchersKept.present-set}
 use Rattle.dom_content.proofs.EndsSet.{follows-standing, whole-standing}
 use Rattle.dom_content.proofs.deleting.stand_at.Goals as goal
 

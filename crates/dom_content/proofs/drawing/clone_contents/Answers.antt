@@ -2,16 +2,12 @@
 use Rattle.std.proofs.Common.{false, refl, sym, ◌∙◌, subst}
 use Rattle.dom_clone.proofs.Left.{left-same}
 use Rattle.std.proofs.lemmas.Result.{err_from_is_err_and}
-use Rattle.dom_model.specs.Worlds.World.{Range}
-use Rattle.dom_model.specs.RangesAndContents.Contents.{contents_drawn, clone_contents}
+use Rattle.dom_model.specs.Definitions.{Range, contents_drawn, clone_contents}
 use Rattle.dom_edit.specs.Refusals.{IsRefused}
 use Rattle.dom_content.specs.Left.{HoldsBetween, CopiesBetween}
-use Rattle.dom_content.proofs.ContentsLeft.{held-cloned, copied-cloned}
-use Rattle.dom_content.proofs.ContentsMarked.{asked-range, markers-cloned}
-use Rattle.dom_content.proofs.Deleted.{follows-alike}
-use Rattle.dom_content.proofs.DrawnContents.{range-cloned, room-cloned}
-use Rattle.dom_content.proofs.RangeTexts.{range-held}
+use Rattle.dom_content.proofs.{ContentsLeft.held-cloned, ContentsLeft.copied-cloned, ContentsMarked.asked-range, ContentsMarked.markers-cloned, DrawnContents.range-cloned, DrawnContents.room-cloned, RangeTexts.range-held}
 use Rattle.dom_content.proofs.drawing.clone_contents.Goals as goal
+use Rattle.dom_edit.proofs.InsertedNodes.{follows-as}
 
 pub drawable_parts-requires-clause-range : goal.drawable_parts-requires-clause-range
 drawable_parts-requires-clause-range c = range-held c.args.world.now c.requires.whole c.args.range (record { start = c.ends-start.result.0; end = c.ends-start.result.1 }) c.ends-start.ensures.ends
@@ -41,7 +37,7 @@ pub returns-clause-cloned : goal.returns-clause-cloned
 returns-clause-cloned c =
     let v = c.args.world.now in
     let range : Range = record { start = c.ends-start.result.0; end = c.ends-start.result.1 } in
-    follows-alike v c.draw.new.world (contents_drawn false range) (clone_contents c.args.range) (λ w k. range-cloned v c.args.range range c.ends-start.ensures.ends w k) c.in_ok-fragment.ensures.drawn
+    follows-as v c.draw.new.world (contents_drawn false range) (clone_contents c.args.range) (λ w k. range-cloned v c.args.range range c.ends-start.ensures.ends w k) c.in_ok-fragment.ensures.drawn
 
 pub returns-clause-markers : goal.returns-clause-markers
 returns-clause-markers c =

@@ -1,11 +1,7 @@
 -- A fragment beside the trees, and what goes into it.
 use Rattle.std.proofs.Common.{refl, ap}
 use Rattle.dom_content.specs.Drawing.{in_one_data}
-use Rattle.dom_content.proofs.RangeTexts.{ahead-of}
-use Rattle.dom_content.proofs.OlderLeft.{own-newer}
-use Rattle.dom_content.proofs.StaysOf.{stays-then}
-use Rattle.dom_content.proofs.DrawnContents.{document-is, one-same, follows-drawn, room-fragment, room-filled}
-use Rattle.dom_content.proofs.PartsComing.{may-fill}
+use Rattle.dom_content.proofs.{RangeTexts.ahead-of, OlderLeft.own-newer, StaysOf.stays-then, DrawnContents.document-is, DrawnContents.one-same, DrawnContents.follows-drawn, DrawnContents.room-fragment, DrawnContents.room-filled, PartsComing.may-fill}
 use Rattle.dom_content.proofs.drawing.draw.Goals as goal
 
 pub new_fragment-requires-clause-room : goal.new_fragment-requires-clause-room

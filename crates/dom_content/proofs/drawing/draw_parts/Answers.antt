@@ -2,9 +2,7 @@
 use Rattle.std.proofs.Common.{◌++◌, ap, sym, subst}
 use Rattle.std.proofs.lemmas.Result.{on_ok_weaker}
 use Rattle.dom_content.specs.Coming.{AreOld, IsPathTo}
-use Rattle.dom_content.proofs.StaysOf.{stays-then}
-use Rattle.dom_content.proofs.Comings.{left-old, right-old, holder-goes, old-goes, goes-then, front-goes, goes-children, goes-tail}
-use Rattle.dom_content.proofs.DrawnContents.{room-tail, room-children, follows-parts}
+use Rattle.dom_content.proofs.{StaysOf.stays-then, Comings.left-old, Comings.right-old, Comings.holder-goes, Comings.old-goes, Comings.goes-then, Comings.front-goes, Comings.goes-children, Comings.goes-tail, DrawnContents.room-tail, DrawnContents.room-children, DrawnContents.follows-parts}
 use Rattle.dom_content.proofs.drawing.draw_parts.Goals as goal
 
 pub tail_into-requires-clause-may : goal.tail_into-requires-clause-may

@@ -1,15 +1,11 @@
 -- The range is in order, and what its parts say is said of the live range.
 use Rattle.std.proofs.Common.{sym, ◌∙◌, subst}
 use Rattle.std.proofs.lemmas.Result.{err_from_is_err_and}
-use Rattle.dom_model.specs.Worlds.World.{Range}
-use Rattle.dom_model.specs.RangesAndContents.Contents.{extracted, extract}
+use Rattle.dom_model.specs.Definitions.{Range, extracted, extract}
 use Rattle.dom_edit.specs.Refusals.{IsRefused}
-use Rattle.dom_content.proofs.ContentsExtracted.{told-fragment}
-use Rattle.dom_content.proofs.ContentsMarked.{asked-range}
-use Rattle.dom_content.proofs.Deleted.{follows-alike}
-use Rattle.dom_content.proofs.DrawnContents.{range-extracted, room-extracted}
-use Rattle.dom_content.proofs.RangeTexts.{range-held}
+use Rattle.dom_content.proofs.{ContentsExtracted.told-fragment, ContentsMarked.asked-range, DrawnContents.range-extracted, DrawnContents.room-extracted, RangeTexts.range-held}
 use Rattle.dom_content.proofs.drawing.extract.Goals as goal
+use Rattle.dom_edit.proofs.InsertedNodes.{follows-as}
 
 pub drawable_parts-requires-clause-range : goal.drawable_parts-requires-clause-range
 drawable_parts-requires-clause-range c = range-held c.args.world.now c.requires.whole c.args.range (record { start = c.ends-start.result.0; end = c.ends-start.result.1 }) c.ends-start.ensures.ends
@@ -40,4 +36,4 @@ returns-clause-extracted c =
     let v = c.args.world.now in
     let range : Range = record { start = c.ends-start.result.0; end = c.ends-start.result.1 } in
     told-fragment v c.extract_parts.new.world c.args.range c.requires.whole c.in_ok-fragment.ensures.whole (returns-clause-allowed c) c.in_ok-fragment.fragment c.in_ok-fragment.ensures.number
-    (follows-alike v c.extract_parts.new.world (extracted c.args.range range) (extract c.args.range) (λ w k. range-extracted v c.args.range range c.ends-start.ensures.ends w k) c.in_ok-fragment.ensures.extracted)
+    (follows-as v c.extract_parts.new.world (extracted c.args.range range) (extract c.args.range) (λ w k. range-extracted v c.args.range range c.ends-start.ensures.ends w k) c.in_ok-fragment.ensures.extracted)

@@ -1,7 +1,6 @@
 -- Units of one node need no other node.
 use Rattle.std.proofs.Common.{sym}
-use Rattle.dom_content.proofs.Comings.{none-old}
-use Rattle.dom_content.proofs.StaysOf.{stays-none}
+use Rattle.dom_content.proofs.{Comings.none-old, StaysOf.stays-none}
 use Rattle.dom_content.proofs.drawing.fill.Goals as goal
 
 pub draw_units-requires-clause-may : goal.draw_units-requires-clause-may

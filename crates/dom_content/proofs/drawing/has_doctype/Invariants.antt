@@ -1,7 +1,7 @@
 -- None of the nodes that were passed is a doctype.
 use Rattle.std.proofs.Common.{◌≡◌, drop}
 use Rattle.dom_model.specs.declared.Kind.TheVariants.{DocumentType}
-use Rattle.dom_model.specs.MutationAlgorithms.Checks.{has_kind}
+use Rattle.dom_model.specs.Definitions.{has_kind}
 use Rattle.dom_content.proofs.drawing.has_doctype.Given as goal
 
 abbrev pub invariant-loop-node : goal.invariant-loop-node

@@ -4,9 +4,7 @@ use Rattle.std.proofs.lemmas.Bool.{cases_lt, false≢true}
 use Rattle.dom_edit.proofs.NodesKept.{labels-then}
 use Rattle.dom_edit.specs.Leaving.{AreNewer}
 use Rattle.dom_content.specs.Paths.{numbers_of_copies}
-use Rattle.dom_content.proofs.LabelsKept.{labels-none}
-use Rattle.dom_content.proofs.OlderLeft.{front-newer, last-newer}
-use Rattle.dom_content.proofs.PathSteps.{closing-first, closing-last, closing-room, closing-next, closing-end, no_partials, fewer}
+use Rattle.dom_content.proofs.{LabelsKept.labels-none, OlderLeft.front-newer, OlderLeft.last-newer, PathSteps.closing-first, PathSteps.closing-last, PathSteps.closing-room, PathSteps.closing-next, PathSteps.closing-end, PathSteps.no_partials, PathSteps.fewer}
 use Rattle.dom_content.proofs.partial.close_all.Goals as goal
 
 pub loop-partial-init : goal.loop-partial-init

@@ -1,10 +1,7 @@
 -- The children go in, and then the fragment into the copy.
 use Rattle.std.proofs.Common.{sym, ◌∙◌, arith}
-use Rattle.std.proofs.lemmas.Bool.{false≢true}
-use Rattle.std.proofs.lemmas.Result.{on_ok_weaker}
-use Rattle.dom_content.proofs.StaysOf.{stays-then}
-use Rattle.dom_content.proofs.Comings.{inner-holder, unfinished-goes, goes-children, may-finish, finish-unreferred}
-use Rattle.dom_content.proofs.PathSteps.{room-children, follows-closed}
+use Rattle.std.proofs.lemmas.{Bool.false≢true, Result.on_ok_weaker}
+use Rattle.dom_content.proofs.{StaysOf.stays-then, Comings.inner-holder, Comings.unfinished-goes, Comings.goes-children, Comings.may-finish, Comings.finish-unreferred, PathSteps.room-children, PathSteps.follows-closed}
 use Rattle.dom_content.proofs.partial.close_partial.Goals as goal
 
 pub children_into-requires-clause-may : goal.children_into-requires-clause-may

@@ -1,9 +1,7 @@
 -- A copy is opened, and finished at once.
 use Rattle.std.proofs.lemmas.Result.{on_ok_weaker}
 use Rattle.dom_content.specs.Coming.{AreOld}
-use Rattle.dom_content.proofs.StaysOf.{stays-then}
-use Rattle.dom_content.proofs.Comings.{first-old, rest-old, goes-opened, opened-unfinished}
-use Rattle.dom_content.proofs.PathSteps.{room-open, room-closing, follows-copy}
+use Rattle.dom_content.proofs.{StaysOf.stays-then, Comings.first-old, Comings.rest-old, Comings.goes-opened, Comings.opened-unfinished, PathSteps.room-open, PathSteps.room-closing, PathSteps.follows-copy}
 use Rattle.dom_content.proofs.partial.copy_into.Goals as goal
 
 pub open_partial-requires-clause-room : goal.open_partial-requires-clause-room

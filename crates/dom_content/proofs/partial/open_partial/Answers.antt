@@ -1,14 +1,9 @@
 -- A copy is put, and a further fragment is made.
-use Rattle.std.proofs.Common.{[], ◌∷◌, false, arith}
+use Rattle.std.proofs.Common.{[], false, arith}
 use Rattle.dom_model.proofs.Forests.Climbing.{hits-first}
-use Rattle.dom_edit.proofs.LeftAlone.{newer-two}
-use Rattle.dom_edit.proofs.NodesKept.{labels-then}
+use Rattle.dom_edit.proofs.{LeftAlone.newer-two, NodesKept.labels-then}
 use Rattle.dom_clone.proofs.Left.{left-then}
-use Rattle.dom_content.proofs.PieceSteps.{data-then}
-use Rattle.dom_content.proofs.LabelsKept.{still-held}
-use Rattle.dom_content.proofs.StaysOf.{stays-then}
-use Rattle.dom_content.proofs.Comings.{first-old, may-put_copy, copy-unreferred}
-use Rattle.dom_content.proofs.PathSteps.{room-copy, room-inner, inner-is, follows-opened, document-stays}
+use Rattle.dom_content.proofs.{PieceSteps.data-then, LabelsKept.still-held, StaysOf.stays-then, Comings.first-old, Comings.may-put_copy, Comings.copy-unreferred, PathSteps.room-copy, PathSteps.room-inner, PathSteps.inner-is, PathSteps.follows-opened, PathSteps.document-stays}
 use Rattle.dom_content.proofs.partial.open_partial.Goals as goal
 
 pub copy_of-requires-clause-room : goal.copy_of-requires-clause-room

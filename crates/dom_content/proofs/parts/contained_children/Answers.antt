@@ -1,7 +1,6 @@
 -- From the one way to the other.
-use Rattle.std.proofs.Common.{◌≡◌, ℕ, List, subst}
-use Rattle.std.specs.Prelude.{IfOk}
-use Rattle.dom_model.specs.Forests.Forest.{children_of}
+use Rattle.std.proofs.Common.{◌≡◌, ℕ, List, subst, IfOk}
+use Rattle.dom_model.specs.Definitions.{children_of}
 use Rattle.dom_model.proofs.Forests.Indices.{child-once}
 use Rattle.dom_content.specs.Drawing.{index_behind}
 use Rattle.dom_content.proofs.ChildrenBetween.{got-among, top-held, first-way, last-way, children-found}

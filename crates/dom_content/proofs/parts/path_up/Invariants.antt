@@ -1,7 +1,6 @@
 -- The nodes that were passed are in the list.
 use Rattle.std.proofs.Common.{◌≡◌, ◌++◌, length}
-use Rattle.dom_model.specs.Forests.Forest.{ancestors}
-use Rattle.dom_model.specs.PlainLists.Lists.{up_to}
+use Rattle.dom_model.specs.Definitions.{ancestors, up_to}
 use Rattle.dom_content.proofs.PathLists.{way_up, IsHeldAt}
 use Rattle.dom_content.proofs.parts.path_up.Given as goal
 

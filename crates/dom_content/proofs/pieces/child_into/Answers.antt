@@ -1,17 +1,13 @@
 -- The node itself, or its copy.
-use Rattle.std.proofs.Common.{[], ◌∷◌, true, subst, sym, arith}
+use Rattle.std.proofs.Common.{[], true, subst, sym, arith, OnOk}
 use Rattle.std.proofs.lemmas.Result.{on_ok_weaker}
-use Rattle.std.specs.Prelude.{OnOk}
-use Rattle.dom_model.specs.RangesAndContents.Contents.{child_into}
+use Rattle.dom_model.specs.Definitions.{child_into}
 use Rattle.dom_edit.specs.Whole.{Follows}
 use Rattle.dom_content.specs.Paths.{HasRoom}
-use Rattle.dom_content.proofs.PieceSteps.{room-child, follows-child}
+use Rattle.dom_content.proofs.{PieceSteps.room-child, PieceSteps.follows-child, OlderLeft.no_moves, StaysOf.stays-then, Comings.first-old, Comings.may-put, Comings.may-put_copy, Comings.copy-unreferred}
 use Rattle.dom_model.proofs.Forests.Climbing.{hits-first}
 use Rattle.dom_edit.proofs.LeftAlone.{newer-two}
 use Rattle.dom_clone.proofs.Left.{left-then}
-use Rattle.dom_content.proofs.OlderLeft.{no_moves}
-use Rattle.dom_content.proofs.StaysOf.{stays-then}
-use Rattle.dom_content.proofs.Comings.{first-old, may-put, may-put_copy, copy-unreferred}
 use Rattle.dom_content.proofs.pieces.child_into.Goals as goal
 
 pub copy_of-requires-clause-room : goal.copy_of-requires-clause-room

@@ -1,7 +1,6 @@
 -- Each node takes its turn.
 use Rattle.dom_edit.proofs.NodesKept.{labels-then}
-use Rattle.dom_content.proofs.LabelsKept.{labels-none}
-use Rattle.dom_content.proofs.PieceSteps.{filling-first, filling-may, filling-room, filling-held, filling-next, filling-end}
+use Rattle.dom_content.proofs.{LabelsKept.labels-none, PieceSteps.filling-first, PieceSteps.filling-may, PieceSteps.filling-room, PieceSteps.filling-held, PieceSteps.filling-next, PieceSteps.filling-end}
 use Rattle.dom_content.proofs.pieces.children_into.Goals as goal
 
 pub loop-node-init : goal.loop-node-init

@@ -1,9 +1,6 @@
 -- A copy is there beside all others.
 use Rattle.std.proofs.lemmas.Result.{on_ok_weaker}
-use Rattle.dom_content.proofs.LabelsKept.{labels-left}
-use Rattle.dom_content.proofs.PieceSteps.{room-clone, kinds-clone, data-clone, clone-held}
-use Rattle.dom_content.proofs.OlderLeft.{root-clone}
-use Rattle.dom_content.proofs.StaysOf.{stays-clone}
+use Rattle.dom_content.proofs.{LabelsKept.labels-left, PieceSteps.room-clone, PieceSteps.kinds-clone, PieceSteps.data-clone, PieceSteps.clone-held, OlderLeft.root-clone, StaysOf.stays-clone}
 use Rattle.dom_content.proofs.pieces.copy_of.Goals as goal
 
 pub clone_node-requires-clause-room : goal.clone_node-requires-clause-room

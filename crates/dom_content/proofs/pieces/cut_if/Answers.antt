@@ -1,8 +1,7 @@
 -- A cut keeps all nodes where they stand.
 use Rattle.std.proofs.Common.{refl}
 use Rattle.std.proofs.lemmas.Result.{on_ok_weaker}
-use Rattle.dom_content.proofs.OlderLeft.{no_moves}
-use Rattle.dom_content.proofs.StaysOf.{stays-none, stays-cut}
+use Rattle.dom_content.proofs.{OlderLeft.no_moves, StaysOf.stays-none, StaysOf.stays-cut}
 use Rattle.dom_content.proofs.pieces.cut_if.Goals as goal
 
 pub returns-clause-stays : goal.returns-clause-stays

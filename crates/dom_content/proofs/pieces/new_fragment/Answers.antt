@@ -1,15 +1,11 @@
 -- The fragment is there beside all others.
-use Rattle.std.proofs.Common.{[], ap, rules}
-use Rattle.dom_edit.specs.declared.world.World.{World}
+use Rattle.std.proofs.Common.{[], ap, rules, OnOk}
+use Rattle.dom_edit.specs.{declared.world.World.World, Whole.Follows}
 use Rattle.dom_clone.proofs.Left.{left-covered, left-made, either-way}
-use Rattle.std.specs.Prelude.{OnOk}
 use Rattle.dom_model.specs.declared.Kind.TheVariants.{DocumentFragment}
-use Rattle.dom_model.specs.Worlds.World.{no_content}
-use Rattle.dom_model.specs.Worlds.Making.{made_node, named}
-use Rattle.dom_edit.specs.Whole.{Follows}
+use Rattle.dom_model.specs.Definitions.{no_content, made_node, named}
 use Rattle.std.proofs.lemmas.Result.{on_ok_weaker}
-use Rattle.dom_content.proofs.PieceSteps.{room-fragment, data-fragment, fragment-held}
-use Rattle.dom_content.proofs.StaysOf.{stays-fragment}
+use Rattle.dom_content.proofs.{PieceSteps.room-fragment, PieceSteps.data-fragment, PieceSteps.fragment-held, StaysOf.stays-fragment}
 use Rattle.dom_content.proofs.pieces.new_fragment.Goals as goal
 
 pub make-requires-clause-room : goal.make-requires-clause-room

@@ -1,7 +1,6 @@
 -- As many as there are.
-use Rattle.std.proofs.Common.{◌≡◌, ℕ, ◌-◌, List, length, min, ap, ◌∙◌, subst}
-use Rattle.std.specs.Prelude.{IfOk}
-use Rattle.dom_model.specs.Forests.Texts.{substring}
+use Rattle.std.proofs.Common.{◌≡◌, ℕ, ◌-◌, List, length, min, ap, ◌∙◌, subst, IfOk}
+use Rattle.dom_model.specs.Definitions.{substring}
 use Rattle.dom_content.proofs.PieceSteps.{substring-within}
 use Rattle.dom_content.proofs.pieces.part_of.Goals as goal
 

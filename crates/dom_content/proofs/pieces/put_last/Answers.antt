@@ -1,8 +1,7 @@
 -- What is put stays, and so do all others.
 use Rattle.std.proofs.Common.{refl}
 use Rattle.std.proofs.lemmas.Result.{on_ok_weaker}
-use Rattle.dom_content.proofs.PieceSteps.{kinds-appended, data-appended}
-use Rattle.dom_content.proofs.StaysOf.{stays-appended}
+use Rattle.dom_content.proofs.{PieceSteps.kinds-appended, PieceSteps.data-appended, StaysOf.stays-appended}
 use Rattle.dom_content.proofs.pieces.put_last.Goals as goal
 
 pub returns-clause-stays : goal.returns-clause-stays

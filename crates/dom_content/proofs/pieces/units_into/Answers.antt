@@ -1,13 +1,10 @@
 -- A copy with the units is made, put and the units cut.
-use Rattle.std.proofs.Common.{[], ◌∷◌, arith}
+use Rattle.std.proofs.Common.{[], arith}
 use Rattle.std.proofs.lemmas.Result.{on_ok_weaker}
 use Rattle.dom_model.proofs.Forests.Climbing.{hits-first}
 use Rattle.dom_edit.proofs.LeftAlone.{newer-two, same-left}
 use Rattle.dom_clone.proofs.Left.{left-then}
-use Rattle.dom_content.proofs.PieceSteps.{room-units, follows-units, still-data, still-within}
-use Rattle.dom_content.proofs.LabelsKept.{still-held}
-use Rattle.dom_content.proofs.StaysOf.{stays-then}
-use Rattle.dom_content.proofs.Comings.{may-put_part, part-unreferred}
+use Rattle.dom_content.proofs.{PieceSteps.room-units, PieceSteps.follows-units, PieceSteps.still-data, PieceSteps.still-within, LabelsKept.still-held, StaysOf.stays-then, Comings.may-put_part, Comings.part-unreferred}
 use Rattle.dom_content.proofs.pieces.units_into.Goals as goal
 
 pub copy_with-requires-clause-room : goal.copy_with-requires-clause-room

@@ -1,14 +1,10 @@
 -- Each step tells one node, up to the last that is ahead of the end.
 use Rattle.std.proofs.Common.{◌==◌, sym, ap, ◌∙◌, refl}
 use Rattle.std.proofs.lemmas.Bool.{not-true, not-false, eqb-true}
-use Rattle.dom_model.specs.Forests.Forest.{root_of}
-use Rattle.dom_model.specs.Worlds.World.{Point, Range}
-use Rattle.dom_model.proofs.Forests.Changes.{seen, nothing, just}
-use Rattle.dom_model.proofs.Forests.TreeOrder.InsideWalks.{smaller}
+use Rattle.dom_model.specs.Definitions.{root_of, Point, Range}
+use Rattle.dom_model.proofs.Forests.{Changes.seen, Changes.nothing, Changes.just, TreeOrder.InsideWalks.smaller}
 use Rattle.dom_content.specs.Texts.{text_within}
-use Rattle.dom_content.proofs.AlongGaps.{walk-at}
-use Rattle.dom_content.proofs.RangeTexts.{texts-contained}
-use Rattle.dom_content.proofs.WalkedParts.{last-ahead, apart-from, along-start, along-end, along-found, next, next-not_past, along-next}
+use Rattle.dom_content.proofs.{AlongGaps.walk-at, RangeTexts.texts-contained, WalkedParts.last-ahead, WalkedParts.apart-from, WalkedParts.along-start, WalkedParts.along-end, WalkedParts.along-found, WalkedParts.next, WalkedParts.next-not_past, WalkedParts.along-next}
 use Rattle.dom_content.proofs.texts.append_between.Goals as goal
 
 pub loop-start-init : goal.loop-start-init

@@ -1,10 +1,8 @@
 -- A Text that comes between the ends is contained, unless it is the end's node.
 use Rattle.std.proofs.Common.{◌≡◌, ◌++◌, ap, sym, ◌∙◌, append-nil}
-use Rattle.std.proofs.lemmas.Bool.{eqb-true}
-use Rattle.std.proofs.lemmas.Result.{on_ok_weaker}
-use Rattle.dom_model.specs.Worlds.World.{Point, Range}
-use Rattle.dom_content.proofs.WalkedParts.{apart-from}
-use Rattle.dom_content.proofs.WalkedTexts.{end-untold, others-told}
+use Rattle.std.proofs.lemmas.{Bool.eqb-true, Result.on_ok_weaker}
+use Rattle.dom_model.specs.Definitions.{Point, Range}
+use Rattle.dom_content.proofs.{WalkedParts.apart-from, WalkedTexts.end-untold, WalkedTexts.others-told}
 use Rattle.dom_content.proofs.texts.append_contained.Goals as goal
 
 pub returns-then-eq : goal.returns-then-eq

@@ -1,16 +1,11 @@
 -- The pieces are in order, and make the text.
-use Rattle.std.proofs.Common.{◌≡◌, ◌-◌, ◌++◌, length, sym, ap, ◌∙◌, subst, arith}
+use Rattle.std.proofs.Common.{◌≡◌, ◌-◌, ◌++◌, length, sym, ap, ◌∙◌, subst, arith, IfSome}
 use Rattle.std.proofs.lemmas.Grind.{common_steps}
-use Rattle.std.specs.Prelude.{IfSome}
-use Rattle.dom_model.specs.RangesAndContents.Contents.{range_text}
-use Rattle.dom_model.specs.Forests.Forest.{entry_in}
-use Rattle.dom_model.specs.Worlds.World.{Point}
-use Rattle.dom_model.specs.DataAndCopies.Data.{content_in}
+use Rattle.dom_model.specs.Definitions.{range_text, entry_in, Point, content_in}
 use Rattle.dom_edit.specs.Whole.{unwatched}
 use Rattle.dom_content.specs.Texts.{part_of, texts_within}
-use Rattle.dom_content.proofs.RangeTexts.{range-held, ahead-of, apart-kinds, apart-nodes, none-less, pieces-text}
+use Rattle.dom_content.proofs.{RangeTexts.range-held, RangeTexts.ahead-of, RangeTexts.apart-kinds, RangeTexts.apart-nodes, RangeTexts.none-less, RangeTexts.pieces-text, texts.gather_text.Goals.else-eq-via-then-eq+else-is_of_kind, texts.gather_text.Goals.else-eq-via-else-eq}
 use Rattle.dom_content.proofs.texts.gather_text.Goals as goal
-use Rattle.dom_content.proofs.texts.gather_text.Goals.{else-eq-via-then-eq+else-is_of_kind, else-eq-via-else-eq}
 
 pub append_part-requires-clause-ahead : goal.append_part-requires-clause-ahead
 append_part-requires-clause-ahead c =

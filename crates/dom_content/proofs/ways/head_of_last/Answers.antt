@@ -1,11 +1,10 @@
 -- Units of a node with data, or children of another.
 use Rattle.std.proofs.Common.{[], take, sym, ◌∙◌}
 use Rattle.std.proofs.lemmas.Result.{on_ok_weaker}
-use Rattle.dom_model.specs.Forests.Forest.{children_of}
+use Rattle.dom_model.specs.Definitions.{children_of}
 use Rattle.dom_model.proofs.RangesAndContents.DrawnPaths.{hits-take}
 use Rattle.dom_content.specs.Coming.{AreOld}
-use Rattle.dom_content.proofs.Comings.{first-old, more-old, none-old, children-old}
-use Rattle.dom_content.proofs.PathHeads.{room-head_units, follows-head_units, room-head_copy, follows-head_copy}
+use Rattle.dom_content.proofs.{Comings.first-old, Comings.more-old, Comings.none-old, Comings.children-old, PathHeads.room-head_units, PathHeads.follows-head_units, PathHeads.room-head_copy, PathHeads.follows-head_copy}
 use Rattle.dom_content.proofs.ways.head_of_last.Goals as goal
 
 pub units_into-requires-clause-kind : goal.units_into-requires-clause-kind

@@ -1,13 +1,9 @@
 -- The copy is opened, and what comes before the next node goes in.
 use Rattle.std.proofs.Common.{[], ◌∷◌, sym, ◌∙◌, subst}
-use Rattle.dom_content.proofs.OlderLeft.{rest-newer}
-use Rattle.dom_model.specs.PlainLists.Lists.{up_to}
-use Rattle.dom_model.specs.Forests.Forest.{children_of}
+use Rattle.dom_content.proofs.{OlderLeft.rest-newer, StaysOf.stays-then, PathHeads.room-entered, PathHeads.room-ahead, PathHeads.follows-entered, Comings.first-old, Comings.none-old, Comings.children-old, Comings.old-goes, Comings.inner-holder, Comings.goes-opened, Comings.opened-unfinished}
+use Rattle.dom_model.specs.Definitions.{up_to, children_of}
 use Rattle.dom_model.proofs.RangesAndContents.DrawnPaths.{hits-up_to}
 use Rattle.dom_content.specs.Coming.{AreOld}
-use Rattle.dom_content.proofs.StaysOf.{stays-then}
-use Rattle.dom_content.proofs.PathHeads.{room-entered, room-ahead, follows-entered}
-use Rattle.dom_content.proofs.Comings.{first-old, none-old, children-old, old-goes, inner-holder, goes-opened, opened-unfinished}
 use Rattle.dom_content.proofs.ways.open_head.Goals as goal
 
 pub open_partial-requires-clause-may : goal.open_partial-requires-clause-may

@@ -1,8 +1,7 @@
 -- The children behind the next node are there.
 use Rattle.std.proofs.Common.{[], ◌∙◌}
 use Rattle.std.proofs.lemmas.Result.{IfOk-weaker}
-use Rattle.dom_model.specs.PlainLists.Lists.{past}
-use Rattle.dom_model.specs.Forests.Forest.{children_of}
+use Rattle.dom_model.specs.Definitions.{past, children_of}
 use Rattle.dom_model.proofs.RangesAndContents.DrawnPaths.{hits-past}
 use Rattle.dom_content.specs.Coming.{AreOld}
 use Rattle.dom_content.proofs.Comings.{first-old, more-old, children-old}

@@ -1,18 +1,11 @@
 -- Each node above the last is opened; then all are finished.
 use Rattle.std.proofs.Common.{[], ◌∷◌, ◌+◌, drop, arith}
 use Rattle.std.proofs.lemmas.Result.{on_ok_weaker}
-use Rattle.dom_model.specs.RangesAndContents.Contents.{tail_into}
+use Rattle.dom_model.specs.Definitions.{tail_into, past, children_of}
 use Rattle.dom_edit.proofs.NodesKept.{labels-then}
-use Rattle.dom_content.proofs.LabelsKept.{labels-none}
-use Rattle.dom_content.proofs.OlderLeft.{first-newer, rest-newer, more-newer}
-use Rattle.dom_content.specs.Paths.{opened, numbers_of_copies}
-use Rattle.dom_model.specs.PlainLists.Lists.{past}
-use Rattle.dom_model.specs.Forests.Forest.{children_of}
+use Rattle.dom_content.proofs.{LabelsKept.labels-none, OlderLeft.first-newer, OlderLeft.rest-newer, OlderLeft.more-newer, PathSteps.down-first, PathSteps.down-first_old, PathSteps.down-held, PathSteps.down-may, PathSteps.down-next_held, PathSteps.down-room, PathSteps.down-next, PathSteps.down-close, PathSteps.down-close_room, PathSteps.down-end, PathSteps.down-more, PathSteps.down-last, PathSteps.tail-opens, PathSteps.tail-down, StaysOf.stays-then, Comings.rest-old, Comings.children-old, Comings.way-goes, Comings.goes-opened, Comings.opened-unfinished, Comings.goes-tail}
+use Rattle.dom_content.specs.{Paths.opened, Paths.numbers_of_copies, Coming.AreOld}
 use Rattle.dom_model.proofs.RangesAndContents.DrawnPaths.{hits-past}
-use Rattle.dom_content.specs.Coming.{AreOld}
-use Rattle.dom_content.proofs.PathSteps.{down-first, down-first_old, down-held, down-may, down-next_held, down-room, down-next, down-close, down-close_room, down-end, down-more, down-last, tail-opens, tail-down}
-use Rattle.dom_content.proofs.StaysOf.{stays-then}
-use Rattle.dom_content.proofs.Comings.{rest-old, children-old, way-goes, goes-opened, opened-unfinished, goes-tail}
 use Rattle.dom_content.proofs.ways.tail_along.Goals as goal
 
 pub loop-next-init : goal.loop-next-init

@@ -1,11 +1,10 @@
 -- Units of a node with data, or children of another.
 use Rattle.std.proofs.Common.{[], drop, sym, ◌∙◌}
 use Rattle.std.proofs.lemmas.Result.{on_ok_weaker}
-use Rattle.dom_model.specs.Forests.Forest.{children_of}
+use Rattle.dom_model.specs.Definitions.{children_of}
 use Rattle.dom_model.proofs.RangesAndContents.DrawnPaths.{hits-drop}
 use Rattle.dom_content.specs.Coming.{AreOld}
-use Rattle.dom_content.proofs.Comings.{first-old, more-old, none-old, children-old}
-use Rattle.dom_content.proofs.PathSteps.{room-tail_units, follows-tail_units, room-tail_copy, follows-tail_copy}
+use Rattle.dom_content.proofs.{Comings.first-old, Comings.more-old, Comings.none-old, Comings.children-old, PathSteps.room-tail_units, PathSteps.follows-tail_units, PathSteps.room-tail_copy, PathSteps.follows-tail_copy}
 use Rattle.dom_content.proofs.ways.tail_of_last.Goals as goal
 
 pub units_into-requires-clause-kind : goal.units_into-requires-clause-kind

@@ -1,10 +1,7 @@
 -- The world is whole after an attribute is set, or is not.
-use Rattle.std.proofs.Common.{refl, sym, subst, tests, rules}
-use Rattle.std.specs.Prelude.{string_bytes}
-use Rattle.dom_edit.specs.declared.world.World.{World}
-use Rattle.dom_edit.specs.Whole.{IsWhole}
-use Rattle.dom_data.proofs.Outcomes.{either}
-use Rattle.dom_data.proofs.StaysWhole.{whole-set_attribute}
+use Rattle.std.proofs.Common.{refl, sym, subst, tests, rules, string_bytes}
+use Rattle.dom_edit.specs.{declared.world.World.World, Whole.IsWhole}
+use Rattle.dom_data.proofs.{Outcomes.either, StaysWhole.whole-set_attribute}
 use Rattle.dom_data.proofs.attributes.set_attribute.Goals as goal
 
 pub returns-clause-whole : goal.returns-clause-whole

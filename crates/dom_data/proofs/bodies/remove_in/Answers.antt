@@ -1,9 +1,6 @@
 -- An attribute taken out of the place where the tree keeps it.
 use Rattle.std.proofs.Common.{ap, ◌∙◌}
-use Rattle.dom_model.specs.Forests.Attributes.{without_attribute}
-use Rattle.dom_model.specs.Forests.Forest.{with_node}
-use Rattle.dom_model.specs.Worlds.World.{Content}
-use Rattle.dom_model.specs.DataAndCopies.Data.{with_attributes}
+use Rattle.dom_model.specs.Definitions.{without_attribute, with_node, Content, with_attributes}
 use Rattle.dom_data.proofs.ChangedBodies.{attributes-written, content-read}
 use Rattle.dom_data.proofs.bodies.remove_in.Goals as goal
 

@@ -1,10 +1,7 @@
 -- Other data in the place where the tree keeps it.
 use Rattle.std.proofs.Common.{ap, ◌∙◌}
 use Rattle.std.proofs.lemmas.Result.{on_ok_weaker, on_err_weaker}
-use Rattle.dom_model.specs.Worlds.World.{Content}
-use Rattle.dom_model.specs.Forests.Forest.{with_node}
-use Rattle.dom_model.specs.Forests.Texts.{spliced}
-use Rattle.dom_model.specs.DataAndCopies.Data.{with_data}
+use Rattle.dom_model.specs.Definitions.{Content, with_node, spliced, with_data}
 use Rattle.dom_data.proofs.ChangedBodies.{data-written, body-written, content-read}
 use Rattle.dom_data.proofs.bodies.splice_data.Goals as goal
 

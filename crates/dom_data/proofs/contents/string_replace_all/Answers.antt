@@ -1,9 +1,7 @@
 -- All children give way to the new Text.
 use Rattle.std.proofs.Common.{◌≡◌, None, sym, ◌∙◌, subst, tests, rules}
-use Rattle.std.proofs.lemmas.Bool.{false≢true}
-use Rattle.std.proofs.lemmas.Result.{on_ok_weaker}
-use Rattle.dom_model.specs.Forests.Forest.{HasNode}
-use Rattle.dom_model.specs.MutationAlgorithms.Checks.{check_insert}
+use Rattle.std.proofs.lemmas.{Bool.false≢true, Result.on_ok_weaker}
+use Rattle.dom_model.specs.Definitions.{HasNode, check_insert}
 use Rattle.dom_data.proofs.NewTexts.{new-there, old-there, new-unrefused, follows-replaced}
 use Rattle.dom_data.proofs.contents.string_replace_all.Goals as goal
 

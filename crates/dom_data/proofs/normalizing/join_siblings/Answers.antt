@@ -2,8 +2,7 @@
 use Rattle.std.proofs.Common.{ℕ, List, length, ap, sym, ◌∙◌, tests, rules}
 use Rattle.std.proofs.lemmas.Result.{on_ok_weaker}
 use Rattle.dom_data.specs.Joining.{data_among}
-use Rattle.dom_data.proofs.FollowingTexts.{behind-held}
-use Rattle.dom_data.proofs.JoinedTexts.{joinable-mid, follows-joined}
+use Rattle.dom_data.proofs.{FollowingTexts.behind-held, JoinedTexts.joinable-mid, JoinedTexts.follows-joined}
 use Rattle.dom_data.proofs.normalizing.join_siblings.Goals as goal
 
 pub data_among-requires : goal.data_among-requires

@@ -2,15 +2,10 @@
 use Rattle.std.proofs.Common.{◌<◌, drop, subst, ◌∙◌}
 use Rattle.std.proofs.lemmas.Result.{on_ok_weaker}
 use Rattle.dom_model.specs.declared.Kind.TheVariants.{Text}
-use Rattle.dom_model.specs.PlainLists.Lists.{hits}
-use Rattle.dom_model.specs.Forests.Forest.{inclusive_descendants}
-use Rattle.dom_model.specs.Forests.Nodes.{is_of_kind}
+use Rattle.dom_model.specs.Definitions.{hits, inclusive_descendants, is_of_kind}
 use Rattle.dom_model.proofs.Soundness.SoundNormalizing.{filter-passed}
 use Rattle.dom_model.proofs.Forests.Climbing.{hits-among}
-use Rattle.dom_data.proofs.Marking.{stand-by_normalize}
-use Rattle.dom_data.proofs.StillBelow.{below-tells}
-use Rattle.dom_data.proofs.TextsBelow.{texts-filtered}
-use Rattle.dom_data.proofs.TextsInTurn.{follows-all}
+use Rattle.dom_data.proofs.{Marking.stand-by_normalize, StillBelow.below-tells, TextsBelow.texts-filtered, TextsInTurn.follows-all}
 use Rattle.dom_data.proofs.normalizing.normalize.Goals as goal
 
 pub normalize_each-requires-clause-kinds : goal.normalize_each-requires-clause-kinds

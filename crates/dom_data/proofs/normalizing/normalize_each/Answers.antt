@@ -1,6 +1,5 @@
 -- Each Text takes its turn.
-use Rattle.dom_data.proofs.LabelsKept.{numbers-none, numbers-then}
-use Rattle.dom_data.proofs.TextsInTurn.{turn-first, turn-next, turn-text, turn-told, turn-end}
+use Rattle.dom_data.proofs.{LabelsKept.numbers-none, LabelsKept.numbers-then, TextsInTurn.turn-first, TextsInTurn.turn-next, TextsInTurn.turn-text, TextsInTurn.turn-told, TextsInTurn.turn-end}
 use Rattle.dom_data.proofs.normalizing.normalize_each.Goals as goal
 
 pub normalize_below-requires-clause-kind : goal.normalize_below-requires-clause-kind

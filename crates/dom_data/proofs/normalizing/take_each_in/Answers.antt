@@ -1,7 +1,6 @@
 -- Each Text takes its turn.
 use Rattle.std.proofs.Common.{◌+◌, drop}
-use Rattle.dom_data.proofs.LabelsKept.{numbers-none, numbers-then}
-use Rattle.dom_data.proofs.TakenIn.{taking-first, taking-text, taking-next, taking-end}
+use Rattle.dom_data.proofs.{LabelsKept.numbers-none, LabelsKept.numbers-then, TakenIn.taking-first, TakenIn.taking-text, TakenIn.taking-next, TakenIn.taking-end}
 use Rattle.dom_data.proofs.normalizing.take_each_in.Goals as goal
 
 pub loop-text-init : goal.loop-text-init

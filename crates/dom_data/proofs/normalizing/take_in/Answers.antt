@@ -2,10 +2,7 @@
 use Rattle.std.proofs.Common.{ℕ, ◌^◌, ◌<◌, List, length, subst, arith, tests, rules}
 use Rattle.std.proofs.lemmas.Grind.{common_steps}
 use Rattle.dom_model.proofs.Forests.Entries.{occurs-HasNode}
-use Rattle.dom_data.proofs.Parting.{text-held}
-use Rattle.dom_data.proofs.Behind.{covered-there}
-use Rattle.dom_data.proofs.TakenIn.{first-fits, whole-merged, follows-taken}
-use Rattle.dom_data.proofs.LabelsKept.{numbers-merged}
+use Rattle.dom_data.proofs.{Parting.text-held, Behind.covered-there, TakenIn.first-fits, TakenIn.whole-merged, TakenIn.follows-taken, LabelsKept.numbers-merged}
 use Rattle.dom_data.proofs.normalizing.take_in.Goals as goal
 
 pub merged-requires-clause-fit : goal.merged-requires-clause-fit

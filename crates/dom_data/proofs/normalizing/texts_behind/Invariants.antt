@@ -1,8 +1,6 @@
 -- The Texts up to the sibling that the walk has come to.
 use Rattle.std.proofs.Common.{length}
-use Rattle.dom_model.specs.Forests.Arena.{siblings_in}
-use Rattle.dom_model.specs.Forests.Forest.{entry_in}
-use Rattle.dom_model.specs.PlainLists.Lists.{past}
+use Rattle.dom_model.specs.Definitions.{siblings_in, entry_in, past}
 use Rattle.dom_data.proofs.FollowingTexts.{IsFollowing}
 use Rattle.dom_data.proofs.normalizing.texts_behind.Given as goal
 

@@ -1,7 +1,6 @@
 -- The Texts up to the node that the walk has come to.
 use Rattle.std.proofs.Common.{length}
-use Rattle.dom_model.specs.Forests.Forest.{inclusive_descendants}
-use Rattle.dom_model.specs.PlainLists.Lists.{from_first}
+use Rattle.dom_model.specs.Definitions.{inclusive_descendants, from_first}
 use Rattle.dom_data.proofs.TextsBelow.{IsCollecting}
 use Rattle.dom_data.proofs.normalizing.texts_below.Given as goal
 

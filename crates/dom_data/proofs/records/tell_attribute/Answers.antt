@@ -1,17 +1,11 @@
 -- The record of a changed attribute.
 use Rattle.std.proofs.Common.{◌∷◌, [], Some, refl, subst}
 use Rattle.std.proofs.lemmas.Result.{on_ok_weaker}
+use Rattle.dom_model.specs.Definitions.{attribute_value, Forest, entry_in, ancestors, Content, Mutation, Observing, standing_on, noted, content_in}
 use Rattle.dom_model.specs.declared.RecordType.TheVariants.{Attributes}
-use Rattle.dom_model.specs.Forests.Attributes.{attribute_value}
-use Rattle.dom_model.specs.Forests.Forest.{Forest, entry_in, ancestors}
-use Rattle.dom_model.specs.Worlds.World.{Content, Mutation, Observing}
-use Rattle.dom_model.specs.MutationObservers.Observing.{standing_on, noted}
-use Rattle.dom_model.specs.DataAndCopies.Data.{content_in}
 use Rattle.dom_edit.specs.declared.world.World.{World}
-use Rattle.dom_edit.proofs.NodesKept.{one-there}
-use Rattle.dom_edit.proofs.Named.{whole-named}
-use Rattle.dom_observe.specs.Held.{nodes_of_mutation, NamesOnly}
-use Rattle.dom_observe.specs.Watchers.{Watches}
+use Rattle.dom_edit.proofs.{NodesKept.one-there, Named.whole-named}
+use Rattle.dom_observe.specs.{Held.nodes_of_mutation, Held.NamesOnly, Watchers.Watches}
 use Rattle.dom_data.proofs.Told.{follows-told}
 use Rattle.dom_data.proofs.records.tell_attribute.Goals as goal
 

@@ -1,9 +1,8 @@
 -- A count that is cut at the end.
 use Rattle.std.proofs.Common.{◌≤◌, ℕ, List, length, sym, ap, ◌∙◌, subst, tests, rules}
 use Rattle.std.proofs.lemmas.Result.{on_ok_weaker}
-use Rattle.dom_model.specs.DataAndCopies.Data.{cut_count}
-use Rattle.dom_data.proofs.Marking.{stand-by_replace_data}
-use Rattle.dom_data.proofs.StaysWhole.{count-cut, follows-cut}
+use Rattle.dom_model.specs.Definitions.{cut_count}
+use Rattle.dom_data.proofs.{Marking.stand-by_replace_data, StaysWhole.count-cut, StaysWhole.follows-cut}
 use Rattle.dom_data.proofs.replacing.replace_data_checked.Goals as goal
 
 pub returns-clause-replaced : goal.returns-clause-replaced

@@ -1,18 +1,11 @@
 -- Units replaced, with the ends behind them.
 use Rattle.std.proofs.Common.{◌≡◌, ◌+◌, ◌≤◌, true, length, refl, ap, sym, ◌∙◌, subst, arith, tests, rules}
-use Rattle.dom_model.specs.Forests.Kinds.{is_character_data}
-use Rattle.dom_model.specs.Forests.Forest.{entry_in}
-use Rattle.dom_model.specs.Forests.Nodes.{kind_passes}
-use Rattle.dom_model.specs.DataAndCopies.Data.{content_in, data_of}
+use Rattle.dom_model.specs.Definitions.{is_character_data, entry_in, kind_passes, content_in, data_of}
 use Rattle.dom_model.proofs.Soundness.SoundData.{length-spliced}
 use Rattle.dom_ranges.specs.Tables.{RangeTable}
-use Rattle.dom_edit.specs.declared.world.World.{World}
-use Rattle.dom_edit.specs.Whole.{unwatched}
-use Rattle.dom_edit.specs.Keeping.{present}
+use Rattle.dom_edit.specs.{declared.world.World.World, Whole.unwatched, Keeping.present}
 use Rattle.dom_edit.proofs.WatchersKept.{present-moved, watchers-observed, watchers-ranged}
-use Rattle.dom_data.proofs.MovedOffsets.{splice-fits}
-use Rattle.dom_data.proofs.StaysWhole.{whole-replaced}
-use Rattle.dom_data.proofs.LabelsKept.{numbers-same, numbers-then, numbers-replaced}
+use Rattle.dom_data.proofs.{MovedOffsets.splice-fits, StaysWhole.whole-replaced, LabelsKept.numbers-same, LabelsKept.numbers-then, LabelsKept.numbers-replaced}
 use Rattle.dom_data.proofs.replacing.replace_units.Goals as goal
 
 pub spliced-requires : goal.spliced-requires

@@ -1,8 +1,7 @@
 -- All units, from the first on.
 use Rattle.std.proofs.Common.{ℕ, List, length, ap, tests, rules}
 use Rattle.std.proofs.lemmas.Result.{on_ok_weaker}
-use Rattle.dom_data.proofs.Marking.{stand-by_set_data}
-use Rattle.dom_data.proofs.StaysWhole.{follows-set}
+use Rattle.dom_data.proofs.{Marking.stand-by_set_data, StaysWhole.follows-set}
 use Rattle.dom_data.proofs.replacing.set_data.Goals as goal
 
 pub returns-clause-set : goal.returns-clause-set

@@ -1,8 +1,7 @@
 -- The new Text comes in behind the old one.
 use Rattle.std.proofs.Common.{false, sym, subst}
 use Rattle.std.proofs.lemmas.Result.{on_ok_weaker}
-use Rattle.dom_model.specs.MutationAlgorithms.Editing.{insert}
-use Rattle.dom_model.specs.MutationAlgorithms.Insertable.{IsInsertable}
+use Rattle.dom_model.specs.Definitions.{insert, IsInsertable}
 use Rattle.dom_edit.specs.Whole.{Follows}
 use Rattle.dom_data.proofs.Behind.{held-behind, insertable-new, parent-mid, room-mid}
 use Rattle.dom_data.proofs.splitting.put_behind.Goals as goal

@@ -1,14 +1,10 @@
 -- An empty Text, its place behind the old one, and what is beyond the offset in it.
 use Rattle.std.proofs.Common.{ℕ, ◌-◌, List, length, ap, sym, ◌∙◌, subst}
-use Rattle.dom_model.specs.DataAndCopies.Data.{split}
-use Rattle.dom_model.specs.Worlds.World.{Content}
-use Rattle.dom_edit.specs.declared.world.World.{World}
-use Rattle.dom_edit.specs.Keeping.{KeepsLabels}
-use Rattle.dom_edit.specs.Whole.{IsWhole, Follows}
+use Rattle.dom_model.specs.Definitions.{split, Content}
+use Rattle.dom_edit.specs.{declared.world.World.World, Keeping.KeepsLabels, Whole.IsWhole, Whole.Follows}
 use Rattle.dom_edit.proofs.NodesKept.{labels-then, nodes-observed}
 use Rattle.dom_data.specs.Tails.{HasRoom}
-use Rattle.dom_data.proofs.Behind.{is-tail}
-use Rattle.dom_data.proofs.Marking.{stand-by_split}
+use Rattle.dom_data.proofs.{Behind.is-tail, Marking.stand-by_split}
 use Rattle.dom_data.proofs.SplitSteps as steps
 use Rattle.dom_data.proofs.splitting.split_checked.Goals as goal
 

@@ -1,12 +1,10 @@
 -- Ends move by an index that matters where an end asks for it.
 use Rattle.std.proofs.Common.{ap, ◌∙◌}
-use Rattle.dom_model.specs.Forests.Forest.{index_of}
-use Rattle.dom_model.specs.BoundaryPoints.Points.{after_split}
+use Rattle.dom_model.specs.Definitions.{index_of, after_split}
 use Rattle.dom_ranges.specs.Tables.{RangeTable}
 use Rattle.dom_edit.specs.Whole.{unwatched}
 use Rattle.dom_data.specs.Turns.{ends_behind}
-use Rattle.dom_data.proofs.UnfeltIndex.{unfelt}
-use Rattle.dom_data.proofs.SplitSteps.{split-apart}
+use Rattle.dom_data.proofs.{UnfeltIndex.unfelt, SplitSteps.split-apart}
 use Rattle.dom_data.proofs.splitting.split_ends.Goals as goal
 
 pub returns-in-Some : goal.returns-in-Some

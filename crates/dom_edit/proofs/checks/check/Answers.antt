@@ -1,20 +1,12 @@
 -- The six tests, in their order. What is read at a handle is told of its node.
 use Rattle.std.proofs.Common.{◌≡◌, ℕ, Bool, true, false, not, ◌&&◌, ◌||◌, if◌then◌else◌, [], ◌∷◌, Some, None, refl, ap, sym, ◌∙◌, tests, rules}
 use Rattle.std.proofs.lemmas.Bool.{false≢true}
-use Rattle.dom_model.specs.declared.Kind.{Kind}
-use Rattle.dom_model.specs.declared.Kind.TheVariants.{Text, Document, DocumentType}
-use Rattle.dom_model.specs.declared.DomError.TheVariants.{HierarchyRequestError, NotFoundError}
-use Rattle.dom_model.specs.PlainLists.Lists.{among, is_number, first_refusal}
-use Rattle.dom_model.specs.Forests.Kinds.{is_kind, may_be_parent}
-use Rattle.dom_model.specs.Forests.Forest.{Forest, Grove, IsForest, parent_of, ancestors, inclusive_descendants}
-use Rattle.dom_model.specs.Forests.Nodes.{kind_passes, is_of_kind}
-use Rattle.dom_model.specs.MutationAlgorithms.Checks.{if_given, is_misplaced, kind_refuses}
-use Rattle.dom_model.specs.Worlds.World.{Content}
+use Rattle.dom_model.specs.declared.{Kind.Kind, Kind.TheVariants.Text, Kind.TheVariants.Document, Kind.TheVariants.DocumentType, DomError.TheVariants.HierarchyRequestError, DomError.TheVariants.NotFoundError}
+use Rattle.dom_model.specs.Definitions.{among, is_number, first_refusal, is_kind, may_be_parent, Forest, Grove, IsForest, parent_of, ancestors, inclusive_descendants, kind_passes, is_of_kind, if_given, is_misplaced, kind_refuses, Content}
 use Rattle.dom_model.proofs.Forests.ToTheRoot.{inside-same}
 use Rattle.dom_tree.specs.Spots.{Spot}
 use Rattle.dom_traverse.proofs.Spots.{told_at}
-use Rattle.dom_edit.specs.declared.surroundings.Place.{Place}
-use Rattle.dom_edit.specs.Places.{child_of, refuses, conditions_at}
+use Rattle.dom_edit.specs.{declared.surroundings.Place.Place, Places.child_of, Places.refuses, Places.conditions_at}
 use Rattle.dom_edit.proofs.checks.check.Goals as goal
 use Rattle.dom_edit.proofs.checks.check.Goals.{then-is_misplaced-via-then-is_misplaced, then-is_misplaced-via-else-is_misplaced+then-is_inside-2, else-eq-via-then-eq+else-is_refused, else-eq-via-else-eq}
 

@@ -1,12 +1,8 @@
 -- Each step goes to the parent, past a node that is not the one.
-use Rattle.std.specs.Prelude.{is_some}
-use Rattle.std.proofs.Common.{◌≡◌, ◌==◌, true, false, not, Option, Some, None, refl, ap, sym, ◌∙◌}
+use Rattle.std.proofs.Common.{is_some, ◌≡◌, ◌==◌, true, false, not, Option, Some, None, refl, ap, sym, ◌∙◌}
 use Rattle.std.proofs.lemmas.Bool.{false≢true, not-true, not-false}
-use Rattle.dom_model.specs.PlainLists.Lists.{head_of}
-use Rattle.dom_model.specs.Forests.Forest.{Grove, parent_of, children_of}
-use Rattle.dom_model.specs.Worlds.World.{Content}
-use Rattle.dom_model.proofs.Forests.Above.{above}
-use Rattle.dom_model.proofs.Forests.ToTheRoot.{shorter, among-above, among-here, among-top, inside-same}
+use Rattle.dom_model.specs.Definitions.{head_of, Grove, parent_of, children_of, Content}
+use Rattle.dom_model.proofs.Forests.{Above.above, ToTheRoot.shorter, ToTheRoot.among-above, ToTheRoot.among-here, ToTheRoot.among-top, ToTheRoot.inside-same}
 use Rattle.dom_tree.specs.Spots.{Spot, node_at}
 use Rattle.dom_tree.proofs.Referring.{inside-alone}
 use Rattle.dom_traverse.proofs.Spots.{told}

@@ -1,7 +1,6 @@
 -- The other node is above where the walk stands, where it is above the node.
 use Rattle.std.proofs.Common.{◌≡◌, length}
-use Rattle.dom_model.specs.PlainLists.Lists.{among}
-use Rattle.dom_model.specs.Forests.Forest.{HasNode, ancestors}
+use Rattle.dom_model.specs.Definitions.{among, HasNode, ancestors}
 use Rattle.dom_edit.proofs.checks.is_inside.Given as goal
 
 abbrev pub invariant-loop-here : goal.invariant-loop-here

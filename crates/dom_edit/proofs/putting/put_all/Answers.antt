@@ -1,8 +1,6 @@
 use Rattle.std.proofs.Common.{◌≡◌, ℕ, ◌+◌, ◌∷◌, List, drop, ap, sym, ◌∙◌, subst}
 use Rattle.std.proofs.lemmas.List.{drop_more}
-use Rattle.dom_model.specs.Forests.Forest.{Grove}
-use Rattle.dom_model.specs.Worlds.World.{Content}
-use Rattle.dom_model.specs.Soundness.Owners.{IsOwnedWell}
+use Rattle.dom_model.specs.Definitions.{Grove, Content, IsOwnedWell}
 use Rattle.dom_edit.specs.Inserting.{all_placed, IsOpen}
 use Rattle.dom_edit.proofs.PlacedRoots.{open-next, owned-next}
 use Rattle.dom_edit.proofs.putting.put_all.Goals as goal

@@ -1,5 +1,5 @@
 -- The roots that are left may come in still; the documents, and the number of nodes, are in order.
-use Rattle.dom_model.specs.Soundness.Owners.{IsOwnedWell}
+use Rattle.dom_model.specs.Definitions.{IsOwnedWell}
 use Rattle.std.proofs.Common.{◌≡◌, drop}
 use Rattle.dom_edit.specs.Inserting.{all_placed, IsOpen}
 use Rattle.dom_edit.proofs.putting.put_all.Given as goal

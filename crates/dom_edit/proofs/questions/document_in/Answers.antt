@@ -2,11 +2,7 @@
 use Rattle.std.proofs.Common.{◌≡◌, ℕ, true, Option, Some, None, IsSome, IfSome, refl, sym, subst}
 use Rattle.std.proofs.lemmas.Bool.{false≢true}
 use Rattle.dom_model.specs.declared.Kind.TheVariants.{Document}
-use Rattle.dom_model.specs.Forests.Arena.{Entry}
-use Rattle.dom_model.specs.Forests.Forest.{Node, Forest, HasNode, entry_in}
-use Rattle.dom_model.specs.Forests.Nodes.{is_of_kind}
-use Rattle.dom_model.specs.Worlds.World.{Content}
-use Rattle.dom_model.specs.Soundness.Owners.{HasOwners, IsOwned}
+use Rattle.dom_model.specs.Definitions.{Entry, Node, Forest, HasNode, entry_in, is_of_kind, Content, HasOwners, IsOwned}
 use Rattle.dom_model.proofs.MutationAlgorithms.OwnersKept.{EachNode-entry}
 use Rattle.dom_edit.proofs.questions.document_in.Goals as goal
 

@@ -1,10 +1,7 @@
-use Rattle.std.specs.Prelude.{MatchOption}
-use Rattle.std.proofs.Common.{rules, ◌≡◌, ℕ, Option, None, sym, ◌∙◌, subst}
-use Rattle.dom_model.specs.Forests.Forest.{Grove, parent_of, previous_of, next_of}
-use Rattle.dom_model.specs.Worlds.World.{Content}
+use Rattle.std.proofs.Common.{MatchOption, rules, ◌≡◌, ℕ, Option, None, sym, ◌∙◌, subst}
+use Rattle.dom_model.specs.Definitions.{Grove, parent_of, previous_of, next_of, Content}
 use Rattle.dom_traverse.proofs.Spots.{told_at}
-use Rattle.dom_edit.specs.declared.removing.Seat.{Seat}
-use Rattle.dom_edit.specs.Seats.{IsSeat}
+use Rattle.dom_edit.specs.{declared.removing.Seat.Seat, Seats.IsSeat}
 use Rattle.dom_edit.proofs.removing.seat_of.Goals as goal
 
 pub returns-in_err-parent : goal.returns-in_err-parent

@@ -1,10 +1,8 @@
 -- All children stand around a place before a child or last, and all but one around the place of that one.
 use Rattle.std.proofs.Common.{◌≡◌, true, false, ap, sym, ◌∙◌, subst, arith}
-use Rattle.dom_model.specs.Forests.Nodes.{is_of_kind}
-use Rattle.dom_edit.specs.declared.surroundings.Place.TheVariants.{Instead}
-use Rattle.dom_edit.specs.Places.{IsUnder, count_around}
-use Rattle.dom_edit.proofs.Placing.{listed-once}
-use Rattle.dom_edit.proofs.CountedPlaces.{count-before, count-instead}
+use Rattle.dom_model.specs.Definitions.{is_of_kind}
+use Rattle.dom_edit.specs.{declared.surroundings.Place.TheVariants.Instead, Places.IsUnder, Places.count_around}
+use Rattle.dom_edit.proofs.{Placing.listed-once, CountedPlaces.count-before, CountedPlaces.count-instead}
 use Rattle.dom_edit.proofs.surroundings.count_around.Goals as goal
 
 pub returns-in-Before : goal.returns-in-Before

@@ -1,5 +1,5 @@
 use Rattle.std.proofs.Common.{arith}
-use Rattle.dom_model.specs.Forests.Forest.{children_of}
+use Rattle.dom_model.specs.Definitions.{children_of}
 use Rattle.dom_edit.proofs.AmongChildren.{first-among, HasNode-child, count_kind-cons, count_kind_le-length}
 use Rattle.dom_edit.proofs.surroundings.count_children.Goals as goal
 

@@ -1,7 +1,6 @@
 -- What is counted, and those to come of the kind, are all of it.
 use Rattle.std.proofs.Common.{◌≡◌, ◌+◌}
-use Rattle.dom_model.specs.Forests.Forest.{children_of}
-use Rattle.dom_model.specs.MutationAlgorithms.Checks.{count_kind}
+use Rattle.dom_model.specs.Definitions.{children_of, count_kind}
 use Rattle.dom_edit.proofs.AmongChildren.{AreAmong}
 use Rattle.dom_edit.proofs.surroundings.count_children.Given as goal
 

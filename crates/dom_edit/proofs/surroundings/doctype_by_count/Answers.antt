@@ -1,7 +1,6 @@
 -- What the counts around the place tell.
 use Rattle.std.proofs.Common.{◌∙◌, sym, arith}
-use Rattle.dom_edit.proofs.Placing.{listed-once}
-use Rattle.dom_edit.proofs.CountedPlaces.{none-given, doctype-there, doctype-alone, doctype-last}
+use Rattle.dom_edit.proofs.{Placing.listed-once, CountedPlaces.none-given, CountedPlaces.doctype-there, CountedPlaces.doctype-alone, CountedPlaces.doctype-last}
 use Rattle.dom_edit.proofs.surroundings.doctype_by_count.Goals as goal
 
 pub returns-then-doctypes-ne0 : goal.returns-then-doctypes-ne0

@@ -1,7 +1,6 @@
 -- What the counts around the place tell.
 use Rattle.std.proofs.Common.{◌∙◌, sym, arith}
-use Rattle.dom_edit.proofs.Placing.{listed-once}
-use Rattle.dom_edit.proofs.CountedPlaces.{none-given, element-there, element-alone, element-last}
+use Rattle.dom_edit.proofs.{Placing.listed-once, CountedPlaces.none-given, CountedPlaces.element-there, CountedPlaces.element-alone, CountedPlaces.element-last}
 use Rattle.dom_edit.proofs.surroundings.element_by_count.Goals as goal
 
 pub returns-then-elements-ne0 : goal.returns-then-elements-ne0

@@ -1,7 +1,6 @@
 use Rattle.std.proofs.Common.{refl, sym, ◌∙◌}
-use Rattle.dom_model.specs.Forests.Forest.{children_of}
-use Rattle.dom_edit.proofs.AmongChildren.{from-among, first-among, from_optional-given, HasNode-child, parent-among}
-use Rattle.dom_edit.proofs.Placing.{ahead-here, ahead-none, no-more}
+use Rattle.dom_model.specs.Definitions.{children_of}
+use Rattle.dom_edit.proofs.{AmongChildren.from-among, AmongChildren.first-among, AmongChildren.from_optional-given, AmongChildren.HasNode-child, AmongChildren.parent-among, Placing.ahead-here, Placing.ahead-none, Placing.no-more}
 use Rattle.dom_edit.proofs.surroundings.found_between.Goals as goal
 
 pub children_from-child-items-requires : goal.children_from-child-items-requires

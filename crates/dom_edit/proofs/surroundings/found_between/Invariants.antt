@@ -1,9 +1,7 @@
 -- What was found, and what stands among those to come, is all of it.
-use Rattle.std.specs.Prelude.{◌||◌}
-use Rattle.std.proofs.Common.{◌≡◌}
+use Rattle.std.proofs.Common.{◌||◌, ◌≡◌}
 use Rattle.dom_model.specs.declared.Kind.TheVariants.{Element, DocumentType}
-use Rattle.dom_model.specs.Forests.Forest.{children_of}
-use Rattle.dom_model.specs.MutationAlgorithms.Checks.{has_kind}
+use Rattle.dom_model.specs.Definitions.{children_of, has_kind}
 use Rattle.dom_edit.specs.Places.{from_optional, ahead_of}
 use Rattle.dom_edit.proofs.AmongChildren.{AreAmong}
 use Rattle.dom_edit.proofs.surroundings.found_between.Given as goal

@@ -1,5 +1,5 @@
 use Rattle.std.proofs.Common.{sym}
-use Rattle.dom_model.specs.Forests.Forest.{children_of}
+use Rattle.dom_model.specs.Definitions.{children_of}
 use Rattle.dom_edit.proofs.AmongChildren.{has_kind-count}
 use Rattle.dom_edit.proofs.surroundings.has_child.Goals as goal
 

@@ -1,12 +1,9 @@
 use Rattle.std.proofs.Common.{◌≡◌, ℕ, ◌≤◌, Some, refl, sym, ◌∙◌}
-use Rattle.dom_model.specs.PlainLists.Lists.{hits}
-use Rattle.dom_model.specs.Forests.Forest.{children_of}
+use Rattle.dom_model.specs.Definitions.{hits, children_of}
 use Rattle.dom_model.proofs.Forests.Indices.{child-once}
 use Rattle.dom_edit.specs.Places.{child_of, staying, IsFound}
-use Rattle.dom_edit.proofs.AmongChildren.{IsAmong-head, IsAmong-after, from_optional-head, next_of-child}
-use Rattle.dom_edit.proofs.Placing.{child-under, listed-once, staying-kept, staying-gone, from_successor}
+use Rattle.dom_edit.proofs.{AmongChildren.IsAmong-head, AmongChildren.IsAmong-after, AmongChildren.from_optional-head, AmongChildren.next_of-child, Placing.child-under, Placing.listed-once, Placing.staying-kept, Placing.staying-gone, Placing.from_successor, surroundings.look_around.Goals.then-keeps_child, surroundings.look_around.Goals.else-keeps_child}
 use Rattle.dom_edit.proofs.surroundings.look_around.Goals as goal
-use Rattle.dom_edit.proofs.surroundings.look_around.Goals.{then-keeps_child, else-keeps_child}
 
 pub found_between-requires-clause-child : goal.found_between-requires-clause-child
 found_between-requires-clause-child c =

@@ -1,9 +1,7 @@
-use Rattle.std.specs.Prelude.{nat_lt, ◌==◌}
-use Rattle.std.proofs.Common.{◌≡◌, true, false, sym, ◌∙◌, arith}
+use Rattle.std.proofs.Common.{nat_lt, ◌==◌, ◌≡◌, true, false, sym, ◌∙◌, arith}
 use Rattle.std.proofs.lemmas.Bool.Decides.{nat_tests}
 use Rattle.dom_model.specs.declared.Kind.TheVariants.{Element}
-use Rattle.dom_model.specs.Forests.Forest.{children_of}
-use Rattle.dom_model.specs.MutationAlgorithms.Checks.{count_kind}
+use Rattle.dom_model.specs.Definitions.{children_of, count_kind}
 use Rattle.dom_edit.proofs.Placing.{fragment-refused}
 use Rattle.dom_edit.proofs.surroundings.refuses_fragment.Goals as goal
 

@@ -1,6 +1,5 @@
 use Rattle.dom_links.specs.Wiring.{recounted}
-use Rattle.dom_links.proofs.Cells.{same_ptr_refl, put_length}
-use Rattle.dom_links.proofs.Places.{look-step}
+use Rattle.dom_links.proofs.{Cells.same_ptr_refl, Cells.put_length, Places.look-step}
 use Rattle.dom_links.proofs.steps.recount.Goals as goal
 
 pub returns-clause-nodes : goal.returns-clause-nodes

@@ -1,117 +1,53 @@
--- A dialogue, from bytes to bytes: data changes refused. Of each command: the ends stand in their markers' gaps, and the edits leave its texts and world.
-use Rattle.std.specs.Prelude.{◌≡◌, refl, ℕ, List, codes, [], ◌++◌}
-use Rattle.serde_json.proofs.OnLiterals.{serde_json_on_literals}
-use Rattle.std.specs.Str.{is_utf8, chars}
-use Rattle.std.specs.Char.Utf16.{utf16_chars}
-use Rattle.std.specs.Fmt.{digits}
-use lib.Utf8.{encode}
-use Rattle.dom_model.specs.Commands.Table.{whole_table}
-use Rattle.dom_model.specs.Commands.Line.{json_of, command_of, command_within}
-use Rattle.dom_model.specs.Commands.Answer.{Bounds}
-use Rattle.dom_model.specs.Commands.Output.{whole_lines, last_piece, due, output_of}
-use Rattle.dom_model.proofs.TokenText.Agreement.{ends_missed, texts_missed, worlds_missed}
-use Rattle.dom_model.proofs.TokenText.ContentsBetween.{contents_missed}
+-- A dialogue, from bytes to bytes: data changes refused.
+use Rattle.dom_model.proofs.Dialogues.Exchanges.{◌≡◌, refl, List, codes, [], ◌∷◌, usual_bounds, whole_table, output_of, Exchange, bytes_given, bytes_due, MissesNothing, computing}
 
-abbrev bounds : Bounds
-bounds = record { numbers = 4294967295; line = 1048576 }
+abbrev exchanges : List Exchange
+exchanges =
+    (codes "[\"createElement\",0,\"e\"]\n", codes "{\"ok\":1}\n")
+    ∷ (codes "[\"createText\",0,\"t\"]\n", codes "{\"ok\":2}\n")
+    ∷ (codes "[\"createComment\",0,\"c\"]\n", codes "{\"ok\":3}\n")
+    ∷ (codes "[\"setData\",3]\n", codes "{\"error\":\"bad-arguments\"}\n")
+    ∷ (codes "[\"setData\",3,\"y\",0]\n", codes "{\"error\":\"bad-arguments\"}\n")
+    ∷ (codes "[\"setData\",\"x\",\"y\"]\n", codes "{\"error\":\"bad-arguments\"}\n")
+    ∷ (codes "[\"setData\",3,7]\n", codes "{\"error\":\"bad-arguments\"}\n")
+    ∷ (codes "[\"setData\",99,\"y\"]\n", codes "{\"error\":\"no-such-object\"}\n")
+    ∷ (codes "[\"setData\",1,\"y\"]\n", codes "{\"error\":\"TypeError\"}\n")
+    ∷ (codes "[\"appendData\",3]\n", codes "{\"error\":\"bad-arguments\"}\n")
+    ∷ (codes "[\"appendData\",3,\"y\",0]\n", codes "{\"error\":\"bad-arguments\"}\n")
+    ∷ (codes "[\"appendData\",\"x\",\"y\"]\n", codes "{\"error\":\"bad-arguments\"}\n")
+    ∷ (codes "[\"appendData\",3,7]\n", codes "{\"error\":\"bad-arguments\"}\n")
+    ∷ (codes "[\"appendData\",99,\"y\"]\n", codes "{\"error\":\"no-such-object\"}\n")
+    ∷ (codes "[\"appendData\",1,\"y\"]\n", codes "{\"error\":\"TypeError\"}\n")
+    ∷ (codes "[\"insertData\",3,0]\n", codes "{\"error\":\"bad-arguments\"}\n")
+    ∷ (codes "[\"insertData\",3,0,\"y\",0]\n", codes "{\"error\":\"bad-arguments\"}\n")
+    ∷ (codes "[\"insertData\",\"x\",0,\"y\"]\n", codes "{\"error\":\"bad-arguments\"}\n")
+    ∷ (codes "[\"insertData\",3,\"x\",\"y\"]\n", codes "{\"error\":\"bad-arguments\"}\n")
+    ∷ (codes "[\"insertData\",3,0,7]\n", codes "{\"error\":\"bad-arguments\"}\n")
+    ∷ (codes "[\"insertData\",99,0,\"y\"]\n", codes "{\"error\":\"no-such-object\"}\n")
+    ∷ (codes "[\"insertData\",1,0,\"y\"]\n", codes "{\"error\":\"TypeError\"}\n")
+    ∷ (codes "[\"deleteData\",3,0]\n", codes "{\"error\":\"bad-arguments\"}\n")
+    ∷ (codes "[\"deleteData\",3,0,0,0]\n", codes "{\"error\":\"bad-arguments\"}\n")
+    ∷ (codes "[\"deleteData\",\"x\",0,0]\n", codes "{\"error\":\"bad-arguments\"}\n")
+    ∷ (codes "[\"deleteData\",3,\"x\",0]\n", codes "{\"error\":\"bad-arguments\"}\n")
+    ∷ (codes "[\"deleteData\",3,0,\"x\"]\n", codes "{\"error\":\"bad-arguments\"}\n")
+    ∷ (codes "[\"deleteData\",99,0,0]\n", codes "{\"error\":\"no-such-object\"}\n")
+    ∷ (codes "[\"deleteData\",1,0,0]\n", codes "{\"error\":\"TypeError\"}\n")
+    ∷ (codes "[\"replaceData\",3,0,0]\n", codes "{\"error\":\"bad-arguments\"}\n")
+    ∷ (codes "[\"replaceData\",3,0,0,\"y\",0]\n", codes "{\"error\":\"bad-arguments\"}\n")
+    ∷ (codes "[\"replaceData\",\"x\",0,0,\"y\"]\n", codes "{\"error\":\"bad-arguments\"}\n")
+    ∷ (codes "[\"replaceData\",3,\"x\",0,\"y\"]\n", codes "{\"error\":\"bad-arguments\"}\n")
+    ∷ (codes "[\"replaceData\",3,0,\"x\",\"y\"]\n", codes "{\"error\":\"bad-arguments\"}\n")
+    ∷ (codes "[\"replaceData\",3,0,0,7]\n", codes "{\"error\":\"bad-arguments\"}\n")
+    ∷ (codes "[\"replaceData\",99,0,0,\"y\"]\n", codes "{\"error\":\"no-such-object\"}\n")
+    ∷ (codes "[\"replaceData\",1,0,0,\"y\"]\n", codes "{\"error\":\"TypeError\"}\n")
+    ∷ (codes "[\"createText\",0,\"t\"]\n", codes "{\"ok\":4}\n")
+    ∷ (codes "[\"tree\",1]\n", codes "{\"ok\":[[0,1,1,\"e\",[]]]}\n")
+    ∷ []
 
-abbrev given : List ℕ
-given =
-    (codes "[\"createElement\",0,\"e\"]\n"
-    ++ codes "[\"createText\",0,\"t\"]\n"
-    ++ codes "[\"createComment\",0,\"c\"]\n"
-    ++ codes "[\"setData\",3]\n"
-    ++ codes "[\"setData\",3,\"y\",0]\n"
-    ++ codes "[\"setData\",\"x\",\"y\"]\n"
-    ++ codes "[\"setData\",3,7]\n"
-    ++ codes "[\"setData\",99,\"y\"]\n"
-    ++ codes "[\"setData\",1,\"y\"]\n"
-    ++ codes "[\"appendData\",3]\n"
-    ++ codes "[\"appendData\",3,\"y\",0]\n"
-    ++ codes "[\"appendData\",\"x\",\"y\"]\n"
-    ++ codes "[\"appendData\",3,7]\n"
-    ++ codes "[\"appendData\",99,\"y\"]\n"
-    ++ codes "[\"appendData\",1,\"y\"]\n"
-    ++ codes "[\"insertData\",3,0]\n"
-    ++ codes "[\"insertData\",3,0,\"y\",0]\n"
-    ++ codes "[\"insertData\",\"x\",0,\"y\"]\n"
-    ++ codes "[\"insertData\",3,\"x\",\"y\"]\n"
-    ++ codes "[\"insertData\",3,0,7]\n"
-    ++ codes "[\"insertData\",99,0,\"y\"]\n"
-    ++ codes "[\"insertData\",1,0,\"y\"]\n"
-    ++ codes "[\"deleteData\",3,0]\n"
-    ++ codes "[\"deleteData\",3,0,0,0]\n"
-    ++ codes "[\"deleteData\",\"x\",0,0]\n"
-    ++ codes "[\"deleteData\",3,\"x\",0]\n"
-    ++ codes "[\"deleteData\",3,0,\"x\"]\n"
-    ++ codes "[\"deleteData\",99,0,0]\n"
-    ++ codes "[\"deleteData\",1,0,0]\n"
-    ++ codes "[\"replaceData\",3,0,0]\n"
-    ++ codes "[\"replaceData\",3,0,0,\"y\",0]\n"
-    ++ codes "[\"replaceData\",\"x\",0,0,\"y\"]\n"
-    ++ codes "[\"replaceData\",3,\"x\",0,\"y\"]\n"
-    ++ codes "[\"replaceData\",3,0,\"x\",\"y\"]\n"
-    ++ codes "[\"replaceData\",3,0,0,7]\n"
-    ++ codes "[\"replaceData\",99,0,0,\"y\"]\n"
-    ++ codes "[\"replaceData\",1,0,0,\"y\"]\n"
-    ++ codes "[\"createText\",0,\"t\"]\n"
-    ++ codes "[\"tree\",1]\n")
-
-pub data_changes_refused : output_of whole_table bounds given ≡
-    (codes "{\"ok\":1}\n"
-    ++ codes "{\"ok\":2}\n"
-    ++ codes "{\"ok\":3}\n"
-    ++ codes "{\"error\":\"bad-arguments\"}\n"
-    ++ codes "{\"error\":\"bad-arguments\"}\n"
-    ++ codes "{\"error\":\"bad-arguments\"}\n"
-    ++ codes "{\"error\":\"bad-arguments\"}\n"
-    ++ codes "{\"error\":\"no-such-object\"}\n"
-    ++ codes "{\"error\":\"TypeError\"}\n"
-    ++ codes "{\"error\":\"bad-arguments\"}\n"
-    ++ codes "{\"error\":\"bad-arguments\"}\n"
-    ++ codes "{\"error\":\"bad-arguments\"}\n"
-    ++ codes "{\"error\":\"bad-arguments\"}\n"
-    ++ codes "{\"error\":\"no-such-object\"}\n"
-    ++ codes "{\"error\":\"TypeError\"}\n"
-    ++ codes "{\"error\":\"bad-arguments\"}\n"
-    ++ codes "{\"error\":\"bad-arguments\"}\n"
-    ++ codes "{\"error\":\"bad-arguments\"}\n"
-    ++ codes "{\"error\":\"bad-arguments\"}\n"
-    ++ codes "{\"error\":\"bad-arguments\"}\n"
-    ++ codes "{\"error\":\"no-such-object\"}\n"
-    ++ codes "{\"error\":\"TypeError\"}\n"
-    ++ codes "{\"error\":\"bad-arguments\"}\n"
-    ++ codes "{\"error\":\"bad-arguments\"}\n"
-    ++ codes "{\"error\":\"bad-arguments\"}\n"
-    ++ codes "{\"error\":\"bad-arguments\"}\n"
-    ++ codes "{\"error\":\"bad-arguments\"}\n"
-    ++ codes "{\"error\":\"no-such-object\"}\n"
-    ++ codes "{\"error\":\"TypeError\"}\n"
-    ++ codes "{\"error\":\"bad-arguments\"}\n"
-    ++ codes "{\"error\":\"bad-arguments\"}\n"
-    ++ codes "{\"error\":\"bad-arguments\"}\n"
-    ++ codes "{\"error\":\"bad-arguments\"}\n"
-    ++ codes "{\"error\":\"bad-arguments\"}\n"
-    ++ codes "{\"error\":\"bad-arguments\"}\n"
-    ++ codes "{\"error\":\"no-such-object\"}\n"
-    ++ codes "{\"error\":\"TypeError\"}\n"
-    ++ codes "{\"ok\":4}\n"
-    ++ codes "{\"ok\":[[0,1,1,\"e\",[]]]}\n")
-unfolding serde_json_on_literals is_utf8 chars digits utf16_chars encode whole_table json_of command_of command_within whole_lines last_piece due
+pub data_changes_refused : output_of whole_table usual_bounds (bytes_given exchanges) ≡ bytes_due exchanges
+unfolding computing
 data_changes_refused = refl
 
-pub data_changes_refused-ends : ends_missed whole_table bounds given ≡ []
-unfolding serde_json_on_literals is_utf8 chars digits utf16_chars encode whole_table json_of command_of command_within whole_lines last_piece due
-data_changes_refused-ends = refl
-
-pub data_changes_refused-texts : texts_missed whole_table bounds given ≡ []
-unfolding serde_json_on_literals is_utf8 chars digits utf16_chars encode whole_table json_of command_of command_within whole_lines last_piece due
-data_changes_refused-texts = refl
-
-pub data_changes_refused-worlds : worlds_missed whole_table bounds given ≡ []
-unfolding serde_json_on_literals is_utf8 chars digits utf16_chars encode whole_table json_of command_of command_within whole_lines last_piece due
-data_changes_refused-worlds = refl
-
-pub data_changes_refused-contents : contents_missed whole_table bounds given ≡ []
-unfolding serde_json_on_literals is_utf8 chars digits utf16_chars encode whole_table json_of command_of command_within whole_lines last_piece due
-data_changes_refused-contents = refl
+pub data_changes_refused-misses_nothing : MissesNothing whole_table usual_bounds (bytes_given exchanges)
+unfolding computing
+data_changes_refused-misses_nothing = record { ends = refl; texts = refl; worlds = refl; contents = refl }

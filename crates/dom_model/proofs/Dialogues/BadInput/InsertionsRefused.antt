@@ -1,107 +1,48 @@
--- A dialogue, from bytes to bytes: insertions refused. Of each command: the ends stand in their markers' gaps, and the edits leave its texts and world.
-use Rattle.std.specs.Prelude.{◌≡◌, refl, ℕ, List, codes, [], ◌++◌}
-use Rattle.serde_json.proofs.OnLiterals.{serde_json_on_literals}
-use Rattle.std.specs.Str.{is_utf8, chars}
-use Rattle.std.specs.Char.Utf16.{utf16_chars}
-use Rattle.std.specs.Fmt.{digits}
-use lib.Utf8.{encode}
-use Rattle.dom_model.specs.Commands.Table.{whole_table}
-use Rattle.dom_model.specs.Commands.Line.{json_of, command_of, command_within}
-use Rattle.dom_model.specs.Commands.Answer.{Bounds}
-use Rattle.dom_model.specs.Commands.Output.{whole_lines, last_piece, due, output_of}
-use Rattle.dom_model.proofs.TokenText.Agreement.{ends_missed, texts_missed, worlds_missed}
-use Rattle.dom_model.proofs.TokenText.ContentsBetween.{contents_missed}
+-- A dialogue, from bytes to bytes: insertions refused.
+use Rattle.dom_model.proofs.Dialogues.Exchanges.{◌≡◌, refl, List, codes, [], ◌∷◌, usual_bounds, whole_table, output_of, Exchange, bytes_given, bytes_due, MissesNothing, computing}
 
-abbrev bounds : Bounds
-bounds = record { numbers = 4294967295; line = 1048576 }
+abbrev exchanges : List Exchange
+exchanges =
+    (codes "[\"createElement\",0,\"e\"]\n", codes "{\"ok\":1}\n")
+    ∷ (codes "[\"createText\",0,\"t\"]\n", codes "{\"ok\":2}\n")
+    ∷ (codes "[\"createComment\",0,\"c\"]\n", codes "{\"ok\":3}\n")
+    ∷ (codes "[\"insertBefore\",1,1]\n", codes "{\"error\":\"bad-arguments\"}\n")
+    ∷ (codes "[\"insertBefore\",1,1,null,0]\n", codes "{\"error\":\"bad-arguments\"}\n")
+    ∷ (codes "[\"insertBefore\",\"x\",1,null]\n", codes "{\"error\":\"bad-arguments\"}\n")
+    ∷ (codes "[\"insertBefore\",1,\"x\",null]\n", codes "{\"error\":\"bad-arguments\"}\n")
+    ∷ (codes "[\"insertBefore\",1,1,\"x\"]\n", codes "{\"error\":\"bad-arguments\"}\n")
+    ∷ (codes "[\"insertBefore\",99,1,null]\n", codes "{\"error\":\"no-such-object\"}\n")
+    ∷ (codes "[\"insertBefore\",1,99,null]\n", codes "{\"error\":\"no-such-object\"}\n")
+    ∷ (codes "[\"insertBefore\",1,1,99]\n", codes "{\"error\":\"no-such-object\"}\n")
+    ∷ (codes "[\"appendChild\",1]\n", codes "{\"error\":\"bad-arguments\"}\n")
+    ∷ (codes "[\"appendChild\",1,1,0]\n", codes "{\"error\":\"bad-arguments\"}\n")
+    ∷ (codes "[\"appendChild\",\"x\",1]\n", codes "{\"error\":\"bad-arguments\"}\n")
+    ∷ (codes "[\"appendChild\",1,\"x\"]\n", codes "{\"error\":\"bad-arguments\"}\n")
+    ∷ (codes "[\"appendChild\",99,1]\n", codes "{\"error\":\"no-such-object\"}\n")
+    ∷ (codes "[\"appendChild\",1,99]\n", codes "{\"error\":\"no-such-object\"}\n")
+    ∷ (codes "[\"adoptNode\",0]\n", codes "{\"error\":\"bad-arguments\"}\n")
+    ∷ (codes "[\"adoptNode\",0,1,0]\n", codes "{\"error\":\"bad-arguments\"}\n")
+    ∷ (codes "[\"adoptNode\",\"x\",1]\n", codes "{\"error\":\"bad-arguments\"}\n")
+    ∷ (codes "[\"adoptNode\",0,\"x\"]\n", codes "{\"error\":\"bad-arguments\"}\n")
+    ∷ (codes "[\"adoptNode\",99,1]\n", codes "{\"error\":\"no-such-object\"}\n")
+    ∷ (codes "[\"adoptNode\",0,99]\n", codes "{\"error\":\"no-such-object\"}\n")
+    ∷ (codes "[\"adoptNode\",1,1]\n", codes "{\"error\":\"TypeError\"}\n")
+    ∷ (codes "[\"replaceChild\",1,1]\n", codes "{\"error\":\"bad-arguments\"}\n")
+    ∷ (codes "[\"replaceChild\",1,1,2,0]\n", codes "{\"error\":\"bad-arguments\"}\n")
+    ∷ (codes "[\"replaceChild\",\"x\",1,2]\n", codes "{\"error\":\"bad-arguments\"}\n")
+    ∷ (codes "[\"replaceChild\",1,\"x\",2]\n", codes "{\"error\":\"bad-arguments\"}\n")
+    ∷ (codes "[\"replaceChild\",1,1,\"x\"]\n", codes "{\"error\":\"bad-arguments\"}\n")
+    ∷ (codes "[\"replaceChild\",99,1,2]\n", codes "{\"error\":\"no-such-object\"}\n")
+    ∷ (codes "[\"replaceChild\",1,99,2]\n", codes "{\"error\":\"no-such-object\"}\n")
+    ∷ (codes "[\"replaceChild\",1,1,99]\n", codes "{\"error\":\"no-such-object\"}\n")
+    ∷ (codes "[\"createText\",0,\"t\"]\n", codes "{\"ok\":4}\n")
+    ∷ (codes "[\"tree\",1]\n", codes "{\"ok\":[[0,1,1,\"e\",[]]]}\n")
+    ∷ []
 
-abbrev given : List ℕ
-given =
-    (codes "[\"createElement\",0,\"e\"]\n"
-    ++ codes "[\"createText\",0,\"t\"]\n"
-    ++ codes "[\"createComment\",0,\"c\"]\n"
-    ++ codes "[\"insertBefore\",1,1]\n"
-    ++ codes "[\"insertBefore\",1,1,null,0]\n"
-    ++ codes "[\"insertBefore\",\"x\",1,null]\n"
-    ++ codes "[\"insertBefore\",1,\"x\",null]\n"
-    ++ codes "[\"insertBefore\",1,1,\"x\"]\n"
-    ++ codes "[\"insertBefore\",99,1,null]\n"
-    ++ codes "[\"insertBefore\",1,99,null]\n"
-    ++ codes "[\"insertBefore\",1,1,99]\n"
-    ++ codes "[\"appendChild\",1]\n"
-    ++ codes "[\"appendChild\",1,1,0]\n"
-    ++ codes "[\"appendChild\",\"x\",1]\n"
-    ++ codes "[\"appendChild\",1,\"x\"]\n"
-    ++ codes "[\"appendChild\",99,1]\n"
-    ++ codes "[\"appendChild\",1,99]\n"
-    ++ codes "[\"adoptNode\",0]\n"
-    ++ codes "[\"adoptNode\",0,1,0]\n"
-    ++ codes "[\"adoptNode\",\"x\",1]\n"
-    ++ codes "[\"adoptNode\",0,\"x\"]\n"
-    ++ codes "[\"adoptNode\",99,1]\n"
-    ++ codes "[\"adoptNode\",0,99]\n"
-    ++ codes "[\"adoptNode\",1,1]\n"
-    ++ codes "[\"replaceChild\",1,1]\n"
-    ++ codes "[\"replaceChild\",1,1,2,0]\n"
-    ++ codes "[\"replaceChild\",\"x\",1,2]\n"
-    ++ codes "[\"replaceChild\",1,\"x\",2]\n"
-    ++ codes "[\"replaceChild\",1,1,\"x\"]\n"
-    ++ codes "[\"replaceChild\",99,1,2]\n"
-    ++ codes "[\"replaceChild\",1,99,2]\n"
-    ++ codes "[\"replaceChild\",1,1,99]\n"
-    ++ codes "[\"createText\",0,\"t\"]\n"
-    ++ codes "[\"tree\",1]\n")
-
-pub insertions_refused : output_of whole_table bounds given ≡
-    (codes "{\"ok\":1}\n"
-    ++ codes "{\"ok\":2}\n"
-    ++ codes "{\"ok\":3}\n"
-    ++ codes "{\"error\":\"bad-arguments\"}\n"
-    ++ codes "{\"error\":\"bad-arguments\"}\n"
-    ++ codes "{\"error\":\"bad-arguments\"}\n"
-    ++ codes "{\"error\":\"bad-arguments\"}\n"
-    ++ codes "{\"error\":\"bad-arguments\"}\n"
-    ++ codes "{\"error\":\"no-such-object\"}\n"
-    ++ codes "{\"error\":\"no-such-object\"}\n"
-    ++ codes "{\"error\":\"no-such-object\"}\n"
-    ++ codes "{\"error\":\"bad-arguments\"}\n"
-    ++ codes "{\"error\":\"bad-arguments\"}\n"
-    ++ codes "{\"error\":\"bad-arguments\"}\n"
-    ++ codes "{\"error\":\"bad-arguments\"}\n"
-    ++ codes "{\"error\":\"no-such-object\"}\n"
-    ++ codes "{\"error\":\"no-such-object\"}\n"
-    ++ codes "{\"error\":\"bad-arguments\"}\n"
-    ++ codes "{\"error\":\"bad-arguments\"}\n"
-    ++ codes "{\"error\":\"bad-arguments\"}\n"
-    ++ codes "{\"error\":\"bad-arguments\"}\n"
-    ++ codes "{\"error\":\"no-such-object\"}\n"
-    ++ codes "{\"error\":\"no-such-object\"}\n"
-    ++ codes "{\"error\":\"TypeError\"}\n"
-    ++ codes "{\"error\":\"bad-arguments\"}\n"
-    ++ codes "{\"error\":\"bad-arguments\"}\n"
-    ++ codes "{\"error\":\"bad-arguments\"}\n"
-    ++ codes "{\"error\":\"bad-arguments\"}\n"
-    ++ codes "{\"error\":\"bad-arguments\"}\n"
-    ++ codes "{\"error\":\"no-such-object\"}\n"
-    ++ codes "{\"error\":\"no-such-object\"}\n"
-    ++ codes "{\"error\":\"no-such-object\"}\n"
-    ++ codes "{\"ok\":4}\n"
-    ++ codes "{\"ok\":[[0,1,1,\"e\",[]]]}\n")
-unfolding serde_json_on_literals is_utf8 chars digits utf16_chars encode whole_table json_of command_of command_within whole_lines last_piece due
+pub insertions_refused : output_of whole_table usual_bounds (bytes_given exchanges) ≡ bytes_due exchanges
+unfolding computing
 insertions_refused = refl
 
-pub insertions_refused-ends : ends_missed whole_table bounds given ≡ []
-unfolding serde_json_on_literals is_utf8 chars digits utf16_chars encode whole_table json_of command_of command_within whole_lines last_piece due
-insertions_refused-ends = refl
-
-pub insertions_refused-texts : texts_missed whole_table bounds given ≡ []
-unfolding serde_json_on_literals is_utf8 chars digits utf16_chars encode whole_table json_of command_of command_within whole_lines last_piece due
-insertions_refused-texts = refl
-
-pub insertions_refused-worlds : worlds_missed whole_table bounds given ≡ []
-unfolding serde_json_on_literals is_utf8 chars digits utf16_chars encode whole_table json_of command_of command_within whole_lines last_piece due
-insertions_refused-worlds = refl
-
-pub insertions_refused-contents : contents_missed whole_table bounds given ≡ []
-unfolding serde_json_on_literals is_utf8 chars digits utf16_chars encode whole_table json_of command_of command_within whole_lines last_piece due
-insertions_refused-contents = refl
+pub insertions_refused-misses_nothing : MissesNothing whole_table usual_bounds (bytes_given exchanges)
+unfolding computing
+insertions_refused-misses_nothing = record { ends = refl; texts = refl; worlds = refl; contents = refl }

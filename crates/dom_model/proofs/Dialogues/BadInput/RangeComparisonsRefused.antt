@@ -1,117 +1,53 @@
--- A dialogue, from bytes to bytes: range comparisons refused. Of each command: the ends stand in their markers' gaps, and the edits leave its texts and world.
-use Rattle.std.specs.Prelude.{◌≡◌, refl, ℕ, List, codes, [], ◌++◌}
-use Rattle.serde_json.proofs.OnLiterals.{serde_json_on_literals}
-use Rattle.std.specs.Str.{is_utf8, chars}
-use Rattle.std.specs.Char.Utf16.{utf16_chars}
-use Rattle.std.specs.Fmt.{digits}
-use lib.Utf8.{encode}
-use Rattle.dom_model.specs.Commands.Table.{whole_table}
-use Rattle.dom_model.specs.Commands.Line.{json_of, command_of, command_within}
-use Rattle.dom_model.specs.Commands.Answer.{Bounds}
-use Rattle.dom_model.specs.Commands.Output.{whole_lines, last_piece, due, output_of}
-use Rattle.dom_model.proofs.TokenText.Agreement.{ends_missed, texts_missed, worlds_missed}
-use Rattle.dom_model.proofs.TokenText.ContentsBetween.{contents_missed}
+-- A dialogue, from bytes to bytes: range comparisons refused.
+use Rattle.dom_model.proofs.Dialogues.Exchanges.{◌≡◌, refl, List, codes, [], ◌∷◌, usual_bounds, whole_table, output_of, Exchange, bytes_given, bytes_due, MissesNothing, computing}
 
-abbrev bounds : Bounds
-bounds = record { numbers = 4294967295; line = 1048576 }
+abbrev exchanges : List Exchange
+exchanges =
+    (codes "[\"createElement\",0,\"e\"]\n", codes "{\"ok\":1}\n")
+    ∷ (codes "[\"createText\",0,\"t\"]\n", codes "{\"ok\":2}\n")
+    ∷ (codes "[\"createComment\",0,\"c\"]\n", codes "{\"ok\":3}\n")
+    ∷ (codes "[\"createRange\",0]\n", codes "{\"ok\":0}\n")
+    ∷ (codes "[\"compareBoundaryPoints\",0,0]\n", codes "{\"error\":\"bad-arguments\"}\n")
+    ∷ (codes "[\"compareBoundaryPoints\",0,0,0,0]\n", codes "{\"error\":\"bad-arguments\"}\n")
+    ∷ (codes "[\"compareBoundaryPoints\",\"x\",0,0]\n", codes "{\"error\":\"bad-arguments\"}\n")
+    ∷ (codes "[\"compareBoundaryPoints\",0,\"x\",0]\n", codes "{\"error\":\"bad-arguments\"}\n")
+    ∷ (codes "[\"compareBoundaryPoints\",0,0,\"x\"]\n", codes "{\"error\":\"bad-arguments\"}\n")
+    ∷ (codes "[\"compareBoundaryPoints\",99,0,0]\n", codes "{\"error\":\"no-such-object\"}\n")
+    ∷ (codes "[\"compareBoundaryPoints\",0,0,99]\n", codes "{\"error\":\"no-such-object\"}\n")
+    ∷ (codes "[\"comparePoint\",0,1]\n", codes "{\"error\":\"bad-arguments\"}\n")
+    ∷ (codes "[\"comparePoint\",0,1,0,0]\n", codes "{\"error\":\"bad-arguments\"}\n")
+    ∷ (codes "[\"comparePoint\",\"x\",1,0]\n", codes "{\"error\":\"bad-arguments\"}\n")
+    ∷ (codes "[\"comparePoint\",0,\"x\",0]\n", codes "{\"error\":\"bad-arguments\"}\n")
+    ∷ (codes "[\"comparePoint\",0,1,\"x\"]\n", codes "{\"error\":\"bad-arguments\"}\n")
+    ∷ (codes "[\"comparePoint\",99,1,0]\n", codes "{\"error\":\"no-such-object\"}\n")
+    ∷ (codes "[\"comparePoint\",0,99,0]\n", codes "{\"error\":\"no-such-object\"}\n")
+    ∷ (codes "[\"isPointInRange\",0,1]\n", codes "{\"error\":\"bad-arguments\"}\n")
+    ∷ (codes "[\"isPointInRange\",0,1,0,0]\n", codes "{\"error\":\"bad-arguments\"}\n")
+    ∷ (codes "[\"isPointInRange\",\"x\",1,0]\n", codes "{\"error\":\"bad-arguments\"}\n")
+    ∷ (codes "[\"isPointInRange\",0,\"x\",0]\n", codes "{\"error\":\"bad-arguments\"}\n")
+    ∷ (codes "[\"isPointInRange\",0,1,\"x\"]\n", codes "{\"error\":\"bad-arguments\"}\n")
+    ∷ (codes "[\"isPointInRange\",99,1,0]\n", codes "{\"error\":\"no-such-object\"}\n")
+    ∷ (codes "[\"isPointInRange\",0,99,0]\n", codes "{\"error\":\"no-such-object\"}\n")
+    ∷ (codes "[\"intersectsNode\",0]\n", codes "{\"error\":\"bad-arguments\"}\n")
+    ∷ (codes "[\"intersectsNode\",0,1,0]\n", codes "{\"error\":\"bad-arguments\"}\n")
+    ∷ (codes "[\"intersectsNode\",\"x\",1]\n", codes "{\"error\":\"bad-arguments\"}\n")
+    ∷ (codes "[\"intersectsNode\",0,\"x\"]\n", codes "{\"error\":\"bad-arguments\"}\n")
+    ∷ (codes "[\"intersectsNode\",99,1]\n", codes "{\"error\":\"no-such-object\"}\n")
+    ∷ (codes "[\"intersectsNode\",0,99]\n", codes "{\"error\":\"no-such-object\"}\n")
+    ∷ (codes "[\"commonAncestor\"]\n", codes "{\"error\":\"bad-arguments\"}\n")
+    ∷ (codes "[\"commonAncestor\",0,0]\n", codes "{\"error\":\"bad-arguments\"}\n")
+    ∷ (codes "[\"commonAncestor\",\"x\"]\n", codes "{\"error\":\"bad-arguments\"}\n")
+    ∷ (codes "[\"commonAncestor\",99]\n", codes "{\"error\":\"no-such-object\"}\n")
+    ∷ (codes "[\"createText\",0,\"t\"]\n", codes "{\"ok\":4}\n")
+    ∷ (codes "[\"tree\",1]\n", codes "{\"ok\":[[0,1,1,\"e\",[]]]}\n")
+    ∷ (codes "[\"range\",0]\n", codes "{\"ok\":[0,0,0,0]}\n")
+    ∷ (codes "[\"createRange\",0]\n", codes "{\"ok\":1}\n")
+    ∷ []
 
-abbrev given : List ℕ
-given =
-    (codes "[\"createElement\",0,\"e\"]\n"
-    ++ codes "[\"createText\",0,\"t\"]\n"
-    ++ codes "[\"createComment\",0,\"c\"]\n"
-    ++ codes "[\"createRange\",0]\n"
-    ++ codes "[\"compareBoundaryPoints\",0,0]\n"
-    ++ codes "[\"compareBoundaryPoints\",0,0,0,0]\n"
-    ++ codes "[\"compareBoundaryPoints\",\"x\",0,0]\n"
-    ++ codes "[\"compareBoundaryPoints\",0,\"x\",0]\n"
-    ++ codes "[\"compareBoundaryPoints\",0,0,\"x\"]\n"
-    ++ codes "[\"compareBoundaryPoints\",99,0,0]\n"
-    ++ codes "[\"compareBoundaryPoints\",0,0,99]\n"
-    ++ codes "[\"comparePoint\",0,1]\n"
-    ++ codes "[\"comparePoint\",0,1,0,0]\n"
-    ++ codes "[\"comparePoint\",\"x\",1,0]\n"
-    ++ codes "[\"comparePoint\",0,\"x\",0]\n"
-    ++ codes "[\"comparePoint\",0,1,\"x\"]\n"
-    ++ codes "[\"comparePoint\",99,1,0]\n"
-    ++ codes "[\"comparePoint\",0,99,0]\n"
-    ++ codes "[\"isPointInRange\",0,1]\n"
-    ++ codes "[\"isPointInRange\",0,1,0,0]\n"
-    ++ codes "[\"isPointInRange\",\"x\",1,0]\n"
-    ++ codes "[\"isPointInRange\",0,\"x\",0]\n"
-    ++ codes "[\"isPointInRange\",0,1,\"x\"]\n"
-    ++ codes "[\"isPointInRange\",99,1,0]\n"
-    ++ codes "[\"isPointInRange\",0,99,0]\n"
-    ++ codes "[\"intersectsNode\",0]\n"
-    ++ codes "[\"intersectsNode\",0,1,0]\n"
-    ++ codes "[\"intersectsNode\",\"x\",1]\n"
-    ++ codes "[\"intersectsNode\",0,\"x\"]\n"
-    ++ codes "[\"intersectsNode\",99,1]\n"
-    ++ codes "[\"intersectsNode\",0,99]\n"
-    ++ codes "[\"commonAncestor\"]\n"
-    ++ codes "[\"commonAncestor\",0,0]\n"
-    ++ codes "[\"commonAncestor\",\"x\"]\n"
-    ++ codes "[\"commonAncestor\",99]\n"
-    ++ codes "[\"createText\",0,\"t\"]\n"
-    ++ codes "[\"tree\",1]\n"
-    ++ codes "[\"range\",0]\n"
-    ++ codes "[\"createRange\",0]\n")
-
-pub range_comparisons_refused : output_of whole_table bounds given ≡
-    (codes "{\"ok\":1}\n"
-    ++ codes "{\"ok\":2}\n"
-    ++ codes "{\"ok\":3}\n"
-    ++ codes "{\"ok\":0}\n"
-    ++ codes "{\"error\":\"bad-arguments\"}\n"
-    ++ codes "{\"error\":\"bad-arguments\"}\n"
-    ++ codes "{\"error\":\"bad-arguments\"}\n"
-    ++ codes "{\"error\":\"bad-arguments\"}\n"
-    ++ codes "{\"error\":\"bad-arguments\"}\n"
-    ++ codes "{\"error\":\"no-such-object\"}\n"
-    ++ codes "{\"error\":\"no-such-object\"}\n"
-    ++ codes "{\"error\":\"bad-arguments\"}\n"
-    ++ codes "{\"error\":\"bad-arguments\"}\n"
-    ++ codes "{\"error\":\"bad-arguments\"}\n"
-    ++ codes "{\"error\":\"bad-arguments\"}\n"
-    ++ codes "{\"error\":\"bad-arguments\"}\n"
-    ++ codes "{\"error\":\"no-such-object\"}\n"
-    ++ codes "{\"error\":\"no-such-object\"}\n"
-    ++ codes "{\"error\":\"bad-arguments\"}\n"
-    ++ codes "{\"error\":\"bad-arguments\"}\n"
-    ++ codes "{\"error\":\"bad-arguments\"}\n"
-    ++ codes "{\"error\":\"bad-arguments\"}\n"
-    ++ codes "{\"error\":\"bad-arguments\"}\n"
-    ++ codes "{\"error\":\"no-such-object\"}\n"
-    ++ codes "{\"error\":\"no-such-object\"}\n"
-    ++ codes "{\"error\":\"bad-arguments\"}\n"
-    ++ codes "{\"error\":\"bad-arguments\"}\n"
-    ++ codes "{\"error\":\"bad-arguments\"}\n"
-    ++ codes "{\"error\":\"bad-arguments\"}\n"
-    ++ codes "{\"error\":\"no-such-object\"}\n"
-    ++ codes "{\"error\":\"no-such-object\"}\n"
-    ++ codes "{\"error\":\"bad-arguments\"}\n"
-    ++ codes "{\"error\":\"bad-arguments\"}\n"
-    ++ codes "{\"error\":\"bad-arguments\"}\n"
-    ++ codes "{\"error\":\"no-such-object\"}\n"
-    ++ codes "{\"ok\":4}\n"
-    ++ codes "{\"ok\":[[0,1,1,\"e\",[]]]}\n"
-    ++ codes "{\"ok\":[0,0,0,0]}\n"
-    ++ codes "{\"ok\":1}\n")
-unfolding serde_json_on_literals is_utf8 chars digits utf16_chars encode whole_table json_of command_of command_within whole_lines last_piece due
+pub range_comparisons_refused : output_of whole_table usual_bounds (bytes_given exchanges) ≡ bytes_due exchanges
+unfolding computing
 range_comparisons_refused = refl
 
-pub range_comparisons_refused-ends : ends_missed whole_table bounds given ≡ []
-unfolding serde_json_on_literals is_utf8 chars digits utf16_chars encode whole_table json_of command_of command_within whole_lines last_piece due
-range_comparisons_refused-ends = refl
-
-pub range_comparisons_refused-texts : texts_missed whole_table bounds given ≡ []
-unfolding serde_json_on_literals is_utf8 chars digits utf16_chars encode whole_table json_of command_of command_within whole_lines last_piece due
-range_comparisons_refused-texts = refl
-
-pub range_comparisons_refused-worlds : worlds_missed whole_table bounds given ≡ []
-unfolding serde_json_on_literals is_utf8 chars digits utf16_chars encode whole_table json_of command_of command_within whole_lines last_piece due
-range_comparisons_refused-worlds = refl
-
-pub range_comparisons_refused-contents : contents_missed whole_table bounds given ≡ []
-unfolding serde_json_on_literals is_utf8 chars digits utf16_chars encode whole_table json_of command_of command_within whole_lines last_piece due
-range_comparisons_refused-contents = refl
+pub range_comparisons_refused-misses_nothing : MissesNothing whole_table usual_bounds (bytes_given exchanges)
+unfolding computing
+range_comparisons_refused-misses_nothing = record { ends = refl; texts = refl; worlds = refl; contents = refl }

@@ -1,123 +1,56 @@
--- A dialogue, from bytes to bytes: ranges refused. Of each command: the ends stand in their markers' gaps, and the edits leave its texts and world.
-use Rattle.std.specs.Prelude.{◌≡◌, refl, ℕ, List, codes, [], ◌++◌}
-use Rattle.serde_json.proofs.OnLiterals.{serde_json_on_literals}
-use Rattle.std.specs.Str.{is_utf8, chars}
-use Rattle.std.specs.Char.Utf16.{utf16_chars}
-use Rattle.std.specs.Fmt.{digits}
-use lib.Utf8.{encode}
-use Rattle.dom_model.specs.Commands.Table.{whole_table}
-use Rattle.dom_model.specs.Commands.Line.{json_of, command_of, command_within}
-use Rattle.dom_model.specs.Commands.Answer.{Bounds}
-use Rattle.dom_model.specs.Commands.Output.{whole_lines, last_piece, due, output_of}
-use Rattle.dom_model.proofs.TokenText.Agreement.{ends_missed, texts_missed, worlds_missed}
-use Rattle.dom_model.proofs.TokenText.ContentsBetween.{contents_missed}
+-- A dialogue, from bytes to bytes: ranges refused.
+use Rattle.dom_model.proofs.Dialogues.Exchanges.{◌≡◌, refl, List, codes, [], ◌∷◌, usual_bounds, whole_table, output_of, Exchange, bytes_given, bytes_due, MissesNothing, computing}
 
-abbrev bounds : Bounds
-bounds = record { numbers = 4294967295; line = 1048576 }
+abbrev exchanges : List Exchange
+exchanges =
+    (codes "[\"createElement\",0,\"e\"]\n", codes "{\"ok\":1}\n")
+    ∷ (codes "[\"createText\",0,\"t\"]\n", codes "{\"ok\":2}\n")
+    ∷ (codes "[\"createComment\",0,\"c\"]\n", codes "{\"ok\":3}\n")
+    ∷ (codes "[\"createRange\",0]\n", codes "{\"ok\":0}\n")
+    ∷ (codes "[\"createRange\"]\n", codes "{\"error\":\"bad-arguments\"}\n")
+    ∷ (codes "[\"createRange\",0,0]\n", codes "{\"error\":\"bad-arguments\"}\n")
+    ∷ (codes "[\"createRange\",\"x\"]\n", codes "{\"error\":\"bad-arguments\"}\n")
+    ∷ (codes "[\"createRange\",99]\n", codes "{\"error\":\"no-such-object\"}\n")
+    ∷ (codes "[\"createRange\",1]\n", codes "{\"error\":\"TypeError\"}\n")
+    ∷ (codes "[\"cloneRange\"]\n", codes "{\"error\":\"bad-arguments\"}\n")
+    ∷ (codes "[\"cloneRange\",0,0]\n", codes "{\"error\":\"bad-arguments\"}\n")
+    ∷ (codes "[\"cloneRange\",\"x\"]\n", codes "{\"error\":\"bad-arguments\"}\n")
+    ∷ (codes "[\"cloneRange\",99]\n", codes "{\"error\":\"no-such-object\"}\n")
+    ∷ (codes "[\"range\"]\n", codes "{\"error\":\"bad-arguments\"}\n")
+    ∷ (codes "[\"range\",0,0]\n", codes "{\"error\":\"bad-arguments\"}\n")
+    ∷ (codes "[\"range\",\"x\"]\n", codes "{\"error\":\"bad-arguments\"}\n")
+    ∷ (codes "[\"range\",99]\n", codes "{\"error\":\"no-such-object\"}\n")
+    ∷ (codes "[\"collapse\",0]\n", codes "{\"error\":\"bad-arguments\"}\n")
+    ∷ (codes "[\"collapse\",0,true,0]\n", codes "{\"error\":\"bad-arguments\"}\n")
+    ∷ (codes "[\"collapse\",\"x\",true]\n", codes "{\"error\":\"bad-arguments\"}\n")
+    ∷ (codes "[\"collapse\",0,0]\n", codes "{\"error\":\"bad-arguments\"}\n")
+    ∷ (codes "[\"collapse\",99,true]\n", codes "{\"error\":\"no-such-object\"}\n")
+    ∷ (codes "[\"selectNode\",0]\n", codes "{\"error\":\"bad-arguments\"}\n")
+    ∷ (codes "[\"selectNode\",0,1,0]\n", codes "{\"error\":\"bad-arguments\"}\n")
+    ∷ (codes "[\"selectNode\",\"x\",1]\n", codes "{\"error\":\"bad-arguments\"}\n")
+    ∷ (codes "[\"selectNode\",0,\"x\"]\n", codes "{\"error\":\"bad-arguments\"}\n")
+    ∷ (codes "[\"selectNode\",99,1]\n", codes "{\"error\":\"no-such-object\"}\n")
+    ∷ (codes "[\"selectNode\",0,99]\n", codes "{\"error\":\"no-such-object\"}\n")
+    ∷ (codes "[\"selectNodeContents\",0]\n", codes "{\"error\":\"bad-arguments\"}\n")
+    ∷ (codes "[\"selectNodeContents\",0,1,0]\n", codes "{\"error\":\"bad-arguments\"}\n")
+    ∷ (codes "[\"selectNodeContents\",\"x\",1]\n", codes "{\"error\":\"bad-arguments\"}\n")
+    ∷ (codes "[\"selectNodeContents\",0,\"x\"]\n", codes "{\"error\":\"bad-arguments\"}\n")
+    ∷ (codes "[\"selectNodeContents\",99,1]\n", codes "{\"error\":\"no-such-object\"}\n")
+    ∷ (codes "[\"selectNodeContents\",0,99]\n", codes "{\"error\":\"no-such-object\"}\n")
+    ∷ (codes "[\"releaseRange\"]\n", codes "{\"error\":\"bad-arguments\"}\n")
+    ∷ (codes "[\"releaseRange\",0,0]\n", codes "{\"error\":\"bad-arguments\"}\n")
+    ∷ (codes "[\"releaseRange\",\"x\"]\n", codes "{\"error\":\"bad-arguments\"}\n")
+    ∷ (codes "[\"releaseRange\",99]\n", codes "{\"error\":\"no-such-object\"}\n")
+    ∷ (codes "[\"createText\",0,\"t\"]\n", codes "{\"ok\":4}\n")
+    ∷ (codes "[\"tree\",1]\n", codes "{\"ok\":[[0,1,1,\"e\",[]]]}\n")
+    ∷ (codes "[\"range\",0]\n", codes "{\"ok\":[0,0,0,0]}\n")
+    ∷ (codes "[\"createRange\",0]\n", codes "{\"ok\":1}\n")
+    ∷ []
 
-abbrev given : List ℕ
-given =
-    (codes "[\"createElement\",0,\"e\"]\n"
-    ++ codes "[\"createText\",0,\"t\"]\n"
-    ++ codes "[\"createComment\",0,\"c\"]\n"
-    ++ codes "[\"createRange\",0]\n"
-    ++ codes "[\"createRange\"]\n"
-    ++ codes "[\"createRange\",0,0]\n"
-    ++ codes "[\"createRange\",\"x\"]\n"
-    ++ codes "[\"createRange\",99]\n"
-    ++ codes "[\"createRange\",1]\n"
-    ++ codes "[\"cloneRange\"]\n"
-    ++ codes "[\"cloneRange\",0,0]\n"
-    ++ codes "[\"cloneRange\",\"x\"]\n"
-    ++ codes "[\"cloneRange\",99]\n"
-    ++ codes "[\"range\"]\n"
-    ++ codes "[\"range\",0,0]\n"
-    ++ codes "[\"range\",\"x\"]\n"
-    ++ codes "[\"range\",99]\n"
-    ++ codes "[\"collapse\",0]\n"
-    ++ codes "[\"collapse\",0,true,0]\n"
-    ++ codes "[\"collapse\",\"x\",true]\n"
-    ++ codes "[\"collapse\",0,0]\n"
-    ++ codes "[\"collapse\",99,true]\n"
-    ++ codes "[\"selectNode\",0]\n"
-    ++ codes "[\"selectNode\",0,1,0]\n"
-    ++ codes "[\"selectNode\",\"x\",1]\n"
-    ++ codes "[\"selectNode\",0,\"x\"]\n"
-    ++ codes "[\"selectNode\",99,1]\n"
-    ++ codes "[\"selectNode\",0,99]\n"
-    ++ codes "[\"selectNodeContents\",0]\n"
-    ++ codes "[\"selectNodeContents\",0,1,0]\n"
-    ++ codes "[\"selectNodeContents\",\"x\",1]\n"
-    ++ codes "[\"selectNodeContents\",0,\"x\"]\n"
-    ++ codes "[\"selectNodeContents\",99,1]\n"
-    ++ codes "[\"selectNodeContents\",0,99]\n"
-    ++ codes "[\"releaseRange\"]\n"
-    ++ codes "[\"releaseRange\",0,0]\n"
-    ++ codes "[\"releaseRange\",\"x\"]\n"
-    ++ codes "[\"releaseRange\",99]\n"
-    ++ codes "[\"createText\",0,\"t\"]\n"
-    ++ codes "[\"tree\",1]\n"
-    ++ codes "[\"range\",0]\n"
-    ++ codes "[\"createRange\",0]\n")
-
-pub ranges_refused : output_of whole_table bounds given ≡
-    (codes "{\"ok\":1}\n"
-    ++ codes "{\"ok\":2}\n"
-    ++ codes "{\"ok\":3}\n"
-    ++ codes "{\"ok\":0}\n"
-    ++ codes "{\"error\":\"bad-arguments\"}\n"
-    ++ codes "{\"error\":\"bad-arguments\"}\n"
-    ++ codes "{\"error\":\"bad-arguments\"}\n"
-    ++ codes "{\"error\":\"no-such-object\"}\n"
-    ++ codes "{\"error\":\"TypeError\"}\n"
-    ++ codes "{\"error\":\"bad-arguments\"}\n"
-    ++ codes "{\"error\":\"bad-arguments\"}\n"
-    ++ codes "{\"error\":\"bad-arguments\"}\n"
-    ++ codes "{\"error\":\"no-such-object\"}\n"
-    ++ codes "{\"error\":\"bad-arguments\"}\n"
-    ++ codes "{\"error\":\"bad-arguments\"}\n"
-    ++ codes "{\"error\":\"bad-arguments\"}\n"
-    ++ codes "{\"error\":\"no-such-object\"}\n"
-    ++ codes "{\"error\":\"bad-arguments\"}\n"
-    ++ codes "{\"error\":\"bad-arguments\"}\n"
-    ++ codes "{\"error\":\"bad-arguments\"}\n"
-    ++ codes "{\"error\":\"bad-arguments\"}\n"
-    ++ codes "{\"error\":\"no-such-object\"}\n"
-    ++ codes "{\"error\":\"bad-arguments\"}\n"
-    ++ codes "{\"error\":\"bad-arguments\"}\n"
-    ++ codes "{\"error\":\"bad-arguments\"}\n"
-    ++ codes "{\"error\":\"bad-arguments\"}\n"
-    ++ codes "{\"error\":\"no-such-object\"}\n"
-    ++ codes "{\"error\":\"no-such-object\"}\n"
-    ++ codes "{\"error\":\"bad-arguments\"}\n"
-    ++ codes "{\"error\":\"bad-arguments\"}\n"
-    ++ codes "{\"error\":\"bad-arguments\"}\n"
-    ++ codes "{\"error\":\"bad-arguments\"}\n"
-    ++ codes "{\"error\":\"no-such-object\"}\n"
-    ++ codes "{\"error\":\"no-such-object\"}\n"
-    ++ codes "{\"error\":\"bad-arguments\"}\n"
-    ++ codes "{\"error\":\"bad-arguments\"}\n"
-    ++ codes "{\"error\":\"bad-arguments\"}\n"
-    ++ codes "{\"error\":\"no-such-object\"}\n"
-    ++ codes "{\"ok\":4}\n"
-    ++ codes "{\"ok\":[[0,1,1,\"e\",[]]]}\n"
-    ++ codes "{\"ok\":[0,0,0,0]}\n"
-    ++ codes "{\"ok\":1}\n")
-unfolding serde_json_on_literals is_utf8 chars digits utf16_chars encode whole_table json_of command_of command_within whole_lines last_piece due
+pub ranges_refused : output_of whole_table usual_bounds (bytes_given exchanges) ≡ bytes_due exchanges
+unfolding computing
 ranges_refused = refl
 
-pub ranges_refused-ends : ends_missed whole_table bounds given ≡ []
-unfolding serde_json_on_literals is_utf8 chars digits utf16_chars encode whole_table json_of command_of command_within whole_lines last_piece due
-ranges_refused-ends = refl
-
-pub ranges_refused-texts : texts_missed whole_table bounds given ≡ []
-unfolding serde_json_on_literals is_utf8 chars digits utf16_chars encode whole_table json_of command_of command_within whole_lines last_piece due
-ranges_refused-texts = refl
-
-pub ranges_refused-worlds : worlds_missed whole_table bounds given ≡ []
-unfolding serde_json_on_literals is_utf8 chars digits utf16_chars encode whole_table json_of command_of command_within whole_lines last_piece due
-ranges_refused-worlds = refl
-
-pub ranges_refused-contents : contents_missed whole_table bounds given ≡ []
-unfolding serde_json_on_literals is_utf8 chars digits utf16_chars encode whole_table json_of command_of command_within whole_lines last_piece due
-ranges_refused-contents = refl
+pub ranges_refused-misses_nothing : MissesNothing whole_table usual_bounds (bytes_given exchanges)
+unfolding computing
+ranges_refused-misses_nothing = record { ends = refl; texts = refl; worlds = refl; contents = refl }

@@ -1,85 +1,37 @@
--- A dialogue, from bytes to bytes: walks begun refused. Of each command: the ends stand in their markers' gaps, and the edits leave its texts and world.
-use Rattle.std.specs.Prelude.{◌≡◌, refl, ℕ, List, codes, [], ◌++◌}
-use Rattle.serde_json.proofs.OnLiterals.{serde_json_on_literals}
-use Rattle.std.specs.Str.{is_utf8, chars}
-use Rattle.std.specs.Char.Utf16.{utf16_chars}
-use Rattle.std.specs.Fmt.{digits}
-use lib.Utf8.{encode}
-use Rattle.dom_model.specs.Commands.Table.{whole_table}
-use Rattle.dom_model.specs.Commands.Line.{json_of, command_of, command_within}
-use Rattle.dom_model.specs.Commands.Answer.{Bounds}
-use Rattle.dom_model.specs.Commands.Output.{whole_lines, last_piece, due, output_of}
-use Rattle.dom_model.proofs.TokenText.Agreement.{ends_missed, texts_missed, worlds_missed}
-use Rattle.dom_model.proofs.TokenText.ContentsBetween.{contents_missed}
+-- A dialogue, from bytes to bytes: walks begun refused.
+use Rattle.dom_model.proofs.Dialogues.Exchanges.{◌≡◌, refl, List, codes, [], ◌∷◌, usual_bounds, whole_table, output_of, Exchange, bytes_given, bytes_due, MissesNothing, computing}
 
-abbrev bounds : Bounds
-bounds = record { numbers = 4294967295; line = 1048576 }
+abbrev exchanges : List Exchange
+exchanges =
+    (codes "[\"createElement\",0,\"e\"]\n", codes "{\"ok\":1}\n")
+    ∷ (codes "[\"createText\",0,\"t\"]\n", codes "{\"ok\":2}\n")
+    ∷ (codes "[\"createComment\",0,\"c\"]\n", codes "{\"ok\":3}\n")
+    ∷ (codes "[\"createIterator\",0,4294967295,[]]\n", codes "{\"ok\":0}\n")
+    ∷ (codes "[\"createWalker\",0,4294967295,[]]\n", codes "{\"ok\":0}\n")
+    ∷ (codes "[\"createIterator\",1,0]\n", codes "{\"error\":\"bad-arguments\"}\n")
+    ∷ (codes "[\"createIterator\",1,0,[],0]\n", codes "{\"error\":\"bad-arguments\"}\n")
+    ∷ (codes "[\"createIterator\",\"x\",0,[]]\n", codes "{\"error\":\"bad-arguments\"}\n")
+    ∷ (codes "[\"createIterator\",1,\"x\",[]]\n", codes "{\"error\":\"bad-arguments\"}\n")
+    ∷ (codes "[\"createIterator\",1,0,{}]\n", codes "{\"error\":\"bad-arguments\"}\n")
+    ∷ (codes "[\"createIterator\",99,0,[]]\n", codes "{\"error\":\"no-such-object\"}\n")
+    ∷ (codes "[\"createWalker\",1,0]\n", codes "{\"error\":\"bad-arguments\"}\n")
+    ∷ (codes "[\"createWalker\",1,0,[],0]\n", codes "{\"error\":\"bad-arguments\"}\n")
+    ∷ (codes "[\"createWalker\",\"x\",0,[]]\n", codes "{\"error\":\"bad-arguments\"}\n")
+    ∷ (codes "[\"createWalker\",1,\"x\",[]]\n", codes "{\"error\":\"bad-arguments\"}\n")
+    ∷ (codes "[\"createWalker\",1,0,{}]\n", codes "{\"error\":\"bad-arguments\"}\n")
+    ∷ (codes "[\"createWalker\",99,0,[]]\n", codes "{\"error\":\"no-such-object\"}\n")
+    ∷ (codes "[\"createText\",0,\"t\"]\n", codes "{\"ok\":4}\n")
+    ∷ (codes "[\"tree\",1]\n", codes "{\"ok\":[[0,1,1,\"e\",[]]]}\n")
+    ∷ (codes "[\"iterator\",0]\n", codes "{\"ok\":[0,0,true]}\n")
+    ∷ (codes "[\"walker\",0]\n", codes "{\"ok\":[0,0]}\n")
+    ∷ (codes "[\"createIterator\",0,1,[]]\n", codes "{\"ok\":1}\n")
+    ∷ (codes "[\"createWalker\",0,1,[]]\n", codes "{\"ok\":1}\n")
+    ∷ []
 
-abbrev given : List ℕ
-given =
-    (codes "[\"createElement\",0,\"e\"]\n"
-    ++ codes "[\"createText\",0,\"t\"]\n"
-    ++ codes "[\"createComment\",0,\"c\"]\n"
-    ++ codes "[\"createIterator\",0,4294967295,[]]\n"
-    ++ codes "[\"createWalker\",0,4294967295,[]]\n"
-    ++ codes "[\"createIterator\",1,0]\n"
-    ++ codes "[\"createIterator\",1,0,[],0]\n"
-    ++ codes "[\"createIterator\",\"x\",0,[]]\n"
-    ++ codes "[\"createIterator\",1,\"x\",[]]\n"
-    ++ codes "[\"createIterator\",1,0,{}]\n"
-    ++ codes "[\"createIterator\",99,0,[]]\n"
-    ++ codes "[\"createWalker\",1,0]\n"
-    ++ codes "[\"createWalker\",1,0,[],0]\n"
-    ++ codes "[\"createWalker\",\"x\",0,[]]\n"
-    ++ codes "[\"createWalker\",1,\"x\",[]]\n"
-    ++ codes "[\"createWalker\",1,0,{}]\n"
-    ++ codes "[\"createWalker\",99,0,[]]\n"
-    ++ codes "[\"createText\",0,\"t\"]\n"
-    ++ codes "[\"tree\",1]\n"
-    ++ codes "[\"iterator\",0]\n"
-    ++ codes "[\"walker\",0]\n"
-    ++ codes "[\"createIterator\",0,1,[]]\n"
-    ++ codes "[\"createWalker\",0,1,[]]\n")
-
-pub walks_begun_refused : output_of whole_table bounds given ≡
-    (codes "{\"ok\":1}\n"
-    ++ codes "{\"ok\":2}\n"
-    ++ codes "{\"ok\":3}\n"
-    ++ codes "{\"ok\":0}\n"
-    ++ codes "{\"ok\":0}\n"
-    ++ codes "{\"error\":\"bad-arguments\"}\n"
-    ++ codes "{\"error\":\"bad-arguments\"}\n"
-    ++ codes "{\"error\":\"bad-arguments\"}\n"
-    ++ codes "{\"error\":\"bad-arguments\"}\n"
-    ++ codes "{\"error\":\"bad-arguments\"}\n"
-    ++ codes "{\"error\":\"no-such-object\"}\n"
-    ++ codes "{\"error\":\"bad-arguments\"}\n"
-    ++ codes "{\"error\":\"bad-arguments\"}\n"
-    ++ codes "{\"error\":\"bad-arguments\"}\n"
-    ++ codes "{\"error\":\"bad-arguments\"}\n"
-    ++ codes "{\"error\":\"bad-arguments\"}\n"
-    ++ codes "{\"error\":\"no-such-object\"}\n"
-    ++ codes "{\"ok\":4}\n"
-    ++ codes "{\"ok\":[[0,1,1,\"e\",[]]]}\n"
-    ++ codes "{\"ok\":[0,0,true]}\n"
-    ++ codes "{\"ok\":[0,0]}\n"
-    ++ codes "{\"ok\":1}\n"
-    ++ codes "{\"ok\":1}\n")
-unfolding serde_json_on_literals is_utf8 chars digits utf16_chars encode whole_table json_of command_of command_within whole_lines last_piece due
+pub walks_begun_refused : output_of whole_table usual_bounds (bytes_given exchanges) ≡ bytes_due exchanges
+unfolding computing
 walks_begun_refused = refl
 
-pub walks_begun_refused-ends : ends_missed whole_table bounds given ≡ []
-unfolding serde_json_on_literals is_utf8 chars digits utf16_chars encode whole_table json_of command_of command_within whole_lines last_piece due
-walks_begun_refused-ends = refl
-
-pub walks_begun_refused-texts : texts_missed whole_table bounds given ≡ []
-unfolding serde_json_on_literals is_utf8 chars digits utf16_chars encode whole_table json_of command_of command_within whole_lines last_piece due
-walks_begun_refused-texts = refl
-
-pub walks_begun_refused-worlds : worlds_missed whole_table bounds given ≡ []
-unfolding serde_json_on_literals is_utf8 chars digits utf16_chars encode whole_table json_of command_of command_within whole_lines last_piece due
-walks_begun_refused-worlds = refl
-
-pub walks_begun_refused-contents : contents_missed whole_table bounds given ≡ []
-unfolding serde_json_on_literals is_utf8 chars digits utf16_chars encode whole_table json_of command_of command_within whole_lines last_piece due
-walks_begun_refused-contents = refl
+pub walks_begun_refused-misses_nothing : MissesNothing whole_table usual_bounds (bytes_given exchanges)
+unfolding computing
+walks_begun_refused-misses_nothing = record { ends = refl; texts = refl; worlds = refl; contents = refl }

@@ -1,45 +1,20 @@
--- A dialogue, from bytes to bytes: lines limited. Of each command: the ends stand in their markers' gaps, and the edits leave its texts and world.
-use Rattle.std.specs.Prelude.{◌≡◌, refl, ℕ, List, codes, [], ◌++◌}
-use Rattle.serde_json.proofs.OnLiterals.{serde_json_on_literals}
-use Rattle.std.specs.Str.{is_utf8, chars}
-use Rattle.std.specs.Char.Utf16.{utf16_chars}
-use Rattle.std.specs.Fmt.{digits}
-use lib.Utf8.{encode}
-use Rattle.dom_model.specs.Commands.Table.{whole_table}
-use Rattle.dom_model.specs.Commands.Line.{json_of, command_of, command_within}
-use Rattle.dom_model.specs.Commands.Answer.{Bounds}
-use Rattle.dom_model.specs.Commands.Output.{whole_lines, last_piece, due, output_of}
-use Rattle.dom_model.proofs.TokenText.Agreement.{ends_missed, texts_missed, worlds_missed}
-use Rattle.dom_model.proofs.TokenText.ContentsBetween.{contents_missed}
+-- A dialogue, from bytes to bytes: lines limited.
+use Rattle.dom_model.proofs.Dialogues.Exchanges.{◌≡◌, refl, List, codes, [], ◌∷◌, Bounds, whole_table, output_of, Exchange, bytes_given, bytes_due, MissesNothing, computing}
 
 abbrev bounds : Bounds
 bounds = record { numbers = 4294967295; line = 10 }
 
-abbrev given : List ℕ
-given =
-    (codes "[\"tree\",0]\n"
-    ++ codes "[\"tree\",0] \n"
-    ++ codes "[\"tree\",0]\n")
+abbrev exchanges : List Exchange
+exchanges =
+    (codes "[\"tree\",0]\n", codes "{\"ok\":[[0,0,9,\"#document\"]]}\n")
+    ∷ (codes "[\"tree\",0] \n", codes "{\"error\":\"line-too-long\"}\n")
+    ∷ (codes "[\"tree\",0]\n", codes "{\"ok\":[[0,0,9,\"#document\"]]}\n")
+    ∷ []
 
-pub lines_limited : output_of whole_table bounds given ≡
-    (codes "{\"ok\":[[0,0,9,\"#document\"]]}\n"
-    ++ codes "{\"error\":\"line-too-long\"}\n"
-    ++ codes "{\"ok\":[[0,0,9,\"#document\"]]}\n")
-unfolding serde_json_on_literals is_utf8 chars digits utf16_chars encode whole_table json_of command_of command_within whole_lines last_piece due
+pub lines_limited : output_of whole_table bounds (bytes_given exchanges) ≡ bytes_due exchanges
+unfolding computing
 lines_limited = refl
 
-pub lines_limited-ends : ends_missed whole_table bounds given ≡ []
-unfolding serde_json_on_literals is_utf8 chars digits utf16_chars encode whole_table json_of command_of command_within whole_lines last_piece due
-lines_limited-ends = refl
-
-pub lines_limited-texts : texts_missed whole_table bounds given ≡ []
-unfolding serde_json_on_literals is_utf8 chars digits utf16_chars encode whole_table json_of command_of command_within whole_lines last_piece due
-lines_limited-texts = refl
-
-pub lines_limited-worlds : worlds_missed whole_table bounds given ≡ []
-unfolding serde_json_on_literals is_utf8 chars digits utf16_chars encode whole_table json_of command_of command_within whole_lines last_piece due
-lines_limited-worlds = refl
-
-pub lines_limited-contents : contents_missed whole_table bounds given ≡ []
-unfolding serde_json_on_literals is_utf8 chars digits utf16_chars encode whole_table json_of command_of command_within whole_lines last_piece due
-lines_limited-contents = refl
+pub lines_limited-misses_nothing : MissesNothing whole_table bounds (bytes_given exchanges)
+unfolding computing
+lines_limited-misses_nothing = record { ends = refl; texts = refl; worlds = refl; contents = refl }

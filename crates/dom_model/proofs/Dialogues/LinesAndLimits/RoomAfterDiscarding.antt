@@ -1,47 +1,21 @@
--- A dialogue, from bytes to bytes: room after discarding. Of each command: the ends stand in their markers' gaps, and the edits leave its texts and world.
-use Rattle.std.specs.Prelude.{◌≡◌, refl, ℕ, List, codes, [], ◌++◌}
-use Rattle.serde_json.proofs.OnLiterals.{serde_json_on_literals}
-use Rattle.std.specs.Str.{is_utf8, chars}
-use Rattle.std.specs.Char.Utf16.{utf16_chars}
-use Rattle.std.specs.Fmt.{digits}
-use lib.Utf8.{encode}
-use Rattle.dom_model.specs.Commands.Table.{whole_table}
-use Rattle.dom_model.specs.Commands.Line.{json_of, command_of, command_within}
-use Rattle.dom_model.specs.Commands.Answer.{Bounds}
-use Rattle.dom_model.specs.Commands.Output.{whole_lines, last_piece, due, output_of}
-use Rattle.dom_model.proofs.TokenText.Agreement.{ends_missed, texts_missed, worlds_missed}
-use Rattle.dom_model.proofs.TokenText.ContentsBetween.{contents_missed}
+-- A dialogue, from bytes to bytes: room after discarding.
+use Rattle.dom_model.proofs.Dialogues.Exchanges.{◌≡◌, refl, List, codes, [], ◌∷◌, Bounds, whole_table, output_of, Exchange, bytes_given, bytes_due, MissesNothing, computing}
 
 abbrev bounds : Bounds
 bounds = record { numbers = 13; line = 1048576 }
 
-abbrev given : List ℕ
-given =
-    (codes "[\"createText\",0,\"a\"]\n"
-    ++ codes "[\"cloneNode\",0,false]\n"
-    ++ codes "[\"discard\",1]\n"
-    ++ codes "[\"cloneNode\",0,false]\n")
+abbrev exchanges : List Exchange
+exchanges =
+    (codes "[\"createText\",0,\"a\"]\n", codes "{\"ok\":1}\n")
+    ∷ (codes "[\"cloneNode\",0,false]\n", codes "{\"error\":\"limit\"}\n")
+    ∷ (codes "[\"discard\",1]\n", codes "{\"ok\":null}\n")
+    ∷ (codes "[\"cloneNode\",0,false]\n", codes "{\"ok\":2}\n")
+    ∷ []
 
-pub room_after_discarding : output_of whole_table bounds given ≡
-    (codes "{\"ok\":1}\n"
-    ++ codes "{\"error\":\"limit\"}\n"
-    ++ codes "{\"ok\":null}\n"
-    ++ codes "{\"ok\":2}\n")
-unfolding serde_json_on_literals is_utf8 chars digits utf16_chars encode whole_table json_of command_of command_within whole_lines last_piece due
+pub room_after_discarding : output_of whole_table bounds (bytes_given exchanges) ≡ bytes_due exchanges
+unfolding computing
 room_after_discarding = refl
 
-pub room_after_discarding-ends : ends_missed whole_table bounds given ≡ []
-unfolding serde_json_on_literals is_utf8 chars digits utf16_chars encode whole_table json_of command_of command_within whole_lines last_piece due
-room_after_discarding-ends = refl
-
-pub room_after_discarding-texts : texts_missed whole_table bounds given ≡ []
-unfolding serde_json_on_literals is_utf8 chars digits utf16_chars encode whole_table json_of command_of command_within whole_lines last_piece due
-room_after_discarding-texts = refl
-
-pub room_after_discarding-worlds : worlds_missed whole_table bounds given ≡ []
-unfolding serde_json_on_literals is_utf8 chars digits utf16_chars encode whole_table json_of command_of command_within whole_lines last_piece due
-room_after_discarding-worlds = refl
-
-pub room_after_discarding-contents : contents_missed whole_table bounds given ≡ []
-unfolding serde_json_on_literals is_utf8 chars digits utf16_chars encode whole_table json_of command_of command_within whole_lines last_piece due
-room_after_discarding-contents = refl
+pub room_after_discarding-misses_nothing : MissesNothing whole_table bounds (bytes_given exchanges)
+unfolding computing
+room_after_discarding-misses_nothing = record { ends = refl; texts = refl; worlds = refl; contents = refl }

@@ -1,87 +1,38 @@
--- A dialogue, from bytes to bytes: ends at joined texts. Of each command: the ends stand in their markers' gaps, and the edits leave its texts and world.
-use Rattle.std.specs.Prelude.{◌≡◌, refl, ℕ, List, codes, [], ◌++◌}
-use Rattle.serde_json.proofs.OnLiterals.{serde_json_on_literals}
-use Rattle.std.specs.Str.{is_utf8, chars}
-use Rattle.std.specs.Char.Utf16.{utf16_chars}
-use Rattle.std.specs.Fmt.{digits}
-use lib.Utf8.{encode}
-use Rattle.dom_model.specs.Commands.Table.{whole_table}
-use Rattle.dom_model.specs.Commands.Line.{json_of, command_of, command_within}
-use Rattle.dom_model.specs.Commands.Answer.{Bounds}
-use Rattle.dom_model.specs.Commands.Output.{whole_lines, last_piece, due, output_of}
-use Rattle.dom_model.proofs.TokenText.Agreement.{ends_missed, texts_missed, worlds_missed}
-use Rattle.dom_model.proofs.TokenText.ContentsBetween.{contents_missed}
+-- A dialogue, from bytes to bytes: ends at joined texts.
+use Rattle.dom_model.proofs.Dialogues.Exchanges.{◌≡◌, refl, List, codes, [], ◌∷◌, usual_bounds, whole_table, output_of, Exchange, bytes_given, bytes_due, MissesNothing, computing}
 
-abbrev bounds : Bounds
-bounds = record { numbers = 4294967295; line = 1048576 }
+abbrev exchanges : List Exchange
+exchanges =
+    (codes "[\"createElement\",0,\"p\"]\n", codes "{\"ok\":1}\n")
+    ∷ (codes "[\"createText\",0,\"a\"]\n", codes "{\"ok\":2}\n")
+    ∷ (codes "[\"createText\",0,\"bc\"]\n", codes "{\"ok\":3}\n")
+    ∷ (codes "[\"createText\",0,\"\"]\n", codes "{\"ok\":4}\n")
+    ∷ (codes "[\"createText\",0,\"d\"]\n", codes "{\"ok\":5}\n")
+    ∷ (codes "[\"appendChild\",1,2]\n", codes "{\"ok\":2}\n")
+    ∷ (codes "[\"appendChild\",1,3]\n", codes "{\"ok\":3}\n")
+    ∷ (codes "[\"appendChild\",1,4]\n", codes "{\"ok\":4}\n")
+    ∷ (codes "[\"appendChild\",1,5]\n", codes "{\"ok\":5}\n")
+    ∷ (codes "[\"createRange\",0]\n", codes "{\"ok\":0}\n")
+    ∷ (codes "[\"createRange\",0]\n", codes "{\"ok\":1}\n")
+    ∷ (codes "[\"createRange\",0]\n", codes "{\"ok\":2}\n")
+    ∷ (codes "[\"setStart\",0,1,1]\n", codes "{\"ok\":null}\n")
+    ∷ (codes "[\"setEnd\",0,3,1]\n", codes "{\"ok\":null}\n")
+    ∷ (codes "[\"setStart\",1,1,3]\n", codes "{\"ok\":null}\n")
+    ∷ (codes "[\"setEnd\",1,1,4]\n", codes "{\"ok\":null}\n")
+    ∷ (codes "[\"setStart\",2,2,1]\n", codes "{\"ok\":null}\n")
+    ∷ (codes "[\"setEnd\",2,5,0]\n", codes "{\"ok\":null}\n")
+    ∷ (codes "[\"normalize\",1]\n", codes "{\"ok\":null}\n")
+    ∷ (codes "[\"children\",1]\n", codes "{\"ok\":[2]}\n")
+    ∷ (codes "[\"data\",2]\n", codes "{\"ok\":\"abcd\"}\n")
+    ∷ (codes "[\"range\",0]\n", codes "{\"ok\":[2,1,2,2]}\n")
+    ∷ (codes "[\"range\",1]\n", codes "{\"ok\":[2,3,1,1]}\n")
+    ∷ (codes "[\"range\",2]\n", codes "{\"ok\":[2,1,2,3]}\n")
+    ∷ []
 
-abbrev given : List ℕ
-given =
-    (codes "[\"createElement\",0,\"p\"]\n"
-    ++ codes "[\"createText\",0,\"a\"]\n"
-    ++ codes "[\"createText\",0,\"bc\"]\n"
-    ++ codes "[\"createText\",0,\"\"]\n"
-    ++ codes "[\"createText\",0,\"d\"]\n"
-    ++ codes "[\"appendChild\",1,2]\n"
-    ++ codes "[\"appendChild\",1,3]\n"
-    ++ codes "[\"appendChild\",1,4]\n"
-    ++ codes "[\"appendChild\",1,5]\n"
-    ++ codes "[\"createRange\",0]\n"
-    ++ codes "[\"createRange\",0]\n"
-    ++ codes "[\"createRange\",0]\n"
-    ++ codes "[\"setStart\",0,1,1]\n"
-    ++ codes "[\"setEnd\",0,3,1]\n"
-    ++ codes "[\"setStart\",1,1,3]\n"
-    ++ codes "[\"setEnd\",1,1,4]\n"
-    ++ codes "[\"setStart\",2,2,1]\n"
-    ++ codes "[\"setEnd\",2,5,0]\n"
-    ++ codes "[\"normalize\",1]\n"
-    ++ codes "[\"children\",1]\n"
-    ++ codes "[\"data\",2]\n"
-    ++ codes "[\"range\",0]\n"
-    ++ codes "[\"range\",1]\n"
-    ++ codes "[\"range\",2]\n")
-
-pub ends_at_joined_texts : output_of whole_table bounds given ≡
-    (codes "{\"ok\":1}\n"
-    ++ codes "{\"ok\":2}\n"
-    ++ codes "{\"ok\":3}\n"
-    ++ codes "{\"ok\":4}\n"
-    ++ codes "{\"ok\":5}\n"
-    ++ codes "{\"ok\":2}\n"
-    ++ codes "{\"ok\":3}\n"
-    ++ codes "{\"ok\":4}\n"
-    ++ codes "{\"ok\":5}\n"
-    ++ codes "{\"ok\":0}\n"
-    ++ codes "{\"ok\":1}\n"
-    ++ codes "{\"ok\":2}\n"
-    ++ codes "{\"ok\":null}\n"
-    ++ codes "{\"ok\":null}\n"
-    ++ codes "{\"ok\":null}\n"
-    ++ codes "{\"ok\":null}\n"
-    ++ codes "{\"ok\":null}\n"
-    ++ codes "{\"ok\":null}\n"
-    ++ codes "{\"ok\":null}\n"
-    ++ codes "{\"ok\":[2]}\n"
-    ++ codes "{\"ok\":\"abcd\"}\n"
-    ++ codes "{\"ok\":[2,1,2,2]}\n"
-    ++ codes "{\"ok\":[2,3,1,1]}\n"
-    ++ codes "{\"ok\":[2,1,2,3]}\n")
-unfolding serde_json_on_literals is_utf8 chars digits utf16_chars encode whole_table json_of command_of command_within whole_lines last_piece due
+pub ends_at_joined_texts : output_of whole_table usual_bounds (bytes_given exchanges) ≡ bytes_due exchanges
+unfolding computing
 ends_at_joined_texts = refl
 
-pub ends_at_joined_texts-ends : ends_missed whole_table bounds given ≡ []
-unfolding serde_json_on_literals is_utf8 chars digits utf16_chars encode whole_table json_of command_of command_within whole_lines last_piece due
-ends_at_joined_texts-ends = refl
-
-pub ends_at_joined_texts-texts : texts_missed whole_table bounds given ≡ []
-unfolding serde_json_on_literals is_utf8 chars digits utf16_chars encode whole_table json_of command_of command_within whole_lines last_piece due
-ends_at_joined_texts-texts = refl
-
-pub ends_at_joined_texts-worlds : worlds_missed whole_table bounds given ≡ []
-unfolding serde_json_on_literals is_utf8 chars digits utf16_chars encode whole_table json_of command_of command_within whole_lines last_piece due
-ends_at_joined_texts-worlds = refl
-
-pub ends_at_joined_texts-contents : contents_missed whole_table bounds given ≡ []
-unfolding serde_json_on_literals is_utf8 chars digits utf16_chars encode whole_table json_of command_of command_within whole_lines last_piece due
-ends_at_joined_texts-contents = refl
+pub ends_at_joined_texts-misses_nothing : MissesNothing whole_table usual_bounds (bytes_given exchanges)
+unfolding computing
+ends_at_joined_texts-misses_nothing = record { ends = refl; texts = refl; worlds = refl; contents = refl }

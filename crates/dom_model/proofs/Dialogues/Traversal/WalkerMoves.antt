@@ -1,91 +1,40 @@
--- A dialogue, from bytes to bytes: walker moves. Of each command: the ends stand in their markers' gaps, and the edits leave its texts and world.
-use Rattle.std.specs.Prelude.{◌≡◌, refl, ℕ, List, codes, [], ◌++◌}
-use Rattle.serde_json.proofs.OnLiterals.{serde_json_on_literals}
-use Rattle.std.specs.Str.{is_utf8, chars}
-use Rattle.std.specs.Char.Utf16.{utf16_chars}
-use Rattle.std.specs.Fmt.{digits}
-use lib.Utf8.{encode}
-use Rattle.dom_model.specs.Commands.Table.{whole_table}
-use Rattle.dom_model.specs.Commands.Line.{json_of, command_of, command_within}
-use Rattle.dom_model.specs.Commands.Answer.{Bounds}
-use Rattle.dom_model.specs.Commands.Output.{whole_lines, last_piece, due, output_of}
-use Rattle.dom_model.proofs.TokenText.Agreement.{ends_missed, texts_missed, worlds_missed}
-use Rattle.dom_model.proofs.TokenText.ContentsBetween.{contents_missed}
+-- A dialogue, from bytes to bytes: walker moves.
+use Rattle.dom_model.proofs.Dialogues.Exchanges.{◌≡◌, refl, List, codes, [], ◌∷◌, usual_bounds, whole_table, output_of, Exchange, bytes_given, bytes_due, MissesNothing, computing}
 
-abbrev bounds : Bounds
-bounds = record { numbers = 4294967295; line = 1048576 }
+abbrev exchanges : List Exchange
+exchanges =
+    (codes "[\"createElement\",0,\"r\"]\n", codes "{\"ok\":1}\n")
+    ∷ (codes "[\"createElement\",0,\"a\"]\n", codes "{\"ok\":2}\n")
+    ∷ (codes "[\"createElement\",0,\"b\"]\n", codes "{\"ok\":3}\n")
+    ∷ (codes "[\"createElement\",0,\"c\"]\n", codes "{\"ok\":4}\n")
+    ∷ (codes "[\"appendChild\",1,2]\n", codes "{\"ok\":2}\n")
+    ∷ (codes "[\"appendChild\",2,3]\n", codes "{\"ok\":3}\n")
+    ∷ (codes "[\"appendChild\",1,4]\n", codes "{\"ok\":4}\n")
+    ∷ (codes "[\"createWalker\",1,4294967295,[[\"a\",\"skip\"]]]\n", codes "{\"ok\":0}\n")
+    ∷ (codes "[\"createWalker\",1,4294967295,[[\"a\",\"reject\"]]]\n", codes "{\"ok\":1}\n")
+    ∷ (codes "[\"walk\",0,\"nextNode\"]\n", codes "{\"ok\":3}\n")
+    ∷ (codes "[\"walk\",1,\"nextNode\"]\n", codes "{\"ok\":4}\n")
+    ∷ (codes "[\"walk\",1,\"nextNode\"]\n", codes "{\"ok\":null}\n")
+    ∷ (codes "[\"walk\",0,\"parentNode\"]\n", codes "{\"ok\":1}\n")
+    ∷ (codes "[\"walk\",0,\"firstChild\"]\n", codes "{\"ok\":3}\n")
+    ∷ (codes "[\"walk\",0,\"nextSibling\"]\n", codes "{\"ok\":4}\n")
+    ∷ (codes "[\"walk\",0,\"previousSibling\"]\n", codes "{\"ok\":3}\n")
+    ∷ (codes "[\"createElement\",0,\"s\"]\n", codes "{\"ok\":5}\n")
+    ∷ (codes "[\"appendChild\",5,1]\n", codes "{\"ok\":1}\n")
+    ∷ (codes "[\"createText\",0,\"t\"]\n", codes "{\"ok\":6}\n")
+    ∷ (codes "[\"appendChild\",5,6]\n", codes "{\"ok\":6}\n")
+    ∷ (codes "[\"setCurrent\",0,6]\n", codes "{\"ok\":null}\n")
+    ∷ (codes "[\"walk\",0,\"nextNode\"]\n", codes "{\"ok\":null}\n")
+    ∷ (codes "[\"walk\",0,\"previousNode\"]\n", codes "{\"ok\":4}\n")
+    ∷ (codes "[\"setCurrent\",1,2]\n", codes "{\"ok\":null}\n")
+    ∷ (codes "[\"walk\",1,\"previousNode\"]\n", codes "{\"ok\":1}\n")
+    ∷ (codes "[\"walk\",1,\"previousNode\"]\n", codes "{\"ok\":null}\n")
+    ∷ []
 
-abbrev given : List ℕ
-given =
-    (codes "[\"createElement\",0,\"r\"]\n"
-    ++ codes "[\"createElement\",0,\"a\"]\n"
-    ++ codes "[\"createElement\",0,\"b\"]\n"
-    ++ codes "[\"createElement\",0,\"c\"]\n"
-    ++ codes "[\"appendChild\",1,2]\n"
-    ++ codes "[\"appendChild\",2,3]\n"
-    ++ codes "[\"appendChild\",1,4]\n"
-    ++ codes "[\"createWalker\",1,4294967295,[[\"a\",\"skip\"]]]\n"
-    ++ codes "[\"createWalker\",1,4294967295,[[\"a\",\"reject\"]]]\n"
-    ++ codes "[\"walk\",0,\"nextNode\"]\n"
-    ++ codes "[\"walk\",1,\"nextNode\"]\n"
-    ++ codes "[\"walk\",1,\"nextNode\"]\n"
-    ++ codes "[\"walk\",0,\"parentNode\"]\n"
-    ++ codes "[\"walk\",0,\"firstChild\"]\n"
-    ++ codes "[\"walk\",0,\"nextSibling\"]\n"
-    ++ codes "[\"walk\",0,\"previousSibling\"]\n"
-    ++ codes "[\"createElement\",0,\"s\"]\n"
-    ++ codes "[\"appendChild\",5,1]\n"
-    ++ codes "[\"createText\",0,\"t\"]\n"
-    ++ codes "[\"appendChild\",5,6]\n"
-    ++ codes "[\"setCurrent\",0,6]\n"
-    ++ codes "[\"walk\",0,\"nextNode\"]\n"
-    ++ codes "[\"walk\",0,\"previousNode\"]\n"
-    ++ codes "[\"setCurrent\",1,2]\n"
-    ++ codes "[\"walk\",1,\"previousNode\"]\n"
-    ++ codes "[\"walk\",1,\"previousNode\"]\n")
-
-pub walker_moves : output_of whole_table bounds given ≡
-    (codes "{\"ok\":1}\n"
-    ++ codes "{\"ok\":2}\n"
-    ++ codes "{\"ok\":3}\n"
-    ++ codes "{\"ok\":4}\n"
-    ++ codes "{\"ok\":2}\n"
-    ++ codes "{\"ok\":3}\n"
-    ++ codes "{\"ok\":4}\n"
-    ++ codes "{\"ok\":0}\n"
-    ++ codes "{\"ok\":1}\n"
-    ++ codes "{\"ok\":3}\n"
-    ++ codes "{\"ok\":4}\n"
-    ++ codes "{\"ok\":null}\n"
-    ++ codes "{\"ok\":1}\n"
-    ++ codes "{\"ok\":3}\n"
-    ++ codes "{\"ok\":4}\n"
-    ++ codes "{\"ok\":3}\n"
-    ++ codes "{\"ok\":5}\n"
-    ++ codes "{\"ok\":1}\n"
-    ++ codes "{\"ok\":6}\n"
-    ++ codes "{\"ok\":6}\n"
-    ++ codes "{\"ok\":null}\n"
-    ++ codes "{\"ok\":null}\n"
-    ++ codes "{\"ok\":4}\n"
-    ++ codes "{\"ok\":null}\n"
-    ++ codes "{\"ok\":1}\n"
-    ++ codes "{\"ok\":null}\n")
-unfolding serde_json_on_literals is_utf8 chars digits utf16_chars encode whole_table json_of command_of command_within whole_lines last_piece due
+pub walker_moves : output_of whole_table usual_bounds (bytes_given exchanges) ≡ bytes_due exchanges
+unfolding computing
 walker_moves = refl
 
-pub walker_moves-ends : ends_missed whole_table bounds given ≡ []
-unfolding serde_json_on_literals is_utf8 chars digits utf16_chars encode whole_table json_of command_of command_within whole_lines last_piece due
-walker_moves-ends = refl
-
-pub walker_moves-texts : texts_missed whole_table bounds given ≡ []
-unfolding serde_json_on_literals is_utf8 chars digits utf16_chars encode whole_table json_of command_of command_within whole_lines last_piece due
-walker_moves-texts = refl
-
-pub walker_moves-worlds : worlds_missed whole_table bounds given ≡ []
-unfolding serde_json_on_literals is_utf8 chars digits utf16_chars encode whole_table json_of command_of command_within whole_lines last_piece due
-walker_moves-worlds = refl
-
-pub walker_moves-contents : contents_missed whole_table bounds given ≡ []
-unfolding serde_json_on_literals is_utf8 chars digits utf16_chars encode whole_table json_of command_of command_within whole_lines last_piece due
-walker_moves-contents = refl
+pub walker_moves-misses_nothing : MissesNothing whole_table usual_bounds (bytes_given exchanges)
+unfolding computing
+walker_moves-misses_nothing = record { ends = refl; texts = refl; worlds = refl; contents = refl }

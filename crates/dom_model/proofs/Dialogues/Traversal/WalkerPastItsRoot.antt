@@ -1,61 +1,25 @@
--- A dialogue, from bytes to bytes: walker past its root. Of each command: the ends stand in their markers' gaps, and the edits leave its texts and world.
-use Rattle.std.specs.Prelude.{◌≡◌, refl, ℕ, List, codes, [], ◌++◌}
-use Rattle.serde_json.proofs.OnLiterals.{serde_json_on_literals}
-use Rattle.std.specs.Str.{is_utf8, chars}
-use Rattle.std.specs.Char.Utf16.{utf16_chars}
-use Rattle.std.specs.Fmt.{digits}
-use lib.Utf8.{encode}
-use Rattle.dom_model.specs.Commands.Table.{whole_table}
-use Rattle.dom_model.specs.Commands.Line.{json_of, command_of, command_within}
-use Rattle.dom_model.specs.Commands.Answer.{Bounds}
-use Rattle.dom_model.specs.Commands.Output.{whole_lines, last_piece, due, output_of}
-use Rattle.dom_model.proofs.TokenText.Agreement.{ends_missed, texts_missed, worlds_missed}
-use Rattle.dom_model.proofs.TokenText.ContentsBetween.{contents_missed}
+-- A dialogue, from bytes to bytes: walker past its root.
+use Rattle.dom_model.proofs.Dialogues.Exchanges.{◌≡◌, refl, List, codes, [], ◌∷◌, usual_bounds, whole_table, output_of, Exchange, bytes_given, bytes_due, MissesNothing, computing}
 
-abbrev bounds : Bounds
-bounds = record { numbers = 4294967295; line = 1048576 }
+abbrev exchanges : List Exchange
+exchanges =
+    (codes "[\"createElement\",0,\"p\"]\n", codes "{\"ok\":1}\n")
+    ∷ (codes "[\"createElement\",0,\"a\"]\n", codes "{\"ok\":2}\n")
+    ∷ (codes "[\"createElement\",0,\"b\"]\n", codes "{\"ok\":3}\n")
+    ∷ (codes "[\"createElement\",0,\"c\"]\n", codes "{\"ok\":4}\n")
+    ∷ (codes "[\"appendChild\",1,2]\n", codes "{\"ok\":2}\n")
+    ∷ (codes "[\"appendChild\",1,3]\n", codes "{\"ok\":3}\n")
+    ∷ (codes "[\"appendChild\",1,4]\n", codes "{\"ok\":4}\n")
+    ∷ (codes "[\"createWalker\",3,4294967295,[[\"b\",\"skip\"]]]\n", codes "{\"ok\":0}\n")
+    ∷ (codes "[\"setCurrent\",0,4]\n", codes "{\"ok\":null}\n")
+    ∷ (codes "[\"walk\",0,\"previousNode\"]\n", codes "{\"ok\":2}\n")
+    ∷ (codes "[\"walker\",0]\n", codes "{\"ok\":[3,2]}\n")
+    ∷ []
 
-abbrev given : List ℕ
-given =
-    (codes "[\"createElement\",0,\"p\"]\n"
-    ++ codes "[\"createElement\",0,\"a\"]\n"
-    ++ codes "[\"createElement\",0,\"b\"]\n"
-    ++ codes "[\"createElement\",0,\"c\"]\n"
-    ++ codes "[\"appendChild\",1,2]\n"
-    ++ codes "[\"appendChild\",1,3]\n"
-    ++ codes "[\"appendChild\",1,4]\n"
-    ++ codes "[\"createWalker\",3,4294967295,[[\"b\",\"skip\"]]]\n"
-    ++ codes "[\"setCurrent\",0,4]\n"
-    ++ codes "[\"walk\",0,\"previousNode\"]\n"
-    ++ codes "[\"walker\",0]\n")
-
-pub walker_past_its_root : output_of whole_table bounds given ≡
-    (codes "{\"ok\":1}\n"
-    ++ codes "{\"ok\":2}\n"
-    ++ codes "{\"ok\":3}\n"
-    ++ codes "{\"ok\":4}\n"
-    ++ codes "{\"ok\":2}\n"
-    ++ codes "{\"ok\":3}\n"
-    ++ codes "{\"ok\":4}\n"
-    ++ codes "{\"ok\":0}\n"
-    ++ codes "{\"ok\":null}\n"
-    ++ codes "{\"ok\":2}\n"
-    ++ codes "{\"ok\":[3,2]}\n")
-unfolding serde_json_on_literals is_utf8 chars digits utf16_chars encode whole_table json_of command_of command_within whole_lines last_piece due
+pub walker_past_its_root : output_of whole_table usual_bounds (bytes_given exchanges) ≡ bytes_due exchanges
+unfolding computing
 walker_past_its_root = refl
 
-pub walker_past_its_root-ends : ends_missed whole_table bounds given ≡ []
-unfolding serde_json_on_literals is_utf8 chars digits utf16_chars encode whole_table json_of command_of command_within whole_lines last_piece due
-walker_past_its_root-ends = refl
-
-pub walker_past_its_root-texts : texts_missed whole_table bounds given ≡ []
-unfolding serde_json_on_literals is_utf8 chars digits utf16_chars encode whole_table json_of command_of command_within whole_lines last_piece due
-walker_past_its_root-texts = refl
-
-pub walker_past_its_root-worlds : worlds_missed whole_table bounds given ≡ []
-unfolding serde_json_on_literals is_utf8 chars digits utf16_chars encode whole_table json_of command_of command_within whole_lines last_piece due
-walker_past_its_root-worlds = refl
-
-pub walker_past_its_root-contents : contents_missed whole_table bounds given ≡ []
-unfolding serde_json_on_literals is_utf8 chars digits utf16_chars encode whole_table json_of command_of command_within whole_lines last_piece due
-walker_past_its_root-contents = refl
+pub walker_past_its_root-misses_nothing : MissesNothing whole_table usual_bounds (bytes_given exchanges)
+unfolding computing
+walker_past_its_root-misses_nothing = record { ends = refl; texts = refl; worlds = refl; contents = refl }

@@ -1,51 +1,19 @@
--- A dialogue, from bytes to bytes: data counted in units. Of each command: the ends stand in their markers' gaps, and the edits leave its texts and world.
-use Rattle.std.specs.Prelude.{◌≡◌, refl, ℕ, List, codes, [], ◌∷◌, ◌++◌}
-use Rattle.serde_json.proofs.OnLiterals.{serde_json_on_literals}
-use Rattle.std.specs.Str.{is_utf8, chars}
-use Rattle.std.specs.Char.Utf16.{utf16_chars}
-use Rattle.std.specs.Fmt.{digits}
-use lib.Utf8.{encode}
-use Rattle.dom_model.specs.Commands.Table.{whole_table}
-use Rattle.dom_model.specs.Commands.Line.{json_of, command_of, command_within}
-use Rattle.dom_model.specs.Commands.Answer.{Bounds}
-use Rattle.dom_model.specs.Commands.Output.{whole_lines, last_piece, due, output_of}
-use Rattle.dom_model.proofs.TokenText.Agreement.{ends_missed, texts_missed, worlds_missed}
-use Rattle.dom_model.proofs.TokenText.ContentsBetween.{contents_missed}
+-- A dialogue, from bytes to bytes: data counted in units.
+use Rattle.dom_model.proofs.Dialogues.Exchanges.{◌≡◌, refl, List, codes, [], ◌∷◌, ◌++◌, usual_bounds, whole_table, output_of, Exchange, bytes_given, bytes_due, MissesNothing, computing}
 
-abbrev bounds : Bounds
-bounds = record { numbers = 4294967295; line = 1048576 }
+abbrev exchanges : List Exchange
+exchanges =
+    (codes "[\"createText\",0,\"a" ++ (240 ∷ 159 ∷ 152 ∷ 128 ∷ []) ++ codes "b\"]\n", codes "{\"ok\":1}\n")
+    ∷ (codes "[\"length\",1]\n", codes "{\"ok\":4}\n")
+    ∷ (codes "[\"splitText\",1,2]\n", codes "{\"ok\":2}\n")
+    ∷ (codes "[\"data\",1]\n", codes "{\"ok\":[97,55357]}\n")
+    ∷ (codes "[\"data\",2]\n", codes "{\"ok\":[56832,98]}\n")
+    ∷ []
 
-abbrev given : List ℕ
-given =
-    (codes "[\"createText\",0,\"a"
-    ++ (240 ∷ 159 ∷ 152 ∷ 128 ∷ [])
-    ++ codes "b\"]\n"
-    ++ codes "[\"length\",1]\n"
-    ++ codes "[\"splitText\",1,2]\n"
-    ++ codes "[\"data\",1]\n"
-    ++ codes "[\"data\",2]\n")
-
-pub data_counted_in_units : output_of whole_table bounds given ≡
-    (codes "{\"ok\":1}\n"
-    ++ codes "{\"ok\":4}\n"
-    ++ codes "{\"ok\":2}\n"
-    ++ codes "{\"ok\":[97,55357]}\n"
-    ++ codes "{\"ok\":[56832,98]}\n")
-unfolding serde_json_on_literals is_utf8 chars digits utf16_chars encode whole_table json_of command_of command_within whole_lines last_piece due
+pub data_counted_in_units : output_of whole_table usual_bounds (bytes_given exchanges) ≡ bytes_due exchanges
+unfolding computing
 data_counted_in_units = refl
 
-pub data_counted_in_units-ends : ends_missed whole_table bounds given ≡ []
-unfolding serde_json_on_literals is_utf8 chars digits utf16_chars encode whole_table json_of command_of command_within whole_lines last_piece due
-data_counted_in_units-ends = refl
-
-pub data_counted_in_units-texts : texts_missed whole_table bounds given ≡ []
-unfolding serde_json_on_literals is_utf8 chars digits utf16_chars encode whole_table json_of command_of command_within whole_lines last_piece due
-data_counted_in_units-texts = refl
-
-pub data_counted_in_units-worlds : worlds_missed whole_table bounds given ≡ []
-unfolding serde_json_on_literals is_utf8 chars digits utf16_chars encode whole_table json_of command_of command_within whole_lines last_piece due
-data_counted_in_units-worlds = refl
-
-pub data_counted_in_units-contents : contents_missed whole_table bounds given ≡ []
-unfolding serde_json_on_literals is_utf8 chars digits utf16_chars encode whole_table json_of command_of command_within whole_lines last_piece due
-data_counted_in_units-contents = refl
+pub data_counted_in_units-misses_nothing : MissesNothing whole_table usual_bounds (bytes_given exchanges)
+unfolding computing
+data_counted_in_units-misses_nothing = record { ends = refl; texts = refl; worlds = refl; contents = refl }

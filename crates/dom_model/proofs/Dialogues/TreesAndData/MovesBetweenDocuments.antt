@@ -1,73 +1,28 @@
--- A dialogue, from bytes to bytes: moves between documents. Of each command: the ends stand in their markers' gaps, and the edits leave its texts and world.
-use Rattle.std.specs.Prelude.{◌≡◌, refl, ℕ, List, codes, [], ◌∷◌, ◌++◌}
-use Rattle.serde_json.proofs.OnLiterals.{serde_json_on_literals}
-use Rattle.std.specs.Str.{is_utf8, chars}
-use Rattle.std.specs.Char.Utf16.{utf16_chars}
-use Rattle.std.specs.Fmt.{digits}
-use lib.Utf8.{encode}
-use Rattle.dom_model.specs.Commands.Table.{whole_table}
-use Rattle.dom_model.specs.Commands.Line.{json_of, command_of, command_within}
-use Rattle.dom_model.specs.Commands.Answer.{Bounds}
-use Rattle.dom_model.specs.Commands.Output.{whole_lines, last_piece, due, output_of}
-use Rattle.dom_model.proofs.TokenText.Agreement.{ends_missed, texts_missed, worlds_missed}
-use Rattle.dom_model.proofs.TokenText.ContentsBetween.{contents_missed}
+-- A dialogue, from bytes to bytes: moves between documents.
+use Rattle.dom_model.proofs.Dialogues.Exchanges.{◌≡◌, refl, List, codes, [], ◌∷◌, ◌++◌, usual_bounds, whole_table, output_of, Exchange, bytes_given, bytes_due, MissesNothing, computing}
 
-abbrev bounds : Bounds
-bounds = record { numbers = 4294967295; line = 1048576 }
+abbrev exchanges : List Exchange
+exchanges =
+    (codes "[\"createElement\",0,\"r\"]\n", codes "{\"ok\":1}\n")
+    ∷ (codes "[\"createText\",0,\"" ++ (195 ∷ 169 ∷ []) ++ codes "\"]\n", codes "{\"ok\":2}\n")
+    ∷ (codes "[\"appendChild\",1,2]\n", codes "{\"ok\":2}\n")
+    ∷ (codes "[\"appendChild\",0,1]\n", codes "{\"ok\":1}\n")
+    ∷ (codes "[\"newDocument\"]\n", codes "{\"ok\":3}\n")
+    ∷ (codes "[\"appendChild\",3,1]\n", codes "{\"ok\":1}\n")
+    ∷ (codes "[\"tree\",0]\n", codes "{\"ok\":[[0,0,9,\"#document\"]]}\n")
+    ∷ (codes "[\"tree\",3]\n", codes "{\"ok\":[[0,3,9,\"#document\"],[1,1,1,\"r\",[]],[2,2,3,\"#text\",\"" ++ (195 ∷ 169 ∷ []) ++ codes "\"]]}\n")
+    ∷ (codes "[\"createElement\",3,\"s\"]\n", codes "{\"ok\":4}\n")
+    ∷ (codes "[\"appendChild\",0,4]\n", codes "{\"ok\":4}\n")
+    ∷ (codes "[\"appendChild\",4,2]\n", codes "{\"ok\":2}\n")
+    ∷ (codes "[\"appendChild\",0,1]\n", codes "{\"error\":\"HierarchyRequestError\"}\n")
+    ∷ (codes "[\"tree\",0]\n", codes "{\"ok\":[[0,0,9,\"#document\"],[1,4,1,\"s\",[]],[2,2,3,\"#text\",\"" ++ (195 ∷ 169 ∷ []) ++ codes "\"]]}\n")
+    ∷ (codes "[\"tree\",3]\n", codes "{\"ok\":[[0,3,9,\"#document\"],[1,1,1,\"r\",[]]]}\n")
+    ∷ []
 
-abbrev given : List ℕ
-given =
-    (codes "[\"createElement\",0,\"r\"]\n"
-    ++ codes "[\"createText\",0,\""
-    ++ (195 ∷ 169 ∷ [])
-    ++ codes "\"]\n"
-    ++ codes "[\"appendChild\",1,2]\n"
-    ++ codes "[\"appendChild\",0,1]\n"
-    ++ codes "[\"newDocument\"]\n"
-    ++ codes "[\"appendChild\",3,1]\n"
-    ++ codes "[\"tree\",0]\n"
-    ++ codes "[\"tree\",3]\n"
-    ++ codes "[\"createElement\",3,\"s\"]\n"
-    ++ codes "[\"appendChild\",0,4]\n"
-    ++ codes "[\"appendChild\",4,2]\n"
-    ++ codes "[\"appendChild\",0,1]\n"
-    ++ codes "[\"tree\",0]\n"
-    ++ codes "[\"tree\",3]\n")
-
-pub moves_between_documents : output_of whole_table bounds given ≡
-    (codes "{\"ok\":1}\n"
-    ++ codes "{\"ok\":2}\n"
-    ++ codes "{\"ok\":2}\n"
-    ++ codes "{\"ok\":1}\n"
-    ++ codes "{\"ok\":3}\n"
-    ++ codes "{\"ok\":1}\n"
-    ++ codes "{\"ok\":[[0,0,9,\"#document\"]]}\n"
-    ++ codes "{\"ok\":[[0,3,9,\"#document\"],[1,1,1,\"r\",[]],[2,2,3,\"#text\",\""
-    ++ (195 ∷ 169 ∷ [])
-    ++ codes "\"]]}\n"
-    ++ codes "{\"ok\":4}\n"
-    ++ codes "{\"ok\":4}\n"
-    ++ codes "{\"ok\":2}\n"
-    ++ codes "{\"error\":\"HierarchyRequestError\"}\n"
-    ++ codes "{\"ok\":[[0,0,9,\"#document\"],[1,4,1,\"s\",[]],[2,2,3,\"#text\",\""
-    ++ (195 ∷ 169 ∷ [])
-    ++ codes "\"]]}\n"
-    ++ codes "{\"ok\":[[0,3,9,\"#document\"],[1,1,1,\"r\",[]]]}\n")
-unfolding serde_json_on_literals is_utf8 chars digits utf16_chars encode whole_table json_of command_of command_within whole_lines last_piece due
+pub moves_between_documents : output_of whole_table usual_bounds (bytes_given exchanges) ≡ bytes_due exchanges
+unfolding computing
 moves_between_documents = refl
 
-pub moves_between_documents-ends : ends_missed whole_table bounds given ≡ []
-unfolding serde_json_on_literals is_utf8 chars digits utf16_chars encode whole_table json_of command_of command_within whole_lines last_piece due
-moves_between_documents-ends = refl
-
-pub moves_between_documents-texts : texts_missed whole_table bounds given ≡ []
-unfolding serde_json_on_literals is_utf8 chars digits utf16_chars encode whole_table json_of command_of command_within whole_lines last_piece due
-moves_between_documents-texts = refl
-
-pub moves_between_documents-worlds : worlds_missed whole_table bounds given ≡ []
-unfolding serde_json_on_literals is_utf8 chars digits utf16_chars encode whole_table json_of command_of command_within whole_lines last_piece due
-moves_between_documents-worlds = refl
-
-pub moves_between_documents-contents : contents_missed whole_table bounds given ≡ []
-unfolding serde_json_on_literals is_utf8 chars digits utf16_chars encode whole_table json_of command_of command_within whole_lines last_piece due
-moves_between_documents-contents = refl
+pub moves_between_documents-misses_nothing : MissesNothing whole_table usual_bounds (bytes_given exchanges)
+unfolding computing
+moves_between_documents-misses_nothing = record { ends = refl; texts = refl; worlds = refl; contents = refl }

@@ -1,36 +1,18 @@
 -- The last of the inclusive descendants.
-use Rattle.std.proofs.Common.{◌≡◌, ℕ, ◌<◌, ◌≤◌, ◌∷◌, ◌++◌, Some, None, refl, ap, sym, ◌∙◌, subst, arith, append-nil}
-use Rattle.dom_model.specs.PlainLists.Lists.{last_of}
-use Rattle.dom_model.specs.Forests.Arena.{parent_in}
-use Rattle.dom_model.specs.Forests.Forest.{Node, Forest, empty, node, Grove, occurs, size, one_at, tops, numbers, tree_at, entry_in, HasNode, children_of, inclusive_descendants, IsForest}
-use Rattle.dom_model.specs.Forests.Lies.{Lies}
-use Rattle.dom_model.proofs.PlainLists.Numbers.{same_or, same, apart}
-use Rattle.dom_model.proofs.Forests.Totals.{total-tree_at, tree_at-absent, beside-empty}
-use Rattle.dom_model.proofs.Forests.Tops.{hits-tops}
+use Rattle.std.proofs.Common.{◌≡◌, ℕ, ◌<◌, ◌≤◌, ◌∷◌, Some, None, refl, ap, sym, ◌∙◌, subst, arith, append-nil}
+use Rattle.dom_model.specs.Definitions.{last_of, parent_in, Node, Forest, empty, node, Grove, occurs, size, one_at, tops, numbers, tree_at, entry_in, HasNode, children_of, inclusive_descendants, IsForest, Lies}
+use Rattle.dom_model.proofs.PlainLists.{Numbers.same_or, Numbers.same, Numbers.apart, Members.hits-last_of}
+use Rattle.dom_model.proofs.Forests.{Totals.total-tree_at, Totals.tree_at-absent, Totals.beside-empty, Tops.hits-tops, Entries.occurs-HasNode, Entries.HasNode-occurs, Entries.Lies-entry_in, TreeOrder.Ordering.Single, TreeOrder.Ordering.single, TreeOrder.Ordering.tree_at-single, TreeOrder.Ordering.Lies-tree_at}
 use Rattle.dom_model.proofs.BoundaryPoints.RootsKept.{last_of-behind}
 use Rattle.dom_model.proofs.Traversal.IteratorsStay.{tree_at-inside}
-use Rattle.dom_model.proofs.Forests.Entries.{occurs-HasNode, HasNode-occurs, Lies-entry_in}
-use Rattle.dom_model.proofs.PlainLists.Members.{hits-last_of}
-use Rattle.dom_model.proofs.Forests.TreeOrder.Ordering.{Single, single, tree_at-single, Lies-tree_at}
 
 module _ {X : Type 0} where
   -- the last number is the last one's of the last tree
   pub last-tree : (m : ℕ) (f : Forest X) → ((k : ℕ) → occurs k f ≤ 1) → last_of (tops f) ≡ Some m → last_of (numbers f) ≡ last_of (numbers (tree_at m f))
   last-tree m empty o e = refl
-  last-tree m (node x kids empty) o e =
-      let d : x.number ≡ m = cc e in
-      elim (same_or x.number m) [ same _ t ↦ rw t refl | apart ne t ↦ absurd (ne d) ]
+  last-tree m (node x kids empty) o e = grind arith
   last-tree m (node x kids (node y ks r)) o e =
-      let h = hits-last_of (y.number ∷ tops r) m e in
-      let k = hits-tops m (node y ks r) in
-      let om = o m in
-      let ih = last-tree m (node y ks r) (λ j. let w = o j in omega arith) e in
-      elim (same_or x.number m) [
-        | same d t ↦ absurd (let w = rw t at om in omega arith)
-        | apart ne t ↦
-            let zk : occurs m kids ≡ 0 = omega arith in
-            rw (t, tree_at-absent m kids zk) (last_of-behind (x.number ∷ numbers kids) y.number (numbers ks ++ numbers r) ∙ ih)
-      ]
+      grind (arith, hits-last_of, hits-tops {X = X}, last-tree m (node y ks r), tree_at-absent m kids, last_of-behind (x.number ∷ numbers kids))
 
   tops-none : (f : Forest X) → last_of (tops f) ≡ None → f ≡ empty
   tops-none empty e = refl
@@ -43,14 +25,7 @@ module _ {X : Type 0} {g : Grove X} (s : IsForest g) where
 
   -- a node without children is the last in its tree
   pub last-leaf : (n : ℕ) → HasNode g.forest n → last_of (children_of g.forest n) ≡ None → Some n ≡ last_of (inclusive_descendants g.forest n)
-  last-leaf n h e = from (there n h)
-    where
-      from : Single n (tree_at n g.forest) → Some n ≡ last_of (inclusive_descendants g.forest n)
-      from (single x kids d t) =
-          let l = subst (λ (u : Forest X). Lies (entry_in g.forest) (parent_in (entry_in g.forest n)) u) t (Lies-tree_at (entry_in g.forest) n None g.forest (Lies-entry_in g.forest s.once)) in
-          let c : children_of g.forest n ≡ tops kids = subst (λ k. children_of g.forest k ≡ tops kids) d (rw l.0 refl) in
-          let z = tops-none kids (let k = rw c at e in k) in
-          rw (t, z) (ap Some (sym d))
+  last-leaf n h e = grind (arith, there n h, Lies-tree_at (entry_in g.forest) n None g.forest (Lies-entry_in g.forest s.once), tops-none)
 
   -- the last child's tree ends where the node's tree ends
   pub last-down : (n m : ℕ) → HasNode g.forest n → last_of (children_of g.forest n) ≡ Some m → (last_of (inclusive_descendants g.forest m) ≡ last_of (inclusive_descendants g.forest n)) × ((size (tree_at m g.forest) < size (tree_at n g.forest)) × HasNode g.forest m)

@@ -1,11 +1,8 @@
 -- The flattening after a cut and a put: a tree stands in it in one piece.
-use Rattle.std.proofs.Common.{◌≡◌, ℕ, suc, ◌+◌, ◌<◌, ◌≤◌, true, false, if◌then◌else◌, List, [], ◌∷◌, ◌++◌, Option, refl, ap, sym, ◌∙◌, arith, ⊎_elim, append_assoc, append-nil}
-use Rattle.std.proofs.lemmas.Bool.{cases_lt}
-use Rattle.dom_model.specs.PlainLists.Lists.{hits, is_number}
-use Rattle.dom_model.specs.Forests.Forest.{Node, Forest, empty, node, Row, occurs, rows, numbers, beside, tree_at, without, placed_before, placed_under, put}
-use Rattle.dom_model.proofs.PlainLists.Numbers.{same_or, same, apart}
-use Rattle.dom_model.proofs.Forests.Totals.{without-absent, tree_at-absent, beside-empty}
-use Rattle.dom_model.proofs.Forests.Undone.{placed_under-absent}
+use Rattle.std.proofs.Common.{◌≡◌, ℕ, suc, ◌+◌, true, false, if◌then◌else◌, List, [], ◌∷◌, ◌++◌, Option, refl, ap, sym, ◌∙◌, arith, append_assoc, append-nil}
+use Rattle.dom_model.specs.Definitions.{hits, is_number, Node, Forest, empty, node, occurs, rows, numbers, beside, tree_at, without, placed_before, placed_under, put}
+use Rattle.dom_model.specs.Forests.Forest.{Row}
+use Rattle.dom_model.proofs.Forests.{Whereabouts.top, Whereabouts.inside, Whereabouts.beyond, Whereabouts.whereabouts, Totals.without-absent, Totals.tree_at-absent, Totals.beside-empty, Undone.placed_under-absent}
 
 -- a list that stands in another in one piece, and what is left without it
 pub record Piece (whole piece left : List ℕ) : Type 0 where
@@ -56,30 +53,20 @@ module _ {X : Type 0} where
   pub numbers-without : (c : ℕ) (f : Forest X) → occurs c f ≡ 1 → Piece (numbers f) (numbers (tree_at c f)) (numbers (without c f))
   numbers-without c empty h = absurd (omega arith)
   numbers-without c (node x kids rest) h =
-      elim (same_or x.number c) [
-        | same e t ↦
-            let k = rw t at h in
-            let zr : occurs c rest ≡ 0 = omega arith in
+      elim (whereabouts c x kids rest h) [
+        | top e t zk zr ↦
             rw (t, tree_at-absent c rest zr, without-absent c rest zr) (record {
               ahead = [];
               behind = numbers rest;
               holds = ap (λ ns. x.number ∷ ns) (ap (λ ns. ns ++ numbers rest) (sym (append-nil (numbers kids))));
               leaves = refl;
             })
-        | apart ne t ↦
-            let k = rw t at h in
-            rw t (⊎_elim
-            (λ (lt : 0 < occurs c kids).
-            let zr : occurs c rest ≡ 0 = omega arith in
-            let ok : occurs c kids ≡ 1 = omega arith in
-            rw (tree_at-absent c rest zr, without-absent c rest zr, beside-empty (tree_at c kids))
-            (in_kids x kids (without c kids) rest rest (numbers (tree_at c kids)) (numbers-without c kids ok) refl))
-            (λ (le : occurs c kids ≤ 0).
-            let zk : occurs c kids ≡ 0 = omega arith in
-            let or : occurs c rest ≡ 1 = omega arith in
-            rw (tree_at-absent c kids zk, without-absent c kids zk)
-            (in_rest x kids kids rest (without c rest) (numbers (tree_at c rest)) refl (numbers-without c rest or)))
-            (cases_lt 0 (occurs c kids)))
+        | inside ne t ok zr ↦
+            rw (t, tree_at-absent c rest zr, without-absent c rest zr, beside-empty (tree_at c kids))
+            (in_kids x kids (without c kids) rest rest (numbers (tree_at c kids)) (numbers-without c kids ok) refl)
+        | beyond ne t zk or ↦
+            rw (t, tree_at-absent c kids zk, without-absent c kids zk)
+            (in_rest x kids kids rest (without c rest) (numbers (tree_at c rest)) refl (numbers-without c rest or))
       ]
 
   pub numbers-placed_before : (b : Option ℕ) (t f : Forest X) → Piece (numbers (placed_before b t f)) (numbers t) (numbers f)
@@ -93,27 +80,16 @@ module _ {X : Type 0} where
   pub numbers-placed_under : (p : ℕ) (b : Option ℕ) (t f : Forest X) → occurs p f ≡ 1 → Piece (numbers (placed_under p b t f)) (numbers t) (numbers f)
   numbers-placed_under p b t empty h = absurd (omega arith)
   numbers-placed_under p b t (node x kids rest) h =
-      elim (same_or x.number p) [
-        | same e v ↦
-            let k = rw v at h in
-            let pk : occurs p kids ≡ 0 = omega arith in
-            let pr : occurs p rest ≡ 0 = omega arith in
+      elim (whereabouts p x kids rest h) [
+        | top e v pk pr ↦
             rw (v, placed_under-absent p b t kids pk, placed_under-absent p b t rest pr)
             (in_kids x (placed_before b t kids) kids rest rest (numbers t) (numbers-placed_before b t kids) refl)
-        | apart ne v ↦
-            let k = rw v at h in
-            rw v (⊎_elim
-            (λ (lt : 0 < occurs p kids).
-            let pr : occurs p rest ≡ 0 = omega arith in
-            let pk : occurs p kids ≡ 1 = omega arith in
-            rw (placed_under-absent p b t rest pr)
-            (in_kids x (placed_under p b t kids) kids rest rest (numbers t) (numbers-placed_under p b t kids pk) refl))
-            (λ (le : occurs p kids ≤ 0).
-            let pk : occurs p kids ≡ 0 = omega arith in
-            let pr : occurs p rest ≡ 1 = omega arith in
-            rw (placed_under-absent p b t kids pk)
-            (in_rest x kids kids (placed_under p b t rest) rest (numbers t) refl (numbers-placed_under p b t rest pr)))
-            (cases_lt 0 (occurs p kids)))
+        | inside ne v pk pr ↦
+            rw (v, placed_under-absent p b t rest pr)
+            (in_kids x (placed_under p b t kids) kids rest rest (numbers t) (numbers-placed_under p b t kids pk) refl)
+        | beyond ne v pk pr ↦
+            rw (v, placed_under-absent p b t kids pk)
+            (in_rest x kids kids (placed_under p b t rest) rest (numbers t) refl (numbers-placed_under p b t rest pr))
       ]
 
   -- what is put stands in one piece in the flattening of what it was put into

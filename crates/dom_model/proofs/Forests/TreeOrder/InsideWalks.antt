@@ -1,18 +1,10 @@
 -- Walks in tree order through the nodes inside a node.
-use Rattle.std.proofs.Common.{◌≡◌, ℕ, ◌≤◌, ◌<◌, true, false, ◌||◌, List, ◌∷◌, [], length, Some, None, refl, sym, ap, ◌∙◌, arith}
+use Rattle.std.proofs.Common.{◌≡◌, ℕ, ◌≤◌, ◌<◌, true, false, ◌||◌, List, ◌∷◌, [], length, Some, None, sym, ap, ◌∙◌, arith}
 use Rattle.std.specs.List.{list_any}
-use Rattle.dom_model.specs.PlainLists.Lists.{hits, among, after, from_first}
-use Rattle.dom_model.specs.Forests.Forest.{Forest, Grove, one_at, HasNode, occurs, tree_at, ancestors, inclusive_descendants, IsForest}
+use Rattle.dom_model.specs.Definitions.{hits, among, after, from_first, Forest, Grove, one_at, HasNode, occurs, tree_at, ancestors, inclusive_descendants, IsForest}
 use Rattle.dom_model.proofs.Traversal.IteratorSteps.{inside-once}
-use Rattle.dom_model.proofs.PlainLists.Numbers.{same_or, same, apart}
-use Rattle.dom_model.proofs.PlainLists.FromFirst.{from-last, from-after}
-use Rattle.dom_model.proofs.PlainLists.Searches.{any-either, any-from}
-use Rattle.dom_model.proofs.Forests.Totals.{total-tree_at}
-use Rattle.dom_model.proofs.Forests.TreeOrder.Flattened.{hits-numbers}
-use Rattle.dom_model.proofs.Forests.Entries.{occurs-HasNode, HasNode-occurs}
-use Rattle.dom_model.proofs.Forests.TreeOrder.Ordering.{Single, single, tree_at-single}
-use Rattle.dom_model.proofs.Forests.ToTheRoot.{inside, inside-among}
-use Rattle.dom_model.proofs.Forests.TreeOrder.Stepping.{after-inside}
+use Rattle.dom_model.proofs.PlainLists.{Numbers.same_or, Numbers.same, Numbers.apart, FromFirst.from-last, FromFirst.from-after, Searches.any-either, Searches.any-from}
+use Rattle.dom_model.proofs.Forests.{Totals.total-tree_at, TreeOrder.Flattened.hits-numbers, Entries.occurs-HasNode, Entries.HasNode-occurs, TreeOrder.Ordering.Single, TreeOrder.Ordering.single, TreeOrder.Ordering.tree_at-single, ToTheRoot.inside, ToTheRoot.inside-among, TreeOrder.Stepping.after-inside}
 
 -- a walk that has come to `here`, inside the top
 pub record IsAt {X : Type 0} (f : Forest X) (top here : ℕ) : Type 0 where
@@ -29,10 +21,7 @@ module _ {X : Type 0} (g : Grove X) (s : IsForest g) (top : ℕ) where
   top-once h = omega (arith, occurs-HasNode g.forest top h, s.once top)
 
   pub from-top : HasNode g.forest top → from_first top (inclusive_descendants g.forest top) ≡ inclusive_descendants g.forest top
-  from-top h = starts (tree_at-single top g.forest (top-once h))
-    where
-      starts : Single top (tree_at top g.forest) → from_first top (inclusive_descendants g.forest top) ≡ inclusive_descendants g.forest top
-      starts (single x kids e t) = rw t (elim (same_or x.number top) [ same _ v ↦ rw v refl | apart ne v ↦ absurd (ne e) ])
+  from-top h = grind (arith, tree_at-single top g.forest (top-once h))
 
   pub at-top : HasNode g.forest top → IsAt g.forest top top
   at-top h = record { there = h; under = inside-among s top top (found (tree_at-single top g.forest (top-once h))) }

@@ -1,32 +1,13 @@
 -- Tree order, step by step.
-use Rattle.std.proofs.Common.{◌≡◌, ℕ, ◌<◌, ◌≤◌, ◌==◌, nat_lt, true, false, if◌then◌else◌, List, [], ◌∷◌, ◌++◌, Option, Some, None, refl, ap, sym, ◌∙◌, subst, arith, ⊎_elim, append_assoc}
-use Rattle.std.proofs.lemmas.Bool.{cases_lt, lt-ltb, le-ltb}
-use Rattle.std.proofs.lemmas.Bool.Decides.{nat_tests}
-use Rattle.dom_model.specs.PlainLists.Lists.{hits, head_of, after, or_else}
-use Rattle.dom_model.specs.Forests.Arena.{Entry, parent_in, children_in, list_under, next_in}
-use Rattle.dom_model.specs.Forests.Forest.{Node, Forest, empty, node, occurs, tops, numbers, tree_at}
-use Rattle.dom_model.specs.Forests.Lies.{Lies}
+use Rattle.std.proofs.Common.{◌≡◌, ℕ, ◌<◌, ◌≤◌, ◌==◌, nat_lt, if◌then◌else◌, List, [], ◌∷◌, ◌++◌, Option, Some, None, refl, ap, sym, ◌∙◌, subst, arith, ⊎_elim, append_assoc}
+use Rattle.std.proofs.lemmas.{Bool.cases_lt, Bool.Decides.nat_tests}
+use Rattle.dom_model.specs.Definitions.{hits, head_of, after, or_else, Entry, parent_in, children_in, list_under, next_in, Node, Forest, empty, node, occurs, tops, numbers, tree_at, Lies}
 use Rattle.dom_model.proofs.PlainLists.Numbers.{same_or, same, apart}
-use Rattle.dom_model.proofs.Forests.Totals.{tree_at-absent, beside-empty}
-use Rattle.dom_model.proofs.Forests.Tops.{hits-tops}
-use Rattle.dom_model.proofs.Forests.Lying.{Lies-beside}
-use Rattle.dom_model.proofs.Forests.TreeOrder.Flattened.{hits-numbers}
-
-head_of-append : (xs ys : List ℕ) → head_of (xs ++ ys) ≡ or_else (head_of xs) (head_of ys)
-head_of-append [] ys = refl
-head_of-append (x ∷ xs) ys = refl
+use Rattle.dom_model.proofs.Forests.{Whereabouts.top, Whereabouts.inside, Whereabouts.beyond, Whereabouts.whereabouts, Totals.tree_at-absent, Totals.beside-empty, Tops.hits-tops, Lying.Lies-beside, TreeOrder.Flattened.hits-numbers}
 
 pub after-front : (n : ℕ) (xs ys : List ℕ) → hits n xs ≡ 0 → after n (xs ++ ys) ≡ after n ys
 after-front n [] ys h = refl
-after-front n (x ∷ xs) ys h =
-    elim (same_or x n) [
-      | same e t ↦ absurd (let k = rw t at h in omega arith)
-      | apart ne t ↦ (let k = rw t at h in rw t (after-front n xs ys (omega arith)))
-    ]
-
-or_else-twice : (o p q : Option ℕ) → or_else o (or_else p q) ≡ or_else (or_else o p) q
-or_else-twice None p q = refl
-or_else-twice (Some x) p q = refl
+after-front n (x ∷ xs) ys h = grind (arith, after-front n xs ys)
 
 module _ {X : Type 0} where
   -- the first number after the whole tree of n, where `follow` comes after the forest
@@ -41,18 +22,10 @@ module _ {X : Type 0} where
   past-top follow n x kids rest e = elim (same_or x.number n) [ same _ t ↦ rw t refl | apart ne t ↦ absurd (ne e) ]
 
   past-kids : (follow : Option ℕ) (n : ℕ) (x : Node X) (kids rest : Forest X) → (x.number ≡ n → ⊥) → 0 < occurs n kids → past follow n (node x kids rest) ≡ past (or_else (head_of (tops rest)) follow) n kids
-  past-kids follow n x kids rest ne h =
-      elim (same_or x.number n) [
-        | same e t ↦ absurd (ne e)
-        | apart _ t ↦ (let k : nat_lt 0 (occurs n kids) ≡ true = lt-ltb 0 (occurs n kids) h in rw (t, k) refl)
-      ]
+  past-kids follow n x kids rest ne h = grind arith
 
   past-rest : (follow : Option ℕ) (n : ℕ) (x : Node X) (kids rest : Forest X) → (x.number ≡ n → ⊥) → occurs n kids ≡ 0 → past follow n (node x kids rest) ≡ past follow n rest
-  past-rest follow n x kids rest ne h =
-      elim (same_or x.number n) [
-        | same e t ↦ absurd (ne e)
-        | apart _ t ↦ (let k : nat_lt 0 (occurs n kids) ≡ false = le-ltb 0 (occurs n kids) (omega arith) in rw (t, k) refl)
-      ]
+  past-rest follow n x kids rest ne h = grind arith
 
   head_of-numbers : (f : Forest X) → head_of (numbers f) ≡ head_of (tops f)
   head_of-numbers empty = refl
@@ -62,56 +35,32 @@ module _ {X : Type 0} where
   pub after-numbers : (at : (ℕ → Option (Entry (Node X)))) (q : Option ℕ) (n : ℕ) (f : Forest X) (tail : List ℕ) → ((m : ℕ) → occurs m f ≤ 1) → Lies at q f → 0 < occurs n f → after n (numbers f ++ tail) ≡ or_else (head_of (children_in (at n))) (past (head_of tail) n f)
   after-numbers at q n empty tail o l h = absurd (omega arith)
   after-numbers at q n (node x kids rest) tail o l h =
-      elim (same_or x.number n) [
-        | same e t ↦
-            let c : head_of (children_in (at n)) ≡ head_of (tops kids) = subst (λ m. head_of (children_in (at m)) ≡ head_of (tops kids)) e (rw l.0 refl) in
-            let d : head_of ((numbers kids ++ numbers rest) ++ tail) ≡ or_else (head_of (tops kids)) (or_else (head_of (tops rest)) (head_of tail)) =
-            head_of-append (numbers kids ++ numbers rest) tail
-            ∙ ap (λ p. or_else p (head_of tail)) (head_of-append (numbers kids) (numbers rest) ∙ (λ i. or_else (head_of-numbers kids i) (head_of-numbers rest i)))
-            ∙ sym (or_else-twice (head_of (tops kids)) (head_of (tops rest)) (head_of tail)) in
-            rw (past-top (head_of tail) n x kids rest e, c) (rw t d)
-        | apart ne t ↦
-            let k = rw t at h in
-            ⊎_elim
-            (λ (lt : 0 < occurs n kids).
-            let i = after-numbers at (Some x.number) n kids (numbers rest ++ tail) (λ m. let w = o m in omega arith) l.1 lt in
-            let j : head_of (numbers rest ++ tail) ≡ or_else (head_of (tops rest)) (head_of tail) = head_of-append (numbers rest) tail ∙ ap (λ p. or_else p (head_of tail)) (head_of-numbers rest) in
-            rw (past-kids (head_of tail) n x kids rest ne lt) (rw (t, append_assoc (numbers kids) (numbers rest) tail) (i ∙ ap (λ p. or_else (head_of (children_in (at n))) (past p n kids)) j)))
-            (λ (le : occurs n kids ≤ 0).
-            let z : occurs n kids ≡ 0 = omega arith in
-            let i = after-numbers at q n rest tail (λ m. let w = o m in omega arith) l.2 (omega arith) in
-            rw (past-rest (head_of tail) n x kids rest ne z) (rw (t, append_assoc (numbers kids) (numbers rest) tail, after-front n (numbers kids) (numbers rest ++ tail) (hits-numbers n kids ∙ z)) i))
-            (cases_lt 0 (occurs n kids))
-      ]
+      grind (
+        arith,
+        nat_tests,
+        head_of-numbers kids,
+        head_of-numbers rest,
+        after-numbers at (Some x.number) n kids (numbers rest ++ tail),
+        append_assoc,
+        after-numbers at q n rest tail,
+        after-front,
+        hits-numbers n kids,
+      )
 
   sib_rest : (at : (ℕ → Option (Entry (Node X)))) (p : Option ℕ) (x : Node X) (kids rest : Forest X) → ((k : ℕ) → occurs k (node x kids rest) ≤ 1) → ((k : ℕ) → 0 < hits k (x.number ∷ tops rest) → after k (list_under at p) ≡ after k (x.number ∷ tops rest)) → (k : ℕ) → 0 < hits k (tops rest) → after k (list_under at p) ≡ after k (tops rest)
-  sib_rest at p x kids rest o sib k h =
-      elim (same_or x.number k) [
-        | same d t ↦ absurd (let w = o k in let v = rw t at w in let u = hits-tops k rest in omega arith)
-        | apart ne t ↦ (let w = sib k (omega arith) in let w2 = rw t at w in w2)
-      ]
+  sib_rest at p x kids rest o sib k h = grind (arith, nat_tests, hits-tops k rest)
 
   -- a next sibling comes right past the tree
   pub past-next : (at : (ℕ → Option (Entry (Node X)))) (p : Option ℕ) (follow : Option ℕ) (n m : ℕ) (f : Forest X) → ((k : ℕ) → occurs k f ≤ 1) → Lies at p f → ((k : ℕ) → 0 < hits k (tops f) → after k (list_under at p) ≡ after k (tops f)) → 0 < occurs n f → next_in at n ≡ Some m → past follow n f ≡ Some m
   past-next at p follow n m empty o l sib h e = absurd (omega arith)
   past-next at p follow n m (node x kids rest) o l sib h e =
-      elim (same_or x.number n) [
-        | same d t ↦
-            let a : parent_in (at n) ≡ p = subst (λ k. parent_in (at k) ≡ p) d (rw l.0 refl) in
-            let b : after n (list_under at p) ≡ Some m = sym (ap (λ q. after n (list_under at q)) a) ∙ e in
-            let c : after n (list_under at p) ≡ after n (x.number ∷ tops rest) = sib n (rw t (omega arith)) in
-            let c2 = rw t at c in
-            let i : head_of (tops rest) ≡ Some m = sym c2 ∙ b in
-            past-top follow n x kids rest d ∙ ap (λ q. or_else q follow) i
-        | apart ne t ↦
-            let k = rw t at h in
-            ⊎_elim
-            (λ (lt : 0 < occurs n kids).
-            past-kids follow n x kids rest ne lt ∙ past-next at (Some x.number) (or_else (head_of (tops rest)) follow) n m kids (λ j. let w = o j in omega arith) l.1 (λ j _. ap (after j) (rw l.0 refl)) lt e)
-            (λ (le : occurs n kids ≤ 0).
-            past-rest follow n x kids rest ne (omega arith) ∙ past-next at p follow n m rest (λ j. let w = o j in omega arith) l.2 (sib_rest at p x kids rest o sib) (omega arith) e)
-            (cases_lt 0 (occurs n kids))
-      ]
+      grind (
+        arith,
+        nat_tests,
+        past-next at (Some x.number) (or_else (head_of (tops rest)) follow) n m kids,
+        past-next at p follow n m rest,
+        sib_rest at p x kids,
+      )
 
 -- where no sibling follows: on top of the forest, or under a node of it with the same past
 pub data Up {X : Type 0} (p : Option ℕ) (follow : Option ℕ) (n : ℕ) (parent : Option ℕ) (f : Forest X) : Type 0 where
@@ -162,21 +111,10 @@ module _ {X : Type 0} where
   pub tree_at-single : (r : ℕ) (f : Forest X) → occurs r f ≡ 1 → Single r (tree_at r f)
   tree_at-single r empty h = absurd (omega arith)
   tree_at-single r (node x kids rest) h =
-      elim (same_or x.number r) [
-        | same e t ↦
-            let k = rw t at h in
-            let z : occurs r rest ≡ 0 = omega arith in
-            rw t (single x kids e (rw (tree_at-absent r rest z) refl))
-        | apart ne t ↦
-            let k = rw t at h in
-            rw t (⊎_elim
-            (λ (lt : 0 < occurs r kids).
-            let z : occurs r rest ≡ 0 = omega arith in
-            rw (tree_at-absent r rest z, beside-empty (tree_at r kids)) (tree_at-single r kids (omega arith)))
-            (λ (le : occurs r kids ≤ 0).
-            let z : occurs r kids ≡ 0 = omega arith in
-            rw (tree_at-absent r kids z) (tree_at-single r rest (omega arith)))
-            (cases_lt 0 (occurs r kids)))
+      elim (whereabouts r x kids rest h) [
+        | top e t zk zr ↦ rw t (single x kids e (rw (tree_at-absent r rest zr) refl))
+        | inside ne t ok zr ↦ rw (t, tree_at-absent r rest zr, beside-empty (tree_at r kids)) (tree_at-single r kids ok)
+        | beyond ne t zk or ↦ rw (t, tree_at-absent r kids zk) (tree_at-single r rest or)
       ]
 
   pub Lies-tree_at : (at : (ℕ → Option (Entry (Node X)))) (r : ℕ) (q : Option ℕ) (f : Forest X) → Lies at q f → Lies at (parent_in (at r)) (tree_at r f)

@@ -1,26 +1,13 @@
 -- Tree order among the inclusive descendants of a node, step by step.
 use Rattle.std.proofs.Common.{◌≡◌, ℕ, ◌<◌, ◌≤◌, nat_lt, true, [], Option, Some, None, IsSome, IfSome, refl, ap, sym, ◌∙◌, subst, arith, ⊎_elim, append-nil}
-use Rattle.std.proofs.lemmas.Bool.{cases_lt, false≢true, lt-ltb}
-use Rattle.std.proofs.lemmas.Bool.Decides.{nat_tests}
-use Rattle.dom_model.specs.PlainLists.Lists.{head_of, after, or_else}
-use Rattle.dom_model.specs.Forests.Arena.{Entry, parent_in, next_in}
-use Rattle.dom_model.specs.Forests.Forest.{Node, Forest, empty, node, Grove, occurs, one_at, numbers, entry_in, HasNode, parent_of, children_of, next_of, root_of, tree_at, inclusive_descendants, IsForest}
-use Rattle.dom_model.specs.Forests.Lies.{Lies}
+use Rattle.std.proofs.lemmas.{Bool.cases_lt, Bool.lt-ltb, Bool.Decides.nat_tests}
+use Rattle.dom_model.specs.Definitions.{head_of, after, or_else, Entry, parent_in, next_in, Node, Forest, empty, node, Grove, occurs, one_at, numbers, entry_in, HasNode, parent_of, children_of, next_of, root_of, tree_at, inclusive_descendants, IsForest, Lies}
 use Rattle.dom_model.proofs.PlainLists.Numbers.{same_or, same, apart}
-use Rattle.dom_model.proofs.Forests.Totals.{total-tree_at, tree_at-absent}
-use Rattle.dom_model.proofs.Forests.Entries.{Lies-entry_in}
-use Rattle.dom_model.proofs.Forests.PutBack.{hits-after}
-use Rattle.dom_model.proofs.Forests.TreeOrder.Flattened.{hits-numbers}
-use Rattle.dom_model.proofs.Forests.TreeOrder.Ordering.{past, after-numbers, past-next, past-up, Up, over, up, Single, single, tree_at-single, Lies-tree_at}
-use Rattle.dom_model.proofs.Forests.ToTheRoot.{IfSome-from, next-root, root-parent, inside-root}
+use Rattle.dom_model.proofs.Forests.{Totals.total-tree_at, Totals.tree_at-absent, Entries.Lies-entry_in, PutBack.hits-after, TreeOrder.Flattened.hits-numbers, TreeOrder.Ordering.past, TreeOrder.Ordering.after-numbers, TreeOrder.Ordering.past-next, TreeOrder.Ordering.past-up, TreeOrder.Ordering.Up, TreeOrder.Ordering.over, TreeOrder.Ordering.up, TreeOrder.Ordering.Single, TreeOrder.Ordering.single, TreeOrder.Ordering.tree_at-single, TreeOrder.Ordering.Lies-tree_at, ToTheRoot.IfSome-from, ToTheRoot.root-parent, ToTheRoot.inside-root}
 
 -- a parent in the tree, with the same past
 pub data Rise {X : Type 0} (n : ℕ) (parent : Option ℕ) (t : Forest X) : Type 0 where
   rise : (q : ℕ) → parent ≡ Some q → 0 < occurs q t → past None n t ≡ past None q t → Rise n parent t
-
-or_else-none : (o : Option ℕ) → or_else o None ≡ o
-or_else-none None = refl
-or_else-none (Some x) = refl
 
 module _ {X : Type 0} where
   single-top : (x : Node X) (kids : Forest X) (n : ℕ) → x.number ≡ n → past None n (node x kids empty) ≡ None
@@ -38,9 +25,7 @@ module _ {X : Type 0} where
       ]
 
   single-next : (at : (ℕ → Option (Entry (Node X)))) (q : Option ℕ) (x : Node X) (kids : Forest X) (n m : ℕ) → ((k : ℕ) → occurs k (node x kids empty) ≤ 1) → Lies at q (node x kids empty) → (x.number ≡ n → ⊥) → 0 < occurs n (node x kids empty) → next_in at n ≡ Some m → past None n (node x kids empty) ≡ Some m
-  single-next at q x kids n m o l ne h e =
-      let b = single-below x kids n ne h in
-      b.1 ∙ past-next at (Some x.number) None n m kids (λ k. let w = o k in omega arith) l.1 (λ j _. ap (after j) (rw l.0 refl)) b.0 e
+  single-next at q x kids n m o l ne h e = grind (arith, past-next at (Some x.number) None n m kids)
 
   single-up : (at : (ℕ → Option (Entry (Node X)))) (q : Option ℕ) (x : Node X) (kids : Forest X) (n : ℕ) → ((k : ℕ) → occurs k (node x kids empty) ≤ 1) → Lies at q (node x kids empty) → (x.number ≡ n → ⊥) → 0 < occurs n (node x kids empty) → next_in at n ≡ None → Rise n (parent_in (at n)) (node x kids empty)
   single-up at q x kids n o l ne h e =
@@ -81,10 +66,7 @@ module _ {X : Type 0} {g : Grove X} (s : IsForest g) where
   none-after r n h e = tree-after r n h ∙ ap (λ o. or_else o (past None n (tree_at r g.forest))) e
 
   pub tree-top : (r n : ℕ) → 0 < occurs n (tree_at r g.forest) → n ≡ r → past None n (tree_at r g.forest) ≡ None
-  tree-top r n h e = from (tree r n h)
-    where
-      from : Single r (tree_at r g.forest) → past None n (tree_at r g.forest) ≡ None
-      from (single x kids d t) = rw t (single-top x kids n (d ∙ sym e))
+  tree-top r n h e = grind (arith, tree r n h)
 
   pub tree-next : (r n m : ℕ) → 0 < occurs n (tree_at r g.forest) → (n ≡ r → ⊥) → next_of g.forest n ≡ Some m → past None n (tree_at r g.forest) ≡ Some m
   tree-next r n m h ne e = from (tree r n h)
@@ -144,11 +126,7 @@ module _ {X : Type 0} {g : Grove X} (s : IsForest g) where
   Past-start n e = λ r h. (inside-root s n r h, none-after s r n (inside-root s n r h) e)
 
   pub Past-next : (n here m : ℕ) → HasNode g.forest n → Past g.forest n here → next_of g.forest here ≡ Some m → IfSome (root_of g.forest n) (λ r. Some m ≡ after n (inclusive_descendants g.forest r))
-  Past-next n here m i p e =
-      IfSome-from (root_of g.forest n) _ (λ r h.
-      let t = root-parent s n r i h in
-      let ne : here ≡ r → ⊥ = λ d. (let z : next_of g.forest r ≡ None = next-root g.forest r t in let y : None ≡ Some m = sym z ∙ ap (next_of g.forest) (sym d) ∙ e in cc y) in
-      sym ((p r h).1 ∙ tree-next s r here m (p r h).0 ne e))
+  Past-next n here m i p e = grind (arith, root-parent s n, tree-next s)
 
   pub Past-up : (n here q : ℕ) → HasNode g.forest n → Past g.forest n here → next_of g.forest here ≡ None → parent_of g.forest here ≡ Some q → Past g.forest n q
   Past-up n here q i p e a =
@@ -159,9 +137,4 @@ module _ {X : Type 0} {g : Grove X} (s : IsForest g) where
       (k.0, (p r h).1 ∙ k.1)
 
   pub Past-end : (n here : ℕ) → HasNode g.forest n → Past g.forest n here → next_of g.forest here ≡ None → parent_of g.forest here ≡ None → IfSome (root_of g.forest n) (λ r. None ≡ after n (inclusive_descendants g.forest r))
-  Past-end n here i p e a =
-      IfSome-from (root_of g.forest n) _ (λ r h.
-      elim (same_or here r) [
-        | same d t ↦ sym ((p r h).1 ∙ tree-top s r here (p r h).0 d)
-        | apart ne t ↦ absurd (let k = tree-parent s r here (p r h).0 ne e in let k2 = rw a at k in false≢true k2)
-      ])
+  Past-end n here i p e a = grind (arith, tree-top s, tree-parent s)

@@ -1,21 +1,10 @@
 -- The trees where a Text is joined with the next.
-use Rattle.std.proofs.Common.{◌≡◌, ℕ, ◌+◌, ◌<◌, ◌≤◌, ◌==◌, Bool, true, false, if◌then◌else◌, length, Option, Some, None, refl, ap, sym, ◌∙◌, subst, arith, ⊎_elim}
-use Rattle.std.proofs.lemmas.Bool.{cases_lt}
-use Rattle.dom_model.specs.PlainLists.Lists.{hits, place_in}
-use Rattle.dom_model.specs.Forests.Arena.{Entry, parent_in, children_in}
-use Rattle.dom_model.specs.Forests.Forest.{Node, Forest, empty, node, occurs, one_at, tops, beside, tree_at, without, with_node, entry_in, parent_of, index_of}
-use Rattle.dom_model.proofs.PlainLists.Numbers.{Same, same_or, same, apart}
-use Rattle.dom_model.proofs.Forests.Totals.{total-beside, tree_at-absent, without-absent, beside-empty}
-use Rattle.dom_model.proofs.Forests.Undone.{beside-assoc}
-use Rattle.dom_model.proofs.Forests.Changes.{change_at, held-change_at}
-use Rattle.dom_model.proofs.Forests.Lying.{Lies-with_node, total-with_node}
-use Rattle.dom_model.proofs.Forests.Entries.{Lies-entry_in, occurs-held, entry_in-Lies}
-use Rattle.dom_model.proofs.Forests.Indices.{index-child}
-use Rattle.dom_model.proofs.TokenText.Pieces.TextContexts.{with_root, with_root-absent, with_root-itself}
-use Rattle.dom_model.proofs.TokenText.AlikeTrees.TreesPlaced.{inside_of, left_between}
-use Rattle.dom_model.proofs.TokenText.AlikeTrees.PartedTrees.{with_node-root, with_node-child}
-use Rattle.dom_model.proofs.TokenText.Marked.MarkedSplice.{with_node-absent}
-use Rattle.dom_model.proofs.TokenText.Marked.GapOpened.{different}
+use Rattle.std.proofs.Common.{◌≡◌, ℕ, ◌+◌, ◌<◌, ◌≤◌, ◌==◌, if◌then◌else◌, length, Option, Some, None, refl, ap, sym, ◌∙◌, subst, arith, inl, inr}
+use Rattle.std.proofs.lemmas.Bool.{cond_both, cases_Bool, eq-eqb}
+use Rattle.dom_model.specs.Definitions.{hits, place_in, Entry, parent_in, children_in, Node, Forest, empty, node, occurs, one_at, tops, beside, tree_at, without, with_node, entry_in, parent_of, index_of}
+use Rattle.dom_model.proofs.PlainLists.Numbers.{same_or, same, apart}
+use Rattle.dom_model.proofs.Forests.{Totals.total-beside, Undone.beside-assoc, Changes.change_at, Changes.held-change_at, Lying.Lies-with_node, Lying.total-with_node, Entries.Lies-entry_in, Entries.occurs-held, Entries.entry_in-Lies, Indices.index-child}
+use Rattle.dom_model.proofs.TokenText.{Pieces.TextContexts.with_root, Pieces.TextContexts.with_root-itself, AlikeTrees.TreesPlaced.left_between, AlikeTrees.PartedTrees.with_node-root, AlikeTrees.PartedTrees.with_node-child, Marked.MarkedSplice.with_node-absent, AlikeTrees.TreesPlaced.without-root}
 
 -- the child behind another
 pub record Behind {X : Type 0} (c : ℕ) (f : Forest X) : Type 0 where
@@ -46,55 +35,19 @@ module _ {X : Type 0} where
         | apart ne t ↦ (let q = rw t at p in let i = rw t at h in child_behind c z zs rest f (omega arith) (omega arith))
       ]
 
-  -- a node under another leaves it
-  without-root : (p c : ℕ) (y : Node X) (ks ys f : Forest X) → ((m : ℕ) → occurs m f ≤ 1) → tree_at p f ≡ node y ys empty → 0 < occurs c ys → y.number ≡ p → (p ≡ c → ⊥) → without c (with_root p y ks f) ≡ with_root p y (without c ks) f
-  without-root p c y ks ys empty o e i d ne = refl
-  without-root p c y ks ys (node x kids rest) o e i d ne =
-      let a = o p in
-      let b = o c in
-      elim (same_or x.number p) [
-        | same g t ↦
-            let a2 = rw t at a in
-            let zr : occurs p rest ≡ 0 = omega arith in
-            let e2 = rw (t, tree_at-absent p rest zr) at e in
-            let ek : kids ≡ ys = cc e2 in
-            let hk : 0 < occurs c kids = subst (λ (f : Forest X). 0 < occurs c f) (sym ek) i in
-            let zn : occurs c rest ≡ 0 = omega arith in
-            let far : (y.number == c) ≡ false = different y.number c (λ f. ne (sym d ∙ f)) in
-            rw (t, with_root-absent p y ks rest zr, with_root-absent p y (without c ks) rest zr) (rw (far, without-absent c rest zn) refl)
-        | apart ne2 t ↦
-            let e2 = rw t at e in
-            ⊎_elim
-            (λ (lt : 0 < occurs p kids).
-            let zr : occurs p rest ≡ 0 = omega arith in
-            let e3 = rw (tree_at-absent p rest zr, beside-empty (tree_at p kids)) at e2 in
-            let hk : 0 < occurs c kids = inside_of p c y ys kids e3 i in
-            let far : (x.number == c) ≡ false = elim (same_or x.number c) [ same g u ↦ absurd (let b2 = rw u at b in omega arith) | apart ne3 u ↦ u ] in
-            let zn : occurs c rest ≡ 0 = omega arith in
-            rw (t, with_root-absent p y ks rest zr, with_root-absent p y (without c ks) rest zr) (rw (far, without-absent c rest zn) (ap (λ (g : Forest X). node x g rest) (without-root p c y ks ys kids (λ m. let k = o m in omega arith) e3 i d ne))))
-            (λ (le : occurs p kids ≤ 0).
-            let zk : occurs p kids ≡ 0 = omega arith in
-            let e3 = rw (tree_at-absent p kids zk) at e2 in
-            let hr : 0 < occurs c rest = inside_of p c y ys rest e3 i in
-            let far : (x.number == c) ≡ false = elim (same_or x.number c) [ same g u ↦ absurd (let b2 = rw u at b in omega arith) | apart ne3 u ↦ u ] in
-            let zn : occurs c kids ≡ 0 = omega arith in
-            rw (t, with_root-absent p y ks kids zk, with_root-absent p y (without c ks) kids zk) (rw (far, without-absent c kids zn) (ap (node x kids) (without-root p c y ks ys rest (λ m. let k = o m in omega arith) e3 i d ne))))
-            (cases_lt 0 (occurs p kids))
-      ]
-
   with_node-beside : (n : ℕ) (h : Node X → Node X) (f g : Forest X) → with_node n h (beside f g) ≡ beside (with_node n h f) (with_node n h g)
   with_node-beside n h empty g = refl
   with_node-beside n h (node x kids rest) g = ap (node (if x.number == n then h x else x) (with_node n h kids)) (with_node-beside n h rest g)
 
   pub tree_at-with_node : (c n : ℕ) (h : Node X → Node X) → ((x : Node X) → (h x).number ≡ x.number) → (f : Forest X) → tree_at c (with_node n h f) ≡ with_node n h (tree_at c f)
   tree_at-with_node c n h e empty = refl
-  tree_at-with_node c n h e (node x kids rest) = go (x.number == n) refl (same_or x.number c) (tree_at-with_node c n h e kids) (tree_at-with_node c n h e rest)
-    where
-      go : (v : Bool) → (x.number == n) ≡ v → Same x.number c → tree_at c (with_node n h kids) ≡ with_node n h (tree_at c kids) → tree_at c (with_node n h rest) ≡ with_node n h (tree_at c rest) → tree_at c (with_node n h (node x kids rest)) ≡ with_node n h (tree_at c (node x kids rest))
-      go true d (same a t) i j = let t2 : ((h x).number == c) ≡ true = ap (λ m. m == c) (e x) ∙ t in rw (d, t2, t, j) (rw d refl)
-      go false d (same a t) i j = rw (d, t, j) (rw d refl)
-      go true d (apart a t) i j = let t2 : ((h x).number == c) ≡ false = ap (λ m. m == c) (e x) ∙ t in rw (d, t2, t, i, j) (sym (with_node-beside n h (tree_at c kids) (tree_at c rest)))
-      go false d (apart a t) i j = rw (d, t, i, j) (sym (with_node-beside n h (tree_at c kids) (tree_at c rest)))
+  tree_at-with_node c n h e (node x kids rest) =
+      let y = if x.number == n then h x else x in
+      let s : (y.number == c) ≡ (x.number == c) = cond_both (x.number == n) (h x) x (λ (z : Node X). (z.number == c) ≡ (x.number == c)) (λ _. ap (λ m. m == c) (e x)) (λ _. refl) in
+      elim (cases_Bool (x.number == c)) [
+        | inl t ↦ rw (s, t, tree_at-with_node c n h e rest) refl
+        | inr t ↦ rw (s, t, tree_at-with_node c n h e kids, tree_at-with_node c n h e rest) (sym (with_node-beside n h (tree_at c kids) (tree_at c rest)))
+      ]
 
   -- the trees after a node changed and the next left their parent
   module _ (h : Node X → Node X) (kept : (x : Node X) → (h x).number ≡ x.number) (y z x : Node X) (ys zs xs fs bs g : Forest X) (og : (m : ℕ) → occurs m g ≤ 1) (at : tree_at y.number g ≡ node y ys empty)
@@ -103,7 +56,7 @@ module _ {X : Type 0} where
     parts m = ap (occurs m) whole ∙ total-beside (one_at m) fs (node z zs (node x xs bs))
 
     self : (n : ℕ) → one_at n n ≡ 1
-    self n = elim (same_or n n) [ same d t ↦ rw t refl | apart ne t ↦ absurd (ne refl) ]
+    self n = rw (eq-eqb n n refl) refl
 
     z_there : 0 < occurs z.number ys
     z_there = let a = parts z.number in let b = self z.number in omega arith
@@ -130,7 +83,7 @@ module _ {X : Type 0} where
     pub changed-without : without x.number changed ≡ with_root y.number y (beside fs (node (h z) zs bs)) g
     changed-without =
         ap (without x.number) changed-root
-        ∙ without-root y.number x.number y (beside fs (node (h z) zs (node x xs bs))) ys g og at x_there refl (under x.number x_there)
+        ∙ without-root y.number x.number y (beside fs (node (h z) zs (node x xs bs))) ys g og at x_there
         ∙ ap (λ (t : Forest X). with_root y.number y t g)
         (ap (without x.number) (sym (beside-assoc fs (node (h z) zs empty) (node x xs bs)))
         ∙ left_between x xs (beside fs (node (h z) zs empty)) bs once

@@ -1,24 +1,12 @@
 -- The markers and the forest of a world where a Text with a parent is split.
 use Rattle.std.proofs.Common.{◌≡◌, ℕ, suc, ◌+◌, ◌<◌, ◌≤◌, ◌==◌, false, if◌then◌else◌, List, [], Option, None, refl, ap, sym, ◌∙◌, subst, arith}
 use Rattle.std.proofs.lemmas.Bool.{lt-ltb, le-ltb}
+use Rattle.dom_model.specs.Definitions.{or_else, parent_in, Node, Forest, empty, node, occurs, one_at, beside, tree_at, put, adopted, entry_in, parent_of, Content, Point, named, with_text, content_in, Token, point, Childless}
 use Rattle.dom_model.specs.declared.Kind.TheVariants.{Text}
-use Rattle.dom_model.specs.PlainLists.Lists.{or_else}
-use Rattle.dom_model.specs.Forests.Arena.{parent_in}
-use Rattle.dom_model.specs.Forests.Forest.{Node, Forest, empty, node, occurs, one_at, beside, tree_at, put, adopted, entry_in, parent_of}
-use Rattle.dom_model.specs.Worlds.World.{Content, Point}
-use Rattle.dom_model.specs.Worlds.Making.{named, with_text}
-use Rattle.dom_model.specs.DataAndCopies.Data.{content_in}
-use Rattle.dom_model.specs.TokenText.Tokens.{Token, point}
-use Rattle.dom_model.specs.TokenText.Fitting.{Childless}
+use Rattle.dom_model.proofs.Worlds.Measured.{entry-joined}
 use Rattle.dom_model.proofs.PlainLists.Numbers.{same_or, same, apart}
-use Rattle.dom_model.proofs.Forests.Totals.{total-beside, total-tree_at, total-put, tree_at-absent}
-use Rattle.dom_model.proofs.Forests.Undone.{tree_at-beside}
-use Rattle.dom_model.proofs.Forests.Entries.{entry_under-absent, entry-put}
-use Rattle.dom_model.proofs.TokenText.AlikeTrees.TreesAlike.{Alike, bared-alike}
-use Rattle.dom_model.proofs.TokenText.AlikeTrees.TreesAlikeAfter.{alike-put, alike-adopted, alike-beside, entry_under-beside}
-use Rattle.dom_model.proofs.TokenText.AlikeTrees.PartedTrees.{entry-beside, alike-text, put-text}
-use Rattle.dom_model.proofs.TokenText.Marked.GapOpened.{gap_opened, opened-earlier, opened-new, opened-later, different, equal}
-use Rattle.dom_model.proofs.TokenText.Marked.GapParted.{gap_parted}
+use Rattle.dom_model.proofs.Forests.{Totals.total-beside, Totals.total-tree_at, Totals.total-put, Totals.tree_at-absent, Undone.tree_at-beside, Entries.entry_under-absent, Entries.entry-put}
+use Rattle.dom_model.proofs.TokenText.{AlikeTrees.TreesAlike.Alike, AlikeTrees.TreesAlike.bared-alike, AlikeTrees.TreesAlikeAfter.alike-put, AlikeTrees.TreesAlikeAfter.alike-adopted, AlikeTrees.TreesAlikeAfter.alike-beside, AlikeTrees.PartedTrees.entry-beside, AlikeTrees.PartedTrees.alike-text, AlikeTrees.PartedTrees.put-text, Marked.GapOpened.gap_opened, Marked.GapOpened.opened-earlier, Marked.GapOpened.opened-new, Marked.GapOpened.opened-later, Marked.GapOpened.different, Marked.GapOpened.equal, Marked.GapParted.gap_parted}
 
 -- The markers of each gap after a split, and those before it in the gaps of the new Text too.
 module _ (marks : Point → List Token) (n o new parent k : ℕ) (new_node : n ≡ new → ⊥) (new_parent : parent ≡ new → ⊥) (apart_parent : n ≡ parent → ⊥) where
@@ -83,12 +71,9 @@ module _ (g f : Forest Content) (alike : Alike g f) (once : (m : ℕ) → occurs
 
   once-more : (m : ℕ) → occurs m more ≤ 1
   once-more m =
-      let a = total-beside (one_at m) f (node (new_text document) empty empty) in
       let c = once m in
-      elim (same_or new m) [
-        | same e t ↦ (let z : occurs m f ≡ 0 = subst (λ i. occurs i f ≡ 0) e fresh in rw (a, t) (omega arith))
-        | apart ne t ↦ rw (a, t) (omega arith)
-      ]
+      rw (total-beside (one_at m) f (node (new_text document) empty empty))
+      (elim (same_or new m) [ same e t ↦ (let z : occurs m f ≡ 0 = subst (λ i. occurs i f ≡ 0) e fresh in rw t (omega arith)) | apart ne t ↦ rw t (omega arith) ])
 
   new_there : 0 < occurs new more
   new_there = let a = total-beside (one_at new) f (node (new_text document) empty empty) in rw (a, equal new new refl) (omega arith)
@@ -100,7 +85,8 @@ module _ (g f : Forest Content) (alike : Alike g f) (once : (m : ℕ) → occurs
   not_new m h = different new m (λ e. absurd (let z : occurs m f ≡ 0 = subst (λ i. occurs i f ≡ 0) e fresh in omega arith))
 
   new_root : parent_of more new ≡ None
-  new_root = ap parent_in (entry_under-beside None new f (node (new_text document) empty empty) ∙ ap (λ e. or_else e (entry_in (node (new_text document) empty empty) new)) (entry_under-absent None new f fresh)) ∙ (rw (equal new new refl) refl)
+  new_root =
+      ap parent_in (entry-joined None new f (node (new_text document) empty empty) ∙ ap (λ e. or_else e (entry_in (node (new_text document) empty empty) new)) (entry_under-absent None new f fresh)) ∙ (rw (equal new new refl) refl)
 
   new_tree : occurs parent (tree_at new more) ≡ 0
   new_tree =

@@ -1,14 +1,9 @@
 -- Forests that the token texts cannot tell apart: the same entries but for node documents and attributes, the roots in any order.
-use Rattle.std.proofs.Common.{◌≡◌, ℕ, ◌<◌, ◌≤◌, ◌==◌, false, if◌then◌else◌, [], ◌∷◌, Option, Some, None, option_map, refl, ap, ◌∙◌, arith, ⊎_elim}
-use Rattle.std.proofs.lemmas.Bool.{cases_lt}
-use Rattle.dom_model.specs.PlainLists.Lists.{or_else}
-use Rattle.dom_model.specs.Forests.Arena.{Entry, parent_in, children_in}
-use Rattle.dom_model.specs.Forests.Forest.{Node, Forest, empty, node, total, occurs, tops, beside, tree_at, without, map_nodes, entry_under, entry_in, parent_of, children_of}
-use Rattle.dom_model.specs.Worlds.World.{Content}
-use Rattle.dom_model.specs.TokenText.Fitting.{Childless}
+use Rattle.std.proofs.Common.{◌≡◌, ℕ, ◌<◌, ◌≤◌, ◌==◌, if◌then◌else◌, [], ◌∷◌, Option, Some, None, option_map, refl, ap, ◌∙◌, arith}
+use Rattle.dom_model.specs.Definitions.{or_else, Entry, parent_in, children_in, Node, Forest, empty, node, total, occurs, tops, beside, tree_at, without, map_nodes, entry_under, entry_in, parent_of, children_of, Content, Childless}
+use Rattle.dom_model.proofs.TokenText.AlikeTrees.WaysToTrees.{along}
 use Rattle.dom_model.proofs.PlainLists.Numbers.{same_or, same, apart}
-use Rattle.dom_model.proofs.Forests.Totals.{tree_at-absent, beside-empty}
-use Rattle.dom_model.proofs.Forests.Entries.{entry_under-absent}
+use Rattle.dom_model.proofs.Forests.{Totals.tree_at-absent, Totals.beside-empty, Entries.entry_under-absent}
 
 -- a node as the token texts know it
 abbrev pub bare : Node Content → Node Content
@@ -36,43 +31,21 @@ pub record Top {X : Type 0} (n : ℕ) (f : Forest X) (entry : Option (Entry (Nod
   pub told : entry ≡ Some (record { value = top; parent = parent; children = tops kids })
 
 module _ {X : Type 0} where
-  top_in_kids : (above : Option ℕ) (n : ℕ) (x : Node X) (kids rest : Forest X) → (x.number == n) ≡ false → occurs n rest ≡ 0 → Top n kids (entry_under (Some x.number) n kids) → Top n (node x kids rest) (entry_under above n (node x kids rest))
-  top_in_kids above n x kids rest t z i = record {
-    top = i.top;
-    kids = i.kids;
-    parent = i.parent;
-    named = i.named;
-    at = rw (t, tree_at-absent n rest z, beside-empty (tree_at n kids)) i.at;
-    told = rw (t, i.told) refl;
-  }
-
-  top_in_rest : (above : Option ℕ) (n : ℕ) (x : Node X) (kids rest : Forest X) → (x.number == n) ≡ false → occurs n kids ≡ 0 → Top n rest (entry_under above n rest) → Top n (node x kids rest) (entry_under above n (node x kids rest))
-  top_in_rest above n x kids rest t z i = record {
-    top = i.top;
-    kids = i.kids;
-    parent = i.parent;
-    named = i.named;
-    at = rw (t, tree_at-absent n kids z) i.at;
-    told = rw (t, entry_under-absent (Some x.number) n kids z) i.told;
-  }
+  -- the same tree and entry in another forest
+  top_as : (n : ℕ) (f g : Forest X) (a b : Option (Entry (Node X))) → tree_at n g ≡ tree_at n f → b ≡ a → Top n f a → Top n g b
+  top_as n f g a b s e i = record { top = i.top; kids = i.kids; parent = i.parent; named = i.named; at = s ∙ i.at; told = e ∙ i.told }
 
   pub top_of : (above : Option ℕ) (n : ℕ) (f : Forest X) → ((m : ℕ) → occurs m f ≤ 1) → 0 < occurs n f → Top n f (entry_under above n f)
-  top_of above n empty o h = absurd (omega arith)
-  top_of above n (node x kids rest) o h =
-      elim (same_or x.number n) [
-        | same d t ↦
-            let c = o n in
-            let c2 = rw t at c in
-            let z : occurs n rest ≡ 0 = omega arith in
-            record { top = x; kids = kids; parent = above; named = d; at = rw (t, tree_at-absent n rest z) refl; told = rw t refl }
-        | apart ne t ↦
-            let u = rw t at h in
-            let c = o n in
-            ⊎_elim
-            (λ (lt : 0 < occurs n kids). top_in_kids above n x kids rest t (omega arith) (top_of (Some x.number) n kids (λ m. let k = o m in omega arith) lt))
-            (λ (le : occurs n kids ≤ 0). top_in_rest above n x kids rest t (omega arith) (top_of above n rest (λ m. let k = o m in omega arith) (omega arith)))
-            (cases_lt 0 (occurs n kids))
-      ]
+  top_of above n f o h =
+      along n (tree_at n f) (λ g. (above : Option ℕ) → Top n g (entry_under above n g))
+      (λ x kids rest o d t k z e above. record { top = x; kids = kids; parent = above; named = d; at = rw (t, tree_at-absent n rest z) refl; told = rw t refl })
+      (λ x kids rest o t h z e i above.
+      let j = i (Some x.number) in
+      top_as n kids (node x kids rest) (entry_under (Some x.number) n kids) (entry_under above n (node x kids rest))
+      (rw (t, tree_at-absent n rest z) (beside-empty (tree_at n kids))) (rw (t, j.told) refl) j)
+      (λ x kids rest o t k e i above.
+      top_as n rest (node x kids rest) (entry_under above n rest) (entry_under above n (node x kids rest)) (rw (t, tree_at-absent n kids k) refl)
+      (rw (t, entry_under-absent (Some x.number) n kids k) refl) (i above)) f o h refl above
 
 pub tops-bared : (f : Forest Content) → tops (bared f) ≡ tops f
 tops-bared empty = refl

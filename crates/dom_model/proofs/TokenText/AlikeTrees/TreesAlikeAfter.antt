@@ -1,18 +1,11 @@
 -- Forests that the token texts cannot tell apart stay so: where a tree is cut, put, made or put away, and where a node changes.
-use Rattle.std.proofs.Common.{◌≡◌, ℕ, ◌<◌, ◌≤◌, ◌==◌, Bool, true, false, List, Option, Some, None, option_map, refl, ap, sym, ◌∙◌, subst, arith, ⊎_elim}
+use Rattle.std.proofs.Common.{◌≡◌, ℕ, ◌<◌, ◌≤◌, ◌==◌, Bool, true, false, List, Option, Some, None, option_map, refl, ap, sym, ◌∙◌, arith, inl, inr}
 use Rattle.std.proofs.lemmas.Bool.{cases_lt}
-use Rattle.dom_model.specs.PlainLists.Lists.{or_else}
-use Rattle.dom_model.specs.Forests.Arena.{Entry, held}
-use Rattle.dom_model.specs.Forests.Forest.{Node, Forest, empty, node, occurs, one_at, tops, beside, tree_at, without, cut, put, map_nodes, with_node, adopted, in_document, entry_under, entry_in, parent_of}
-use Rattle.dom_model.specs.Worlds.World.{Content}
+use Rattle.dom_model.specs.Definitions.{or_else, Entry, held, Node, Forest, empty, node, occurs, one_at, tops, beside, tree_at, without, cut, put, map_nodes, with_node, adopted, in_document, entry_in, parent_of, Content, Lies, Childless}
+use Rattle.dom_model.proofs.Worlds.Measured.{entry-with_node, entry-joined}
 use Rattle.dom_model.proofs.PlainLists.Numbers.{same_or, same, apart}
-use Rattle.dom_model.specs.Forests.Lies.{Lies}
-use Rattle.dom_model.specs.TokenText.Fitting.{Childless}
-use Rattle.dom_model.proofs.Forests.Totals.{total-beside, total-tree_at, total-cut, total-put, tree_at-absent, beside-empty}
-use Rattle.dom_model.proofs.Forests.Changes.{cut_at, link_at, change_at, held-cut_at, held-change_at}
-use Rattle.dom_model.proofs.Forests.Lying.{Lies-beside, Lies-cut_top, Lies-without, Lies-kept, Lies-with_node, total-with_node}
-use Rattle.dom_model.proofs.Forests.Entries.{Lies-entry_in, occurs-held, entry_in-Lies, entry-cut, entry-put}
-use Rattle.dom_model.proofs.TokenText.AlikeTrees.TreesAlike.{Alike, Top, bare, bared, bare_entry, top_of, total-bared, entry_under-bared, or_else-map, Childless-beside, Childless-tree_at, Childless-without, alike-parent}
+use Rattle.dom_model.proofs.Forests.{Totals.total-beside, Totals.total-tree_at, Totals.total-cut, Totals.total-put, Totals.tree_at-absent, Changes.cut_at, Changes.link_at, Changes.change_at, Changes.held-cut_at, Lying.Lies-beside, Lying.Lies-cut_top, Lying.Lies-without, Lying.Lies-kept, Lying.total-with_node, Entries.Lies-entry_in, Entries.occurs-held, Entries.entry_in-Lies, Entries.entry-cut, Entries.entry-put}
+use Rattle.dom_model.proofs.TokenText.{AlikeTrees.TreesAlike.Alike, AlikeTrees.TreesAlike.Top, AlikeTrees.TreesAlike.bare, AlikeTrees.TreesAlike.bared, AlikeTrees.TreesAlike.bare_entry, AlikeTrees.TreesAlike.top_of, AlikeTrees.TreesAlike.total-bared, AlikeTrees.TreesAlike.entry_under-bared, AlikeTrees.TreesAlike.or_else-map, AlikeTrees.TreesAlike.Childless-beside, AlikeTrees.TreesAlike.Childless-tree_at, AlikeTrees.TreesAlike.Childless-without, AlikeTrees.TreesAlike.alike-parent, AlikeTrees.WaysToTrees.to_tree}
 
 module _ {X : Type 0} where
   -- equal entries have equal parts
@@ -33,28 +26,9 @@ module _ {X : Type 0} where
       rw (s.0, forests-same at (Some x.number) (Some y.number) kids ys l.1 m.1 s.1, forests-same at q q' rest others l.2 m.2 r) refl
 
   pub Lies-in_tree : (at : (ℕ → Option (Entry (Node X)))) (q : Option ℕ) (n : ℕ) (y : Node X) (ys f : Forest X) → ((m : ℕ) → occurs m f ≤ 1) → Lies at q f → tree_at n f ≡ node y ys empty → Lies at (Some y.number) ys
-  Lies-in_tree at q n y ys empty o l e = absurd (cc e)
-  Lies-in_tree at q n y ys (node x kids rest) o l e =
-      elim (same_or x.number n) [
-        | same d t ↦
-            let e2 = rw t at e in
-            let sx : x ≡ y = cc e2 in
-            let sk : kids ≡ ys = cc e2 in
-            subst (λ (z : Node X). Lies at (Some z.number) ys) sx (subst (λ g. Lies at (Some x.number) g) sk l.1)
-        | apart ne t ↦
-            let e2 = rw t at e in
-            let c = o n in
-            ⊎_elim
-            (λ (lt : 0 < occurs n kids).
-            let z : occurs n rest ≡ 0 = omega arith in
-            let e3 = rw (tree_at-absent n rest z, beside-empty (tree_at n kids)) at e2 in
-            Lies-in_tree at (Some x.number) n y ys kids (λ m. let k = o m in omega arith) l.1 e3)
-            (λ (le : occurs n kids ≤ 0).
-            let z : occurs n kids ≡ 0 = omega arith in
-            let e3 = rw (tree_at-absent n kids z) at e2 in
-            Lies-in_tree at q n y ys rest (λ m. let k = o m in omega arith) l.2 e3)
-            (cases_lt 0 (occurs n kids))
-      ]
+  Lies-in_tree at q n y ys f o l e =
+      to_tree n y ys (λ g. (q : Option ℕ) → Lies at q g → Lies at (Some y.number) ys) (λ rest o d t k z q l. l.1)
+      (λ x kids rest o t h z e i q l. i (Some x.number) l.1) (λ x kids rest o t k e i q l. i q l.2) f o e q l
 
 pub bared-beside : (f g : Forest Content) → bared (beside f g) ≡ beside (bared f) (bared g)
 bared-beside empty g = refl
@@ -80,14 +54,10 @@ module _ (g f : Forest Content) (alike : Alike g f) (once : (n : ℕ) → occurs
 
   -- each tree of the one is one of the other
   pub alike-tree : (n : ℕ) → tree_at n g ≡ bared (tree_at n f)
-  alike-tree n =
-      ⊎_elim
-      (λ (lt : 0 < occurs n f). there (top_of None n g alike-once (let a = alike.numbers n in omega arith)) (top_of None n (bared f) bared-once (let a = total-bared (one_at n) f in omega arith)) ∙ tree_at-bared n f)
-      (λ (le : occurs n f ≤ 0).
-      let a : tree_at n g ≡ empty = tree_at-absent n g (let b = alike.numbers n in omega arith) in
-      let b : tree_at n f ≡ empty = tree_at-absent n f (omega arith) in
-      a ∙ ap bared (sym b))
-      (cases_lt 0 (occurs n f))
+  alike-tree n = elim (cases_lt 0 (occurs n f)) [
+    | inl lt ↦ there (top_of None n g alike-once (let a = alike.numbers n in omega arith)) (top_of None n (bared f) bared-once (let a = total-bared (one_at n) f in omega arith)) ∙ tree_at-bared n f
+    | inr le ↦ (let b = alike.numbers n in rw (tree_at-absent n g (omega arith), tree_at-absent n f (omega arith)) refl)
+  ]
     where
       there : Top n g (entry_in g n) → Top n (bared f) (entry_in (bared f) n) → tree_at n g ≡ tree_at n (bared f)
       there a b =
@@ -96,7 +66,7 @@ module _ (g f : Forest Content) (alike : Alike g f) (once : (n : ℕ) → occurs
           let lb = Lies-in_tree (entry_in (bared f)) None n b.top b.kids (bared f) bared-once (Lies-entry_in (bared f) bared-once) b.at in
           let lc = Lies-kept (entry_in (bared f)) (entry_in g) (Some b.top.number) b.kids (λ m h. same_entry m) lb in
           let s : a.kids ≡ b.kids = forests-same (entry_in g) (Some a.top.number) (Some b.top.number) a.kids b.kids la lc e.1 in
-          a.at ∙ ap (λ (x : Node Content). node x a.kids empty) e.0 ∙ ap (λ (k : Forest Content). node b.top k empty) s ∙ sym b.at
+          a.at ∙ (rw (e.0, s) (sym b.at))
 
   pub alike-inside : (n m : ℕ) → occurs m (tree_at n g) ≡ occurs m (tree_at n f)
   alike-inside n m = ap (occurs m) (alike-tree n) ∙ total-bared (one_at m) (tree_at n f)
@@ -154,13 +124,8 @@ module _ (g f : Forest Content) (alike : Alike g f) (once : (n : ℕ) → occurs
   pub alike-node : (n : ℕ) (h h' : Node Content → Node Content) → ((x : Node Content) → (h x).number ≡ x.number) → ((x : Node Content) → (h' x).number ≡ x.number) → ((x : Node Content) → h (bare x) ≡ bare (h' x)) → Childless (with_node n h g) → Alike (with_node n h g) (with_node n h' f)
   alike-node n h h' e e' fits c = record {
     entries = λ m.
-        entry_in-Lies (λ k. change_at h n k (entry_in g k)) (with_node n h g)
-        (Lies-with_node (entry_in g) (λ k. change_at h n k (entry_in g k)) n h e (λ k. refl) None g (Lies-entry_in g alike-once))
-        (λ k. total-with_node (one_at k) n h e g ∙ occurs-held g k (alike-once k) ∙ sym (held-change_at h n k (entry_in g k))) m
-        ∙ ap (change_at h n m) (alike.entries m) ∙ bare-change (m == n) m refl (entry_in f m)
-        ∙ ap (option_map bare_entry) (sym (entry_in-Lies (λ k. change_at h' n k (entry_in f k)) (with_node n h' f)
-        (Lies-with_node (entry_in f) (λ k. change_at h' n k (entry_in f k)) n h' e' (λ k. refl) None f (Lies-entry_in f once))
-        (λ k. total-with_node (one_at k) n h' e' f ∙ occurs-held f k (once k) ∙ sym (held-change_at h' n k (entry_in f k))) m));
+        entry-with_node h e n m None g ∙ ap (change_at h n m) (alike.entries m) ∙ bare-change (m == n) m refl (entry_in f m)
+        ∙ ap (option_map bare_entry) (sym (entry-with_node h' e' n m None f));
     numbers = λ m. total-with_node (one_at m) n h e g ∙ alike.numbers m ∙ sym (total-with_node (one_at m) n h' e' f);
     childless = c;
   }
@@ -170,24 +135,12 @@ module _ (g f : Forest Content) (alike : Alike g f) (once : (n : ℕ) → occurs
       bare-change true m d (Some a) = rw d (ap (λ (x : Node Content). Some (record { value = x; parent = a.parent; children = a.children })) (fits a.value))
       bare-change false m d (Some a) = rw d refl
 
-or_else-twice : (a b c : Option (Entry (Node Content))) → or_else a (or_else b c) ≡ or_else (or_else a b) c
-or_else-twice None b c = refl
-or_else-twice (Some a) b c = refl
-
-pub entry_under-beside : (q : Option ℕ) (n : ℕ) (f g : Forest Content) → entry_under q n (beside f g) ≡ or_else (entry_under q n f) (entry_under q n g)
-entry_under-beside q n empty g = refl
-entry_under-beside q n (node x kids rest) g =
-    elim (same_or x.number n) [
-      | same d t ↦ rw t refl
-      | apart ne t ↦ rw (t, entry_under-beside q n rest g) (or_else-twice (entry_under (Some x.number) n kids) (entry_under q n rest) (entry_under q n g))
-    ]
-
 -- other trees come beside
 pub alike-beside : (g f h k : Forest Content) → Alike g f → Alike h k → Alike (beside g h) (beside f k)
 alike-beside g f h k a b = record {
   entries = λ n.
-      entry_under-beside None n g h ∙ ap (λ e. or_else e (entry_in h n)) (a.entries n) ∙ ap (λ e. or_else (option_map bare_entry (entry_in f n)) e) (b.entries n)
-      ∙ or_else-map (entry_in f n) (entry_in k n) ∙ ap (option_map bare_entry) (sym (entry_under-beside None n f k));
+      entry-joined None n g h ∙ ap (λ e. or_else e (entry_in h n)) (a.entries n) ∙ ap (λ e. or_else (option_map bare_entry (entry_in f n)) e) (b.entries n)
+      ∙ or_else-map (entry_in f n) (entry_in k n) ∙ ap (option_map bare_entry) (sym (entry-joined None n f k));
   numbers = λ n. omega (arith, total-beside (one_at n) g h, total-beside (one_at n) f k, a.numbers n, b.numbers n);
   childless = Childless-beside g h a.childless b.childless;
 }

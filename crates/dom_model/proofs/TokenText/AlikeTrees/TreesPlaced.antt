@@ -1,13 +1,9 @@
 -- Where a tree is put among a node's children or leaves them, the node's tree alone gives way to another.
-use Rattle.std.proofs.Common.{◌≡◌, ℕ, ◌<◌, ◌≤◌, ◌==◌, false, length, Option, refl, ap, sym, ◌∙◌, subst, arith, ⊎_elim}
-use Rattle.std.specs.Prelude.{slice_get}
-use Rattle.std.proofs.lemmas.Bool.{cases_lt}
-use Rattle.dom_model.specs.PlainLists.Lists.{head_of, is_number}
-use Rattle.dom_model.specs.Forests.Forest.{Node, Forest, empty, node, occurs, one_at, tops, beside, tree_at, without, placed_before, placed_under}
-use Rattle.dom_model.proofs.PlainLists.Numbers.{same_or, same, apart}
-use Rattle.dom_model.proofs.Forests.Totals.{total-beside, total-tree_at, tree_at-absent, without-absent, beside-empty}
-use Rattle.dom_model.proofs.Forests.Undone.{without-beside, placed_under-absent}
-use Rattle.dom_model.proofs.TokenText.Pieces.TextContexts.{with_root, with_root-absent}
+use Rattle.std.proofs.Common.{◌≡◌, ℕ, ◌+◌, ◌<◌, ◌≤◌, ◌==◌, false, length, Option, refl, ap, sym, ◌∙◌, arith, slice_get}
+use Rattle.std.proofs.lemmas.{Bool.eq-eqb, Bool.Decides.nat_tests}
+use Rattle.dom_model.specs.Definitions.{head_of, is_number, Node, Forest, empty, node, occurs, one_at, tops, beside, tree_at, without, placed_before, placed_under}
+use Rattle.dom_model.proofs.Forests.{Totals.total-beside, Totals.total-tree_at, Totals.without-absent, Totals.beside-empty, Undone.without-beside, Undone.placed_under-absent}
+use Rattle.dom_model.proofs.TokenText.{Pieces.TextContexts.with_root, Pieces.TextContexts.with_root-absent, AlikeTrees.WaysToTrees.to_tree, Pieces.TextContexts.with_root-itself}
 
 module _ {X : Type 0} where
   next_top : (hs bs : Forest X) → slice_get (tops (beside hs bs)) (length (tops hs)) ≡ head_of (tops bs)
@@ -17,53 +13,28 @@ module _ {X : Type 0} where
 
   not_next : (n : ℕ) (bs : Forest X) → occurs n bs ≡ 0 → is_number (head_of (tops bs)) n ≡ false
   not_next n empty h = refl
-  not_next n (node x kids rest) h = elim (same_or x.number n) [ same d t ↦ absurd (let k = rw t at h in omega arith) | apart ne t ↦ t ]
+  not_next n (node x kids rest) h = grind (arith, nat_tests)
 
   placed_next : (t bs : Forest X) → placed_before (head_of (tops bs)) t bs ≡ beside t bs
   placed_next t empty = sym (beside-empty t)
-  placed_next t (node x kids rest) = elim (same_or x.number x.number) [ same d u ↦ rw u refl | apart ne u ↦ absurd (ne refl) ]
+  placed_next t (node x kids rest) = rw (eq-eqb x.number x.number refl) refl
 
   placed_past : (t hs bs : Forest X) → ((m : ℕ) → occurs m (beside hs bs) ≤ 1) → placed_before (head_of (tops bs)) t (beside hs bs) ≡ beside hs (beside t bs)
   placed_past t empty bs o = placed_next t bs
   placed_past t (node x kids rest) bs o =
-      let k = o x.number in
-      let z : occurs x.number bs ≡ 0 = elim (same_or x.number x.number) [ same d u ↦ (let k2 = rw u at k in omega (arith, total-beside (one_at x.number) rest bs)) | apart ne u ↦ absurd (ne refl) ] in
-      rw (not_next x.number bs z) (ap (node x kids) (placed_past t rest bs (λ m. let j = o m in omega arith)))
+      let k = rw (eq-eqb x.number x.number refl) at (o x.number) in
+      rw (not_next x.number bs (omega (arith, total-beside (one_at x.number) rest bs)), placed_past t rest bs (λ m. let j = o m in omega arith)) refl
 
   -- a tree put before the child of an index, or last
   pub placed_between : (t hs bs : Forest X) → ((m : ℕ) → occurs m (beside hs bs) ≤ 1) → placed_before (slice_get (tops (beside hs bs)) (length (tops hs))) t (beside hs bs) ≡ beside hs (beside t bs)
   placed_between t hs bs o = ap (λ b. placed_before b t (beside hs bs)) (next_top hs bs) ∙ placed_past t hs bs o
 
   pub with_root-placed : (p : ℕ) (b : Option ℕ) (t : Forest X) (y : Node X) (ys f : Forest X) → ((m : ℕ) → occurs m f ≤ 1) → tree_at p f ≡ node y ys empty → placed_under p b t f ≡ with_root p y (placed_before b t ys) f
-  with_root-placed p b t y ys empty o e = refl
-  with_root-placed p b t y ys (node x kids rest) o e =
-      elim (same_or x.number p) [
-        | same d u ↦
-            let c = o p in
-            let c2 = rw u at c in
-            let zk : occurs p kids ≡ 0 = omega arith in
-            let zr : occurs p rest ≡ 0 = omega arith in
-            let e2 = rw (u, tree_at-absent p rest zr) at e in
-            let ex : x ≡ y = cc e2 in
-            let ek : kids ≡ ys = cc e2 in
-            rw (u, placed_under-absent p b t kids zk, placed_under-absent p b t rest zr, with_root-absent p y (placed_before b t ys) rest zr)
-            (ap (λ (z : Node X). node z (placed_before b t kids) rest) ex ∙ ap (λ (g : Forest X). node y (placed_before b t g) rest) ek)
-        | apart ne u ↦
-            let e2 = rw u at e in
-            let c = o p in
-            ⊎_elim
-            (λ (lt : 0 < occurs p kids).
-            let zr : occurs p rest ≡ 0 = omega arith in
-            let e3 = rw (tree_at-absent p rest zr, beside-empty (tree_at p kids)) at e2 in
-            rw (u, placed_under-absent p b t rest zr, with_root-absent p y (placed_before b t ys) rest zr)
-            (ap (λ (g : Forest X). node x g rest) (with_root-placed p b t y ys kids (λ m. let k = o m in omega arith) e3)))
-            (λ (le : occurs p kids ≤ 0).
-            let zk : occurs p kids ≡ 0 = omega arith in
-            let e3 = rw (tree_at-absent p kids zk) at e2 in
-            rw (u, placed_under-absent p b t kids zk, with_root-absent p y (placed_before b t ys) kids zk)
-            (ap (node x kids) (with_root-placed p b t y ys rest (λ m. let k = o m in omega arith) e3)))
-            (cases_lt 0 (occurs p kids))
-      ]
+  with_root-placed p b t y ys f o e =
+      to_tree p y ys (λ g. placed_under p b t g ≡ with_root p y (placed_before b t ys) g)
+      (λ rest o d u k z. rw (u, placed_under-absent p b t ys k, placed_under-absent p b t rest z, with_root-absent p y (placed_before b t ys) rest z) refl)
+      (λ x kids rest o u h z e i. rw (u, placed_under-absent p b t rest z, with_root-absent p y (placed_before b t ys) rest z, i) refl)
+      (λ x kids rest o u k e i. rw (u, placed_under-absent p b t kids k, with_root-absent p y (placed_before b t ys) kids k, i) refl) f o e
 
   -- what stands under a node stands in the forest
   pub inside_of : (p c : ℕ) (y : Node X) (ys g : Forest X) → tree_at p g ≡ node y ys empty → 0 < occurs c ys → 0 < occurs c g
@@ -72,60 +43,28 @@ module _ {X : Type 0} where
   -- a tree that leaves its siblings
   pub left_between : (z : Node X) (zs hs bs : Forest X) → ((m : ℕ) → occurs m (beside hs (node z zs bs)) ≤ 1) → without z.number (beside hs (node z zs bs)) ≡ beside hs bs
   left_between z zs hs bs o =
-      let c = total-beside (one_at z.number) hs (node z zs bs) in
+      let c = rw (eq-eqb z.number z.number refl) at (total-beside (one_at z.number) hs (node z zs bs)) in
       let k = o z.number in
-      elim (same_or z.number z.number) [
-        | same d u ↦
-            let c2 = rw u at c in
-            let za : occurs z.number hs ≡ 0 = omega arith in
-            let zb : occurs z.number bs ≡ 0 = omega arith in
-            without-beside z.number hs (node z zs bs) ∙ (rw (u, without-absent z.number hs za, without-absent z.number bs zb) refl)
-        | apart ne u ↦ absurd (ne refl)
-      ]
+      without-beside z.number hs (node z zs bs) ∙ (rw (eq-eqb z.number z.number refl, without-absent z.number hs (omega arith), without-absent z.number bs (omega arith)) refl)
+
+  -- a change at a node under another, of which no part without the node takes notice, is one of the other's children
+  pub with_root-changed : (change : Forest X → Forest X) (p c : ℕ) → ((x : Node X) (kids rest : Forest X) → (x.number == c) ≡ false → change (node x kids rest) ≡ node x (change kids) (change rest)) → ((g : Forest X) → occurs c g ≡ 0 → change g ≡ g)
+      → (y : Node X) (ks ys f : Forest X) → ((m : ℕ) → occurs m f ≤ 1) → tree_at p f ≡ node y ys empty → 0 < occurs c ys → change (with_root p y ks f) ≡ with_root p y (change ks) f
+  with_root-changed change p c passes stays y ks ys f o e h =
+      to_tree p y ys (λ g. change (with_root p y ks g) ≡ with_root p y (change ks) g)
+      (λ rest o d u k z. rw (u, with_root-absent p y ks rest z, with_root-absent p y (change ks) rest z, passes y ks rest (not_top y ys rest o (let t = h in omega arith)), stays rest (let l = o c in omega arith)) refl)
+      (λ x kids rest o u k z e i.
+      let hk = inside_of p c y ys kids e h in
+      rw (u, with_root-absent p y ks rest z, with_root-absent p y (change ks) rest z, passes x (with_root p y ks kids) rest (not_top x kids rest o (omega arith)), i, stays rest (let l = o c in omega arith)) refl)
+      (λ x kids rest o u k e i.
+      let hr = inside_of p c y ys rest e h in
+      rw (u, with_root-absent p y ks kids k, with_root-absent p y (change ks) kids k, passes x kids (with_root p y ks rest) (not_top x kids rest o (omega arith)), i, stays kids (let l = o c in omega arith)) refl) f o e
+    where
+      not_top : (x : Node X) (kids rest : Forest X) → ((m : ℕ) → occurs m (node x kids rest) ≤ 1) → 0 < occurs c kids + occurs c rest → (x.number == c) ≡ false
+      not_top x kids rest o h = let k = o c in grind (arith, nat_tests)
+
+  pub without-root : (p c : ℕ) (y : Node X) (ks ys f : Forest X) → ((m : ℕ) → occurs m f ≤ 1) → tree_at p f ≡ node y ys empty → 0 < occurs c ys → without c (with_root p y ks f) ≡ with_root p y (without c ks) f
+  without-root p c y ks ys f o e h = with_root-changed (without c) p c (λ x kids rest t. rw t refl) (without-absent c) y ks ys f o e h
 
   pub with_root-left : (p c : ℕ) (y : Node X) (ys f : Forest X) → ((m : ℕ) → occurs m f ≤ 1) → tree_at p f ≡ node y ys empty → 0 < occurs c ys → without c f ≡ with_root p y (without c ys) f
-  with_root-left p c y ys empty o e h = refl
-  with_root-left p c y ys (node x kids rest) o e h =
-      elim (same_or x.number p) [
-        | same d u ↦
-            let b = o p in
-            let b2 = rw u at b in
-            let zr : occurs p rest ≡ 0 = omega arith in
-            let e2 = rw (u, tree_at-absent p rest zr) at e in
-            let ex : x ≡ y = cc e2 in
-            let ek : kids ≡ ys = cc e2 in
-            let hk : 0 < occurs c kids = subst (λ (g : Forest X). 0 < occurs c g) (sym ek) h in
-            let v = not_top c x kids rest o hk in
-            let l = o c in
-            let lr : occurs c rest ≡ 0 = omega arith in
-            rw (u, v, without-absent c rest lr, with_root-absent p y (without c ys) rest zr)
-            (ap (λ (z : Node X). node z (without c kids) rest) ex ∙ ap (λ (g : Forest X). node y (without c g) rest) ek)
-        | apart ne u ↦
-            let e2 = rw u at e in
-            let b = o p in
-            let l = o c in
-            ⊎_elim
-            (λ (lt : 0 < occurs p kids).
-            let zr : occurs p rest ≡ 0 = omega arith in
-            let e3 = rw (tree_at-absent p rest zr, beside-empty (tree_at p kids)) at e2 in
-            let hk : 0 < occurs c kids = inside_of p c y ys kids e3 h in
-            let v = not_top c x kids rest o hk in
-            let lr : occurs c rest ≡ 0 = omega arith in
-            rw (u, v, without-absent c rest lr, with_root-absent p y (without c ys) rest zr)
-            (ap (λ (g : Forest X). node x g rest) (with_root-left p c y ys kids (λ m. let k = o m in omega arith) e3 h)))
-            (λ (le : occurs p kids ≤ 0).
-            let zk : occurs p kids ≡ 0 = omega arith in
-            let e3 = rw (tree_at-absent p kids zk) at e2 in
-            let hr : 0 < occurs c rest = inside_of p c y ys rest e3 h in
-            let v = not_top_rest c x kids rest o hr in
-            let lk : occurs c kids ≡ 0 = omega arith in
-            rw (u, v, without-absent c kids lk, with_root-absent p y (without c ys) kids zk)
-            (ap (node x kids) (with_root-left p c y ys rest (λ m. let k = o m in omega arith) e3 h)))
-            (cases_lt 0 (occurs p kids))
-      ]
-    where
-      not_top : (c : ℕ) (x : Node X) (kids rest : Forest X) → ((m : ℕ) → occurs m (node x kids rest) ≤ 1) → 0 < occurs c kids → (x.number == c) ≡ false
-      not_top c x kids rest o h = let k = o c in elim (same_or x.number c) [ same d u ↦ absurd (let k2 = rw u at k in omega arith) | apart ne u ↦ u ]
-
-      not_top_rest : (c : ℕ) (x : Node X) (kids rest : Forest X) → ((m : ℕ) → occurs m (node x kids rest) ≤ 1) → 0 < occurs c rest → (x.number == c) ≡ false
-      not_top_rest c x kids rest o h = let k = o c in elim (same_or x.number c) [ same d u ↦ absurd (let k2 = rw u at k in omega arith) | apart ne u ↦ u ]
+  with_root-left p c y ys f o e h = ap (without c) (sym (with_root-itself p y ys f o e)) ∙ without-root p c y ys ys f o e h

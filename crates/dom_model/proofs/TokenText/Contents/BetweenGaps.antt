@@ -1,15 +1,8 @@
 -- What is ahead of a range's markers in a marked text, between them and behind them, told by how many tokens are ahead of their gaps.
-use Rattle.std.proofs.Common.{◌≡◌, ℕ, suc, ◌+◌, ◌-◌, ◌<◌, ◌≤◌, Bool, true, false, if◌then◌else◌, List, [], ◌∷◌, ◌++◌, take, drop, Option, Some, None, option_map, refl, ap, sym, ◌∙◌, subst, arith, append_assoc}
-use Rattle.std.proofs.lemmas.Bool.{false≢true}
-use Rattle.dom_model.specs.Worlds.World.{Point}
-use Rattle.dom_model.specs.TokenText.Tokens.{Token, Open, Close, OneUnit, Mark, unmarked, is_mark, is_mark_of, passed, stands_at}
-use Rattle.dom_model.specs.TokenText.Gaps.{tokens_ahead}
-use Rattle.dom_model.specs.TokenText.Between.{before_mark, after_mark, between, numbers_of, open_at}
-use Rattle.dom_model.proofs.TokenText.Pieces.TokenLists.{marked, AreMarks, unmarked-marks, not-marked, not-later}
-use Rattle.dom_model.proofs.TokenText.Pieces.TextWalks.{walk}
-use Rattle.dom_model.proofs.TokenText.Marked.MarkersMoved.{end_itself}
-use Rattle.dom_model.proofs.TokenText.Contents.Dressed.{gap_marks, dressed}
-use Rattle.dom_model.proofs.TokenText.Contents.MarksInOrder.{StartsIn, Marking}
+use Rattle.std.proofs.Common.{◌≡◌, ℕ, ◌+◌, ◌-◌, ◌<◌, ◌≤◌, Bool, true, false, List, [], ◌∷◌, ◌++◌, take, drop, Some, refl, ap, sym, ◌∙◌, subst, arith, append_assoc, inl, inr}
+use Rattle.std.proofs.lemmas.Bool.{false≢true, cases_Bool}
+use Rattle.dom_model.specs.Definitions.{Point, Token, Mark, unmarked, is_mark, is_mark_of, passed, stands_at, tokens_ahead, before_mark, after_mark, between, numbers_of, open_at}
+use Rattle.dom_model.proofs.TokenText.{Pieces.TokenLists.marked, Pieces.TokenLists.AreMarks, Pieces.TokenLists.unmarked-marks, Pieces.TokenLists.not-marked, Pieces.TokenLists.not-later, Pieces.TextWalks.walk, Marked.MarkersMoved.end_itself, Contents.Dressed.gap_marks, Contents.Dressed.dressed, Contents.MarksInOrder.StartsIn, Contents.MarksInOrder.Marking, Contents.LeafPlaces.some-suc}
 
 -- a text without markers
 abbrev pub NoMarks : List Token → Type 0
@@ -21,10 +14,7 @@ NoMarks-append [] ys h k = k
 NoMarks-append (x ∷ xs) ys h k = (h.0, NoMarks-append xs ys h.1 k)
 
 other-mark : (r : ℕ) (side : Bool) (t : Token) → is_mark t ≡ false → is_mark_of r side t ≡ false
-other-mark r side (Open n) h = refl
-other-mark r side Close h = refl
-other-mark r side (OneUnit u) h = refl
-other-mark r side (Mark q other) h = absurd (false≢true (sym h))
+other-mark r side t h = grind arith
 
 module _ (r : ℕ) (side : Bool) where
   -- Past other markers.
@@ -39,56 +29,28 @@ module _ (r : ℕ) (side : Bool) where
 
   open_at-skips : (here : List Point) (ms ts : List Token) → AreMarks ms → marked r side ms ≡ 0 → open_at r side here (ms ++ ts) ≡ open_at r side here ts
   open_at-skips here [] ts a h = refl
-  open_at-skips here (Open n ∷ ms) ts a h = absurd a
-  open_at-skips here (Close ∷ ms) ts a h = absurd a
-  open_at-skips here (OneUnit u ∷ ms) ts a h = absurd a
-  open_at-skips here (Mark q other ∷ ms) ts a h =
-      rw (not-marked r side (Mark q other) ms h) (open_at-skips here ms ts a (not-later (is_mark_of r side) (Mark q other) ms h))
+  open_at-skips here (m ∷ ms) ts a h = grind (arith, open_at-skips here ms ts, not-marked r side m ms h, not-later (is_mark_of r side) m ms h)
 
   -- At one of the markers.
 
   before-marks : (ms ts : List Token) → AreMarks ms → 0 < marked r side ms → unmarked (before_mark r side (ms ++ ts)) ≡ []
   before-marks [] ts a h = absurd (omega arith)
-  before-marks (Open n ∷ ms) ts a h = absurd a
-  before-marks (Close ∷ ms) ts a h = absurd a
-  before-marks (OneUnit u ∷ ms) ts a h = absurd a
-  before-marks (Mark q other ∷ ms) ts a h = go (is_mark_of r side (Mark q other)) h (λ k. before-marks ms ts a k)
-    where
-      go : (v : Bool) → 0 < (if v then 1 else 0) + marked r side ms → (0 < marked r side ms → unmarked (before_mark r side (ms ++ ts)) ≡ []) → unmarked (if v then [] else Mark q other ∷ before_mark r side (ms ++ ts)) ≡ []
-      go true k later = refl
-      go false k later = later (omega arith)
+  before-marks (m ∷ ms) ts a h = grind (arith, before-marks ms ts)
 
   after-marks : (ms ts : List Token) → AreMarks ms → 0 < marked r side ms → unmarked (after_mark r side (ms ++ ts)) ≡ unmarked ts
   after-marks [] ts a h = absurd (omega arith)
-  after-marks (Open n ∷ ms) ts a h = absurd a
-  after-marks (Close ∷ ms) ts a h = absurd a
-  after-marks (OneUnit u ∷ ms) ts a h = absurd a
-  after-marks (Mark q other ∷ ms) ts a h = go (is_mark_of r side (Mark q other)) h (λ k. after-marks ms ts a k)
-    where
-      go : (v : Bool) → 0 < (if v then 1 else 0) + marked r side ms → (0 < marked r side ms → unmarked (after_mark r side (ms ++ ts)) ≡ unmarked ts) → unmarked (if v then ms ++ ts else after_mark r side (ms ++ ts)) ≡ unmarked ts
-      go true k later = unmarked-marks ms ts a
-      go false k later = later (omega arith)
+  after-marks (m ∷ ms) ts a h = grind (arith, after-marks ms ts, unmarked-marks ms ts)
 
   marks-last : (first last : List Token) → AreMarks (first ++ last) → AreMarks last
   marks-last [] last a = a
-  marks-last (Open n ∷ first) last a = absurd a
-  marks-last (Close ∷ first) last a = absurd a
-  marks-last (OneUnit u ∷ first) last a = absurd a
-  marks-last (Mark q other ∷ first) last a = marks-last first last a
+  marks-last (m ∷ first) last a = grind (arith, marks-last first last)
 
   marks-first : (first last : List Token) → AreMarks (first ++ last) → AreMarks first
   marks-first [] last a = tt
-  marks-first (Open n ∷ first) last a = absurd a
-  marks-first (Close ∷ first) last a = absurd a
-  marks-first (OneUnit u ∷ first) last a = absurd a
-  marks-first (Mark q other ∷ first) last a = marks-first first last a
+  marks-first (m ∷ first) last a = grind (arith, marks-first first last)
 
 kept-first : (t : Token) (ts : List Token) → is_mark t ≡ false → unmarked (t ∷ ts) ≡ t ∷ unmarked ts
 kept-first t ts h = rw h refl
-
-some-suc : (o : Option ℕ) (b : ℕ) → option_map (λ k. suc k) o ≡ Some b → (k : ℕ) × (o ≡ Some k) × (b ≡ suc k)
-some-suc None b h = absurd (cc h)
-some-suc (Some k) b h = (k, refl, cc h)
 
 module _ (r : ℕ) (p q : Point) (marks : Point → List Token) (m : Marking r p q marks) where
   gap-only : (here : List Point) → AreMarks (gap_marks marks here)
@@ -96,20 +58,16 @@ module _ (r : ℕ) (p q : Point) (marks : Point → List Token) (m : Marking r p
   gap-only (g ∷ around) = m.only g
 
   gap-no_start : (here : List Point) → stands_at p here ≡ false → marked r true (gap_marks marks here) ≡ 0
-  gap-no_start [] h = refl
-  gap-no_start (g ∷ around) h = m.no_start g h
+  gap-no_start here h = grind (arith, m.no_start)
 
   gap-no_end : (here : List Point) → stands_at q here ≡ false → marked r false (gap_marks marks here) ≡ 0
-  gap-no_end [] h = refl
-  gap-no_end (g ∷ around) h = m.no_end g h
+  gap-no_end here h = grind (arith, m.no_end)
 
   gap-end : (here : List Point) → stands_at q here ≡ true → 0 < marked r false (gap_marks marks here)
-  gap-end [] h = absurd (false≢true h)
-  gap-end (g ∷ around) h = m.an_end g h
+  gap-end here h = grind (arith, m.an_end)
 
   gap-a_start : (here : List Point) → stands_at p here ≡ true → 0 < marked r true (gap_marks marks here)
-  gap-a_start [] h = absurd (false≢true h)
-  gap-a_start (g ∷ around) h = m.a_start g h
+  gap-a_start here h = grind (arith, m.a_start)
 
   gap-start : (here : List Point) → stands_at p here ≡ true → StartsIn r (stands_at q here) (gap_marks marks here)
   gap-start [] h = absurd (false≢true h)
@@ -125,60 +83,48 @@ module _ (r : ℕ) (p q : Point) (marks : Point → List Token) (m : Marking r p
 
   -- Up to the end marker, and past it.
 
+  -- the tokens ahead of one of the two markers
+  up_to-mark : (side : Bool) (x : Point) → ((here : List Point) → stands_at x here ≡ false → marked r side (gap_marks marks here) ≡ 0) → ((here : List Point) → stands_at x here ≡ true → 0 < marked r side (gap_marks marks here)) → (here : List Point) (ts : List Token) (b : ℕ) → NoMarks ts → tokens_ahead x here ts ≡ Some b → unmarked (before_mark r side (dressed marks here ts)) ≡ take b ts
+  up_to-mark side x without_it with_it here [] b n h = absurd (cc h)
+  up_to-mark side x without_it with_it here (t ∷ ts) b n h =
+      elim (cases_Bool (stands_at x here)) [
+        | inl s ↦
+            let d : 0 ≡ b = cc (rw s at h) in
+            before-marks r side (gap_marks marks here) (t ∷ dressed marks (passed t here) ts) (gap-only here) (with_it here s) ∙ ap (λ k. take k (t ∷ ts)) d
+        | inr s ↦
+            let i = some-suc _ b (rw s at h) in
+            let o = other-mark r side t n.0 in
+            ap unmarked (before-skips r side (gap_marks marks here) (t ∷ dressed marks (passed t here) ts) (without_it here s))
+            ∙ unmarked-marks (gap_marks marks here) (before_mark r side (t ∷ dressed marks (passed t here) ts)) (gap-only here)
+            ∙ (rw o (kept-first t (before_mark r side (dressed marks (passed t here) ts)) n.0))
+            ∙ ap (λ us. t ∷ us) (up_to-mark side x without_it with_it (passed t here) ts i.0 n.1 i.1)
+            ∙ ap (λ k. take k (t ∷ ts)) (sym i.2)
+      ]
+
   pub up_to-end : (here : List Point) (ts : List Token) (b : ℕ) → NoMarks ts → tokens_ahead q here ts ≡ Some b → unmarked (before_mark r false (dressed marks here ts)) ≡ take b ts
-  up_to-end here [] b n h = absurd (cc h)
-  up_to-end here (t ∷ ts) b n h = go (stands_at q here) refl h (λ k e. up_to-end (passed t here) ts k n.1 e)
-    where
-      go : (v : Bool) → stands_at q here ≡ v → (if v then Some 0 else option_map (λ k. suc k) (tokens_ahead q (passed t here) ts)) ≡ Some b → ((k : ℕ) → tokens_ahead q (passed t here) ts ≡ Some k → unmarked (before_mark r false (dressed marks (passed t here) ts)) ≡ take k ts) → unmarked (before_mark r false (gap_marks marks here ++ (t ∷ dressed marks (passed t here) ts))) ≡ take b (t ∷ ts)
-      go true s e later =
-          let d : 0 ≡ b = cc e in
-          before-marks r false (gap_marks marks here) (t ∷ dressed marks (passed t here) ts) (gap-only here) (gap-end here s) ∙ ap (λ k. take k (t ∷ ts)) d
-      go false s e later =
-          let i = some-suc (tokens_ahead q (passed t here) ts) b e in
-          let o = other-mark r false t n.0 in
-          ap unmarked (before-skips r false (gap_marks marks here) (t ∷ dressed marks (passed t here) ts) (gap-no_end here s))
-          ∙ unmarked-marks (gap_marks marks here) (before_mark r false (t ∷ dressed marks (passed t here) ts)) (gap-only here)
-          ∙ (rw o (kept-first t (before_mark r false (dressed marks (passed t here) ts)) n.0))
-          ∙ ap (λ us. t ∷ us) (later i.0 i.1)
-          ∙ ap (λ k. take k (t ∷ ts)) (sym i.2)
+  up_to-end = up_to-mark false q gap-no_end gap-end
+
+  pub up_to-start : (here : List Point) (ts : List Token) (a : ℕ) → NoMarks ts → tokens_ahead p here ts ≡ Some a → unmarked (before_mark r true (dressed marks here ts)) ≡ take a ts
+  up_to-start = up_to-mark true p gap-no_start gap-a_start
 
   pub past-end : (here : List Point) (ts : List Token) (b : ℕ) → NoMarks ts → tokens_ahead q here ts ≡ Some b → unmarked (after_mark r false (dressed marks here ts)) ≡ drop b ts
   past-end here [] b n h = absurd (cc h)
-  past-end here (t ∷ ts) b n h = go (stands_at q here) refl h (λ k e. past-end (passed t here) ts k n.1 e)
-    where
-      go : (v : Bool) → stands_at q here ≡ v → (if v then Some 0 else option_map (λ k. suc k) (tokens_ahead q (passed t here) ts)) ≡ Some b → ((k : ℕ) → tokens_ahead q (passed t here) ts ≡ Some k → unmarked (after_mark r false (dressed marks (passed t here) ts)) ≡ drop k ts) → unmarked (after_mark r false (gap_marks marks here ++ (t ∷ dressed marks (passed t here) ts))) ≡ drop b (t ∷ ts)
-      go true s e later =
-          let d : 0 ≡ b = cc e in
-          after-marks r false (gap_marks marks here) (t ∷ dressed marks (passed t here) ts) (gap-only here) (gap-end here s)
-          ∙ kept-first t (dressed marks (passed t here) ts) n.0
-          ∙ ap (λ us. t ∷ us) (dressed-unmarked (passed t here) ts n.1)
-          ∙ ap (λ k. drop k (t ∷ ts)) d
-      go false s e later =
-          let i = some-suc (tokens_ahead q (passed t here) ts) b e in
-          let o = other-mark r false t n.0 in
-          ap unmarked (after-skips r false (gap_marks marks here) (t ∷ dressed marks (passed t here) ts) (gap-no_end here s))
-          ∙ (rw o refl)
-          ∙ later i.0 i.1
-          ∙ ap (λ k. drop k (t ∷ ts)) (sym i.2)
-
-  -- Up to the start marker.
-
-  pub up_to-start : (here : List Point) (ts : List Token) (a : ℕ) → NoMarks ts → tokens_ahead p here ts ≡ Some a → unmarked (before_mark r true (dressed marks here ts)) ≡ take a ts
-  up_to-start here [] a n h = absurd (cc h)
-  up_to-start here (t ∷ ts) a n h = go (stands_at p here) refl h (λ k e. up_to-start (passed t here) ts k n.1 e)
-    where
-      go : (v : Bool) → stands_at p here ≡ v → (if v then Some 0 else option_map (λ k. suc k) (tokens_ahead p (passed t here) ts)) ≡ Some a → ((k : ℕ) → tokens_ahead p (passed t here) ts ≡ Some k → unmarked (before_mark r true (dressed marks (passed t here) ts)) ≡ take k ts) → unmarked (before_mark r true (gap_marks marks here ++ (t ∷ dressed marks (passed t here) ts))) ≡ take a (t ∷ ts)
-      go true s e later =
-          let d : 0 ≡ a = cc e in
-          before-marks r true (gap_marks marks here) (t ∷ dressed marks (passed t here) ts) (gap-only here) (gap-a_start here s) ∙ ap (λ k. take k (t ∷ ts)) d
-      go false s e later =
-          let i = some-suc (tokens_ahead p (passed t here) ts) a e in
-          let o = other-mark r true t n.0 in
-          ap unmarked (before-skips r true (gap_marks marks here) (t ∷ dressed marks (passed t here) ts) (gap-no_start here s))
-          ∙ unmarked-marks (gap_marks marks here) (before_mark r true (t ∷ dressed marks (passed t here) ts)) (gap-only here)
-          ∙ (rw o (kept-first t (before_mark r true (dressed marks (passed t here) ts)) n.0))
-          ∙ ap (λ us. t ∷ us) (later i.0 i.1)
-          ∙ ap (λ k. take k (t ∷ ts)) (sym i.2)
+  past-end here (t ∷ ts) b n h =
+      elim (cases_Bool (stands_at q here)) [
+        | inl s ↦
+            let d : 0 ≡ b = cc (rw s at h) in
+            after-marks r false (gap_marks marks here) (t ∷ dressed marks (passed t here) ts) (gap-only here) (gap-end here s)
+            ∙ kept-first t (dressed marks (passed t here) ts) n.0
+            ∙ ap (λ us. t ∷ us) (dressed-unmarked (passed t here) ts n.1)
+            ∙ ap (λ k. drop k (t ∷ ts)) d
+        | inr s ↦
+            let i = some-suc _ b (rw s at h) in
+            let o = other-mark r false t n.0 in
+            ap unmarked (after-skips r false (gap_marks marks here) (t ∷ dressed marks (passed t here) ts) (gap-no_end here s))
+            ∙ (rw o refl)
+            ∙ past-end (passed t here) ts i.0 n.1 i.1
+            ∙ ap (λ k. drop k (t ∷ ts)) (sym i.2)
+      ]
 
   -- Past the start marker, and from there up to the end marker.
 
@@ -199,73 +145,67 @@ module _ (r : ℕ) (p q : Point) (marks : Point → List Token) (m : Marking r p
 
   pub between-gaps : (here : List Point) (ts : List Token) (a b : ℕ) → NoMarks ts → tokens_ahead p here ts ≡ Some a → tokens_ahead q here ts ≡ Some b → a ≤ b → between r (dressed marks here ts) ≡ take (b - a) (drop a ts)
   between-gaps here [] a b n h k l = absurd (cc h)
-  between-gaps here (t ∷ ts) a b n h k l = go (stands_at p here) refl h (λ c d e i j. between-gaps (passed t here) ts c d n.1 e i j)
+  between-gaps here (t ∷ ts) a b n h k l =
+      elim (cases_Bool (stands_at p here)) [
+        | inl s ↦
+            let d : a ≡ 0 = cc (rw s at h) in
+            let i = gap-start here s in
+            let m : b - 0 ≡ b = omega arith in
+            ap (λ us. unmarked (before_mark r false us)) (after-started here (t ∷ dressed marks (passed t here) ts) i)
+            ∙ at_start i
+            ∙ ap (λ k. take k (t ∷ ts)) (sym m)
+            ∙ ap (λ k. take (b - k) (drop k (t ∷ ts))) (sym d)
+        | inr s ↦
+            let i = some-suc _ a (rw s at h) in
+            let x = i.2 in
+            elim (cases_Bool (stands_at q here)) [
+              | inl u ↦ absurd (let z : 0 ≡ b = cc (rw u at k) in omega arith)
+              | inr u ↦
+                  let j = some-suc _ b (rw u at k) in
+                  let o = other-mark r true t n.0 in
+                  let m : j.0 - i.0 ≡ b - a = omega arith in
+                  ap (λ us. unmarked (before_mark r false us)) (after-skips r true (gap_marks marks here) (t ∷ dressed marks (passed t here) ts) (gap-no_start here s))
+                  ∙ (rw o refl)
+                  ∙ between-gaps (passed t here) ts i.0 j.0 n.1 i.1 j.1 (omega arith)
+                  ∙ ap (λ k. take k (drop i.0 ts)) m
+                  ∙ ap (λ k. take (b - a) (drop k (t ∷ ts))) (sym x)
+            ]
+      ]
     where
-      rest : List Token
-      rest = dressed marks (passed t here) ts
-
-      at_start : stands_at p here ≡ true → (i : StartsIn r (stands_at q here) (gap_marks marks here)) → (v : Bool) → stands_at q here ≡ v → unmarked (before_mark r false (i.last ++ (t ∷ rest))) ≡ take b (t ∷ ts)
-      at_start s i true u =
-          let one : marked r false i.last ≡ 1 = i.ending ∙ (rw u refl) in
-          let d : b ≡ 0 = zero_end u k in
-          before-marks r false i.last (t ∷ rest) (last-marks here i) (omega arith) ∙ ap (λ c. take c (t ∷ ts)) (sym d)
-        where
-          zero_end : stands_at q here ≡ true → tokens_ahead q here (t ∷ ts) ≡ Some b → b ≡ 0
-          zero_end u k = let c : Some 0 ≡ Some b = rw u at k in cc c
-      at_start s i false u =
-          let none : marked r false i.last ≡ 0 = i.ending ∙ (rw u refl) in
-          ap unmarked (before-skips r false i.last (t ∷ rest) none)
-          ∙ unmarked-marks i.last (before_mark r false (t ∷ rest)) (last-marks here i)
-          ∙ sym (unmarked-marks (gap_marks marks here) (before_mark r false (t ∷ rest)) (gap-only here))
-          ∙ sym (ap unmarked (before-skips r false (gap_marks marks here) (t ∷ rest) (gap-no_end here u)))
-          ∙ up_to-end here (t ∷ ts) b n k
-
-      beyond : (c : ℕ) → tokens_ahead p (passed t here) ts ≡ Some c → a ≡ suc c → stands_at p here ≡ false → ((c d : ℕ) → tokens_ahead p (passed t here) ts ≡ Some c → tokens_ahead q (passed t here) ts ≡ Some d → c ≤ d → between r rest ≡ take (d - c) (drop c ts)) → (v : Bool) → stands_at q here ≡ v → (if v then Some 0 else option_map (λ k. suc k) (tokens_ahead q (passed t here) ts)) ≡ Some b → between r (gap_marks marks here ++ (t ∷ rest)) ≡ take (b - a) (drop a (t ∷ ts))
-      beyond c e x s later true u y = absurd (let z : 0 ≡ b = cc y in omega arith)
-      beyond c e x s later false u y =
-          let j = some-suc (tokens_ahead q (passed t here) ts) b y in
-          let o = other-mark r true t n.0 in
-          let le : c ≤ j.0 = (let z = j.2 in omega arith) in
-          let m : j.0 - c ≡ b - a = (let z = j.2 in omega arith) in
-          ap (λ us. unmarked (before_mark r false us)) (after-skips r true (gap_marks marks here) (t ∷ rest) (gap-no_start here s))
-          ∙ (rw o refl)
-          ∙ later c j.0 e j.1 le
-          ∙ ap (λ k. take k (drop c ts)) m
-          ∙ ap (λ k. take (b - a) (drop k (t ∷ ts))) (sym x)
-
-      go : (v : Bool) → stands_at p here ≡ v → (if v then Some 0 else option_map (λ k. suc k) (tokens_ahead p (passed t here) ts)) ≡ Some a → ((c d : ℕ) → tokens_ahead p (passed t here) ts ≡ Some c → tokens_ahead q (passed t here) ts ≡ Some d → c ≤ d → between r rest ≡ take (d - c) (drop c ts)) → between r (gap_marks marks here ++ (t ∷ rest)) ≡ take (b - a) (drop a (t ∷ ts))
-      go true s e later =
-          let d : a ≡ 0 = cc e in
-          let i = gap-start here s in
-          let m : b - 0 ≡ b = omega arith in
-          ap (λ us. unmarked (before_mark r false us)) (after-started here (t ∷ rest) i)
-          ∙ at_start s i (stands_at q here) refl
-          ∙ ap (λ k. take k (t ∷ ts)) (sym m)
-          ∙ ap (λ k. take (b - k) (drop k (t ∷ ts))) (sym d)
-      go false s e later =
-          let i = some-suc (tokens_ahead p (passed t here) ts) a e in
-          beyond i.0 i.1 i.2 s later (stands_at q here) refl k
+      at_start : (i : StartsIn r (stands_at q here) (gap_marks marks here)) → unmarked (before_mark r false (i.last ++ (t ∷ dressed marks (passed t here) ts))) ≡ take b (t ∷ ts)
+      at_start i =
+          elim (cases_Bool (stands_at q here)) [
+            | inl u ↦
+                let one : marked r false i.last ≡ 1 = i.ending ∙ (rw u refl) in
+                let d : b ≡ 0 = (let c : Some 0 ≡ Some b = rw u at k in cc c) in
+                before-marks r false i.last (t ∷ dressed marks (passed t here) ts) (last-marks here i) (omega arith) ∙ ap (λ c. take c (t ∷ ts)) (sym d)
+            | inr u ↦
+                let none : marked r false i.last ≡ 0 = i.ending ∙ (rw u refl) in
+                ap unmarked (before-skips r false i.last (t ∷ dressed marks (passed t here) ts) none)
+                ∙ unmarked-marks i.last (before_mark r false (t ∷ dressed marks (passed t here) ts)) (last-marks here i)
+                ∙ sym (unmarked-marks (gap_marks marks here) (before_mark r false (t ∷ dressed marks (passed t here) ts)) (gap-only here))
+                ∙ sym (ap unmarked (before-skips r false (gap_marks marks here) (t ∷ dressed marks (passed t here) ts) (gap-no_end here u)))
+                ∙ up_to-end here (t ∷ ts) b n k
+          ]
 
   -- The nodes that are open around the start marker.
   pub open-around : (here : List Point) (ts : List Token) (a : ℕ) → NoMarks ts → tokens_ahead p here ts ≡ Some a → open_at r true here (dressed marks here ts) ≡ numbers_of (walk (take a ts) here)
   open-around here [] a n h = absurd (cc h)
-  open-around here (t ∷ ts) a n h = go (stands_at p here) refl h (λ k e. open-around (passed t here) ts k n.1 e)
-    where
-      rest : List Token
-      rest = dressed marks (passed t here) ts
-
-      go : (v : Bool) → stands_at p here ≡ v → (if v then Some 0 else option_map (λ k. suc k) (tokens_ahead p (passed t here) ts)) ≡ Some a → ((k : ℕ) → tokens_ahead p (passed t here) ts ≡ Some k → open_at r true (passed t here) rest ≡ numbers_of (walk (take k ts) (passed t here))) → open_at r true here (gap_marks marks here ++ (t ∷ rest)) ≡ numbers_of (walk (take a (t ∷ ts)) here)
-      go true s e later =
-          let d : a ≡ 0 = cc e in
-          let i = gap-start here s in
-          ap (open_at r true here) (started here (t ∷ rest) i)
-          ∙ open_at-skips r true here i.first (Mark r true ∷ (i.last ++ (t ∷ rest))) (first-marks here i) i.free
-          ∙ (rw (end_itself r true) refl)
-          ∙ ap (λ k. numbers_of (walk (take k (t ∷ ts)) here)) (sym d)
-      go false s e later =
-          let i = some-suc (tokens_ahead p (passed t here) ts) a e in
-          let o = other-mark r true t n.0 in
-          open_at-skips r true here (gap_marks marks here) (t ∷ rest) (gap-only here) (gap-no_start here s)
-          ∙ (rw o refl)
-          ∙ later i.0 i.1
-          ∙ ap (λ k. numbers_of (walk (take k (t ∷ ts)) here)) (sym i.2)
+  open-around here (t ∷ ts) a n h =
+      let rest = dressed marks (passed t here) ts in
+      elim (cases_Bool (stands_at p here)) [
+        | inl s ↦
+            let d : 0 ≡ a = cc (rw s at h) in
+            let i = gap-start here s in
+            ap (open_at r true here) (started here (t ∷ rest) i)
+            ∙ open_at-skips r true here i.first (Mark r true ∷ (i.last ++ (t ∷ rest))) (first-marks here i) i.free
+            ∙ (rw (end_itself r true) refl)
+            ∙ ap (λ k. numbers_of (walk (take k (t ∷ ts)) here)) d
+        | inr s ↦
+            let i = some-suc _ a (rw s at h) in
+            let o = other-mark r true t n.0 in
+            open_at-skips r true here (gap_marks marks here) (t ∷ rest) (gap-only here) (gap-no_start here s)
+            ∙ (rw o refl)
+            ∙ open-around (passed t here) ts i.0 n.1 i.1
+            ∙ ap (λ k. numbers_of (walk (take k (t ∷ ts)) here)) (sym i.2)
+      ]

@@ -1,46 +1,12 @@
 -- What lies between the markers of a live range, by parts: from its start to the end of the first partially contained child, the contained
 -- children, and from the start of the last partially contained child to its end. DOM Standard, "Interface Range".
-use Rattle.std.proofs.Common.{◌≡◌, ℕ, suc, ◌+◌, ◌-◌, ◌<◌, ◌≤◌, ◌==◌, Bool, true, false, if◌then◌else◌, List, [], ◌∷◌, ◌++◌, length, take, drop, Option, Some, None, refl, ap, sym, ◌∙◌, subst, arith, append_assoc, append-nil, length-append, inl, inr}
-use Rattle.std.proofs.lemmas.List.{length-take-le}
-use Rattle.dom_model.specs.Forests.Arena.{Entry}
-use Rattle.dom_model.specs.Forests.Kinds.{is_character_data, is_kind}
-use Rattle.dom_model.specs.declared.Kind.{Kind}
-use Rattle.dom_model.specs.declared.Kind.TheVariants.{Element, Text, ProcessingInstruction, Comment, Document, DocumentType, DocumentFragment}
-use Rattle.dom_model.specs.Forests.Forest.{Node, Forest, Grove, empty, node, occurs, entry_in, children_of, root_of}
-use Rattle.dom_model.specs.Worlds.Lengths.{node_length, unit_count}
-use Rattle.dom_model.specs.Worlds.World.{Content, Point, Range, World}
-use Rattle.dom_model.specs.Soundness.Sound.{IsSound, IsRange, IsBoundary}
-use Rattle.dom_model.specs.PlainLists.Lists.{up_to}
-use Rattle.dom_model.specs.Forests.Nodes.{kind_passes}
-use Rattle.dom_model.specs.DataAndCopies.Data.{data_of}
-use Rattle.dom_model.specs.RangesAndContents.Ranges.{is_collapsed, range_at}
-use Rattle.dom_model.specs.RangesAndContents.Contents.{is_in_one_data, common_of, contained_children}
-use Rattle.dom_model.specs.TokenText.Tokens.{Token, Open, Close, is_open, no_marks, unit_tokens, token_texts, tokens_among, texts_of}
-use Rattle.dom_model.specs.TokenText.Gaps.{text_among, root_text, tokens_ahead}
-use Rattle.dom_model.specs.TokenText.Between.{between}
-use Rattle.dom_model.specs.Forests.Ways.{IsWay}
-use Rattle.dom_model.specs.TokenText.Fitting.{Childless}
-use Rattle.dom_model.proofs.PlainLists.Numbers.{same_or, same, apart}
-use Rattle.dom_model.proofs.Forests.Entries.{occurs-HasNode}
-use Rattle.dom_model.proofs.Forests.WaysMeeting.{above-root}
-use Rattle.dom_model.proofs.RangesAndContents.WaysBelow.{IsFork, way-above}
-use Rattle.dom_model.proofs.RangesAndContents.ContainedChildren.{ahead_in, through_in, forked, contained-between}
-use Rattle.dom_model.proofs.TokenText.EditsMade.EditsOfDrawnContents.{sound-range}
-use Rattle.dom_model.proofs.TokenText.AlikeTrees.TreesAlike.{top_of}
-use Rattle.dom_model.proofs.TokenText.Pieces.TokenLists.{tally, tallies, opened, tally-append, tallies-append}
-use Rattle.dom_model.proofs.TokenText.Pieces.TextParts.{inside}
-use Rattle.dom_model.proofs.TokenText.Pieces.TextCounts.{opened-own, opened-texts}
-use Rattle.dom_model.proofs.TokenText.Pieces.TextContexts.{with_root-itself, around_texts}
-use Rattle.dom_model.proofs.TokenText.Contents.TextTold.{no_mark}
-use Rattle.dom_model.proofs.TokenText.Contents.DeletedUnits.{among-changed, data-long, take-front, drop-front}
-use Rattle.dom_model.proofs.TokenText.Contents.RangeText.{EndsAhead, ends_ahead, once-opened}
-use Rattle.dom_model.proofs.TokenText.Contents.PartsByGaps.{Parts, parts-by_gaps}
-use Rattle.dom_model.proofs.TokenText.Contents.WholePieces.{Whole, whole-units, gap-behind, nodes-append, tokens-own}
-use Rattle.dom_model.proofs.TokenText.Contents.PathTokens.{nodes_tokens, tail_tokens, head_tokens, start_path, end_path, parts_tokens}
-use Rattle.dom_model.proofs.TokenText.Contents.PathShapes.{front_tokens, back_tokens, childless, taken-there, whole-listed, holder-no_data, tokens-parted, head_is, tail_is}
-
-itself : (n : ℕ) → (n == n) ≡ true
-itself n = elim (same_or n n) [ same d t ↦ t | apart ne t ↦ absurd (ne refl) ]
+use Rattle.std.proofs.Common.{◌≡◌, ℕ, suc, ◌+◌, ◌-◌, ◌<◌, ◌≤◌, true, false, List, [], ◌∷◌, ◌++◌, length, take, Some, None, refl, ap, sym, ◌∙◌, subst, arith, append_assoc, append-nil, length-append, inl, inr, eq-eqb}
+use Rattle.std.proofs.lemmas.{List.length-take-le, Bool.cond_both}
+use Rattle.dom_model.specs.Definitions.{is_character_data, is_kind, Forest, empty, node, occurs, entry_in, children_of, root_of, node_length, unit_count, Content, Point, Range, World, IsSound, IsRange, IsBoundary, up_to, kind_passes, data_of, is_collapsed, range_at, is_in_one_data, common_of, contained_children, Token, Open, Close, is_open, no_marks, unit_tokens, token_texts, tokens_among, texts_of, text_among, root_text, tokens_ahead, between, IsWay, Childless}
+use Rattle.dom_model.specs.declared.{Kind.Kind, Kind.TheVariants.DocumentType}
+use Rattle.dom_model.proofs.Forests.{Entries.occurs-HasNode, WaysMeeting.above-root, Changes.seen, Changes.nothing, Changes.just}
+use Rattle.dom_model.proofs.RangesAndContents.{WaysBelow.IsFork, WaysBelow.way-above, ContainedChildren.ahead_in, ContainedChildren.through_in, ContainedChildren.forked, ContainedChildren.contained-between}
+use Rattle.dom_model.proofs.TokenText.{EditsMade.EditsOfDrawnContents.sound-range, AlikeTrees.TreesAlike.top_of, Pieces.TokenLists.opened, Pieces.TokenLists.tally-append, Pieces.TextParts.inside, Pieces.TextContexts.with_root-itself, Pieces.TextContexts.around_texts, Contents.DeletedUnits.among-changed, Contents.DeletedUnits.data-long, Contents.RangeText.EndsAhead, Contents.RangeText.ends_ahead, Contents.RangeText.once-opened, Contents.PartsByGaps.Parts, Contents.PartsByGaps.parts-by_gaps, Contents.WholePieces.Whole, Contents.WholePieces.whole-units, Contents.WholePieces.gap-behind, Contents.WholePieces.nodes-append, Contents.WholePieces.tokens-own, Contents.PathTokens.nodes_tokens, Contents.PathTokens.tail_tokens, Contents.PathTokens.head_tokens, Contents.PathTokens.start_path, Contents.PathTokens.end_path, Contents.PathTokens.parts_tokens, Contents.PathShapes.front_tokens, Contents.PathShapes.back_tokens, Contents.PathShapes.childless, Contents.PathShapes.taken-there, Contents.PathShapes.whole-listed, Contents.PathShapes.holder-no_data, Contents.PathShapes.tokens-parted, Contents.PathShapes.head_is, Contents.PathShapes.tail_is, Contents.LeafPlaces.opened-around, Contents.DeletedUnits.among-found, Contents.RangeText.opened-tree, Contents.DeletedUnits.middle-of}
 
 -- A node's own tokens in the text of its root.
 
@@ -70,15 +36,7 @@ node-there f root n once alone h there =
         let text = ahead ++ (Open n ∷ (inner ++ (Close ∷ behind))) in
         elim (among-changed (is_open n) root above text text below refl) [
           | inl i ↦ ap (text_among root) e ∙ i.0
-          | inr k ↦
-              let one : opened n (Open n ∷ (inner ++ (Close ∷ behind))) ≡ 1 + opened n (inner ++ (Close ∷ behind)) = (let s = itself n in rw s refl) in
-              let two : opened n text ≡ opened n ahead + opened n (Open n ∷ (inner ++ (Close ∷ behind))) = tally-append (is_open n) ahead (Open n ∷ (inner ++ (Close ∷ behind))) in
-              let all : tallies (is_open n) (above ++ (text ∷ below)) ≡ tallies (is_open n) above + tallies (is_open n) (text ∷ below) = tallies-append (is_open n) above (text ∷ below) in
-              let sum : tallies (is_open n) (token_texts no_marks f) ≡ occurs n f = opened-texts no_marks no_mark n f alone in
-              let same_sum = ap (tallies (is_open n)) e in
-              let same_text : opened n (root_text f root) ≡ tally (is_open n) (text_among root (above ++ (text ∷ below))) = ap (λ ts. opened n (text_among root ts)) e in
-              let o = once n in
-              absurd (omega arith)
+          | inr k ↦ absurd (among-found f root n once alone there above ahead (inner ++ (Close ∷ behind)) below e k)
         ]
 
 -- what a range's parts make of the text of its root
@@ -93,9 +51,6 @@ pub record IsParted (w : World) (r root : ℕ) (range : Range) : Type 0 where
   pub between_is : between r (text_among root (texts_of w)) ≡ parts_tokens w range
 
 module _ (w : World) (sound : IsSound w) (range : Range) (is_range : IsRange w.forest range) (root : ℕ) (rooted : root_of w.forest range.start.node ≡ Some root) where
-  abbrev grove : Grove Content
-  grove = record { forest = w.forest; made = w.made }
-
   abbrev pub top : ℕ
   top = common_of w range
 
@@ -116,42 +71,28 @@ module _ (w : World) (sound : IsSound w) (range : Range) (is_range : IsRange w.f
 
   -- a node of the root is opened in its text
   pub opened-there : (n : ℕ) → root_of w.forest n ≡ Some root → 0 < opened n (root_text w.forest root)
-  opened-there n h =
-      let t = ends_there in
-      let e = ap (opened n) t.tree.text ∙ opened-own no_marks no_mark n t.tree.top t.tree.kids (t.tree.alone, t.tree.less, tt) in
-      let k = t.tree.within n h in
-      omega arith
+  opened-there n h = let e = opened-tree w sound range is_range root rooted ends_there n in let k = ends_there.tree.within n h in omega arith
 
   top_there : NodeThere w.forest root (common_of w range)
   top_there = node-there w.forest root (common_of w range) sound.forest.once (childless w sound) fork_of.there (opened-there (common_of w range) top-rooted)
 
   module _ (two : is_in_one_data w range ≡ false) where
     -- an ancestor that an end stands in has no data
-    pub top-no_data_start : start_path w range ≡ [] → kind_passes is_character_data w.forest (common_of w range) ≡ false
-    top-no_data_start e = go (end_path w range) refl
-      where
-        at : common_of w range ≡ range.start.node
-        at = subst (λ path. IsWay w.forest (common_of w range) path range.start.node) e fork_of.first
+    no_data-way : (path : List ℕ) (n : ℕ) → IsWay w.forest (common_of w range) path n → (common_of w range ≡ n → kind_passes is_character_data w.forest (common_of w range) ≡ false) → kind_passes is_character_data w.forest (common_of w range) ≡ false
+    no_data-way [] n way h = h way
+    no_data-way (c ∷ path) n way h = holder-no_data w sound c (common_of w range) way.0 way.1
 
-        go : (path : List ℕ) → end_path w range ≡ path → kind_passes is_character_data w.forest (common_of w range) ≡ false
-        go (c ∷ path) d =
-            let way = subst (λ p. IsWay w.forest (common_of w range) p range.end.node) d fork_of.second in
-            holder-no_data w sound c (common_of w range) way.0 way.1
-        go [] d =
-            let other : common_of w range ≡ range.end.node = subst (λ p. IsWay w.forest (common_of w range) p range.end.node) d fork_of.second in
-            elim (same_or range.start.node range.end.node) [
-              | same s t ↦ ap (kind_passes is_character_data w.forest) at ∙ (let k = rw t at two in k)
-              | apart ne t ↦ absurd (ne (sym at ∙ other))
-            ]
+    bare-start : common_of w range ≡ range.start.node → kind_passes is_character_data w.forest (common_of w range) ≡ false
+    bare-start at =
+        no_data-way (end_path w range) range.end.node fork_of.second (λ other.
+        let k = rw (eq-eqb range.start.node range.end.node (sym at ∙ other)) at two in
+        ap (kind_passes is_character_data w.forest) at ∙ k)
+
+    pub top-no_data_start : start_path w range ≡ [] → kind_passes is_character_data w.forest (common_of w range) ≡ false
+    top-no_data_start e = bare-start (subst (λ path. IsWay w.forest (common_of w range) path range.start.node) e fork_of.first)
 
     pub top-no_data_end : end_path w range ≡ [] → kind_passes is_character_data w.forest (common_of w range) ≡ false
-    top-no_data_end e = go (start_path w range) refl
-      where
-        go : (path : List ℕ) → start_path w range ≡ path → kind_passes is_character_data w.forest (common_of w range) ≡ false
-        go [] d = top-no_data_start d
-        go (c ∷ path) d =
-            let way = subst (λ p. IsWay w.forest (common_of w range) p range.start.node) d fork_of.first in
-            holder-no_data w sound c (common_of w range) way.0 way.1
+    top-no_data_end e = no_data-way (start_path w range) range.start.node fork_of.first bare-start
 
     -- the tokens from the common ancestor's open down to an end
     down : (offset : ℕ) (path : List ℕ) → (path ≡ [] → kind_passes is_character_data w.forest (common_of w range) ≡ false) → head_tokens w offset (common_of w range ∷ path) ≡ Open (common_of w range) ∷ (nodes_tokens w.forest (ahead_in offset path (children_of w.forest (common_of w range))) ++ head_tokens w offset path)
@@ -167,24 +108,17 @@ module _ (w : World) (sound : IsSound w) (range : Range) (is_range : IsRange w.f
         ∙ ap (λ ts. nodes_tokens w.forest (up_to c (children_of w.forest (common_of w range))) ++ ts)
         (append-nil (tokens_among c (token_texts no_marks w.forest)) ∙ tokens-parted w sound offset c path n way.0 way.2)
 
-    joined : (n : ℕ) (us hs ts cs es : List Token) → Open n ∷ (((us ++ (hs ++ ts)) ++ cs) ++ es) ≡ (Open n ∷ (us ++ hs)) ++ (ts ++ (cs ++ es))
-    joined n us hs ts cs es = simp append_assoc
-
     -- the tokens down to the end are those down to the start, and the parts
     pub down-parted : head_tokens w range.end.offset (common_of w range ∷ end_path w range) ≡ head_tokens w range.start.offset (common_of w range ∷ start_path w range) ++ parts_tokens w range
     down-parted =
         let cs = children_of w.forest (common_of w range) in
         let whole = contained_children w range in
-        let hs = head_tokens w range.start.offset (start_path w range) in
-        let ts = tail_tokens w range.start.offset (start_path w range) in
         let es = head_tokens w range.end.offset (end_path w range) in
+        let listed = contained-between (record { forest = w.forest; made = w.made }) sound.forest range is_range in
+        let parted = nodes-append w.forest (through_in range.start.offset (start_path w range) cs) whole in
+        let ahead = through range.start.offset (start_path w range) range.start.node fork_of.first in
         down range.end.offset (end_path w range) top-no_data_end
-        ∙ ap (λ ns. Open (common_of w range) ∷ (nodes_tokens w.forest ns ++ es)) (contained-between (record { forest = w.forest; made = w.made }) sound.forest range is_range)
-        ∙ ap (λ us. Open (common_of w range) ∷ (us ++ es))
-        (nodes-append w.forest (through_in range.start.offset (start_path w range) cs) whole
-        ∙ ap (λ us. us ++ nodes_tokens w.forest whole) (through range.start.offset (start_path w range) range.start.node fork_of.first))
-        ∙ joined (common_of w range) (nodes_tokens w.forest (ahead_in range.start.offset (start_path w range) cs)) hs ts (nodes_tokens w.forest whole) es
-        ∙ ap (λ us. us ++ parts_tokens w range) (sym (down range.start.offset (start_path w range) top-no_data_start))
+        ∙ (rw (listed, parted, ahead, down range.start.offset (start_path w range) top-no_data_start) (simp append_assoc))
 
   -- Where the gaps of the ends stand.
 
@@ -192,40 +126,30 @@ module _ (w : World) (sound : IsSound w) (range : Range) (is_range : IsRange w.f
   data-fits p b k = let l = b.within in let d = data-long w p.node k in omega arith
 
   children-fit : (p : Point) → IsBoundary w.forest p → kind_passes is_character_data w.forest p.node ≡ false → p.offset ≤ length (children_of w.forest p.node)
-  children-fit p b k = go (entry_in w.forest p.node) refl
+  children-fit p b k =
+      let l = b.within in
+      elim (seen (entry_in w.forest p.node)) [
+        | nothing e ↦ let z : node_length unit_count w.forest p.node ≡ 0 = rw e refl in omega arith
+        | just x e ↦
+            let i : is_kind x.value.label.kind DocumentType ≡ false = turned x.value.label.kind (rw e at b.kind) in
+            let j : is_character_data x.value.label.kind ≡ false = rw e at k in
+            let d : node_length unit_count w.forest p.node ≡ length (children_of w.forest p.node) = rw e (rw (i, j) refl) in
+            omega arith
+      ]
     where
-      go : (o : Option (Entry (Node Content))) → entry_in w.forest p.node ≡ o → p.offset ≤ length (children_of w.forest p.node)
-      go None e = let l = b.within in let z : node_length unit_count w.forest p.node ≡ 0 = rw e refl in omega arith
-      go (Some x) e =
-          let l = b.within in
-          let i : is_kind x.value.label.kind DocumentType ≡ false = (let j = rw e at b.kind in turned x.value.label.kind j) in
-          let j : is_character_data x.value.label.kind ≡ false = rw e at k in
-          let d : node_length unit_count w.forest p.node ≡ length (children_of w.forest p.node) = rw e (rw (i, j) refl) in
-          omega arith
-        where
-          turned : (k : Kind) → is_kind DocumentType k ≡ false → is_kind k DocumentType ≡ false
-          turned Element h = refl
-          turned Text h = refl
-          turned ProcessingInstruction h = refl
-          turned Comment h = refl
-          turned Document h = refl
-          turned DocumentType h = absurd (let q : true ≡ false = h in cc q)
-          turned DocumentFragment h = refl
+      turned : (k : Kind) → is_kind DocumentType k ≡ false → is_kind k DocumentType ≡ false
+      turned k h = grind arith
 
   -- as many nodes or units as the offset tells
   pub whole-ahead : (p : Point) → IsBoundary w.forest p → Whole p.offset (front_tokens w p.offset p.node)
-  whole-ahead p b = go (kind_passes is_character_data w.forest p.node) refl
-    where
-      go : (v : Bool) → kind_passes is_character_data w.forest p.node ≡ v → Whole p.offset (if v then unit_tokens no_marks p.node 0 (take p.offset (data_of w p.node)) else nodes_tokens w.forest (take p.offset (children_of w.forest p.node)))
-      go true k = subst (λ l. Whole l (unit_tokens no_marks p.node 0 (take p.offset (data_of w p.node)))) (length-take-le p.offset (data_of w p.node) (data-fits p b k)) (whole-units p.node 0 (take p.offset (data_of w p.node)))
-      go false k = subst (λ l. Whole l (nodes_tokens w.forest (take p.offset (children_of w.forest p.node)))) (length-take-le p.offset (children_of w.forest p.node) (children-fit p b k)) (whole-listed w sound (take p.offset (children_of w.forest p.node)) (taken-there w sound p.node p.offset))
+  whole-ahead p b =
+      cond_both (kind_passes is_character_data w.forest p.node) _ _ (Whole p.offset)
+      (λ k. subst (λ l. Whole l (unit_tokens no_marks p.node 0 (take p.offset (data_of w p.node)))) (length-take-le p.offset (data_of w p.node) (data-fits p b k)) (whole-units p.node 0 (take p.offset (data_of w p.node))))
+      (λ k. subst (λ l. Whole l (nodes_tokens w.forest (take p.offset (children_of w.forest p.node)))) (length-take-le p.offset (children_of w.forest p.node) (children-fit p b k)) (whole-listed w sound (take p.offset (children_of w.forest p.node)) (taken-there w sound p.node p.offset)))
 
   -- in a text that opens a node once
   pub unopened : (n : ℕ) (ts us : List Token) → opened n (ts ++ (Open n ∷ us)) ≤ 1 → (opened n ts ≡ 0) × (opened n us ≡ 0)
-  unopened n ts us h =
-      let one : opened n (Open n ∷ us) ≡ 1 + opened n us = (let t = itself n in rw t refl) in
-      let sum = tally-append (is_open n) ts (Open n ∷ us) in
-      ((omega arith), (omega arith))
+  unopened n ts us h = let sum = opened-around n ts us in ((omega arith), (omega arith))
 
   -- the gap of an end that a path leads to, in any text that has the same tokens ahead of it
   pub head-gap : (p : Point) (path : List ℕ) → IsBoundary w.forest p → IsWay w.forest (common_of w range) path p.node → (ahead rest : List Token) → 0 < length rest → opened p.node (ahead ++ head_tokens w p.offset (common_of w range ∷ path)) ≤ 1 → tokens_ahead p [] ((ahead ++ head_tokens w p.offset (common_of w range ∷ path)) ++ rest) ≡ Some (length (ahead ++ head_tokens w p.offset (common_of w range ∷ path)))
@@ -235,36 +159,26 @@ module _ (w : World) (sound : IsSound w) (range : Range) (is_range : IsRange w.f
       let whole : ahead ++ head_tokens w p.offset (common_of w range ∷ path) ≡ (ahead ++ h.pre) ++ (Open p.node ∷ front) = ap (λ ts. ahead ++ ts) h.spelt ∙ sym (append_assoc ahead h.pre (Open p.node ∷ front)) in
       let free = unopened p.node (ahead ++ h.pre) front (subst (λ ts. opened p.node ts ≤ 1) whole once) in
       let far : length (ahead ++ h.pre) + suc (length front) ≡ length (ahead ++ head_tokens w p.offset (common_of w range ∷ path)) = sym (length-append (ahead ++ h.pre) (Open p.node ∷ front)) ∙ ap (λ ts. length ts) (sym whole) in
-      ap (λ ts. tokens_ahead p [] (ts ++ rest)) whole
-      ∙ ap (tokens_ahead p []) (append_assoc (ahead ++ h.pre) (Open p.node ∷ front) rest)
-      ∙ gap-behind (ahead ++ h.pre) p.node p.offset front rest (whole-ahead p b) some free.0 free.1
-      ∙ ap (λ k. Some k) far
+      cc (append_assoc (ahead ++ h.pre) (Open p.node ∷ front) rest, gap-behind (ahead ++ h.pre) p.node p.offset front rest (whole-ahead p b) some free.0 free.1)
 
   -- what is behind an end is not empty
   pub tail-some : (offset : ℕ) (path : List ℕ) (n : ℕ) → IsWay w.forest (common_of w range) path n → (behind : List Token) → 0 < length (tail_tokens w offset (common_of w range ∷ path) ++ behind)
   tail-some offset path n way behind =
       let t = tail_is w sound offset (common_of w range) path n way in
       let a = length-append (tail_tokens w offset (common_of w range ∷ path)) behind in
-      let b = ap (λ (us : List Token). length us) t.spelt ∙ length-append (back_tokens w offset n) (Close ∷ t.post) in
-      omega arith
+      omega (arith, ap (λ (us : List Token). length us) t.spelt ∙ length-append (back_tokens w offset n) (Close ∷ t.post))
 
   -- no node is opened twice ahead of a part of the text
   pub once-ahead : (n : ℕ) (ts us : List Token) → root_text w.forest root ≡ ts ++ us → opened n ts ≤ 1
-  once-ahead n ts us e =
-      let a = once-opened w sound range is_range root rooted ends_there n in
-      let b = ap (opened n) e ∙ tally-append (is_open n) ts us in
-      omega arith
+  once-ahead n ts us e = omega (arith, once-opened w sound range is_range root rooted ends_there n, ap (opened n) e ∙ tally-append (is_open n) ts us)
 
   end-gap : (p : Point) (path : List ℕ) → IsBoundary w.forest p → IsWay w.forest (common_of w range) path p.node → (ahead behind : List Token) → root_text w.forest root ≡ ahead ++ ((head_tokens w p.offset (common_of w range ∷ path) ++ tail_tokens w p.offset (common_of w range ∷ path)) ++ behind) → tokens_ahead p [] (root_text w.forest root) ≡ Some (length (ahead ++ head_tokens w p.offset (common_of w range ∷ path)))
   end-gap p path b way ahead behind text =
       let hs = head_tokens w p.offset (common_of w range ∷ path) in
       let rest = tail_tokens w p.offset (common_of w range ∷ path) ++ behind in
-      let whole : root_text w.forest root ≡ (ahead ++ hs) ++ rest = text ∙ split ahead hs (tail_tokens w p.offset (common_of w range ∷ path)) behind in
+      let whole : root_text w.forest root ≡ (ahead ++ hs) ++ rest = text ∙ (simp append_assoc) in
       ap (tokens_ahead p []) whole
       ∙ head-gap p path b way ahead rest (tail-some p.offset path p.node way behind) (once-ahead p.node (ahead ++ hs) rest whole)
-    where
-      split : (xs hs ts bs : List Token) → xs ++ ((hs ++ ts) ++ bs) ≡ (xs ++ hs) ++ (ts ++ bs)
-      split xs hs ts bs = simp append_assoc
 
   -- The text by parts.
 
@@ -287,31 +201,23 @@ module _ (w : World) (sound : IsSound w) (range : Range) (is_range : IsRange w.f
     by_end : root_text w.forest root ≡ top_there.ahead ++ ((end_head ++ end_tail) ++ top_there.behind)
     by_end = top_there.is ∙ ap (λ ts. top_there.ahead ++ (ts ++ top_there.behind)) (tokens-parted w sound range.end.offset (common_of w range) (end_path w range) range.end.node fork_of.there fork_of.second)
 
-    three : (xs hs ps ts bs : List Token) → xs ++ (((hs ++ ps) ++ ts) ++ bs) ≡ (xs ++ hs) ++ (ps ++ (ts ++ bs))
-    three xs hs ps ts bs = simp append_assoc
-
     whole-text : root_text w.forest root ≡ (top_there.ahead ++ start_head) ++ (parts_tokens w range ++ (end_tail ++ top_there.behind))
     whole-text =
         by_end
         ∙ ap (λ ts. top_there.ahead ++ ((ts ++ end_tail) ++ top_there.behind)) (down-parted two)
-        ∙ three top_there.ahead start_head (parts_tokens w range) end_tail top_there.behind
+        ∙ (simp append_assoc)
 
     starts-at : gaps.a ≡ length (top_there.ahead ++ start_head)
-    starts-at =
-        let e : Some gaps.a ≡ Some (length (top_there.ahead ++ start_head)) = sym gaps.starts ∙ end-gap range.start (start_path w range) is_range.starts fork_of.first top_there.ahead top_there.behind by_start in
-        cc e
+    starts-at = cc (gaps.starts, end-gap range.start (start_path w range) is_range.starts fork_of.first top_there.ahead top_there.behind by_start)
 
     ends-at : gaps.b ≡ length ((top_there.ahead ++ start_head) ++ parts_tokens w range)
     ends-at =
-        let e : Some gaps.b ≡ Some (length (top_there.ahead ++ end_head)) = sym gaps.ends ∙ end-gap range.end (end_path w range) is_range.ends fork_of.second top_there.ahead top_there.behind by_end in
-        let d : gaps.b ≡ length (top_there.ahead ++ end_head) = cc e in
-        d ∙ ap (λ (ts : List Token). length (top_there.ahead ++ ts)) (down-parted two) ∙ ap (λ (ts : List Token). length ts) (sym (append_assoc top_there.ahead start_head (parts_tokens w range)))
+        let d : gaps.b ≡ length (top_there.ahead ++ end_head) = cc (gaps.ends, end-gap range.end (end_path w range) is_range.ends fork_of.second top_there.ahead top_there.behind by_end) in
+        cc (d, down-parted two, append_assoc top_there.ahead start_head (parts_tokens w range))
 
     pub is_parted : IsParted w r root range
     is_parted =
-        let front = top_there.ahead ++ start_head in
-        let rest = end_tail ++ top_there.behind in
-        let many : gaps.b - gaps.a ≡ length (parts_tokens w range) = (let i = starts-at in let j = ends-at in let k = length-append (top_there.ahead ++ start_head) (parts_tokens w range) in omega arith) in
+        let long = length-append (top_there.ahead ++ start_head) (parts_tokens w range) in
         record {
           parts = gaps;
           ahead = top_there.ahead;
@@ -319,13 +225,8 @@ module _ (w : World) (sound : IsSound w) (range : Range) (is_range : IsRange w.f
           text = whole-text;
           starts = starts-at;
           ends = ends-at;
-          between_is =
-              gaps.inside
-              ∙ ap (λ k. take k (drop gaps.a (root_text w.forest root))) many
-              ∙ ap (λ k. take (length (parts_tokens w range)) (drop k (root_text w.forest root))) starts-at
-              ∙ ap (λ ts. take (length (parts_tokens w range)) (drop (length front) ts)) whole-text
-              ∙ ap (take (length (parts_tokens w range))) (drop-front front (parts_tokens w range ++ rest))
-              ∙ take-front (parts_tokens w range) rest;
+          between_is = gaps.inside
+              ∙ middle-of (top_there.ahead ++ start_head) (parts_tokens w range) (end_tail ++ top_there.behind) (root_text w.forest root) gaps.a gaps.b whole-text starts-at (ends-at ∙ long);
         }
 
 -- the text of a root by the parts of a range that is not within one node with data

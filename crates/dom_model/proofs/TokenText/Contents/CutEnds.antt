@@ -1,51 +1,15 @@
 -- The ends of a live range that stand in data, where its contents are deleted: the units from the start on go, and those up to the end.
 -- DOM Standard, "Interface Range": delete the contents.
-use Rattle.std.proofs.Common.{◌≡◌, ℕ, ◌==◌, Bool, true, false, List, [], ◌∷◌, ◌++◌, take, drop, Some, refl, ap, sym, ◌∙◌, subst, append_assoc, append-nil}
-use Rattle.std.proofs.lemmas.Bool.{false≢true}
-use Rattle.std.proofs.lemmas.List.{take-append-drop}
-use Rattle.dom_model.specs.Forests.Kinds.{is_character_data}
-use Rattle.dom_model.specs.Forests.Forest.{root_of}
-use Rattle.dom_model.specs.Worlds.World.{Range, World}
-use Rattle.dom_model.specs.Soundness.Sound.{IsSound, IsRange}
-use Rattle.dom_model.specs.Forests.Nodes.{kind_passes}
-use Rattle.dom_model.specs.DataAndCopies.Data.{data_of, remove_each}
-use Rattle.dom_model.specs.RangesAndContents.Contents.{is_in_one_data, cut_from, cut_up_to, contained_tops, common_of}
-use Rattle.dom_model.specs.TokenText.Tokens.{Token, Open, Close, no_marks, unit_tokens}
-use Rattle.dom_model.specs.TokenText.Gaps.{root_text}
-use Rattle.dom_model.specs.Forests.Ways.{IsWay}
-use Rattle.dom_model.specs.RangesAndContents.BesidePaths.{tail_nodes}
-use Rattle.dom_model.proofs.PlainLists.Numbers.{same_or, same, apart}
-use Rattle.dom_model.proofs.Soundness.SoundNormalizing.{each_kinds}
-use Rattle.dom_model.proofs.Soundness.SoundDeleting.{one, sound-second}
+use Rattle.std.proofs.Common.{◌≡◌, ℕ, Bool, true, false, List, [], ◌∷◌, ◌++◌, take, drop, Some, refl, ap, sym, ◌∙◌, subst, append_assoc, append-nil, inl, inr}
+use Rattle.std.proofs.lemmas.{Bool.false≢true, List.take-append-drop, Bool.cases_Bool}
+use Rattle.dom_model.specs.Definitions.{is_character_data, root_of, Range, World, IsSound, IsRange, kind_passes, data_of, remove_each, is_in_one_data, cut_from, cut_up_to, contained_tops, common_of, Token, Open, Close, no_marks, unit_tokens, root_text, IsWay, tail_nodes}
+use Rattle.dom_model.proofs.Soundness.{SoundNormalizing.each_kinds, SoundDeleting.one, SoundDeleting.sound-second}
 use Rattle.dom_model.proofs.RangesAndContents.WaysBelow.{IsFork}
-use Rattle.dom_model.proofs.TokenText.Contents.DeletedUnits.{units-append}
-use Rattle.dom_model.proofs.TokenText.Contents.NodesOut.{AllGone}
-use Rattle.dom_model.proofs.TokenText.Contents.PathTokens.{tail_tokens, head_tokens, start_path, end_path}
-use Rattle.dom_model.proofs.TokenText.Contents.PathShapes.{front_tokens, back_tokens, front_units, back_nodes, closes_of, opens_of, HeadIs, TailIs, head_is, tail_is}
-use Rattle.dom_model.proofs.TokenText.Contents.CutUnits.{text-cut_from, text-cut_up_to}
-use Rattle.dom_model.proofs.TokenText.Contents.BetweenParts.{fork_of, data-fits, top-no_data_start, top-no_data_end}
-use Rattle.dom_model.proofs.TokenText.Contents.PlaceOfContents.{end-there}
-
-itself : (n : ℕ) → (n == n) ≡ true
-itself n = elim (same_or n n) [ same d t ↦ t | apart ne t ↦ absurd (ne refl) ]
+use Rattle.dom_model.proofs.TokenText.{Contents.DeletedUnits.units-append, Contents.NodesOut.AllGone, Contents.PathTokens.tail_tokens, Contents.PathTokens.head_tokens, Contents.PathTokens.start_path, Contents.PathTokens.end_path, Contents.PathShapes.front_tokens, Contents.PathShapes.back_tokens, Contents.PathShapes.front_units, Contents.PathShapes.back_nodes, Contents.PathShapes.closes_of, Contents.PathShapes.opens_of, Contents.PathShapes.HeadIs, Contents.PathShapes.TailIs, Contents.PathShapes.head_is, Contents.PathShapes.tail_is, Contents.CutUnits.text-cut_from, Contents.CutUnits.text-cut_up_to, Contents.BetweenParts.fork_of, Contents.BetweenParts.data-fits, Contents.BetweenParts.top-no_data_start, Contents.BetweenParts.top-no_data_end, Contents.PlaceOfContents.end-there}
 
 -- the units of a node on both sides of an offset
 units-joined : (n offset : ℕ) (us : List ℕ) → unit_tokens no_marks n 0 (take offset us) ++ unit_tokens no_marks n 0 (drop offset us) ≡ unit_tokens no_marks n 0 us
 units-joined n offset us = sym (units-append n (take offset us) (drop offset us)) ∙ ap (unit_tokens no_marks n 0) (take-append-drop offset us)
-
--- A text around an end, by the open of its node and by its path.
-
-start-opened : (xs ps : List Token) (m : ℕ) (fs bs qs ys : List Token) → (xs ++ (ps ++ (Open m ∷ fs))) ++ ((bs ++ (Close ∷ qs)) ++ ys) ≡ (xs ++ ps) ++ (Open m ∷ ((fs ++ bs) ++ (Close ∷ (qs ++ ys))))
-start-opened xs ps m fs bs qs ys = simp append_assoc
-
-start-closed : (xs ps : List Token) (m : ℕ) (fs qs ys : List Token) → (xs ++ ps) ++ (Open m ∷ (fs ++ (Close ∷ (qs ++ ys)))) ≡ (xs ++ (ps ++ (Open m ∷ fs))) ++ ((Close ∷ qs) ++ ys)
-start-closed xs ps m fs qs ys = simp append_assoc
-
-end-opened : (xs ps : List Token) (m : ℕ) (fs bs qs ys : List Token) → xs ++ (((ps ++ (Open m ∷ [])) ++ fs) ++ ((bs ++ (Close ∷ qs)) ++ ys)) ≡ (xs ++ ps) ++ (Open m ∷ ((fs ++ bs) ++ (Close ∷ (qs ++ ys))))
-end-opened xs ps m fs bs qs ys = simp append_assoc
-
-end-closed : (xs ps : List Token) (m : ℕ) (bs qs ys : List Token) → (xs ++ ps) ++ (Open m ∷ (bs ++ (Close ∷ (qs ++ ys)))) ≡ xs ++ ((ps ++ (Open m ∷ [])) ++ ((bs ++ (Close ∷ qs)) ++ ys))
-end-closed xs ps m bs qs ys = simp append_assoc
 
 module _ (w : World) (sound : IsSound w) (range : Range) (is_range : IsRange w.forest range) (root : ℕ) (rooted : root_of w.forest range.start.node ≡ Some root) (two : is_in_one_data w range ≡ false) where
   fork_here : IsFork w.forest sound.forest.once range.start.node range.end.node (common_of w range)
@@ -88,16 +52,10 @@ module _ (w : World) (sound : IsSound w) (range : Range) (is_range : IsRange w.f
       let none : back_nodes w range.start.offset range.start.node ≡ [] = rw k refl in
       let down = hd.spelt ∙ ap (λ ts. hd.pre ++ (Open range.start.node ∷ ts)) front in
       let before : root_text w.forest root ≡ (ahead ++ hd.pre) ++ (Open range.start.node ∷ (unit_tokens no_marks range.start.node 0 us ++ (Close ∷ (tl.post ++ behind)))) =
-      text
-      ∙ ap (λ ts. (ahead ++ ts) ++ (tail_tokens w range.start.offset path ++ behind)) down
-      ∙ ap (λ ts. (ahead ++ (hd.pre ++ (Open range.start.node ∷ unit_tokens no_marks range.start.node 0 (take o us)))) ++ (ts ++ behind)) (tl.spelt ∙ ap (λ ts. ts ++ (Close ∷ tl.post)) back)
-      ∙ start-opened ahead hd.pre range.start.node (unit_tokens no_marks range.start.node 0 (take o us)) (unit_tokens no_marks range.start.node 0 (drop o us)) tl.post behind
-      ∙ ap (λ ts. (ahead ++ hd.pre) ++ (Open range.start.node ∷ (ts ++ (Close ∷ (tl.post ++ behind))))) (units-joined range.start.node o us)
+      text ∙ (rw (down, tl.spelt, back, ← units-joined range.start.node o us) (simp append_assoc))
       in
       text-cut_from w root range.start.node o us (ahead ++ hd.pre) (tl.post ++ behind) sound k (data-fits w sound range is_range root rooted range.start is_range.starts k) before
-      ∙ start-closed ahead hd.pre range.start.node (unit_tokens no_marks range.start.node 0 (take o us)) tl.post behind
-      ∙ ap (λ ts. (ahead ++ ts) ++ ((Close ∷ tl.post) ++ behind)) (sym down)
-      ∙ ap (λ ts. (ahead ++ head_tokens w range.start.offset (common_of w range ∷ path)) ++ ((ts ++ (Close ∷ tl.post)) ++ behind)) (sym none)
+      ∙ (rw (down, none) (simp append_assoc))
 
   pub first-left : (ahead behind : List Token) → root_text w.forest root ≡ (ahead ++ head_tokens w range.start.offset (common_of w range ∷ start_path w range)) ++ (tail_tokens w range.start.offset (start_path w range) ++ behind) → FirstLeft ahead behind
   first-left ahead behind text = go (start_path w range) refl
@@ -139,20 +97,20 @@ module _ (w : World) (sound : IsSound w) (range : Range) (is_range : IsRange w.f
       let back : back_tokens w range.end.offset range.end.node ≡ unit_tokens no_marks range.end.node 0 (drop range.end.offset (data_of w range.end.node)) = rw k refl in
       let rest = tl.spelt ∙ ap (λ ts. ts ++ (Close ∷ tl.post)) back in
       let before : root_text (remove_each (contained_tops w range) (cut_from range.start.node range.start.offset w)).forest root ≡ (ahead ++ hd.opens) ++ (Open range.end.node ∷ (unit_tokens no_marks range.end.node 0 us ++ (Close ∷ (tl.post ++ behind)))) =
-      text
-      ∙ ap (λ ts. ahead ++ ((opens_of path ++ front_units w range.end.offset range.end.node) ++ (ts ++ behind))) rest
-      ∙ ap (λ ts. ahead ++ ((opens_of path ++ ts) ++ ((unit_tokens no_marks range.end.node 0 (drop o us) ++ (Close ∷ tl.post)) ++ behind))) front
-      ∙ ap (λ ts. ahead ++ ((ts ++ unit_tokens no_marks range.end.node 0 (take o us)) ++ ((unit_tokens no_marks range.end.node 0 (drop o us) ++ (Close ∷ tl.post)) ++ behind))) hd.last
-      ∙ end-opened ahead hd.opens range.end.node (unit_tokens no_marks range.end.node 0 (take o us)) (unit_tokens no_marks range.end.node 0 (drop o us)) tl.post behind
-      ∙ ap (λ ts. (ahead ++ hd.opens) ++ (Open range.end.node ∷ (ts ++ (Close ∷ (tl.post ++ behind))))) (units-joined range.end.node o us)
+      text ∙ (rw (rest, front, hd.last, ← units-joined range.end.node o us) (simp append_assoc))
       in
       text-cut_up_to (remove_each (contained_tops w range) (cut_from range.start.node range.start.offset w)) root range.end.node o us (ahead ++ hd.opens) (tl.post ++ behind) (sound-second r range w sound is_range two) (end-kind r ∙ k) (data-fits w sound range is_range root rooted range.end is_range.ends k) before
-      ∙ end-closed ahead hd.opens range.end.node (unit_tokens no_marks range.end.node 0 (drop o us)) tl.post behind
-      ∙ ap (λ ts. ahead ++ (ts ++ ((unit_tokens no_marks range.end.node 0 (drop o us) ++ (Close ∷ tl.post)) ++ behind))) (sym hd.last)
-      ∙ ap (λ ts. ahead ++ (opens_of path ++ (ts ++ behind))) (sym rest)
+      ∙ (rw (hd.last, rest) (simp append_assoc))
 
   pub third-left : (ahead behind : List Token) (r : ℕ) → root_text (remove_each (contained_tops w range) (cut_from range.start.node range.start.offset w)).forest root ≡ ahead ++ ((opens_of (end_path w range) ++ front_units w range.end.offset range.end.node) ++ (tail_tokens w range.end.offset (common_of w range ∷ end_path w range) ++ behind)) → root_text (cut_up_to range.end.node range.end.offset (remove_each (contained_tops w range) (cut_from range.start.node range.start.offset w))).forest root ≡ ahead ++ (opens_of (end_path w range) ++ (tail_tokens w range.end.offset (common_of w range ∷ end_path w range) ++ behind))
-  third-left ahead behind r text = go (kind_passes is_character_data w.forest range.end.node) refl
+  third-left ahead behind r text =
+      elim (cases_Bool (kind_passes is_character_data w.forest range.end.node)) [
+        | inl k ↦ cut k (end_path w range) refl
+        | inr k ↦
+            let none : front_units w range.end.offset range.end.node ≡ [] = rw k refl in
+            let off = end-kind r ∙ k in
+            rw off (text ∙ (rw (none, append-nil (opens_of (end_path w range))) refl))
+      ]
     where
       cut : kind_passes is_character_data w.forest range.end.node ≡ true → (path : List ℕ) → end_path w range ≡ path → root_text (cut_up_to range.end.node range.end.offset (remove_each (contained_tops w range) (cut_from range.start.node range.start.offset w))).forest root ≡ ahead ++ (opens_of (end_path w range) ++ (tail_tokens w range.end.offset (common_of w range ∷ end_path w range) ++ behind))
       cut k [] e = absurd (false≢true (sym (end-bare e) ∙ k))
@@ -162,12 +120,3 @@ module _ (w : World) (sound : IsSound w) (range : Range) (is_range : IsRange w.f
           let tl = tail_is w sound range.end.offset (common_of w range) (c ∷ path) range.end.node way in
           third-cut ahead behind r (c ∷ path) (text ∙ ap (λ p. ahead ++ ((opens_of p ++ front_units w range.end.offset range.end.node) ++ (tail_tokens w range.end.offset (common_of w range ∷ p) ++ behind))) e) k hd tl
           ∙ ap (λ p. ahead ++ (opens_of p ++ (tail_tokens w range.end.offset (common_of w range ∷ p) ++ behind))) (sym e)
-
-      go : (b : Bool) → kind_passes is_character_data w.forest range.end.node ≡ b → root_text (cut_up_to range.end.node range.end.offset (remove_each (contained_tops w range) (cut_from range.start.node range.start.offset w))).forest root ≡ ahead ++ (opens_of (end_path w range) ++ (tail_tokens w range.end.offset (common_of w range ∷ end_path w range) ++ behind))
-      go false k =
-          let none : front_units w range.end.offset range.end.node ≡ [] = rw k refl in
-          let off = end-kind r ∙ k in
-          (rw off text)
-          ∙ ap (λ ts. ahead ++ ((opens_of (end_path w range) ++ ts) ++ (tail_tokens w range.end.offset (common_of w range ∷ end_path w range) ++ behind))) none
-          ∙ ap (λ ts. ahead ++ (ts ++ (tail_tokens w range.end.offset (common_of w range ∷ end_path w range) ++ behind))) (append-nil (opens_of (end_path w range)))
-      go true k = cut k (end_path w range) refl

@@ -1,35 +1,16 @@
 -- The text of a root where the units of a node from an offset on go, and where those up to an offset go.
-use Rattle.std.proofs.Common.{◌≡◌, ℕ, suc, ◌+◌, ◌-◌, ◌≤◌, ◌==◌, nat_lt, true, false, List, [], ◌∷◌, ◌++◌, length, take, drop, None, refl, ap, sym, ◌∙◌, arith, append-nil}
-use Rattle.std.proofs.lemmas.Bool.Decides.{nat_tests}
-use Rattle.std.proofs.lemmas.List.{drop_all}
-use Rattle.dom_model.specs.Forests.Kinds.{is_character_data}
-use Rattle.dom_model.specs.Forests.Forest.{with_node}
-use Rattle.dom_model.specs.Worlds.World.{World}
-use Rattle.dom_model.specs.Soundness.Sound.{IsSound}
-use Rattle.dom_model.specs.Forests.Nodes.{kind_passes}
-use Rattle.dom_model.specs.DataAndCopies.Data.{cut_count, data_of, with_data}
-use Rattle.dom_model.specs.RangesAndContents.Contents.{cut_from, cut_up_to}
-use Rattle.dom_model.specs.TokenText.Tokens.{Token, Open, Close, is_open, no_marks, before_open, from_open, unit_tokens}
-use Rattle.dom_model.specs.TokenText.Gaps.{root_text}
-use Rattle.dom_model.proofs.PlainLists.Numbers.{same_or, same, apart}
-use Rattle.dom_model.proofs.TokenText.Pieces.TokenLists.{opened, tally-append, before_open-skips, from_open-skips}
-use Rattle.dom_model.proofs.TokenText.Marked.MarkedFirst.{kinds-childless}
-use Rattle.dom_model.proofs.TokenText.Contents.NodesOut.{text-opens}
-use Rattle.dom_model.proofs.TokenText.Contents.DeletedUnits.{DataThere, data-there}
-
-itself : (n : ℕ) → (n == n) ≡ true
-itself n = elim (same_or n n) [ same d t ↦ t | apart ne t ↦ absurd (ne refl) ]
-
-opened-first : (n : ℕ) (ts : List Token) → opened n (Open n ∷ ts) ≡ 1 + opened n ts
-opened-first n ts = let t = itself n in rw t refl
+use Rattle.std.proofs.Common.{◌≡◌, ℕ, suc, ◌+◌, ◌-◌, ◌≤◌, true, List, [], ◌∷◌, ◌++◌, length, take, drop, None, refl, ap, sym, ◌∙◌, arith, append-nil, eq-eqb}
+use Rattle.std.proofs.lemmas.{Bool.Decides.nat_tests, List.drop_all}
+use Rattle.dom_model.specs.Definitions.{is_character_data, with_node, World, IsSound, kind_passes, cut_count, data_of, with_data, cut_from, cut_up_to, Token, Open, Close, no_marks, before_open, from_open, unit_tokens, root_text}
+use Rattle.dom_model.proofs.TokenText.{Pieces.TokenLists.opened, Pieces.TokenLists.before_open-skips, Pieces.TokenLists.from_open-skips, Marked.MarkedFirst.kinds-childless, Contents.NodesOut.text-opens, Contents.DeletedUnits.data-there, Contents.LeafPlaces.opened-around}
 
 -- A text that opens a node once, in two ways of telling.
 
 first-open : (n : ℕ) (xs ys : List Token) → opened n xs ≡ 0 → before_open n (xs ++ (Open n ∷ ys)) ≡ xs
-first-open n xs ys o = let t = itself n in before_open-skips n xs (Open n ∷ ys) o ∙ (rw t (append-nil xs))
+first-open n xs ys o = before_open-skips n xs (Open n ∷ ys) o ∙ (rw (eq-eqb n n refl) (append-nil xs))
 
 from-first : (n : ℕ) (xs ys : List Token) → opened n xs ≡ 0 → from_open n (xs ++ (Open n ∷ ys)) ≡ Open n ∷ ys
-from-first n xs ys o = let t = itself n in from_open-skips n xs (Open n ∷ ys) o ∙ (rw t refl)
+from-first n xs ys o = from_open-skips n xs (Open n ∷ ys) o ∙ (rw (eq-eqb n n refl) refl)
 
 abbrev tail_of_list : List Token → List Token
 tail_of_list [] = []
@@ -59,31 +40,25 @@ pub record Told_data (v : World) (root n : ℕ) (us : List ℕ) (ahead behind : 
 pub told_data : (v : World) (root n : ℕ) (us : List ℕ) (ahead behind : List Token) → IsSound v → kind_passes is_character_data v.forest n ≡ true → root_text v.forest root ≡ ahead ++ (Open n ∷ (unit_tokens no_marks n 0 us ++ (Close ∷ behind))) → Told_data v root n us ahead behind
 told_data v root n us ahead behind s kind text =
     let rest = unit_tokens no_marks n 0 us ++ (Close ∷ behind) in
-    let one = opened-first n rest in
-    let sum : opened n (root_text v.forest root) ≡ opened n ahead + opened n (Open n ∷ rest) = ap (opened n) text ∙ tally-append (is_open n) ahead (Open n ∷ rest) in
+    let sum = ap (opened n) text ∙ opened-around n ahead rest in
     let le = text-opens v root n s in
     let o = s.forest.once n in
-    by (omega arith) (omega arith) (data-there v root n s.forest.once (kinds-childless None v.forest s.forest.kinds) (omega arith) kind (omega arith))
-  where
-    by : opened n (root_text v.forest root) ≤ 1 → opened n ahead ≡ 0 → DataThere v.forest root n (data_of v n) → Told_data v root n us ahead behind
-    by le free d =
-        let others = unit_tokens no_marks n 0 (data_of v n) ++ (Close ∷ d.behind) in
-        let one = opened-first n others in
-        let sum : opened n (root_text v.forest root) ≡ opened n d.ahead + opened n (Open n ∷ others) = ap (opened n) d.now ∙ tally-append (is_open n) d.ahead (Open n ∷ others) in
-        let both = same-ahead n d.ahead others ahead (unit_tokens no_marks n 0 us ++ (Close ∷ behind)) (omega arith) free (sym d.now ∙ text) in
-        let units = units-same n 0 0 (data_of v n) us d.behind behind both.1 in
-        record {
-          units = units.0;
-          changed = λ vs.
-              d.changed vs
-              ∙ ap (λ ts. ts ++ (Open n ∷ (unit_tokens no_marks n 0 vs ++ (Close ∷ d.behind)))) both.0
-              ∙ ap (λ ts. ahead ++ (Open n ∷ (unit_tokens no_marks n 0 vs ++ (Close ∷ ts)))) units.1;
-        }
+    let free : opened n ahead ≡ 0 = omega arith in
+    let once : opened n (root_text v.forest root) ≤ 1 = omega arith in
+    let d = data-there v root n s.forest.once (kinds-childless None v.forest s.forest.kinds) (omega arith) kind (omega arith) in
+    let others = unit_tokens no_marks n 0 (data_of v n) ++ (Close ∷ d.behind) in
+    let here = ap (opened n) d.now ∙ opened-around n d.ahead others in
+    let both = same-ahead n d.ahead others ahead (unit_tokens no_marks n 0 us ++ (Close ∷ behind)) (omega arith) free (sym d.now ∙ text) in
+    let units = units-same n 0 0 (data_of v n) us d.behind behind both.1 in
+    record {
+      units = units.0;
+      changed = λ vs. d.changed vs ∙ (rw (both.0, units.1) refl);
+    }
 
 -- Cutting.
 
 count-whole : (l o c : ℕ) → o + c ≤ l → cut_count l o c ≡ c
-count-whole l o c h = let t : nat_lt l (o + c) ≡ false = grind (arith, nat_tests) in rw t refl
+count-whole l o c h = grind (arith, nat_tests)
 
 -- the units from an offset on go
 pub text-cut_from : (v : World) (root n offset : ℕ) (us : List ℕ) (ahead behind : List Token) → IsSound v → kind_passes is_character_data v.forest n ≡ true → offset ≤ length us → root_text v.forest root ≡ ahead ++ (Open n ∷ (unit_tokens no_marks n 0 us ++ (Close ∷ behind))) → root_text (cut_from n offset v).forest root ≡ ahead ++ (Open n ∷ (unit_tokens no_marks n 0 (take offset us) ++ (Close ∷ behind)))
@@ -95,11 +70,7 @@ text-cut_from v root n offset us ahead behind s kind fits text =
     in
     let none : drop (offset + (length us - offset)) us ≡ [] = drop_all (offset + (length us - offset)) us (omega arith) in
     let left : (take offset (data_of v n) ++ []) ++ drop (offset + cut_count (length (data_of v n)) offset (length (data_of v n) - offset)) (data_of v n) ≡ take offset us =
-    ap (λ c. (take offset (data_of v n) ++ []) ++ drop (offset + c) (data_of v n)) count
-    ∙ ap (λ ms. (take offset ms ++ []) ++ drop (offset + (length us - offset)) ms) d.units
-    ∙ ap (λ ms. (take offset us ++ []) ++ ms) none
-    ∙ append-nil (take offset us ++ [])
-    ∙ append-nil (take offset us)
+    rw (count, d.units, none) (simp append-nil)
     in
     rw kind
     (d.changed ((take offset (data_of v n) ++ []) ++ drop (offset + cut_count (length (data_of v n)) offset (length (data_of v n) - offset)) (data_of v n))

@@ -1,45 +1,16 @@
 -- Deleting the contents of a live range leaves of the text of its root what is to be left: of the parts, the closes of the path to the
 -- start and the opens of the path to the end. DOM Standard, "Interface Range": delete the contents.
-use Rattle.std.proofs.Common.{◌≡◌, ℕ, ◌-◌, ◌<◌, ◌==◌, Bool, true, false, List, [], ◌∷◌, ◌++◌, length, take, drop, Option, Some, is_some, refl, ap, sym, ◌∙◌, subst, arith, append_assoc, append-nil, length-append}
-use Rattle.dom_model.specs.PlainLists.Lists.{hits}
-use Rattle.dom_model.specs.Forests.Forest.{occurs, children_of, root_of}
-use Rattle.dom_model.specs.Worlds.World.{Point, Range, World}
-use Rattle.dom_model.specs.Soundness.Sound.{IsSound, IsRange}
-use Rattle.dom_model.specs.DataAndCopies.Data.{remove_each}
-use Rattle.dom_model.specs.RangesAndContents.Ranges.{is_collapsed, collapsed_at, range_at}
-use Rattle.dom_model.specs.RangesAndContents.Contents.{for_range, is_in_one_data, cut_from, cut_up_to, contained_in, contained_tops, contained_children, common_of, new_place, deleted, deleted_between, delete_contents}
-use Rattle.dom_model.specs.TokenText.Tokens.{Token, point, is_open}
-use Rattle.dom_model.specs.TokenText.Gaps.{root_text, tokens_ahead}
-use Rattle.dom_model.specs.TokenText.Between.{closes_left, opens_left}
-use Rattle.dom_model.specs.RangesAndContents.BesidePaths.{tail_nodes, head_nodes}
-use Rattle.dom_model.proofs.PlainLists.Numbers.{same_or, same, apart}
+use Rattle.std.proofs.Common.{◌≡◌, ℕ, ◌-◌, ◌<◌, Bool, true, false, List, [], ◌∷◌, ◌++◌, length, take, drop, Option, Some, is_some, refl, ap, sym, ◌∙◌, subst, arith, append_assoc, append-nil, length-append}
+use Rattle.std.proofs.lemmas.Bool.Decides.{nat_tests}
+use Rattle.dom_model.specs.Definitions.{hits, occurs, children_of, root_of, Point, Range, World, IsSound, IsRange, remove_each, is_collapsed, collapsed_at, range_at, for_range, is_in_one_data, cut_from, cut_up_to, contained_in, contained_tops, contained_children, common_of, new_place, deleted, deleted_between, delete_contents, Token, is_open, root_text, closes_left, opens_left, tail_nodes, head_nodes}
 use Rattle.dom_model.proofs.Soundness.SoundDeleting.{one, sound-delete_contents}
-use Rattle.dom_model.proofs.RangesAndContents.DrawnPaths.{hits-filter}
-use Rattle.dom_model.proofs.RangesAndContents.LiveRangesKept.{is_live, live-there, remove_each-live}
-use Rattle.dom_model.proofs.RangesAndContents.WaysBelow.{IsFork}
-use Rattle.dom_model.proofs.TokenText.EditsMade.EditsOfDrawnContents.{sound-range}
-use Rattle.dom_model.proofs.TokenText.EditsMade.EditsOfDeletedContents.{cut_from-live, cut_up_to-live}
-use Rattle.dom_model.proofs.TokenText.EditsMade.EditsOfSteps.{range-set}
-use Rattle.dom_model.proofs.TokenText.Pieces.TokenLists.{opened, tally-append}
-use Rattle.dom_model.proofs.TokenText.Contents.DeletedUnits.{take-front, drop-front}
-use Rattle.dom_model.proofs.TokenText.Contents.DeletedInPlace.{IsLeft, collapsed-left}
-use Rattle.dom_model.proofs.TokenText.Contents.WithinData.{deleted-within}
-use Rattle.dom_model.proofs.TokenText.Contents.LeftByText.{front_left, back_left, left-by_text}
-use Rattle.dom_model.proofs.TokenText.Contents.NodesOut.{AllGone, all_gone-within, all_gone-then, removed-texts}
-use Rattle.dom_model.proofs.TokenText.Contents.PathTokens.{nodes_tokens, tail_tokens, head_tokens, start_path, end_path, parts_tokens}
-use Rattle.dom_model.proofs.TokenText.Contents.PathShapes.{front_units, closes_of, opens_of, listed-there, whole-listed, closes-tail, opens-tail, closes-head, opens-head, head_is, nodes-gone}
-use Rattle.dom_model.proofs.TokenText.Contents.CutEnds.{end-way, end-bare, first-left, third-left}
-use Rattle.dom_model.proofs.TokenText.Contents.BetweenParts.{IsParted, text-by_parts, fork_of, tail-some}
-use Rattle.dom_model.proofs.TokenText.Contents.PlaceOfContents.{opened-some, opened-root, root-opened, place-gap}
-use Rattle.dom_model.proofs.TokenText.Contents.TopsByParts.{tops-by_parts}
-
-itself : (n : ℕ) → (n == n) ≡ true
-itself n = elim (same_or n n) [ same d t ↦ t | apart ne t ↦ absurd (ne refl) ]
+use Rattle.dom_model.proofs.RangesAndContents.{DrawnPaths.hits-filter, LiveRangesKept.is_live, LiveRangesKept.live-there, LiveRangesKept.remove_each-live, WaysBelow.IsFork}
+use Rattle.dom_model.proofs.TokenText.{EditsMade.EditsOfDrawnContents.sound-range, EditsMade.EditsOfDeletedContents.cut_from-live, EditsMade.EditsOfDeletedContents.cut_up_to-live, EditsMade.EditsOfSteps.range-set, Pieces.TokenLists.opened, Pieces.TokenLists.tally-append, Contents.DeletedUnits.take-front, Contents.DeletedUnits.drop-front, Contents.DeletedInPlace.IsLeft, Contents.DeletedInPlace.collapsed-left, Contents.WithinData.deleted-within, Contents.LeftByText.front_left, Contents.LeftByText.back_left, Contents.LeftByText.left-by_text, Contents.NodesOut.AllGone, Contents.NodesOut.all_gone-within, Contents.NodesOut.all_gone-then, Contents.NodesOut.removed-texts, Contents.PathTokens.nodes_tokens, Contents.PathTokens.tail_tokens, Contents.PathTokens.head_tokens, Contents.PathTokens.start_path, Contents.PathTokens.end_path, Contents.PathTokens.parts_tokens, Contents.PathShapes.front_units, Contents.PathShapes.closes_of, Contents.PathShapes.opens_of, Contents.PathShapes.listed-there, Contents.PathShapes.whole-listed, Contents.PathShapes.closes-tail, Contents.PathShapes.opens-tail, Contents.PathShapes.closes-head, Contents.PathShapes.opens-head, Contents.PathShapes.head_is, Contents.PathShapes.nodes-gone, Contents.CutEnds.end-way, Contents.CutEnds.end-bare, Contents.CutEnds.first-left, Contents.CutEnds.third-left, Contents.BetweenParts.IsParted, Contents.BetweenParts.text-by_parts, Contents.BetweenParts.fork_of, Contents.BetweenParts.tail-some, Contents.PlaceOfContents.opened-some, Contents.PlaceOfContents.opened-root, Contents.PlaceOfContents.root-opened, Contents.PlaceOfContents.place-gap, Contents.TopsByParts.tops-by_parts}
 
 -- the tokens down to an end begin with an open
 down-opened : (w : World) (offset n : ℕ) (path : List ℕ) → 0 < opened n (head_tokens w offset (n ∷ path))
-down-opened w offset n [] = let t = itself n in rw t (omega arith)
-down-opened w offset n (c ∷ path) = let t = itself n in rw t (omega arith)
+down-opened w offset n [] = grind (arith, nat_tests)
+down-opened w offset n (c ∷ path) = grind (arith, nat_tests)
 
 module _ (w : World) (sound : IsSound w) (range : Range) (is_range : IsRange w.forest range) (root : ℕ) (rooted : root_of w.forest range.start.node ≡ Some root) (two : is_in_one_data w range ≡ false) where
   fork_here : IsFork w.forest sound.forest.once range.start.node range.end.node (common_of w range)
@@ -118,18 +89,14 @@ module _ (w : World) (sound : IsSound w) (range : Range) (is_range : IsRange w.f
     top-opened : 0 < opened (common_of w range) (parted.ahead ++ head_tokens w range.start.offset (common_of w range ∷ start_path w range))
     top-opened =
         let i = down-opened w range.start.offset (common_of w range) (start_path w range) in
-        let j = tally-append (is_open (common_of w range)) parted.ahead (head_tokens w range.start.offset (common_of w range ∷ start_path w range)) in
-        omega arith
-
-    regrouped : (xs ts ns hs ys : List Token) → xs ++ ((ts ++ (ns ++ hs)) ++ ys) ≡ xs ++ (ts ++ (ns ++ (hs ++ ys)))
-    regrouped xs ts ns hs ys = simp append_assoc
+        omega (arith, tally-append (is_open (common_of w range)) parted.ahead (head_tokens w range.start.offset (common_of w range ∷ start_path w range)))
 
     -- the text that is left
     text-left : root_text (deleted_between r range w).forest root ≡ (ahead ++ closes_of (start_path w range)) ++ (opens_of (end_path w range) ++ behind)
     text-left =
         let ns = nodes_tokens w.forest (contained_children w range) in
         let hs = head_tokens w range.end.offset (end_path w range) in
-        let start = first-left w sound range is_range root rooted two parted.ahead (ns ++ (hs ++ behind)) (parted.text ∙ regrouped ahead (tail_tokens w range.start.offset (start_path w range)) ns hs behind) in
+        let start = first-left w sound range is_range root rooted two parted.ahead (ns ++ (hs ++ behind)) (parted.text ∙ (simp append_assoc)) in
         let some = opened-some (common_of w range) ahead top-opened in
         let gone = removed-texts (contained_tops w range) first root ahead (start.rest ++ (ns ++ (hs ++ behind))) (closes_of (start_path w range) ++ ((opens_of (end_path w range) ++ front_units w range.end.offset range.end.node) ++ behind)) (one r range w sound is_range two).sound (root-opened root w.forest ahead (parts_tokens w range ++ behind) parted.text some) start.text (tops-gone start.rest behind start.gone) in
         third-left w sound range is_range root rooted two (ahead ++ closes_of (start_path w range)) parted.behind r (gone ∙ sym (append_assoc ahead (closes_of (start_path w range)) ((opens_of (end_path w range) ++ front_units w range.end.offset range.end.node) ++ behind)))
@@ -138,22 +105,12 @@ module _ (w : World) (sound : IsSound w) (range : Range) (is_range : IsRange w.f
     inside = sym parted.parts.inside ∙ parted.between_is
 
     front-is : front_left w r root range parted.parts ≡ ahead ++ closes_of (start_path w range)
-    front-is =
-        ap (λ k. take k (root_text w.forest root) ++ closes_left 0 (take (parted.parts.b - parted.parts.a) (drop parted.parts.a (root_text w.forest root)))) parted.starts
-        ∙ ap (λ ts. take (length ahead) ts ++ closes_left 0 (take (parted.parts.b - parted.parts.a) (drop parted.parts.a (root_text w.forest root)))) parted.text
-        ∙ ap (λ ts. ts ++ closes_left 0 (take (parted.parts.b - parted.parts.a) (drop parted.parts.a (root_text w.forest root)))) (take-front ahead (parts_tokens w range ++ behind))
-        ∙ ap (λ ts. ahead ++ closes_left 0 ts) inside
-        ∙ ap (λ ts. ahead ++ ts) parts-close
+    front-is = cc (parted.starts, parted.text, take-front ahead (parts_tokens w range ++ behind), inside, parts-close)
 
     back-is : back_left w r root range parted.parts ≡ opens_of (end_path w range) ++ behind
-    back-is =
-        ap (λ ts. opens_left [] ts ++ drop parted.parts.b (root_text w.forest root)) inside
-        ∙ ap (λ ts. ts ++ drop parted.parts.b (root_text w.forest root)) parts-open
-        ∙ ap (λ k. opens_of (end_path w range) ++ drop k (root_text w.forest root)) parted.ends
-        ∙ ap (λ ts. opens_of (end_path w range) ++ drop (length (ahead ++ parts_tokens w range)) ts) (parted.text ∙ sym (append_assoc ahead (parts_tokens w range) behind))
-        ∙ ap (λ ts. opens_of (end_path w range) ++ ts) (drop-front (ahead ++ parts_tokens w range) behind)
+    back-is = cc (parted.ends, parted.text, append_assoc ahead (parts_tokens w range) behind, drop-front (ahead ++ parts_tokens w range) behind, inside, parts-open)
 
-    range-left : range_at (deleted_between r range w) r ≡ Some (collapsed_at (new_place w.forest range))
+    pub range-left : range_at (deleted_between r range w) r ≡ Some (collapsed_at (new_place w.forest range))
     range-left =
         let live : is_live r third ≡ true =
         cut_up_to-live r range.end.node range.end.offset second ∙ remove_each-live r (contained_tops w range) first ∙ cut_from-live r range.start.node range.start.offset w ∙ ap is_some h in
@@ -164,32 +121,19 @@ module _ (w : World) (sound : IsSound w) (range : Range) (is_range : IsRange w.f
     top-left =
         let i = ap (opened (common_of w range)) text-left in
         let j = tally-append (is_open (common_of w range)) (ahead ++ closes_of (start_path w range)) (opens_of (end_path w range) ++ behind) in
-        let k = tally-append (is_open (common_of w range)) ahead (closes_of (start_path w range)) in
-        let l = top-opened in
-        omega arith
+        omega (arith, tally-append (is_open (common_of w range)) ahead (closes_of (start_path w range)), top-opened)
 
     whole-left : root_text (deleted_between r range w).forest root ≡ front_left w r root range parted.parts ++ back_left w r root range parted.parts
-    whole-left =
-        text-left
-        ∙ ap (λ ts. ts ++ (opens_of (end_path w range) ++ behind)) (sym front-is)
-        ∙ ap (λ ts. front_left w r root range parted.parts ++ ts) (sym back-is)
+    whole-left = cc (text-left, front-is, back-is)
 
     pub between-left : IsSound (deleted_between r range w) → IsLeft r root w (deleted_between r range w)
     between-left s =
         let rest = opens_of (end_path w range) ++ behind in
-        let some : 0 < length rest = (let i = tail-some w sound range is_range root rooted range.end.offset (end_path w range) range.end.node fork_here.second parted.behind in let j = length-append (opens_of (end_path w range)) behind in omega arith) in
+        let some : 0 < length rest = omega (arith, tail-some w sound range is_range root rooted range.end.offset (end_path w range) range.end.node fork_here.second parted.behind, length-append (opens_of (end_path w range)) behind) in
         let g = place-gap w sound range is_range root rooted parted.ahead (parts_tokens w range ++ behind) rest parted.text some in
-        by g.0 g.1 g.2 g.3 g.4
-      where
-        by : (n o : ℕ) → new_place w.forest range ≡ point n o → n ≡ common_of w range → tokens_ahead (point n o) [] ((ahead ++ closes_of (start_path w range)) ++ (opens_of (end_path w range) ++ behind)) ≡ Some (length (ahead ++ closes_of (start_path w range))) → IsLeft r root w (deleted_between r range w)
-        by n o place_is node_is gap =
-            left-by_text w (deleted_between r range w) r root range (new_place w.forest range) parted.parts s range-left
-            (ap (λ (p : Point). root_of (deleted_between r range w).forest p.node) place_is ∙ ap (root_of (deleted_between r range w).forest) node_is ∙ opened-root (deleted_between r range w) root (common_of w range) s top-left)
-            whole-left
-            (ap (λ p. tokens_ahead p [] (root_text (deleted_between r range w).forest root)) place_is
-            ∙ ap (tokens_ahead (point n o) []) text-left
-            ∙ gap
-            ∙ ap (λ (ts : List Token). Some (length ts)) (sym front-is))
+        left-by_text w (deleted_between r range w) r root range (new_place w.forest range) parted.parts s range-left
+        (ap (λ (p : Point). root_of (deleted_between r range w).forest p.node) g.2 ∙ ap (root_of (deleted_between r range w).forest) g.3 ∙ opened-root (deleted_between r range w) root (common_of w range) s top-left)
+        whole-left (cc (g.2, g.4, text-left, front-is))
 
 -- delete contents
 pub deleted-left : (w : World) (r root : ℕ) (range : Range) → IsSound w → range_at w r ≡ Some range → root_of w.forest range.start.node ≡ Some root → IsLeft r root w (delete_contents r w)

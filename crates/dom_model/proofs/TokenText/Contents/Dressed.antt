@@ -1,9 +1,7 @@
 -- A marked text is the text without markers, with the markers of each gap put in as a walk comes to it.
-use Rattle.std.proofs.Common.{◌≡◌, ℕ, suc, ◌+◌, Bool, true, false, if◌then◌else◌, List, [], ◌∷◌, ◌++◌, map, refl, ap, sym, ◌∙◌, arith, append_assoc}
-use Rattle.dom_model.specs.Forests.Kinds.{is_character_data}
-use Rattle.dom_model.specs.Forests.Forest.{Node, Forest, empty, node}
-use Rattle.dom_model.specs.Worlds.World.{Content, Point}
-use Rattle.dom_model.specs.TokenText.Tokens.{Token, Open, Close, OneUnit, point, no_marks, unit_tokens, inner_tokens, child_tokens, token_texts, stepped, passed}
+use Rattle.std.proofs.Common.{◌≡◌, ℕ, suc, ◌+◌, List, [], ◌∷◌, ◌++◌, map, refl, ap, sym, ◌∙◌, arith, append_assoc, inl, inr}
+use Rattle.std.proofs.lemmas.Bool.{cases_Bool}
+use Rattle.dom_model.specs.Definitions.{is_character_data, Node, Forest, empty, node, Content, Point, Token, Open, Close, OneUnit, point, no_marks, unit_tokens, inner_tokens, child_tokens, token_texts, stepped, passed}
 use Rattle.dom_model.proofs.TokenText.PointGaps.GapWalk.{tree_tokens}
 
 -- the markers of the gap that a walk has come to
@@ -25,11 +23,8 @@ module _ (marks : Point → List Token) where
       ∙ sym (append_assoc (marks (point n i)) (OneUnit u ∷ unit_tokens marks n (suc i) units) (Close ∷ dressed marks (stepped around) ts))
 
   dressed-tree : (x : Node Content) (kids : Forest Content) (around : List Point) (ts : List Token) → dressed marks (point x.number 0 ∷ around) (child_tokens no_marks x.number 0 kids ++ Close ∷ ts) ≡ child_tokens marks x.number 0 kids ++ Close ∷ dressed marks (stepped around) ts → dressed marks (point x.number 0 ∷ around) (tree_tokens x kids ++ Close ∷ ts) ≡ inner_tokens marks x (child_tokens marks x.number 0 kids) ++ Close ∷ dressed marks (stepped around) ts
-  dressed-tree x kids around ts below = go (is_character_data x.label.kind)
-    where
-      go : (v : Bool) → dressed marks (point x.number 0 ∷ around) ((if v then unit_tokens no_marks x.number 0 x.body.text else child_tokens no_marks x.number 0 kids) ++ Close ∷ ts) ≡ (if v then unit_tokens marks x.number 0 x.body.text else child_tokens marks x.number 0 kids) ++ Close ∷ dressed marks (stepped around) ts
-      go true = dressed-units x.number 0 0 x.body.text around ts
-      go false = below
+  dressed-tree x kids around ts below =
+      elim (cases_Bool (is_character_data x.label.kind)) [ inl v ↦ rw v (dressed-units x.number 0 0 x.body.text around ts) | inr v ↦ rw v below ]
 
   dressed-children : (n i j : ℕ) (f : Forest Content) (around : List Point) (ts : List Token) → dressed marks (point n i ∷ around) (child_tokens no_marks n j f ++ Close ∷ ts) ≡ child_tokens marks n i f ++ Close ∷ dressed marks (stepped around) ts
   dressed-children n i j empty around ts = refl

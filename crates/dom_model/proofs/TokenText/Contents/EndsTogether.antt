@@ -1,12 +1,7 @@
 -- Both markers of a range whose ends are one point stand in one gap.
 use Rattle.std.proofs.Common.{◌≡◌, ℕ, true, false, Option, Some, option_map, ap, ◌∙◌}
-use Rattle.dom_model.specs.Worlds.World.{Point, Range, World}
-use Rattle.dom_model.specs.Soundness.Sound.{IsSound}
-use Rattle.dom_model.specs.RangesAndContents.Ranges.{end_of, collapsed_at, range_at}
-use Rattle.dom_model.specs.TokenText.Tokens.{texts_of, gap_among}
-use Rattle.dom_model.proofs.TokenText.Marked.MarkedFirst.{marked-first, kinds-childless}
-use Rattle.dom_model.proofs.TokenText.Marked.MarkedEdits.{end-found}
-use Rattle.dom_model.proofs.TokenText.EditsMade.FittingEdits.{ready-sound}
+use Rattle.dom_model.specs.Definitions.{Point, Range, World, IsSound, end_of, collapsed_at, range_at, texts_of, gap_among}
+use Rattle.dom_model.proofs.TokenText.{Marked.MarkedFirst.marked-first, Marked.MarkedFirst.kinds-childless, Marked.MarkedEdits.end-found, EditsMade.FittingEdits.ready-sound}
 
 pub ends-together : (v : World) (r : ℕ) (place : Point) → IsSound v → range_at v r ≡ Some (collapsed_at place) → (gap_among r true (texts_of v) ≡ Some place) × (gap_among r false (texts_of v) ≡ Some place)
 ends-together v r place sound h =

@@ -1,46 +1,15 @@
 -- Extracting the contents of a live range leaves of the text of its root what deleting them leaves, and the range where deleting leaves it.
 -- DOM Standard, "Interface Range".
-use Rattle.std.proofs.Common.{◌≡◌, ℕ, ◌+◌, ◌-◌, ◌<◌, ◌≤◌, ◌==◌, nat_lt, nat_le, Bool, true, false, ◌&&◌, if◌then◌else◌, [], take, drop, length, Option, Some, None, is_some, option_map, slice_index_or, refl, ap, sym, ◌∙◌, subst, arith, ◌⊎◌, inl, inr}
-use Rattle.std.proofs.lemmas.Bool.{false≢true}
-use Rattle.dom_model.specs.declared.Kind.{Kind}
-use Rattle.dom_model.specs.declared.Kind.TheVariants.{Element, Text, ProcessingInstruction, Comment, Document, DocumentType, DocumentFragment}
-use Rattle.dom_model.specs.PlainLists.Lists.{hits}
-use Rattle.dom_model.specs.Forests.Kinds.{is_kind, is_character_data}
-use Rattle.dom_model.specs.Forests.Forest.{Forest, empty, node, occurs, tops, tree_at, map_nodes, parent_of, root_of}
-use Rattle.dom_model.specs.Forests.Texts.{substring}
-use Rattle.dom_model.specs.Worlds.World.{Content, Point, Range, World}
-use Rattle.dom_model.specs.Soundness.Sound.{IsRange, IsSound}
-use Rattle.dom_model.specs.BoundaryPoints.Points.{after_splice, moved_range, map_ranges}
-use Rattle.dom_model.specs.Forests.Nodes.{kind_passes}
-use Rattle.dom_model.specs.MutationAlgorithms.Editing.{is_fragment, node_document, append}
-use Rattle.dom_model.specs.DataAndCopies.Clones.{original}
-use Rattle.dom_model.specs.DataAndCopies.Data.{data_of, with_data, cut_count, replace_data, remove_each}
-use Rattle.dom_model.specs.RangesAndContents.Ranges.{is_collapsed, collapsed_at, range_at, with_range}
-use Rattle.dom_model.specs.RangesAndContents.Contents.{for_range, is_in_one_data, cut_from, cut_up_to, contained_tops, new_place, deleted_between, deleted, delete_contents, new_fragment, clone_with, units_into, parts_into, contents_drawn, check_extract, extracted, extract}
-use Rattle.dom_model.specs.TokenText.Gaps.{root_text, tokens_ahead}
+use Rattle.std.proofs.Common.{◌≡◌, ℕ, ◌-◌, ◌<◌, Bool, true, false, [], length, Option, Some, None, is_some, option_map, slice_index_or, refl, ap, sym, ◌∙◌, subst, arith, inl, inr}
+use Rattle.std.proofs.lemmas.Bool.Decides.{nat_tests}
+use Rattle.dom_model.specs.Definitions.{hits, is_kind, is_character_data, Forest, empty, node, occurs, tops, tree_at, map_nodes, parent_of, root_of, substring, Content, Point, Range, World, IsRange, IsSound, after_splice, moved_range, map_ranges, kind_passes, is_fragment, node_document, append, original, data_of, with_data, cut_count, replace_data, remove_each, is_collapsed, collapsed_at, range_at, with_range, for_range, is_in_one_data, cut_from, cut_up_to, contained_tops, new_place, deleted_between, deleted, delete_contents, new_fragment, clone_with, units_into, parts_into, contents_drawn, check_extract, extracted, extract, root_text}
+use Rattle.dom_model.specs.declared.Kind.TheVariants.{DocumentFragment}
 use Rattle.dom_model.proofs.PlainLists.Numbers.{same_or, same, apart}
-use Rattle.dom_model.proofs.Forests.Totals.{IsOnce, tree_at-absent}
-use Rattle.dom_model.proofs.Forests.Tops.{hits-tops}
-use Rattle.dom_model.proofs.Forests.Paths.{root-path}
-use Rattle.dom_model.proofs.Forests.WaysMeeting.{above-root}
+use Rattle.dom_model.proofs.Forests.{Totals.IsOnce, Totals.tree_at-absent, Tops.hits-tops, Paths.root-path, WaysMeeting.above-root, Changes.seen, Changes.nothing, Changes.just}
 use Rattle.dom_model.proofs.DataAndCopies.CopiesPlaced.{parent-copies, kind-copy}
-use Rattle.dom_model.proofs.Soundness.SoundContents.{sound-extract}
-use Rattle.dom_model.proofs.Soundness.SoundDeleting.{in_data, sound-delete_contents}
-use Rattle.dom_model.proofs.Soundness.SoundWorlds.{child_there}
-use Rattle.dom_model.proofs.RangesAndContents.Drawing.{passes_too}
-use Rattle.dom_model.proofs.RangesAndContents.LiveRangesKept.{is_live, live-there, remove_each-live}
-use Rattle.dom_model.proofs.RangesAndContents.PlacesLeft.{place_is}
-use Rattle.dom_model.proofs.RangesAndContents.TreesOfRoots.{top-parent}
-use Rattle.dom_model.proofs.RangesAndContents.OldTrees.{cut_data, HasTree, inside-above, append-outside, copies-has, fragment-has, replace-has, IsOld}
-use Rattle.dom_model.proofs.RangesAndContents.TreesDrawn.{same-kind, same-data, units-has}
-use Rattle.dom_model.proofs.TokenText.EditsMade.EditsOfDrawnContents.{sound-range, check-range, live-contents_drawn}
-use Rattle.dom_model.proofs.TokenText.EditsMade.EditsOfDeletedContents.{cut_from-live, cut_up_to-live}
-use Rattle.dom_model.proofs.TokenText.EditsMade.EditsOfSteps.{range-set}
-use Rattle.dom_model.proofs.TokenText.Contents.PartsByGaps.{parts-by_gaps}
-use Rattle.dom_model.proofs.TokenText.Contents.DeletedInPlace.{IsLeft}
-use Rattle.dom_model.proofs.TokenText.Contents.DeletedUnits.{moved-at}
-use Rattle.dom_model.proofs.TokenText.Contents.NodesTaken.{is-cut}
-use Rattle.dom_model.proofs.TokenText.Contents.TreesLeft.{first-has, first-old, start_in, left_tree, extracted-has, deleted-has, common-left}
+use Rattle.dom_model.proofs.Soundness.{SoundContents.sound-extract, SoundDeleting.in_data, SoundDeleting.sound-delete_contents, SoundWorlds.child_there, SoundForests.passes-also}
+use Rattle.dom_model.proofs.RangesAndContents.{LiveRangesKept.is_live, LiveRangesKept.live-there, PlacesLeft.place_is, TreesOfRoots.top-parent, OldTrees.cut_data, OldTrees.HasTree, OldTrees.inside-above, OldTrees.append-outside, OldTrees.copies-has, OldTrees.fragment-has, OldTrees.replace-has, OldTrees.IsOld, TreesDrawn.same-kind, TreesDrawn.same-data, TreesDrawn.units-has}
+use Rattle.dom_model.proofs.TokenText.{EditsMade.EditsOfDrawnContents.sound-range, EditsMade.EditsOfDrawnContents.check-range, EditsMade.EditsOfDrawnContents.live-contents_drawn, EditsMade.EditsOfSteps.range-set, Contents.PartsByGaps.parts-by_gaps, Contents.DeletedInPlace.IsLeft, Contents.DeletedUnits.moved-at, Contents.NodesTaken.is-cut, Contents.TreesLeft.first-has, Contents.TreesLeft.first-old, Contents.TreesLeft.start_in, Contents.TreesLeft.left_tree, Contents.TreesLeft.extracted-has, Contents.TreesLeft.deleted-has, Contents.TreesLeft.common-left, Contents.DeletedLeft.range-left}
 
 -- The text of a root is that of its tree.
 
@@ -99,46 +68,25 @@ pub left-alike : (w u v : World) (r root : ℕ) → IsSound u → IsSound v → 
 left-alike w u v r root su sv a left =
     let p = parts-by_gaps u r root a.place su a.first a.first_root in
     let q = parts-by_gaps v r root a.place sv a.second a.second_root in
-    let c : Some p.a ≡ Some q.a = sym p.starts ∙ ap (tokens_ahead a.place.start []) a.text ∙ q.starts in
-    let d : Some p.b ≡ Some q.b = sym p.ends ∙ ap (tokens_ahead a.place.end []) a.text ∙ q.ends in
-    let ca : p.a ≡ q.a = cc c in
-    let cb : p.b ≡ q.b = cc d in
+    let text = a.text in
+    let start : p.a ≡ q.a = cc in
+    let end : p.b ≡ q.b = cc in
     record {
-      before = p.before ∙ ap (λ k. take k (root_text u.forest root)) ca ∙ ap (take q.a) a.text ∙ sym q.before ∙ left.before;
-      after = p.after ∙ ap (λ k. drop k (root_text u.forest root)) cb ∙ ap (drop q.b) a.text ∙ sym q.after ∙ left.after;
-      gone =
-          p.inside
-          ∙ ap (λ k. take (p.b - k) (drop k (root_text u.forest root))) ca
-          ∙ ap (λ k. take (k - q.a) (drop q.a (root_text u.forest root))) cb
-          ∙ ap (λ ts. take (q.b - q.a) (drop q.a ts)) a.text
-          ∙ sym q.inside
-          ∙ left.gone;
+      before = p.before ∙ (rw (start, text) refl) ∙ sym q.before ∙ left.before;
+      after = p.after ∙ (rw (end, text) refl) ∙ sym q.after ∙ left.after;
+      gone = p.inside ∙ (rw (start, end, text) refl) ∙ sym q.inside ∙ left.gone;
       place = left.place;
       together = a.first ∙ sym a.second ∙ left.together;
     }
 
 -- units that come and go leave an end in its node
-splice-node : (at offset count added : ℕ) (p : Point) → (after_splice at offset count added p).node ≡ p.node
-splice-node at offset count added p = go ((p.node == at) && nat_lt offset p.offset) (nat_le p.offset (offset + count))
-  where
-    go : (v u : Bool) → (if v then (if u then record p { offset = offset } else record p { offset = p.offset - count + added }) else p).node ≡ p.node
-    go true true = refl
-    go true false = refl
-    go false u = refl
+pub splice-node : (at offset count added : ℕ) (p : Point) → (after_splice at offset count added p).node ≡ p.node
+splice-node at offset count added p = grind (arith, nat_tests)
 
 -- Appending a root that is no fragment moves no range.
 
 append-ranges : (n p : ℕ) (v : World) → is_fragment v n ≡ false → parent_of v.forest n ≡ None → (append n p v).ranges ≡ v.ranges
 append-ranges n p v e q = rw (e, e, q) refl
-
-data_no_fragment : (k : Kind) → is_character_data k ≡ true → is_kind DocumentFragment k ≡ false
-data_no_fragment Element h = refl
-data_no_fragment Text h = refl
-data_no_fragment ProcessingInstruction h = refl
-data_no_fragment Comment h = refl
-data_no_fragment Document h = refl
-data_no_fragment DocumentType h = refl
-data_no_fragment DocumentFragment h = absurd (false≢true h)
 
 module _ (w : World) (r root : ℕ) (range : Range) (sound : IsSound w) (h : range_at w r ≡ Some range) (rooted : root_of w.forest range.start.node ≡ Some root) (check : check_extract r w ≡ None) where
   is : IsRange w.forest range
@@ -180,16 +128,14 @@ module _ (w : World) (r root : ℕ) (range : Range) (sound : IsSound w) (h : ran
     placed-has = append-outside root w.made made.made w.made (tree_at root w.forest) copied (old.below made.made made-has.begun) (old.below w.made (omega arith)) copied-has
 
     copy_root : parent_of copied.forest made.made ≡ None
-    copy_root = go (parent_of copied.forest made.made) refl
-      where
-        under : (q : ℕ) → (parent_of made.forest made.made ≡ Some q) ⊎ ((made.made ≤ q) × (q < made.made)) → ⊥
-        under q (inl e) = let i = child_there made.forest made.made q e in let z = made-has.small made.made (omega arith) in omega arith
-        under q (inr i) = let a = i.0 in let b = i.1 in omega arith
-
-        go : (o : Option ℕ) → parent_of copied.forest made.made ≡ o → parent_of copied.forest made.made ≡ None
-        go None e = e
-        go (Some q) e =
-            absurd (under q (parent-copies (node_document made range.start.node) made.made made.forest (map_nodes (with_data (substring range.start.offset count (data_of made range.start.node))) (original false range.start.node made.forest)) made.made q e))
+    copy_root =
+        elim (seen (parent_of copied.forest made.made)) [
+          | nothing e ↦ e
+          | just q e ↦ elim (parent-copies (node_document made range.start.node) made.made made.forest (map_nodes (with_data (substring range.start.offset count (data_of made range.start.node))) (original false range.start.node made.forest)) made.made q e) [
+            | inl d ↦ absurd (let i = child_there made.forest made.made q d in let z = made-has.small made.made (omega arith) in omega arith)
+            | inr i ↦ absurd (omega arith)
+          ]
+        ]
 
     made_there : 0 < occurs range.start.node made.forest
     made_there = (inside-above root w.made (tree_at root w.forest) made made-has range.start.node start_there).0
@@ -197,7 +143,7 @@ module _ (w : World) (r root : ℕ) (range : Range) (sound : IsSound w) (h : ran
     copy_data : is_fragment copied made.made ≡ false
     copy_data =
         kind-copy (is_kind DocumentFragment) (node_document made range.start.node) made.made false (with_data (substring range.start.offset count (data_of made range.start.node))) (λ x. refl) range.start.node made.forest made-has.once (made-has.small made.made (omega arith)) made_there
-        ∙ passes_too is_character_data (is_kind DocumentFragment) false data_no_fragment made.forest range.start.node made_kind
+        ∙ passes-also is_character_data (is_kind DocumentFragment) false (λ k e. grind arith) made.forest range.start.node made_kind
       where
         made_kind : kind_passes is_character_data made.forest range.start.node ≡ true
         made_kind = same-kind root w.made range.start.node (tree_at root w.forest) made start_there made-has ∙ sym (same-kind root w.made range.start.node (tree_at root w.forest) w start_there (first-has w sound range is root rooted)) ∙ kind
@@ -230,29 +176,18 @@ module _ (w : World) (r root : ℕ) (range : Range) (sound : IsSound w) (h : ran
   -- From one node to another.
 
   module _ (two : is_in_one_data w range ≡ false) where
-    abbrev place : Range
-    place = collapsed_at (new_place w.forest range)
-
     parts-alike : is_collapsed range ≡ false → AreAlike r root (with_range r (collapsed_at (new_place w.forest range)) (parts_into true w.made range made)) (deleted_between r range w)
     parts-alike e =
         let drawn : contents_drawn true range w ≡ parts_into true w.made range made = rw (e, two) refl in
-        let third = cut_up_to range.end.node range.end.offset (remove_each (contained_tops w range) (cut_from range.start.node range.start.offset w)) in
         let live_drawn : is_live r (parts_into true w.made range made) ≡ true = ap (is_live r) (sym drawn) ∙ live-contents_drawn w sound range is (check-range w r range h check) true r ∙ ap is_some h in
-        let live_cut : is_live r third ≡ true =
-        cut_up_to-live r range.end.node range.end.offset (remove_each (contained_tops w range) (cut_from range.start.node range.start.offset w))
-        ∙ remove_each-live r (contained_tops w range) (cut_from range.start.node range.start.offset w)
-        ∙ cut_from-live r range.start.node range.start.offset w
-        ∙ ap is_some h
-        in
         let a = live-there r (parts_into true w.made range made) live_drawn in
-        let b = live-there r (cut_up_to range.end.node range.end.offset (remove_each (contained_tops w range) (cut_from range.start.node range.start.offset w))) live_cut in
         let at = place_is sound.forest range is two in
         alike-by_tree r root w.made w.made (left_tree w sound range is root rooted two)
         (with_range r (collapsed_at (new_place w.forest range)) (parts_into true w.made range made)) (deleted_between r range w) (collapsed_at (new_place w.forest range))
         (has-ranges root w.made (left_tree w sound range is root rooted two) (parts_into true w.made range made) (extracted-has w sound range is root rooted two) r (collapsed_at (new_place w.forest range)))
         (has-ranges root w.made (left_tree w sound range is root rooted two) (cut_up_to range.end.node range.end.offset (remove_each (contained_tops w range) (cut_from range.start.node range.start.offset w))) (deleted-has w sound range is root rooted two) r (collapsed_at (new_place w.forest range)))
         (range-set (parts_into true w.made range made) r a.0 (collapsed_at (new_place w.forest range)) a.1)
-        (range-set (cut_up_to range.end.node range.end.offset (remove_each (contained_tops w range) (cut_from range.start.node range.start.offset w))) r b.0 (collapsed_at (new_place w.forest range)) b.1)
+        (range-left w sound range is root rooted two r h)
         (subst (λ m. 0 < occurs m (left_tree w sound range is root rooted two)) (sym at.common) (common-left w sound range is root rooted two))
 
 -- extract, and delete contents

@@ -1,15 +1,11 @@
 -- Where gaps stand around a node with data: those among its units, and those of other nodes, which are ahead of it or behind it.
-use Rattle.std.proofs.Common.{◌≡◌, ℕ, zero, suc, ◌+◌, ◌<◌, ◌≤◌, ◌==◌, Bool, true, false, if◌then◌else◌, List, [], ◌∷◌, ◌++◌, length, Option, Some, None, option_map, refl, ap, sym, ◌∙◌, subst, arith, append_assoc, length-append, ◌⊎◌, inl, inr}
-use Rattle.dom_model.specs.Worlds.World.{Point}
-use Rattle.dom_model.specs.TokenText.Tokens.{Token, Open, Close, OneUnit, point, no_marks, unit_tokens, passed, stands_at}
-use Rattle.dom_model.specs.TokenText.Gaps.{tokens_ahead}
-use Rattle.dom_model.proofs.PlainLists.Numbers.{same_or, same, apart}
-use Rattle.dom_model.proofs.TokenText.Pieces.TokenLists.{opened}
-use Rattle.dom_model.proofs.TokenText.Pieces.TextWalks.{walk, Misses, Misses-away, Away, Away-walk, stands-away}
+use Rattle.std.proofs.Common.{◌≡◌, ℕ, zero, suc, ◌+◌, ◌<◌, ◌≤◌, ◌==◌, true, false, List, [], ◌∷◌, ◌++◌, length, Option, Some, option_map, refl, ap, sym, ◌∙◌, subst, arith, append_assoc, length-append, ◌⊎◌, inl, inr, eq-eqb}
+use Rattle.std.proofs.lemmas.Bool.{cases_Bool, ne_eqb}
+use Rattle.dom_model.specs.Definitions.{Point, Token, Open, Close, OneUnit, point, no_marks, unit_tokens, passed, stands_at, tokens_ahead, is_open}
+use Rattle.dom_model.proofs.TokenText.{Pieces.TokenLists.opened, Pieces.TextWalks.walk, Pieces.TextWalks.Misses, Pieces.TextWalks.Misses-away, Pieces.TextWalks.Away, Pieces.TextWalks.Away-walk, Pieces.TextWalks.stands-away, Pieces.TokenLists.tally-append}
 
-some-suc : (o : Option ℕ) (b : ℕ) → option_map (λ k. suc k) o ≡ Some b → (k : ℕ) × (o ≡ Some k) × (b ≡ suc k)
-some-suc None b h = absurd (cc h)
-some-suc (Some k) b h = (k, refl, cc h)
+pub some-suc : (o : Option ℕ) (b : ℕ) → option_map (λ k. suc k) o ≡ Some b → (k : ℕ) × (o ≡ Some k) × (b ≡ suc k)
+some-suc o b h = grind arith
 
 -- a gap that is there stands among the first tokens or among the others
 pub data Split (p : Point) (here : List Point) (xs ys : List Token) (a : ℕ) : Type 0 where
@@ -18,17 +14,13 @@ pub data Split (p : Point) (here : List Point) (xs ys : List Token) (a : ℕ) : 
 
 pub split-ahead : (p : Point) (here : List Point) (xs ys : List Token) (a : ℕ) → tokens_ahead p here (xs ++ ys) ≡ Some a → Split p here xs ys a
 split-ahead p here [] ys a h = late a (omega arith) h
-split-ahead p here (x ∷ xs) ys a h = go (stands_at p here) h (λ k e. split-ahead p (passed x here) xs ys k e)
-  where
-    go : (v : Bool) → (if v then Some 0 else option_map (λ k. suc k) (tokens_ahead p (passed x here) (xs ++ ys))) ≡ Some a → ((k : ℕ) → tokens_ahead p (passed x here) (xs ++ ys) ≡ Some k → Split p (passed x here) xs ys k) → Split p here (x ∷ xs) ys a
-    go true e later = let d : 0 ≡ a = cc e in early (omega arith)
-    go false e later =
-        let i = some-suc (tokens_ahead p (passed x here) (xs ++ ys)) a e in
-        let d = i.2 in
-        elim (later i.0 i.1) [
-          | early l ↦ early (omega arith)
-          | late k f g ↦ late k (omega arith) g
-        ]
+split-ahead p here (x ∷ xs) ys a h =
+    elim (cases_Bool (stands_at p here)) [
+      | inl s ↦ early (let d : 0 ≡ a = cc (rw s at h) in omega arith)
+      | inr s ↦
+          let i = some-suc _ a (rw s at h) in
+          elim (split-ahead p (passed x here) xs ys i.0 i.1) [ early l ↦ early (omega arith) | late k f g ↦ late k (omega arith) g ]
+    ]
 
 pub ahead-past : (p : Point) (here : List Point) (xs ys : List Token) (k : ℕ) → Misses p xs here → tokens_ahead p (walk xs here) ys ≡ Some k → tokens_ahead p here (xs ++ ys) ≡ Some (length xs + k)
 ahead-past p here [] ys k m h = let e : 0 + k ≡ k = omega arith in rw e h
@@ -39,42 +31,23 @@ ahead-past p here (x ∷ xs) ys k m h =
 -- a gap that is there is not behind all tokens
 pub ahead-within : (p : Point) (here : List Point) (ts : List Token) (a : ℕ) → tokens_ahead p here ts ≡ Some a → a < length ts
 ahead-within p here [] a h = absurd (cc h)
-ahead-within p here (t ∷ ts) a h = go (stands_at p here) h (λ k e. ahead-within p (passed t here) ts k e)
-  where
-    go : (v : Bool) → (if v then Some 0 else option_map (λ k. suc k) (tokens_ahead p (passed t here) ts)) ≡ Some a → ((k : ℕ) → tokens_ahead p (passed t here) ts ≡ Some k → k < length ts) → a < suc (length ts)
-    go true e later = let d : 0 ≡ a = cc e in omega arith
-    go false e later =
-        let i = some-suc (tokens_ahead p (passed t here) ts) a e in
-        let d = i.2 in
-        let l = later i.0 i.1 in
-        omega arith
+ahead-within p here (t ∷ ts) a h = grind (arith, ahead-within p (passed t here) ts)
 
 missed-ahead : (p : Point) (here : List Point) (xs ys : List Token) (a : ℕ) → Misses p xs here → tokens_ahead p here (xs ++ ys) ≡ Some a → length xs ≤ a
 missed-ahead p here [] ys a m h = omega arith
-missed-ahead p here (x ∷ xs) ys a m h =
-    let e : option_map (λ k. suc k) (tokens_ahead p (passed x here) (xs ++ ys)) ≡ Some a = rw m.0 at h in
-    let i = some-suc (tokens_ahead p (passed x here) (xs ++ ys)) a e in
-    let d = i.2 in
-    let l = missed-ahead p (passed x here) xs ys i.0 m.1 i.1 in
-    omega arith
+missed-ahead p here (x ∷ xs) ys a m h = grind (arith, missed-ahead p (passed x here) xs ys)
 
 -- the point of a gap is where the walk has come to
 pub gap-here : (p : Point) (here : List Point) (xs : List Token) (y : Token) (ys : List Token) → tokens_ahead p here (xs ++ (y ∷ ys)) ≡ Some (length xs) → stands_at p (walk xs here) ≡ true
-gap-here p here xs y ys h =
-    elim (split-ahead p here xs (y ∷ ys) (length xs) h) [
-      | early l ↦ absurd (omega arith)
-      | late k e g ↦ go (stands_at p (walk xs here)) (let z : k ≡ 0 = omega arith in g ∙ ap (λ i. Some i) z)
-    ]
-  where
-    go : (v : Bool) → (if v then Some 0 else option_map (λ k. suc k) (tokens_ahead p (passed y (walk xs here)) ys)) ≡ Some 0 → v ≡ true
-    go true e = refl
-    go false e = absurd (let i = some-suc (tokens_ahead p (passed y (walk xs here)) ys) 0 e in let d = i.2 in omega arith)
+gap-here p here [] y ys h = grind arith
+gap-here p here (x ∷ xs) y ys h = gap-here p (passed x here) xs y ys (grind arith)
 
-itself : (n : ℕ) → (n == n) ≡ true
-itself n = elim (same_or n n) [ same d t ↦ t | apart ne t ↦ absurd (ne refl) ]
+-- how often a text opens a node, around one of its opens
+pub opened-around : (n : ℕ) (pre post : List Token) → opened n (pre ++ (Open n ∷ post)) ≡ opened n pre + (1 + opened n post)
+opened-around n pre post = tally-append (is_open n) pre (Open n ∷ post) ∙ (rw (eq-eqb n n refl) refl)
 
 here-first : (n i : ℕ) (around : List Point) (t : Token) (ts : List Token) → tokens_ahead (point n (i + 0)) (point n i ∷ around) (t ∷ ts) ≡ Some 0
-here-first n i around t ts = let e : i + 0 ≡ i = omega arith in rw (e, itself n, itself i) refl
+here-first n i around t ts = let e : i + 0 ≡ i = omega arith in rw (e, eq-eqb n n refl, eq-eqb i i refl) refl
 
 -- among the units of a node
 pub unit-ahead : (n o i j : ℕ) (us : List ℕ) (around : List Point) (post : List Token) → o ≤ length us → tokens_ahead (point n (i + o)) (point n i ∷ around) (unit_tokens no_marks n j us ++ (Close ∷ post)) ≡ Some o
@@ -84,8 +57,8 @@ unit-ahead n (suc o) i j [] around post h = absurd (omega arith)
 unit-ahead n (suc o) i j (u ∷ us) around post h =
     let e : i + 1 + o ≡ i + suc o = omega arith in
     let later = unit-ahead n o (i + 1) (suc j) us around post (omega arith) in
-    let f : (i + suc o == i) ≡ false = elim (same_or (i + suc o) i) [ same d t ↦ absurd (omega arith) | apart ne t ↦ t ] in
-    rw (itself n, f) (ap (option_map (λ k. suc k)) (subst (λ m. tokens_ahead (point n m) (point n (i + 1) ∷ around) (unit_tokens no_marks n (suc j) us ++ (Close ∷ post)) ≡ Some o) e later))
+    let f : (i + suc o == i) ≡ false = ne_eqb (i + suc o) i (λ e. omega arith) in
+    rw (eq-eqb n n refl, f) (ap (option_map (λ k. suc k)) (subst (λ m. tokens_ahead (point n m) (point n (i + 1) ∷ around) (unit_tokens no_marks n (suc j) us ++ (Close ∷ post)) ≡ Some o) e later))
 
 units-missed : (p : Point) (n i j : ℕ) (us : List ℕ) (around : List Point) → (p.node == n) ≡ false → Misses p (unit_tokens no_marks n j us ++ (Close ∷ [])) (point n i ∷ around)
 units-missed p n i j [] around h = (rw h refl, tt)
@@ -112,16 +85,14 @@ module _ (pre : List Token) (n : ℕ) (us : List ℕ) (post : List Token) (first
   leaf-aside p a ne h =
       elim (split-ahead p [] pre (Open n ∷ (unit_tokens no_marks n 0 us ++ (Close ∷ post))) a h) [
         | early l ↦ inl (omega arith)
-        | late k e g ↦ go k e (stands_at p (walk pre [])) g
+        | late k e g ↦ elim (cases_Bool (stands_at p (walk pre []))) [
+          | inl s ↦ let z : 0 ≡ k = cc (rw s at g) in inl (omega arith)
+          | inr s ↦
+              let i = some-suc _ k (rw s at g) in
+              let parted : unit_tokens no_marks n 0 us ++ (Close ∷ post) ≡ (unit_tokens no_marks n 0 us ++ (Close ∷ [])) ++ post = sym (append_assoc (unit_tokens no_marks n 0 us) (Close ∷ []) post) in
+              let l = missed-ahead p (point n 0 ∷ walk pre []) (unit_tokens no_marks n 0 us ++ (Close ∷ [])) post i.0 (units-missed p n 0 0 us (walk pre []) ne) (ap (tokens_ahead p (point n 0 ∷ walk pre [])) (sym parted) ∙ i.1) in
+              let m = length-append (unit_tokens no_marks n 0 us) (Close ∷ []) in
+              let x = units-long n 0 us in
+              inr (omega arith)
+        ]
       ]
-    where
-      go : (k : ℕ) → a ≡ length pre + k → (v : Bool) → (if v then Some 0 else option_map (λ i. suc i) (tokens_ahead p (point n 0 ∷ walk pre []) (unit_tokens no_marks n 0 us ++ (Close ∷ post)))) ≡ Some k → (a ≤ length pre) ⊎ (length pre + (2 + length us) ≤ a)
-      go k e true g = let z : 0 ≡ k = cc g in inl (omega arith)
-      go k e false g =
-          let i = some-suc (tokens_ahead p (point n 0 ∷ walk pre []) (unit_tokens no_marks n 0 us ++ (Close ∷ post))) k g in
-          let d = i.2 in
-          let s : unit_tokens no_marks n 0 us ++ (Close ∷ post) ≡ (unit_tokens no_marks n 0 us ++ (Close ∷ [])) ++ post = sym (append_assoc (unit_tokens no_marks n 0 us) (Close ∷ []) post) in
-          let l = missed-ahead p (point n 0 ∷ walk pre []) (unit_tokens no_marks n 0 us ++ (Close ∷ [])) post i.0 (units-missed p n 0 0 us (walk pre []) ne) (ap (tokens_ahead p (point n 0 ∷ walk pre [])) (sym s) ∙ i.1) in
-          let m = length-append (unit_tokens no_marks n 0 us) (Close ∷ []) in
-          let x = units-long n 0 us in
-          inr (omega arith)

@@ -1,12 +1,8 @@
 -- In a gap where a live range starts its start marker comes first, and its end marker after it, if the range ends there too.
-use Rattle.std.proofs.Common.{◌≡◌, ℕ, zero, suc, ◌+◌, ◌<◌, ◌==◌, Bool, true, false, ◌&&◌, if◌then◌else◌, List, [], ◌∷◌, ◌++◌, Option, Some, None, option_map, slice_index_or, refl, ap, sym, ◌∙◌, subst, arith, append_assoc}
-use Rattle.dom_model.specs.Worlds.World.{Point, Range, World}
-use Rattle.dom_model.specs.RangesAndContents.Ranges.{end_of, range_at}
-use Rattle.dom_model.specs.TokenText.Tokens.{Token, Mark, is_mark_of, same_point, mark_if, marks_from}
+use Rattle.std.proofs.Common.{◌≡◌, ℕ, zero, suc, ◌+◌, ◌<◌, Bool, true, false, ◌&&◌, if◌then◌else◌, List, [], ◌∷◌, ◌++◌, Option, Some, None, option_map, slice_index_or, refl, ap, sym, ◌∙◌, subst, arith, append_assoc, eq-eqb}
+use Rattle.dom_model.specs.Definitions.{Point, Range, World, end_of, range_at, Token, Mark, is_mark_of, same_point, mark_if, marks_from}
 use Rattle.dom_model.proofs.PlainLists.Numbers.{same_or, same, apart}
-use Rattle.dom_model.proofs.TokenText.Pieces.TokenLists.{marked, tally-append, AreMarks}
-use Rattle.dom_model.proofs.TokenText.Marked.MarkedTexts.{stands}
-use Rattle.dom_model.proofs.TokenText.Marked.MarkedFirst.{AreMarks-marks_from, marked-other, marked-here, marks_from-later, marks_from-at}
+use Rattle.dom_model.proofs.TokenText.{Pieces.TokenLists.marked, Pieces.TokenLists.tally-append, Pieces.TokenLists.AreMarks, Marked.MarkedTexts.stands, Marked.MarkedFirst.AreMarks-marks_from, Marked.MarkedFirst.marked-other, Marked.MarkedFirst.marked-here, Marked.MarkedFirst.marks_from-later, Marked.MarkedFirst.marks_from-at}
 
 -- the first marker of a start among markers, and how many of the end come after it
 pub record StartsIn (r : ℕ) (ends : Bool) (ms : List Token) : Type 0 where
@@ -26,12 +22,10 @@ pub record Marking (r : ℕ) (p q : Point) (marks : Point → List Token) : Type
   pub start : (g : Point) → same_point p g ≡ true → StartsIn r (same_point q g) (marks g)
 
 one_if : (v : Bool) → ◌≡◌ {A = ℕ} ((if v && true then 1 else 0) + 0) (if v then 1 else 0)
-one_if true = refl
-one_if false = refl
+one_if v = grind arith
 
 start-ahead : (k r q : ℕ) (ranges : List (Option Range)) (range : Range) (g : Point) → r ≡ q + k → slice_index_or ranges k None ≡ Some range → same_point range.start g ≡ true → StartsIn r (same_point range.end g) (marks_from q ranges g)
-start-ahead zero r q [] range g e h s = absurd (cc h)
-start-ahead (suc k) r q [] range g e h s = absurd (cc h)
+start-ahead k r q [] range g e h s = absurd (grind arith)
 start-ahead zero r q (None ∷ ranges) range g e h s = absurd (cc h)
 start-ahead zero r q (Some other ∷ ranges) range g e h s =
     let d : q ≡ r = omega arith in
@@ -43,9 +37,8 @@ start-ahead zero r q (Some other ∷ ranges) range g e h s =
       whole = rw s refl;
       free = refl;
       ending =
-          let t : (q == q) ≡ true = elim (same_or q q) [ same x y ↦ y | apart ne y ↦ absurd (ne refl) ] in
           tally-append (is_mark_of q false) (mark_if (same_point range.end g) q false) (marks_from (suc q) ranges g)
-          ∙ (rw (marked-here (same_point range.end g) q false q false t, marks_from-later q (suc q) false ranges g (omega arith)) (one_if (same_point range.end g)));
+          ∙ (rw (marked-here (same_point range.end g) q false q false (eq-eqb q q refl), marks_from-later q (suc q) false ranges g (omega arith)) (one_if (same_point range.end g)));
     })
 start-ahead (suc k) r q (None ∷ ranges) range g e h s = start-ahead k r (suc q) ranges range g (omega arith) h s
 start-ahead (suc k) r q (Some other ∷ ranges) range g e h s =
@@ -58,7 +51,7 @@ start-ahead (suc k) r q (Some other ∷ ranges) range g e h s =
           record {
             first = a ++ (b ++ i.first);
             last = i.last;
-            whole = ap (λ ms. a ++ (b ++ ms)) i.whole ∙ ap (λ ms. a ++ ms) (sym (append_assoc b i.first (Mark r true ∷ i.last))) ∙ sym (append_assoc a (b ++ i.first) (Mark r true ∷ i.last));
+            whole = ap (λ ms. a ++ (b ++ ms)) i.whole ∙ (simp append_assoc);
             free = omega (arith, tally-append (is_mark_of r true) a (b ++ i.first), tally-append (is_mark_of r true) b i.first, marked-other (same_point other.start g) q true r true t, marked-other (same_point other.end g) q false r true t, i.free);
             ending = i.ending;
           }

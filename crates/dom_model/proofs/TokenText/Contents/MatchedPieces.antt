@@ -1,10 +1,7 @@
 -- Whole nodes among tokens leave no open without its close and no close without its open.
-use Rattle.std.proofs.Common.{◌≡◌, ℕ, zero, suc, Bool, true, false, if◌then◌else◌, List, [], ◌∷◌, ◌++◌, take, refl, ap, ◌∙◌, subst, append_assoc}
-use Rattle.dom_model.specs.Forests.Kinds.{is_character_data}
-use Rattle.dom_model.specs.Forests.Forest.{Node, Forest, empty, node}
-use Rattle.dom_model.specs.Worlds.World.{Content}
-use Rattle.dom_model.specs.TokenText.Tokens.{Token, Open, Close, OneUnit, no_marks, unit_tokens, child_tokens}
-use Rattle.dom_model.specs.TokenText.Between.{opens_left, closes_left}
+use Rattle.std.proofs.Common.{◌≡◌, ℕ, zero, suc, List, [], ◌∷◌, ◌++◌, take, refl, ap, ◌∙◌, subst, append_assoc, arith}
+use Rattle.std.proofs.lemmas.Bool.{cond_both}
+use Rattle.dom_model.specs.Definitions.{is_character_data, Node, Forest, empty, node, Content, Token, Open, Close, OneUnit, no_marks, unit_tokens, child_tokens, opens_left, closes_left}
 use Rattle.dom_model.proofs.TokenText.Pieces.TextParts.{inside, own}
 
 pub record Matches (ts : List Token) : Type 0 where
@@ -20,41 +17,24 @@ matches-append xs ys m n = record {
   opens = λ above us. ap (opens_left above) (append_assoc xs ys us) ∙ m.opens above (ys ++ us) ∙ n.opens above us;
 }
 
-closes-unit : (u depth : ℕ) (ts : List Token) → closes_left depth (OneUnit u ∷ ts) ≡ closes_left depth ts
-closes-unit u zero ts = refl
-closes-unit u (suc depth) ts = refl
-
-opens-unit : (u : ℕ) (above ts : List Token) → opens_left above (OneUnit u ∷ ts) ≡ opens_left above ts
-opens-unit u [] ts = refl
-opens-unit u (o ∷ above) ts = refl
+matches-unit : (u : ℕ) (ts : List Token) → Matches ts → Matches (OneUnit u ∷ ts)
+matches-unit u ts m = record { closes = λ depth us. grind (arith, m.closes depth us); opens = λ above us. grind (arith, m.opens above us) }
 
 pub closes-open : (n depth : ℕ) (ts : List Token) → closes_left depth (Open n ∷ ts) ≡ closes_left (suc depth) ts
-closes-open n zero ts = refl
-closes-open n (suc depth) ts = refl
+closes-open n depth ts = grind arith
 
 pub opens-open : (n : ℕ) (above ts : List Token) → opens_left above (Open n ∷ ts) ≡ opens_left (Open n ∷ above) ts
-opens-open n [] ts = refl
-opens-open n (o ∷ above) ts = refl
+opens-open n above ts = grind arith
 
 pub matches-units : (n i : ℕ) (us : List ℕ) → Matches (unit_tokens no_marks n i us)
 matches-units n i [] = matches-none
-matches-units n i (u ∷ us) =
-    let m = matches-units n (suc i) us in
-    record {
-      closes = λ depth ts. closes-unit u depth (unit_tokens no_marks n (suc i) us ++ ts) ∙ m.closes depth ts;
-      opens = λ above ts. opens-unit u above (unit_tokens no_marks n (suc i) us ++ ts) ∙ m.opens above ts;
-    }
+matches-units n i (u ∷ us) = matches-unit u (unit_tokens no_marks n (suc i) us) (matches-units n (suc i) us)
 
 -- units alone leave nothing
 pub matches-part : (k n i : ℕ) (us : List ℕ) → Matches (take k (unit_tokens no_marks n i us))
 matches-part zero n i us = matches-none
 matches-part (suc k) n i [] = matches-none
-matches-part (suc k) n i (u ∷ us) =
-    let m = matches-part k n (suc i) us in
-    record {
-      closes = λ depth ts. closes-unit u depth (take k (unit_tokens no_marks n (suc i) us) ++ ts) ∙ m.closes depth ts;
-      opens = λ above ts. opens-unit u above (take k (unit_tokens no_marks n (suc i) us) ++ ts) ∙ m.opens above ts;
-    }
+matches-part (suc k) n i (u ∷ us) = matches-unit u (take k (unit_tokens no_marks n (suc i) us)) (matches-part k n (suc i) us)
 
 -- a node around tokens that match
 pub matches-node : (n : ℕ) (ts : List Token) → Matches ts → Matches (Open n ∷ (ts ++ (Close ∷ [])))
@@ -70,11 +50,7 @@ matches-node n ts m = record {
 }
 
 matches-inside : (x : Node Content) (kids : Forest Content) → Matches (child_tokens no_marks x.number 0 kids) → Matches (inside no_marks x kids)
-matches-inside x kids below = go (is_character_data x.label.kind)
-  where
-    go : (v : Bool) → Matches (if v then unit_tokens no_marks x.number 0 x.body.text else child_tokens no_marks x.number 0 kids)
-    go true = matches-units x.number 0 x.body.text
-    go false = below
+matches-inside x kids below = cond_both (is_character_data x.label.kind) _ _ Matches (λ _. matches-units x.number 0 x.body.text) (λ _. below)
 
 -- the children of a node
 pub matches-children : (n i : ℕ) (f : Forest Content) → Matches (child_tokens no_marks n i f)

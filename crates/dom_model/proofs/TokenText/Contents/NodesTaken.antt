@@ -1,34 +1,13 @@
 -- What extracting takes from the tree of a root, step by step, is what deleting takes: the units of the start node, the contained nodes on
 -- top one after another, the units of the end node. DOM Standard, "Interface Range".
-use Rattle.std.proofs.Common.{◌≡◌, ℕ, ◌-◌, ◌<◌, ◌≤◌, Bool, true, false, if◌then◌else◌, List, [], ◌∷◌, take, drop, length, Option, Some, None, option_map, refl, ap, sym, ◌∙◌, subst, arith, ⊎_elim}
-use Rattle.std.proofs.lemmas.Bool.{cases_lt, false≢true}
-use Rattle.dom_model.specs.PlainLists.Lists.{hits, left_out, past, up_to}
-use Rattle.dom_model.specs.Forests.Arena.{Entry, children_in}
-use Rattle.dom_model.specs.Forests.Kinds.{is_character_data}
-use Rattle.dom_model.specs.Forests.Forest.{Node, Forest, occurs, one_at, tree_at, without, with_node, entry_in, parent_of, children_of, ancestors}
-use Rattle.dom_model.specs.Forests.Texts.{spliced}
-use Rattle.dom_model.specs.Worlds.World.{Content, World}
-use Rattle.dom_model.specs.Soundness.Sound.{IsSound}
-use Rattle.dom_model.specs.Forests.Nodes.{entry_has, kind_passes}
-use Rattle.dom_model.specs.DataAndCopies.Data.{with_data, cut_count}
-use Rattle.dom_model.specs.Forests.Ways.{IsWay}
-use Rattle.dom_model.specs.RangesAndContents.BesidePaths.{tail_nodes, head_nodes}
+use Rattle.std.proofs.Common.{◌≡◌, ℕ, ◌-◌, ◌<◌, ◌≤◌, Bool, true, false, if◌then◌else◌, List, [], ◌∷◌, take, drop, length, Option, Some, None, option_map, refl, ap, sym, ◌∙◌, subst, arith, inl, inr}
+use Rattle.std.proofs.lemmas.{Bool.cases_lt, Bool.cases_Bool, Bool.Decides.nat_tests}
+use Rattle.dom_model.specs.Definitions.{hits, left_out, past, up_to, Entry, children_in, is_character_data, Node, Forest, occurs, one_at, tree_at, without, with_node, entry_in, parent_of, children_of, ancestors, spliced, Content, World, IsSound, entry_has, kind_passes, with_data, cut_count, IsWay, tail_nodes, head_nodes}
 use Rattle.dom_model.proofs.PlainLists.Numbers.{same_or, same, apart}
-use Rattle.dom_model.proofs.Forests.Changes.{change_at}
-use Rattle.dom_model.proofs.Forests.Totals.{IsOnce, total-tree_at}
-use Rattle.dom_model.proofs.Forests.Climbing.{hits-append, hits-first}
-use Rattle.dom_model.proofs.Forests.Entries.{entry_under-absent}
-use Rattle.dom_model.proofs.Forests.Indices.{child-parent}
-use Rattle.dom_model.proofs.Forests.WaysMeeting.{above-itself, above-child}
-use Rattle.dom_model.proofs.Worlds.Measured.{entry-with_node}
-use Rattle.dom_model.proofs.Worlds.SameShape.{IsAlike, occurs-alike, children-alike, kind-alike, with_node-alike}
-use Rattle.dom_model.proofs.TokenText.AlikeTrees.MergedTrees.{tree_at-with_node}
-use Rattle.dom_model.proofs.RangesAndContents.WaysBelow.{way-above}
-use Rattle.dom_model.proofs.RangesAndContents.DrawnPaths.{hits-drop, hits-past, hits-up_to}
-use Rattle.dom_model.proofs.RangesAndContents.TreesOfRoots.{taken, taken-append, once-left, entry-without, tree-less, tree-taken, occurs-taken, entry-taken}
-use Rattle.dom_model.proofs.RangesAndContents.OldTrees.{data_in, cut_data, HasTree}
-use Rattle.dom_model.proofs.RangesAndContents.TreesDrawn.{has_data, tail_taken, head_taken, AreIn, StayIn, same-kind, same-children}
-use Rattle.dom_model.proofs.TokenText.Contents.TopsByParts.{child-under}
+use Rattle.dom_model.proofs.Forests.{Changes.change_at, Totals.IsOnce, Totals.total-tree_at, Climbing.hits-append, Climbing.hits-first, Entries.entry_under-absent, Indices.child-parent, WaysMeeting.above-itself, WaysMeeting.above-child}
+use Rattle.dom_model.proofs.Worlds.{Measured.entry-with_node, SameShape.IsAlike, SameShape.occurs-alike, SameShape.children-alike, SameShape.kind-alike, SameShape.with_node-alike}
+use Rattle.dom_model.proofs.TokenText.{AlikeTrees.MergedTrees.tree_at-with_node, Contents.TopsByParts.child-under}
+use Rattle.dom_model.proofs.RangesAndContents.{WaysBelow.way-above, DrawnPaths.hits-drop, DrawnPaths.hits-past, DrawnPaths.hits-up_to, TreesOfRoots.taken, TreesOfRoots.taken-append, TreesOfRoots.once-left, TreesOfRoots.entry-without, TreesOfRoots.tree-less, TreesOfRoots.tree-taken, TreesOfRoots.occurs-taken, TreesOfRoots.entry-taken, OldTrees.data_in, OldTrees.cut_data, OldTrees.HasTree, TreesDrawn.has_data, TreesDrawn.tail_taken, TreesDrawn.head_taken, TreesDrawn.AreIn, TreesDrawn.StayIn, TreesDrawn.same-kind, TreesDrawn.same-children}
 
 -- the tree without the units from an offset on, or up to it, where the node has data
 abbrev pub cut_tail : ℕ → ℕ → Forest Content → Forest Content
@@ -59,15 +38,11 @@ is-cut n offset count t =
     }
   where
     kept : (m : ℕ) → (m ≡ n → ⊥) → (o : Option (Entry (Node Content))) → change_at (with_data (spliced offset (cut_count (length (data_in t n)) offset count) [] (data_in t n))) n m o ≡ o
-    kept m ne None = refl
-    kept m ne (Some e) = elim (same_or m n) [ same d s ↦ absurd (ne d) | apart nx s ↦ rw s refl ]
-
-is-same : (n : ℕ) (t : Forest Content) → IsCut n t t
-is-same n t = record { numbers = λ m. refl; trees = λ m c. refl; entries = λ m ne. refl; lists = λ m. refl; bare = λ m. refl }
+    kept m ne o = grind (arith, nat_tests)
 
 cut-if : (b : Bool) (n offset count : ℕ) (t : Forest Content) → IsCut n t (if b then cut_data n offset count t else t)
 cut-if true n offset count t = is-cut n offset count t
-cut-if false n offset count t = is-same n t
+cut-if false n offset count t = record { numbers = λ m. refl; trees = λ m c. refl; entries = λ m ne. refl; lists = λ m. refl; bare = λ m. refl }
 
 pub tail-cut : (n offset : ℕ) (t : Forest Content) → IsCut n t (cut_tail n offset t)
 tail-cut n offset t = cut-if (has_data t n) n offset (length (data_in t n) - offset) t
@@ -88,14 +63,13 @@ pub no_data-taken : (ns : List ℕ) (x : ℕ) (t : Forest Content) → IsOnce t 
 no_data-taken [] x t o h = h
 no_data-taken (n ∷ ns) x t o h =
     no_data-taken ns x (without n t) (once-left n t o)
-    (⊎_elim
-    (λ (lt : 0 < occurs x (without n t)). ap (entry_has is_character_data) (entry-without None n x t o lt) ∙ left (entry_in t x) ∙ h)
-    (λ (le : occurs x (without n t) ≤ 0). ap (entry_has is_character_data) (entry_under-absent None x (without n t) (omega arith)))
-    (cases_lt 0 (occurs x (without n t))))
+    (elim (cases_lt 0 (occurs x (without n t))) [
+      | inl lt ↦ ap (entry_has is_character_data) (entry-without None n x t o lt) ∙ left (entry_in t x) ∙ h
+      | inr le ↦ ap (entry_has is_character_data) (entry_under-absent None x (without n t) (omega arith))
+    ])
   where
     left : (o : Option (Entry (Node Content))) → entry_has is_character_data (option_map (λ (e : Entry (Node Content)). record { value = e.value; parent = e.parent; children = left_out n e.children }) o) ≡ entry_has is_character_data o
-    left None = refl
-    left (Some e) = refl
+    left o = grind arith
 
 module _ (root low : ℕ) (t : Forest Content) (w : World) (sound : IsSound w) (h : HasTree root low t w) where
   -- Beside the path to the start.
@@ -103,13 +77,7 @@ module _ (root low : ℕ) (t : Forest Content) (w : World) (sound : IsSound w) (
   pub tail-as : (offset s : ℕ) (path : List ℕ) (n : ℕ) → IsWay w.forest n path s → AreIn (n ∷ path) t → tail_taken offset (n ∷ path) t ≡ taken (tail_nodes w offset (n ∷ path)) (cut_tail s offset t)
   tail-as offset s [] n way i =
       subst (λ m. tail_taken offset (n ∷ []) t ≡ taken (tail_nodes w offset (n ∷ [])) (cut_tail m offset t)) way
-      (go (has_data t n) (kind_passes is_character_data w.forest n) (same-kind root low n t w i.0 h))
-    where
-      go : (b c : Bool) → c ≡ b → (if b then cut_data n offset (length (data_in t n) - offset) t else taken (drop offset (children_of t n)) t) ≡ taken (if c then [] else drop offset (children_of w.forest n)) (if b then cut_data n offset (length (data_in t n) - offset) t else t)
-      go true true e = refl
-      go true false e = absurd (false≢true e)
-      go false true e = absurd (false≢true (sym e))
-      go false false e = ap (λ ns. taken (drop offset ns) t) (sym (same-children root low n t w i.0 h))
+      (rw (same-kind root low n t w i.0 h) (elim (cases_Bool (has_data t n)) [ inl e ↦ rw e refl | inr e ↦ rw e (ap (λ ns. taken (drop offset ns) t) (sym (same-children root low n t w i.0 h))) ]))
   tail-as offset s (m ∷ path) n way i =
       ap (λ ns. taken (past m ns) (tail_taken offset (m ∷ path) t)) (sym (same-children root low n t w i.0 h))
       ∙ ap (taken (past m (children_of w.forest n))) (tail-as offset s path m way.2 i.1)
@@ -118,19 +86,19 @@ module _ (root low : ℕ) (t : Forest Content) (w : World) (sound : IsSound w) (
   -- each of its nodes is a child of one of the path's
   pub tail-held : (offset : ℕ) (path : List ℕ) (c : ℕ) → 0 < hits c (tail_nodes w offset path) → (y : ℕ) × (0 < hits y path) × (0 < hits c (children_of w.forest y))
   tail-held offset [] c k = absurd (omega arith)
-  tail-held offset (n ∷ []) c k = go (kind_passes is_character_data w.forest n) k
-    where
-      go : (b : Bool) → 0 < hits c (if b then [] else drop offset (children_of w.forest n)) → (y : ℕ) × (0 < hits y (n ∷ [])) × (0 < hits c (children_of w.forest y))
-      go true l = absurd (omega arith)
-      go false l = (n, hits-first n [], let j = hits-drop c offset (children_of w.forest n) in omega arith)
+  tail-held offset (n ∷ []) c k =
+      elim (cases_Bool (kind_passes is_character_data w.forest n)) [
+        | inl e ↦ absurd (let l = rw e at k in omega arith)
+        | inr e ↦ let l = rw e at k in (n, hits-first n [], let j = hits-drop c offset (children_of w.forest n) in omega arith)
+      ]
   tail-held offset (n ∷ m ∷ path) c k =
-      ⊎_elim
-      (λ (lt : 0 < hits c (tail_nodes w offset (m ∷ path))). let i = tail-held offset (m ∷ path) c lt in let j = i.1 in (i.0, omega arith, i.2))
-      (λ (le : hits c (tail_nodes w offset (m ∷ path)) ≤ 0).
-      let a = hits-append c (tail_nodes w offset (m ∷ path)) (past m (children_of w.forest n)) in
-      let b = hits-past c m (children_of w.forest n) in
-      (n, hits-first n (m ∷ path), omega arith))
-      (cases_lt 0 (hits c (tail_nodes w offset (m ∷ path))))
+      elim (cases_lt 0 (hits c (tail_nodes w offset (m ∷ path)))) [
+        | inl lt ↦ let i = tail-held offset (m ∷ path) c lt in let j = i.1 in (i.0, omega arith, i.2)
+        | inr le ↦
+            let a = hits-append c (tail_nodes w offset (m ∷ path)) (past m (children_of w.forest n)) in
+            let b = hits-past c m (children_of w.forest n) in
+            (n, hits-first n (m ∷ path), omega arith)
+      ]
 
   -- Beside the path to the end.
 
@@ -168,18 +136,17 @@ module _ (root low : ℕ) (t : Forest Content) (w : World) (sound : IsSound w) (
       → ((c : ℕ) → 0 < hits c (head_nodes w offset (n ∷ path)) → (x : ℕ) → 0 < hits x (ancestors e w.forest) → occurs x (tree_at c t) ≡ 0) → StayIn (n ∷ path) u × (head_taken offset (n ∷ path) u ≡ cut_head e offset (taken (head_nodes w offset (n ∷ path)) u))
   head-as offset e he [] n hn way u o stays less free =
       let k = stays n (hits-first n []) in
-      let kind : has_data u n ≡ kind_passes is_character_data w.forest n = ap (entry_has is_character_data) k.same ∙ sym (same-kind root low n t w k.old h) in
-      (k.there, subst (λ m. head_taken offset (n ∷ []) u ≡ cut_head m offset (taken (head_nodes w offset (n ∷ [])) u)) way (go (has_data u n) refl (kind_passes is_character_data w.forest n) (sym kind)))
-    where
-      go : (b : Bool) → has_data u n ≡ b → (c : Bool) → c ≡ has_data u n → (if has_data u n then cut_data n 0 offset u else taken (take offset (children_of u n)) u) ≡ cut_head n offset (taken (if c then [] else take offset (children_of w.forest n)) u)
-      go true d true i = rw d refl
-      go true d false i = absurd (false≢true (i ∙ d))
-      go false d true i = absurd (false≢true (sym (i ∙ d)))
-      go false d false i =
-          let bare = no_data-taken (take offset (children_of w.forest n)) n u o d in
-          (rw d refl)
-          ∙ ap (λ ns. taken (take offset ns) u) (stays-children u n (stays n (hits-first n [])))
-          ∙ sym (ap (λ b. if b then cut_data n 0 offset (taken (take offset (children_of w.forest n)) u) else taken (take offset (children_of w.forest n)) u) bare)
+      let kind : has_data u n ≡ kind_passes is_character_data w.forest n = ap (entry_has is_character_data) k.same ∙ sym (same-kind root low n t w k.old h) in (
+        k.there,
+        subst (λ m. head_taken offset (n ∷ []) u ≡ cut_head m offset (taken (head_nodes w offset (n ∷ [])) u)) way
+            (rw (sym kind) (elim (cases_Bool (has_data u n)) [
+              | inl d ↦ rw (d, d) refl
+              | inr d ↦
+                  let bare = no_data-taken (take offset (children_of w.forest n)) n u o d in
+                  rw d (ap (λ ns. taken (take offset ns) u) (stays-children u n k)
+                  ∙ sym (ap (λ b. if b then cut_data n 0 offset (taken (take offset (children_of w.forest n)) u) else taken (take offset (children_of w.forest n)) u) bare))
+            ])),
+      )
   head-as offset e he (m ∷ path) n hn way u o stays less free =
       let k = stays n (hits-first n (m ∷ path)) in
       let list : children_of u n ≡ children_of w.forest n = stays-children u n k in
@@ -206,12 +173,10 @@ module _ (root low : ℕ) (t : Forest Content) (w : World) (sound : IsSound w) (
       -- a child of a node is none of a node below another child
       apart_children : (m n x c : ℕ) → parent_of w.forest m ≡ Some n → 0 < occurs m w.forest → 0 < occurs n w.forest → 0 < hits m (ancestors x w.forest) → 0 < hits c (up_to m (children_of w.forest n)) → hits c (children_of w.forest x) ≡ 0
       apart_children m n x c p hm hn above q =
-          ⊎_elim
-          (λ (lt : 0 < hits c (children_of w.forest x)).
-          let a = child-parent w.forest sound.forest.once c x lt in
+          let none : 0 < hits c (children_of w.forest x) → ⊥ = λ lt.
+          (let a = child-parent w.forest sound.forest.once c x lt in
           let b = child-parent w.forest sound.forest.once c n (let j = hits-up_to c m (children_of w.forest n) in omega arith) in
-          let d : Some x ≡ Some n = sym a ∙ b in
-          let e : x ≡ n = cc d in
-          absurd (let z = child-under w sound n m hn p hm in let y = subst (λ r. 0 < hits m (ancestors r w.forest)) e above in omega arith))
-          (λ (le : hits c (children_of w.forest x) ≤ 0). omega arith)
-          (cases_lt 0 (hits c (children_of w.forest x)))
+          let e : x ≡ n = cc in
+          omega (arith, child-under w sound n m hn p hm, subst (λ r. 0 < hits m (ancestors r w.forest)) e above))
+          in
+          omega arith

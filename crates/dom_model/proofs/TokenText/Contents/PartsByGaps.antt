@@ -1,17 +1,8 @@
 -- What is ahead of the markers of a live range, between them and behind them, in the token text of its root: the tokens ahead of the gap
 -- of its start, those from there on up to the gap of its end, and those from there on.
 use Rattle.std.proofs.Common.{◌≡◌, ℕ, ◌-◌, ◌≤◌, true, false, [], ◌++◌, take, drop, Some, refl, ap, ◌∙◌}
-use Rattle.dom_model.specs.Forests.Forest.{root_of}
-use Rattle.dom_model.specs.Worlds.World.{Range, World}
-use Rattle.dom_model.specs.Soundness.Sound.{IsSound}
-use Rattle.dom_model.specs.RangesAndContents.Ranges.{range_at}
-use Rattle.dom_model.specs.TokenText.Tokens.{unmarked, marks_from, texts_of}
-use Rattle.dom_model.specs.TokenText.Gaps.{text_among, root_text, tokens_ahead}
-use Rattle.dom_model.specs.TokenText.Between.{before_mark, after_mark, between, closes_left, opens_left, left_before, left_after}
-use Rattle.dom_model.proofs.TokenText.EditsMade.EditsOfDrawnContents.{sound-range}
-use Rattle.dom_model.proofs.TokenText.Contents.MarksInOrder.{marking}
-use Rattle.dom_model.proofs.TokenText.Contents.BetweenGaps.{up_to-start, past-end, between-gaps}
-use Rattle.dom_model.proofs.TokenText.Contents.RangeText.{ends_ahead, marked-text, bare-text}
+use Rattle.dom_model.specs.Definitions.{root_of, Range, World, IsSound, range_at, unmarked, marks_from, texts_of, text_among, root_text, tokens_ahead, before_mark, after_mark, between, closes_left, opens_left, left_before, left_after}
+use Rattle.dom_model.proofs.TokenText.{EditsMade.EditsOfDrawnContents.sound-range, Contents.MarksInOrder.marking, Contents.BetweenGaps.up_to-start, Contents.BetweenGaps.past-end, Contents.BetweenGaps.between-gaps, Contents.RangeText.ends_ahead, Contents.RangeText.marked-text, Contents.RangeText.bare-text}
 
 -- how the marked text of a root stands to its text without markers
 pub record Parts (w : World) (r root : ℕ) (range : Range) : Type 0 where

@@ -1,35 +1,13 @@
 -- The tokens along the path down to an end of a live range: they make up the first node's own tokens, and what deleting leaves of them.
-use Rattle.std.proofs.Common.{◌≡◌, ℕ, zero, suc, ◌+◌, ◌<◌, Bool, true, false, if◌then◌else◌, List, [], ◌∷◌, ◌++◌, length, take, drop, reverse, Some, None, refl, ap, sym, ◌∙◌, subst, arith, append_assoc, append-nil}
-use Rattle.std.proofs.lemmas.List.{take-append-drop, reverse-append}
-use Rattle.dom_model.specs.PlainLists.Lists.{hits, past, up_to}
-use Rattle.dom_model.specs.Forests.Kinds.{is_character_data}
-use Rattle.dom_model.specs.Forests.Forest.{occurs, parent_of, children_of}
-use Rattle.dom_model.specs.Worlds.World.{World}
-use Rattle.dom_model.specs.Soundness.Sound.{IsSound}
-use Rattle.dom_model.specs.Forests.Nodes.{kind_passes}
-use Rattle.dom_model.specs.DataAndCopies.Data.{data_of}
-use Rattle.dom_model.specs.TokenText.Tokens.{Token, Open, Close, no_marks, unit_tokens, token_texts, tokens_among}
-use Rattle.dom_model.specs.TokenText.Between.{closes_left, opens_left}
-use Rattle.dom_model.specs.Forests.Ways.{IsWay}
-use Rattle.dom_model.specs.TokenText.Fitting.{Childless}
-use Rattle.dom_model.specs.RangesAndContents.BesidePaths.{tail_nodes, head_nodes}
-use Rattle.dom_model.proofs.Forests.Climbing.{hits-first}
-use Rattle.dom_model.proofs.Forests.Indices.{child-listed, child-there}
+use Rattle.std.proofs.Common.{◌≡◌, ℕ, suc, ◌+◌, ◌<◌, false, if◌then◌else◌, List, [], ◌∷◌, ◌++◌, length, take, drop, reverse, Some, None, refl, ap, sym, ◌∙◌, subst, arith, append_assoc, append-nil, inl, inr}
+use Rattle.std.proofs.lemmas.{List.take-append-drop, List.reverse-append, Bool.cond_both, Bool.cases_Bool, Bool.false_from_ne_true}
+use Rattle.dom_model.specs.Definitions.{hits, past, up_to, is_character_data, occurs, parent_of, children_of, World, IsSound, kind_passes, data_of, Token, Open, Close, no_marks, unit_tokens, token_texts, tokens_among, closes_left, opens_left, IsWay, Childless, tail_nodes, head_nodes}
+use Rattle.dom_model.proofs.Forests.{Climbing.hits-first, Indices.child-listed, Indices.child-there}
 use Rattle.dom_model.proofs.BoundaryPoints.RootsKept.{hits-up_to}
 use Rattle.dom_model.proofs.Traversal.IteratorsStay.{hits-past}
-use Rattle.dom_model.proofs.RangesAndContents.DrawnPaths.{hits-drop, hits-take}
-use Rattle.dom_model.proofs.RangesAndContents.ContainedChildren.{around-one}
+use Rattle.dom_model.proofs.RangesAndContents.{DrawnPaths.hits-drop, DrawnPaths.hits-take, ContainedChildren.around-one}
 use Rattle.dom_model.proofs.Soundness.SoundForests.{data-childless}
-use Rattle.dom_model.proofs.TokenText.AlikeTrees.TreesAlike.{top_of}
-use Rattle.dom_model.proofs.TokenText.Pieces.TextParts.{inside}
-use Rattle.dom_model.proofs.TokenText.Pieces.TextPieces.{Closes-inside}
-use Rattle.dom_model.proofs.TokenText.Marked.MarkedFirst.{kinds-childless}
-use Rattle.dom_model.proofs.TokenText.Contents.TextTold.{no_mark}
-use Rattle.dom_model.proofs.TokenText.Contents.DeletedUnits.{units-append}
-use Rattle.dom_model.proofs.TokenText.Contents.MatchedPieces.{Matches, matches-units, closes-open, opens-open}
-use Rattle.dom_model.proofs.TokenText.Contents.WholePieces.{Whole, whole-append, whole-node, whole-units, whole-nodes, nodes-append, inner_of, tokens-own, tokens-shape}
-use Rattle.dom_model.proofs.TokenText.Contents.NodesOut.{AllGone, all_gone-within, all_gone-then}
-use Rattle.dom_model.proofs.TokenText.Contents.PathTokens.{nodes_tokens, tail_tokens, head_tokens}
+use Rattle.dom_model.proofs.TokenText.{AlikeTrees.TreesAlike.top_of, Pieces.TextParts.inside, Pieces.TextPieces.Closes-inside, Marked.MarkedFirst.kinds-childless, Contents.TextTold.no_mark, Contents.DeletedUnits.units-append, Contents.MatchedPieces.Matches, Contents.MatchedPieces.matches-units, Contents.MatchedPieces.closes-open, Contents.MatchedPieces.opens-open, Contents.WholePieces.Whole, Contents.WholePieces.whole-append, Contents.WholePieces.whole-node, Contents.WholePieces.whole-units, Contents.WholePieces.whole-nodes, Contents.WholePieces.nodes-append, Contents.WholePieces.inner_of, Contents.WholePieces.tokens-own, Contents.WholePieces.tokens-shape, Contents.NodesOut.AllGone, Contents.NodesOut.all_gone-within, Contents.NodesOut.all_gone-then, Contents.PathTokens.nodes_tokens, Contents.PathTokens.tail_tokens, Contents.PathTokens.head_tokens}
 
 -- what stands in a node ahead of an offset, and behind it
 abbrev pub front_tokens : World → ℕ → ℕ → List Token
@@ -94,11 +72,11 @@ module _ (w : World) (sound : IsSound w) where
 
   -- what has a child has no data
   pub holder-no_data : (m n : ℕ) → 0 < occurs m w.forest → parent_of w.forest m ≡ Some n → kind_passes is_character_data w.forest n ≡ false
-  holder-no_data m n h e = go (kind_passes is_character_data w.forest n) refl
-    where
-      go : (v : Bool) → kind_passes is_character_data w.forest n ≡ v → v ≡ false
-      go true d = absurd (let k = child-listed w.forest sound.forest.once m n h e in let j : hits m (children_of w.forest n) ≡ 0 = ap (hits m) (data-childless sound.forest n d) in omega arith)
-      go false d = refl
+  holder-no_data m n h e =
+      false_from_ne_true (kind_passes is_character_data w.forest n) (λ d.
+      let k = child-listed w.forest sound.forest.once m n h e in
+      let j : hits m (children_of w.forest n) ≡ 0 = ap (hits m) (data-childless sound.forest n d) in
+      omega arith)
 
   -- how many nodes or units stand in a node ahead of an offset
   pub record Front (ts : List Token) : Type 0 where
@@ -106,30 +84,24 @@ module _ (w : World) (sound : IsSound w) where
     pub whole : Whole many ts
 
   pub whole-front : (offset n : ℕ) → Front (front_tokens w offset n)
-  whole-front offset n = go (kind_passes is_character_data w.forest n)
-    where
-      go : (v : Bool) → Front (if v then unit_tokens no_marks n 0 (take offset (data_of w n)) else nodes_tokens w.forest (take offset (children_of w.forest n)))
-      go true = record { many = length (take offset (data_of w n)); whole = whole-units n 0 (take offset (data_of w n)) }
-      go false = record { many = length (take offset (children_of w.forest n)); whole = whole-listed (take offset (children_of w.forest n)) (taken-there n offset) }
+  whole-front offset n =
+      cond_both (kind_passes is_character_data w.forest n) _ _ Front
+      (λ _. record { many = length (take offset (data_of w n)); whole = whole-units n 0 (take offset (data_of w n)) })
+      (λ _. record { many = length (take offset (children_of w.forest n)); whole = whole-listed (take offset (children_of w.forest n)) (taken-there n offset) })
 
   matches-back : (offset n : ℕ) → Matches (back_tokens w offset n)
-  matches-back offset n = go (kind_passes is_character_data w.forest n)
-    where
-      go : (v : Bool) → Matches (if v then unit_tokens no_marks n 0 (drop offset (data_of w n)) else nodes_tokens w.forest (drop offset (children_of w.forest n)))
-      go true = matches-units n 0 (drop offset (data_of w n))
-      go false = (whole-listed (drop offset (children_of w.forest n)) (dropped-there n offset)).matches
+  matches-back offset n =
+      cond_both (kind_passes is_character_data w.forest n) _ _ Matches (λ _. matches-units n 0 (drop offset (data_of w n)))
+      (λ _. (whole-listed (drop offset (children_of w.forest n)) (dropped-there n offset)).matches)
 
   inner-parted : (offset n : ℕ) → inner_of w.forest sound.forest.once childless n ≡ front_tokens w offset n ++ back_tokens w offset n
-  inner-parted offset n = go (kind_passes is_character_data w.forest n)
-    where
-      go : (v : Bool) → (if v then unit_tokens no_marks n 0 (data_of w n) else nodes_tokens w.forest (children_of w.forest n)) ≡ (if v then unit_tokens no_marks n 0 (take offset (data_of w n)) else nodes_tokens w.forest (take offset (children_of w.forest n))) ++ (if v then unit_tokens no_marks n 0 (drop offset (data_of w n)) else nodes_tokens w.forest (drop offset (children_of w.forest n)))
-      go true = ap (unit_tokens no_marks n 0) (sym (take-append-drop offset (data_of w n))) ∙ units-append n (take offset (data_of w n)) (drop offset (data_of w n))
-      go false = ap (nodes_tokens w.forest) (sym (take-append-drop offset (children_of w.forest n))) ∙ nodes-append w.forest (take offset (children_of w.forest n)) (drop offset (children_of w.forest n))
+  inner-parted offset n =
+      elim (cases_Bool (kind_passes is_character_data w.forest n)) [
+        | inl k ↦ rw k (ap (unit_tokens no_marks n 0) (sym (take-append-drop offset (data_of w n))) ∙ units-append n (take offset (data_of w n)) (drop offset (data_of w n)))
+        | inr k ↦ rw k (ap (nodes_tokens w.forest) (sym (take-append-drop offset (children_of w.forest n))) ∙ nodes-append w.forest (take offset (children_of w.forest n)) (drop offset (children_of w.forest n)))
+      ]
 
   -- A node's own tokens are those ahead of an end inside it, and those from there on.
-
-  joined_beside : (n : ℕ) (us hs ts ps : List Token) → Open n ∷ ((us ++ ((hs ++ ts) ++ ps)) ++ (Close ∷ [])) ≡ (Open n ∷ (us ++ hs)) ++ (ts ++ (ps ++ (Close ∷ [])))
-  joined_beside n us hs ts ps = simp append_assoc
 
   pub tokens-parted : (offset m : ℕ) (path : List ℕ) (n : ℕ) → 0 < occurs m w.forest → IsWay w.forest m path n → tokens_among m (token_texts no_marks w.forest) ≡ head_tokens w offset (m ∷ path) ++ tail_tokens w offset (m ∷ path)
   tokens-parted offset m [] n h way =
@@ -138,14 +110,13 @@ module _ (w : World) (sound : IsSound w) where
       ∙ ap (λ ts. Open m ∷ ts) (append_assoc (front_tokens w offset m) (back_tokens w offset m) (Close ∷ []))
   tokens-parted offset m (c ∷ path) n h below =
       let k = holder-no_data c m below.0 below.1 in
-      let cs = children_of w.forest m in
       let shape : inner_of w.forest sound.forest.once childless m ≡ nodes_tokens w.forest (children_of w.forest m) = rw k refl in
       tokens-shape w.forest sound.forest.once childless m h
       ∙ ap (λ ts. Open m ∷ (ts ++ (Close ∷ []))) (shape
       ∙ ap (nodes_tokens w.forest) (around-one c (children_of w.forest m) (child-listed w.forest sound.forest.once c m below.0 below.1))
       ∙ nodes-append w.forest (up_to c (children_of w.forest m)) (c ∷ past c (children_of w.forest m))
       ∙ ap (λ ts. nodes_tokens w.forest (up_to c (children_of w.forest m)) ++ (ts ++ nodes_tokens w.forest (past c (children_of w.forest m)))) (tokens-parted offset c path n below.0 below.2))
-      ∙ joined_beside m (nodes_tokens w.forest (up_to c (children_of w.forest m))) (head_tokens w offset (c ∷ path)) (tail_tokens w offset (c ∷ path)) (nodes_tokens w.forest (past c (children_of w.forest m)))
+      ∙ (simp append_assoc)
 
   -- What the tokens leave open.
 
@@ -154,13 +125,15 @@ module _ (w : World) (sound : IsSound w) where
   closes-tail offset u (m ∷ []) n way us =
       ap (closes_left 0) (append_assoc (back_tokens w offset m) (Close ∷ []) us) ∙ (matches-back offset m).closes 0 (Close ∷ us)
   closes-tail offset u (m ∷ c ∷ path) n way us =
-      let ps = nodes_tokens w.forest (past c (children_of w.forest m)) in
       let x = whole-listed (past c (children_of w.forest m)) (past-there m c) in
-      ap (closes_left 0) (append_assoc (tail_tokens w offset (c ∷ path)) (nodes_tokens w.forest (past c (children_of w.forest m)) ++ (Close ∷ [])) us)
-      ∙ closes-tail offset m (c ∷ path) n way.2 ((nodes_tokens w.forest (past c (children_of w.forest m)) ++ (Close ∷ [])) ++ us)
-      ∙ ap (λ ts. closes_of (c ∷ path) ++ closes_left 0 ts) (append_assoc (nodes_tokens w.forest (past c (children_of w.forest m))) (Close ∷ []) us)
-      ∙ ap (λ ts. closes_of (c ∷ path) ++ ts) (x.matches.closes 0 (Close ∷ us))
-      ∙ sym (append_assoc (closes_of (c ∷ path)) (Close ∷ []) (closes_left 0 us))
+      let ps = nodes_tokens w.forest (past c (children_of w.forest m)) in
+      cc (
+        append_assoc (tail_tokens w offset (c ∷ path)) (ps ++ (Close ∷ [])) us,
+        closes-tail offset m (c ∷ path) n way.2 ((ps ++ (Close ∷ [])) ++ us),
+        append_assoc ps (Close ∷ []) us,
+        x.matches.closes 0 (Close ∷ us),
+        append_assoc (closes_of (c ∷ path)) (Close ∷ []) (closes_left 0 us),
+      )
 
   pub opens-tail : (offset u : ℕ) (path : List ℕ) (n : ℕ) → IsWay w.forest u path n → (us : List Token) → opens_left [] (tail_tokens w offset path ++ us) ≡ opens_left [] us
   opens-tail offset u [] n way us = refl
@@ -168,26 +141,25 @@ module _ (w : World) (sound : IsSound w) where
       ap (opens_left []) (append_assoc (back_tokens w offset m) (Close ∷ []) us) ∙ (matches-back offset m).opens [] (Close ∷ us)
   opens-tail offset u (m ∷ c ∷ path) n way us =
       let x = whole-listed (past c (children_of w.forest m)) (past-there m c) in
-      ap (opens_left []) (append_assoc (tail_tokens w offset (c ∷ path)) (nodes_tokens w.forest (past c (children_of w.forest m)) ++ (Close ∷ [])) us)
-      ∙ opens-tail offset m (c ∷ path) n way.2 ((nodes_tokens w.forest (past c (children_of w.forest m)) ++ (Close ∷ [])) ++ us)
-      ∙ ap (opens_left []) (append_assoc (nodes_tokens w.forest (past c (children_of w.forest m))) (Close ∷ []) us)
-      ∙ x.matches.opens [] (Close ∷ us)
+      let ps = nodes_tokens w.forest (past c (children_of w.forest m)) in
+      cc (
+        append_assoc (tail_tokens w offset (c ∷ path)) (ps ++ (Close ∷ [])) us,
+        opens-tail offset m (c ∷ path) n way.2 ((ps ++ (Close ∷ [])) ++ us),
+        append_assoc ps (Close ∷ []) us,
+        x.matches.opens [] (Close ∷ us),
+      )
 
   no-closes : (depth : ℕ) → closes_left depth [] ≡ []
-  no-closes zero = refl
-  no-closes (suc depth) = refl
+  no-closes depth = grind arith
 
   no-opens : (above : List Token) → opens_left above [] ≡ reverse above
-  no-opens [] = refl
-  no-opens (o ∷ above) = refl
+  no-opens above = grind arith
 
   pub closes-head : (offset u : ℕ) (path : List ℕ) (n depth : ℕ) → IsWay w.forest u path n → closes_left depth (head_tokens w offset path) ≡ []
   closes-head offset u [] n depth way = no-closes depth
   closes-head offset u (m ∷ []) n depth way =
       let x = whole-front offset m in
-      closes-open m depth (front_tokens w offset m)
-      ∙ ap (closes_left (suc depth)) (sym (append-nil (front_tokens w offset m)))
-      ∙ x.whole.matches.closes (suc depth) []
+      cc (closes-open m depth (front_tokens w offset m), append-nil (front_tokens w offset m), x.whole.matches.closes (suc depth) [])
   closes-head offset u (m ∷ c ∷ path) n depth way =
       let x = whole-listed (up_to c (children_of w.forest m)) (up_to-there m c) in
       closes-open m depth (nodes_tokens w.forest (up_to c (children_of w.forest m)) ++ head_tokens w offset (c ∷ path))
@@ -198,10 +170,7 @@ module _ (w : World) (sound : IsSound w) where
   opens-head offset u [] n above way = no-opens above ∙ sym (append-nil (reverse above))
   opens-head offset u (m ∷ []) n above way =
       let x = whole-front offset m in
-      opens-open m above (front_tokens w offset m)
-      ∙ ap (opens_left (Open m ∷ above)) (sym (append-nil (front_tokens w offset m)))
-      ∙ x.whole.matches.opens (Open m ∷ above) []
-      ∙ reverse-append (Open m ∷ []) above
+      cc (opens-open m above (front_tokens w offset m), append-nil (front_tokens w offset m), x.whole.matches.opens (Open m ∷ above) [], reverse-append (Open m ∷ []) above)
   opens-head offset u (m ∷ c ∷ path) n above way =
       let x = whole-listed (up_to c (children_of w.forest m)) (up_to-there m c) in
       opens-open m above (nodes_tokens w.forest (up_to c (children_of w.forest m)) ++ head_tokens w offset (c ∷ path))
@@ -218,12 +187,9 @@ module _ (w : World) (sound : IsSound w) where
       let hs = head_tokens w offset (c ∷ path) in
       let x = whole-listed (up_to c (children_of w.forest m)) (up_to-there m c) in
       let below = whole-closed offset c path n way.2 in
-      subst (Whole 1) (joined us hs (closes_of (c ∷ path)))
+      subst (Whole 1) (simp append_assoc)
       (whole-node m (length (up_to c (children_of w.forest m)) + 1) (us ++ (hs ++ closes_of (c ∷ path)))
       (whole-append (length (up_to c (children_of w.forest m))) 1 us (hs ++ closes_of (c ∷ path)) x below))
-    where
-      joined : (us hs cs : List Token) → Open m ∷ ((us ++ (hs ++ cs)) ++ (Close ∷ [])) ≡ (Open m ∷ (us ++ hs)) ++ (cs ++ (Close ∷ []))
-      joined us hs cs = simp append_assoc
 
   -- What is left where the nodes beside a path go.
 
@@ -247,11 +213,14 @@ module _ (w : World) (sound : IsSound w) where
 
   pub tail_is : (offset m : ℕ) (path : List ℕ) (n : ℕ) → IsWay w.forest m path n → TailIs w offset n (m ∷ path)
   tail_is offset m [] n way =
-      subst (λ x. TailIs w offset x (m ∷ [])) way (record { post = []; spelt = refl; gone = go (kind_passes is_character_data w.forest m) })
-    where
-      go : (v : Bool) → AllGone (if v then [] else drop offset (children_of w.forest m)) ((if v then [] else nodes_tokens w.forest (drop offset (children_of w.forest m))) ++ (Close ∷ [])) (Close ∷ [])
-      go true = refl
-      go false = all_gone-within (drop offset (children_of w.forest m)) [] (nodes_tokens w.forest (drop offset (children_of w.forest m))) [] (Close ∷ []) (nodes-gone (drop offset (children_of w.forest m)) (dropped-there m offset))
+      subst (λ x. TailIs w offset x (m ∷ [])) way record {
+        post = [];
+        spelt = refl;
+        gone = elim (cases_Bool (kind_passes is_character_data w.forest m)) [
+          | inl k ↦ rw k refl
+          | inr k ↦ rw k (all_gone-within (drop offset (children_of w.forest m)) [] (nodes_tokens w.forest (drop offset (children_of w.forest m))) [] (Close ∷ []) (nodes-gone (drop offset (children_of w.forest m)) (dropped-there m offset)))
+        ];
+      }
   tail_is offset m (c ∷ path) n way =
       let i = tail_is offset c path n way.2 in
       let ps = past c (children_of w.forest m) in
@@ -267,13 +236,17 @@ module _ (w : World) (sound : IsSound w) where
 
   pub head_is : (offset m : ℕ) (path : List ℕ) (n : ℕ) → IsWay w.forest m path n → HeadIs w offset n (m ∷ path)
   head_is offset m [] n way =
-      subst (λ x. HeadIs w offset x (m ∷ [])) way (record { pre = []; opens = []; spelt = refl; last = refl; gone = go (kind_passes is_character_data w.forest m) })
-    where
-      go : (v : Bool) → AllGone (if v then [] else take offset (children_of w.forest m)) (Open m ∷ (if v then unit_tokens no_marks m 0 (take offset (data_of w m)) else nodes_tokens w.forest (take offset (children_of w.forest m)))) (Open m ∷ (if v then unit_tokens no_marks m 0 (take offset (data_of w m)) else []))
-      go true = refl
-      go false =
-          subst (λ ts. AllGone (take offset (children_of w.forest m)) (Open m ∷ ts) (Open m ∷ [])) (append-nil (nodes_tokens w.forest (take offset (children_of w.forest m))))
-          (all_gone-within (take offset (children_of w.forest m)) (Open m ∷ []) (nodes_tokens w.forest (take offset (children_of w.forest m))) [] [] (nodes-gone (take offset (children_of w.forest m)) (taken-there m offset)))
+      subst (λ x. HeadIs w offset x (m ∷ [])) way record {
+        pre = [];
+        opens = [];
+        spelt = refl;
+        last = refl;
+        gone = elim (cases_Bool (kind_passes is_character_data w.forest m)) [
+          | inl k ↦ rw k refl
+          | inr k ↦ rw k (subst (λ ts. AllGone (take offset (children_of w.forest m)) (Open m ∷ ts) (Open m ∷ [])) (append-nil (nodes_tokens w.forest (take offset (children_of w.forest m))))
+              (all_gone-within (take offset (children_of w.forest m)) (Open m ∷ []) (nodes_tokens w.forest (take offset (children_of w.forest m))) [] [] (nodes-gone (take offset (children_of w.forest m)) (taken-there m offset))))
+        ];
+      }
   head_is offset m (c ∷ path) n way =
       let i = head_is offset c path n way.2 in
       let us = up_to c (children_of w.forest m) in

@@ -1,14 +1,7 @@
 -- What lies between the ends of a live range, by parts: the tokens from its start to the end of the first partially contained child, those of
 -- the contained children, and those from the start of the last partially contained child to its end. DOM Standard, "Interface Range".
 use Rattle.std.proofs.Common.{ℕ, if◌then◌else◌, List, [], ◌∷◌, ◌++◌, take, drop, flat_map}
-use Rattle.dom_model.specs.Forests.Kinds.{is_character_data}
-use Rattle.dom_model.specs.Forests.Forest.{Forest, children_of}
-use Rattle.dom_model.specs.Worlds.World.{Content, Range, World}
-use Rattle.dom_model.specs.PlainLists.Lists.{past, up_to}
-use Rattle.dom_model.specs.Forests.Nodes.{kind_passes}
-use Rattle.dom_model.specs.DataAndCopies.Data.{data_of}
-use Rattle.dom_model.specs.RangesAndContents.Contents.{path_below, common_of, contained_children}
-use Rattle.dom_model.specs.TokenText.Tokens.{Token, Open, Close, no_marks, unit_tokens, token_texts, tokens_among}
+use Rattle.dom_model.specs.Definitions.{is_character_data, Forest, children_of, Content, Range, World, past, up_to, kind_passes, data_of, path_below, common_of, contained_children, Token, Open, Close, no_marks, unit_tokens, token_texts, tokens_among}
 
 -- the tokens of nodes with all that is in them
 abbrev pub nodes_tokens : Forest Content → List ℕ → List Token

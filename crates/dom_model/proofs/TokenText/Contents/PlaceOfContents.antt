@@ -1,45 +1,19 @@
 -- Where the contents of a live range stood: the place that both its ends get, and the gap of that place in the text that is left.
 -- DOM Standard, "Interface Range": delete the contents, extract.
 use Rattle.std.proofs.Common.{◌≡◌, ℕ, suc, ◌+◌, ◌<◌, true, List, [], ◌∷◌, ◌++◌, length, Some, None, unwrap_or, option_map, option_and_then, refl, ap, sym, ◌∙◌, subst, arith, append_assoc, append-nil, length-append}
-use Rattle.std.proofs.lemmas.List.{length-take-le}
-use Rattle.dom_model.specs.PlainLists.Lists.{hits, among, place_in, up_to}
-use Rattle.dom_model.specs.Forests.Forest.{Forest, empty, node, occurs, tops, entry_in, children_of, index_of, ancestors, root_of}
-use Rattle.dom_model.specs.Worlds.World.{Content, Range, World}
-use Rattle.dom_model.specs.Soundness.Sound.{IsSound, IsRange}
-use Rattle.dom_model.specs.RangesAndContents.Ranges.{point_after}
-use Rattle.dom_model.specs.RangesAndContents.Contents.{common_of, new_place}
-use Rattle.dom_model.specs.TokenText.Tokens.{Token, Open, Close, point, is_open, no_marks, token_texts}
-use Rattle.dom_model.specs.TokenText.Gaps.{text_among, root_text, tokens_ahead}
-use Rattle.dom_model.specs.Forests.Ways.{IsWay}
-use Rattle.dom_model.proofs.PlainLists.Numbers.{same_or, same, apart}
-use Rattle.dom_model.proofs.PlainLists.Places.{place-there}
-use Rattle.dom_model.proofs.Forests.Climbing.{hits-among}
-use Rattle.dom_model.proofs.Forests.Entries.{occurs-HasNode, Lies-entry_in}
-use Rattle.dom_model.proofs.Forests.Indices.{child-listed, index-child}
-use Rattle.dom_model.proofs.Forests.WaysMeeting.{above-apart, depth-child}
-use Rattle.dom_model.proofs.RangesAndContents.WaysBelow.{last-hits, way-above}
-use Rattle.dom_model.proofs.RangesAndContents.NewPlaces.{meeting}
-use Rattle.dom_model.proofs.RangesAndContents.ContainedChildren.{up_to-place}
+use Rattle.std.proofs.lemmas.{List.length-take-le, Bool.Decides.nat_tests}
+use Rattle.dom_model.specs.Definitions.{hits, among, place_in, up_to, Forest, empty, node, occurs, tops, entry_in, children_of, index_of, ancestors, root_of, Content, Range, World, IsSound, IsRange, point_after, common_of, new_place, Token, Open, Close, point, is_open, no_marks, token_texts, text_among, root_text, tokens_ahead, IsWay}
+use Rattle.dom_model.proofs.PlainLists.{Numbers.same_or, Numbers.same, Numbers.apart, Places.place-there}
+use Rattle.dom_model.proofs.Forests.{Climbing.hits-among, Entries.occurs-HasNode, Entries.Lies-entry_in, Indices.child-listed, Indices.index-child, WaysMeeting.above-apart, WaysMeeting.depth-child}
+use Rattle.dom_model.proofs.RangesAndContents.{WaysBelow.last-hits, WaysBelow.way-above, NewPlaces.meeting, ContainedChildren.up_to-place}
 use Rattle.dom_model.proofs.Soundness.SoundWorlds.{child_there}
-use Rattle.dom_model.proofs.TokenText.Pieces.TokenLists.{opened, tally-append}
-use Rattle.dom_model.proofs.TokenText.Pieces.TextCounts.{opened-own}
-use Rattle.dom_model.proofs.TokenText.Marked.MarkedFirst.{kinds-childless}
-use Rattle.dom_model.proofs.TokenText.Contents.TextTold.{no_mark}
-use Rattle.dom_model.proofs.TokenText.Contents.TextsOfRoots.{tree_of_root}
-use Rattle.dom_model.proofs.TokenText.Contents.WholePieces.{whole-append, gap-behind}
-use Rattle.dom_model.proofs.TokenText.Contents.PathTokens.{nodes_tokens, head_tokens, start_path}
-use Rattle.dom_model.proofs.TokenText.Contents.PathShapes.{closes_of, up_to-there, whole-listed, whole-closed}
-use Rattle.dom_model.proofs.TokenText.Contents.BetweenParts.{fork_of, start-there, head-gap, once-ahead, unopened}
+use Rattle.dom_model.proofs.TokenText.{Pieces.TokenLists.opened, Pieces.TokenLists.tally-append, Pieces.TextCounts.opened-own, Marked.MarkedFirst.kinds-childless, Contents.TextTold.no_mark, Contents.TextsOfRoots.tree_of_root, Contents.WholePieces.whole-append, Contents.WholePieces.gap-behind, Contents.PathTokens.nodes_tokens, Contents.PathTokens.head_tokens, Contents.PathTokens.start_path, Contents.PathShapes.closes_of, Contents.PathShapes.up_to-there, Contents.PathShapes.whole-listed, Contents.PathShapes.whole-closed, Contents.BetweenParts.fork_of, Contents.BetweenParts.start-there, Contents.BetweenParts.head-gap, Contents.BetweenParts.once-ahead, Contents.BetweenParts.unopened}
 
 -- A node that the text of a root opens is of that root.
 
 text-listed : (root : ℕ) (f : Forest Content) → 0 < length (text_among root (token_texts no_marks f)) → 0 < hits root (tops f)
 text-listed root empty h = absurd (omega arith)
-text-listed root (node x kids rest) h =
-    elim (same_or x.number root) [
-      | same d t ↦ rw t (omega arith)
-      | apart ne t ↦ (let k = rw t at h in let i = text-listed root rest k in omega arith)
-    ]
+text-listed root (node x kids rest) h = grind (arith, nat_tests, text-listed root rest)
 
 pub opened-some : (n : ℕ) (ts : List Token) → 0 < opened n ts → 0 < length ts
 opened-some n [] h = absurd (omega arith)
@@ -54,11 +28,7 @@ opened-root v root n s h =
 -- the root's text begins with the root's open
 first-opened : (root : ℕ) (f : Forest Content) (t : Token) (ts : List Token) → text_among root (token_texts no_marks f) ≡ t ∷ ts → is_open root t ≡ true
 first-opened root empty t ts h = absurd (cc h)
-first-opened root (node x kids rest) t ts h =
-    elim (same_or x.number root) [
-      | same d v ↦ (let k = rw v at h in let e : Open x.number ≡ t = cc k in subst (λ u. is_open root u ≡ true) e v)
-      | apart ne v ↦ first-opened root rest t ts (let k = rw v at h in k)
-    ]
+first-opened root (node x kids rest) t ts h = grind (arith, nat_tests, first-opened root rest t ts)
 
 pub root-opened : (root : ℕ) (f : Forest Content) (xs ys : List Token) → text_among root (token_texts no_marks f) ≡ xs ++ ys → 0 < length xs → 0 < opened root xs
 root-opened root f [] ys e l = absurd (omega arith)
@@ -68,7 +38,7 @@ pub closes-open_none : (n : ℕ) (path : List ℕ) → opened n (closes_of path)
 closes-open_none n [] = refl
 closes-open_none n (m ∷ path) = tally-append (is_open n) (closes_of path) (Close ∷ []) ∙ (let i = closes-open_none n path in omega arith)
 
-last-on : (f : Forest Content) (m : ℕ) (path : List ℕ) (n : ℕ) → IsWay f m path n → 0 < hits n (m ∷ path)
+pub last-on : (f : Forest Content) (m : ℕ) (path : List ℕ) (n : ℕ) → IsWay f m path n → 0 < hits n (m ∷ path)
 last-on f m [] n way = elim (same_or m n) [ same d t ↦ rw t (omega arith) | apart ne t ↦ absurd (ne way) ]
 last-on f m (c ∷ path) n way = let i = last-on f c path n way.2 in omega arith
 
@@ -145,16 +115,14 @@ module _ (w : World) (sound : IsSound w) (range : Range) (is_range : IsRange w.f
           let free = unopened w sound range is_range root rooted a ahead (us ++ hs) (once-ahead w sound range is_range root rooted a (ahead ++ (Open a ∷ (us ++ hs))) behind full) in
           let inner : opened a (us ++ (hs ++ cs)) ≡ 0 = ap (opened a) (sym (append_assoc us hs cs)) ∙ tally-append (is_open a) (us ++ hs) cs ∙ (let i = free.1 in let j = closes-open_none a (c ∷ path) in omega arith) in
           let gap = gap-behind ahead a (length ns + 1) (us ++ (hs ++ cs)) rest whole some free.0 inner in
-          let long : length ahead + suc (length (us ++ (hs ++ cs))) ≡ length ((ahead ++ (Open a ∷ (us ++ hs))) ++ cs) = sym (length-append ahead (Open a ∷ (us ++ (hs ++ cs)))) ∙ ap (λ (ts : List Token). length ts) (sym (regrouped ahead a us hs cs)) in (
+          let regrouped : (ahead ++ (Open a ∷ (us ++ hs))) ++ cs ≡ ahead ++ (Open a ∷ (us ++ (hs ++ cs))) = simp append_assoc in
+          let long : length ahead + suc (length (us ++ (hs ++ cs))) ≡ length ((ahead ++ (Open a ∷ (us ++ hs))) ++ cs) = sym (length-append ahead (Open a ∷ (us ++ (hs ++ cs)))) ∙ ap (λ (ts : List Token). length ts) (sym regrouped) in (
             common_of w range,
             index_of w.forest c + 1,
             place-behind c path e,
             refl,
-            ap (tokens_ahead (point a (index_of w.forest c + 1)) []) (ap (λ ts. ts ++ rest) (regrouped ahead a us hs cs) ∙ append_assoc ahead (Open a ∷ (us ++ (hs ++ cs))) rest)
+            ap (tokens_ahead (point a (index_of w.forest c + 1)) []) (ap (λ ts. ts ++ rest) regrouped ∙ append_assoc ahead (Open a ∷ (us ++ (hs ++ cs))) rest)
                 ∙ ap (λ j. tokens_ahead (point a j) [] (ahead ++ (Open a ∷ ((us ++ (hs ++ cs)) ++ rest)))) (sym k)
                 ∙ gap
                 ∙ ap (λ j. Some j) long,
           )
-        where
-          regrouped : (xs : List Token) (a : ℕ) (us hs cs : List Token) → (xs ++ (Open a ∷ (us ++ hs))) ++ cs ≡ xs ++ (Open a ∷ (us ++ (hs ++ cs)))
-          regrouped xs a us hs cs = simp append_assoc

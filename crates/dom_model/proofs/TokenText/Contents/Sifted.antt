@@ -1,8 +1,7 @@
 -- The units of Texts in a part of a text, told by how many tokens are ahead of the part's beginning and of its end.
-use Rattle.std.proofs.Common.{◌≡◌, ℕ, zero, suc, ◌-◌, ◌≤◌, Bool, true, false, if◌then◌else◌, List, [], ◌∷◌, ◌++◌, length, take, drop, refl, ap, sym, ◌∙◌, arith, append_assoc}
-use Rattle.dom_model.specs.Worlds.World.{World, Point}
-use Rattle.dom_model.specs.TokenText.Tokens.{Token, Open, Close, OneUnit, Mark, no_marks, unit_tokens, passed, stepped}
-use Rattle.dom_model.specs.TokenText.Between.{numbers_of, top_is_text, unit_if, without_first, text_units}
+use Rattle.std.proofs.Common.{◌≡◌, ℕ, zero, suc, ◌-◌, ◌≤◌, Bool, true, false, if◌then◌else◌, List, [], ◌∷◌, ◌++◌, length, take, drop, refl, ap, sym, ◌∙◌, arith, append_assoc, take_all}
+use Rattle.std.proofs.lemmas.List.{drop_all}
+use Rattle.dom_model.specs.Definitions.{World, Point, Token, Open, Close, OneUnit, Mark, no_marks, unit_tokens, passed, stepped, numbers_of, top_is_text, unit_if, without_first, text_units}
 use Rattle.dom_model.proofs.TokenText.Pieces.TextWalks.{walk}
 
 -- the numbers of the nodes that are open past a token
@@ -38,8 +37,7 @@ sifted w around a b [] = []
 sifted w around a b (t ∷ ts) = (if is_within a b then text_unit w around t else []) ++ sifted w (open_past t around) (one_less a) (one_less b) ts
 
 less-by_one : (a k : ℕ) → one_less a - k ≡ a - suc k
-less-by_one zero k = omega arith
-less-by_one (suc a) k = omega arith
+less-by_one a k = grind arith
 
 -- the open nodes of a walk
 pub numbers-stepped : (here : List Point) → numbers_of (stepped here) ≡ numbers_of here
@@ -47,11 +45,7 @@ numbers-stepped [] = refl
 numbers-stepped (p ∷ around) = refl
 
 pub numbers-passed : (t : Token) (here : List Point) → numbers_of (passed t here) ≡ open_past t (numbers_of here)
-numbers-passed (Open n) here = refl
-numbers-passed Close [] = refl
-numbers-passed Close (p ∷ around) = numbers-stepped around
-numbers-passed (OneUnit u) here = numbers-stepped here
-numbers-passed (Mark r side) here = refl
+numbers-passed t here = grind arith
 
 pub numbers-walk : (ts : List Token) (here : List Point) → numbers_of (walk ts here) ≡ open_past_all ts (numbers_of here)
 numbers-walk [] here = refl
@@ -76,57 +70,31 @@ module _ (w : World) where
   sifted-none around [] = refl
   sifted-none around (t ∷ ts) = sifted-none (open_past t around) ts
 
-  units-first : (around : List ℕ) (t : Token) (ts : List Token) → text_units w around (t ∷ ts) ≡ text_unit w around t ++ text_units w (open_past t around) ts
-  units-first around (Open n) ts = refl
-  units-first around Close ts = refl
-  units-first around (OneUnit u) ts = refl
-  units-first around (Mark r side) ts = refl
-
   sifted-front : (around : List ℕ) (b : ℕ) (ts : List Token) → text_units w around (take b ts) ≡ sifted w around 0 b ts
   sifted-front around zero ts = sym (sifted-none around ts)
   sifted-front around (suc b) [] = refl
-  sifted-front around (suc b) (t ∷ ts) = units-first around t (take b ts) ∙ ap (λ us. text_unit w around t ++ us) (sifted-front (open_past t around) b ts)
+  sifted-front around (suc b) (t ∷ ts) = grind (arith, sifted-front (open_past t around) b ts)
 
   -- the units of Texts in the part, read from its beginning
   pub sifted-part : (around : List ℕ) (a b : ℕ) (ts : List Token) → a ≤ b → text_units w (open_past_all (take a ts) around) (take (b - a) (drop a ts)) ≡ sifted w around a b ts
   sifted-part around zero b ts h = (let e : b - 0 ≡ b = omega arith in rw e (sifted-front around b ts))
   sifted-part around (suc a) zero ts h = absurd (omega arith)
-  sifted-part around (suc a) (suc b) [] h = none (suc b - suc a)
-    where
-      none : (k : ℕ) → text_units w around (take k []) ≡ []
-      none zero = refl
-      none (suc k) = refl
+  sifted-part around (suc a) (suc b) [] h = ap (text_units w around) (take_all {A = Token} (suc b - suc a) [] (omega arith))
   sifted-part around (suc a) (suc b) (t ∷ ts) h =
       let e : suc b - suc a ≡ b - a = omega arith in
-      let i : a ≤ b = omega arith in
-      ap (λ k. text_units w (open_past_all (take a ts) (open_past t around)) (take k (drop a ts))) e ∙ sifted-part (open_past t around) a b ts i
+      ap (λ k. text_units w (open_past_all (take a ts) (open_past t around)) (take k (drop a ts))) e ∙ sifted-part (open_past t around) a b ts (omega arith)
 
   -- of the units of a Text
   pub sifted-units : (n : ℕ) (around : List ℕ) (a b m i : ℕ) (us : List ℕ) → top_is_text w (n ∷ around) ≡ true → sifted w (n ∷ around) a b (unit_tokens no_marks m i us) ≡ take (b - a) (drop a us)
-  sifted-units n around a b m i [] h = none a (b - a)
-    where
-      none : (a k : ℕ) → ◌≡◌ {A = List ℕ} [] (take k (drop a []))
-      none zero zero = refl
-      none zero (suc k) = refl
-      none (suc a) zero = refl
-      none (suc a) (suc k) = refl
+  sifted-units n around a b m i [] h = sym (ap (take (b - a)) (drop_all a [] (omega arith)) ∙ take_all (b - a) [] (omega arith))
   sifted-units n around zero zero m i (u ∷ us) h = sifted-units n around zero zero m (suc i) us h
   sifted-units n around zero (suc b) m i (u ∷ us) h =
       let e : suc b - 0 ≡ suc b = omega arith in
       let d : b - 0 ≡ b = omega arith in
       rw (e, h) (ap (λ vs. u ∷ vs) (sifted-units n around zero b m (suc i) us h ∙ ap (λ k. take k us) d))
-  sifted-units n around (suc a) zero m i (u ∷ us) h =
-      let e : zero - suc a ≡ zero - a = omega arith in
-      sifted-units n around a zero m (suc i) us h ∙ ap (λ k. take k (drop a us)) (sym e)
-  sifted-units n around (suc a) (suc b) m i (u ∷ us) h =
-      let e : suc b - suc a ≡ b - a = omega arith in
-      sifted-units n around a b m (suc i) us h ∙ ap (λ k. take k (drop a us)) (sym e)
+  sifted-units n around (suc a) b m i (u ∷ us) h = sifted-units n around a (one_less b) m (suc i) us h ∙ ap (λ k. take k (drop a us)) (less-by_one b a)
 
   -- of the units of another node
   pub sifted-other : (n : ℕ) (around : List ℕ) (a b m i : ℕ) (us : List ℕ) → top_is_text w (n ∷ around) ≡ false → sifted w (n ∷ around) a b (unit_tokens no_marks m i us) ≡ []
   sifted-other n around a b m i [] h = refl
-  sifted-other n around a b m i (u ∷ us) h = go (is_within a b) (sifted-other n around (one_less a) (one_less b) m (suc i) us h)
-    where
-      go : (v : Bool) → sifted w (n ∷ around) (one_less a) (one_less b) (unit_tokens no_marks m (suc i) us) ≡ [] → (if v then unit_if (top_is_text w (n ∷ around)) u else []) ++ sifted w (n ∷ around) (one_less a) (one_less b) (unit_tokens no_marks m (suc i) us) ≡ []
-      go true later = rw h later
-      go false later = later
+  sifted-other n around a b m i (u ∷ us) h = grind (arith, sifted-other n around (one_less a) (one_less b) m (suc i) us h)

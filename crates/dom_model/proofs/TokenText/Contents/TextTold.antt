@@ -1,51 +1,18 @@
 -- The units of Texts between the gaps of a range's two ends, by recursion on the trees: if each Text tells its part, the whole text of a
 -- root tells the text of the range.
-use Rattle.std.proofs.Common.{◌≡◌, ℕ, suc, ◌+◌, ◌-◌, ◌<◌, ◌≤◌, ◌==◌, Bool, true, false, ◌&&◌, if◌then◌else◌, List, [], ◌∷◌, ◌++◌, length, flat_map, Option, Some, refl, ap, sym, ◌∙◌, subst, arith, append_assoc, append-nil, length-append, inl, inr}
-use Rattle.std.specs.Prelude.{filter}
-use Rattle.std.proofs.lemmas.Bool.{false≢true}
-use Rattle.std.proofs.lemmas.List.Elements.{filter-append}
-use Rattle.std.proofs.lemmas.Grind.{flat_map-append}
-use Rattle.dom_model.specs.declared.Kind.{Kind}
-use Rattle.dom_model.specs.declared.Kind.TheVariants.{Element, Text, ProcessingInstruction, Comment, Document, DocumentType, DocumentFragment}
-use Rattle.dom_model.specs.Forests.Kinds.{is_kind, is_character_data}
-use Rattle.dom_model.specs.Forests.Arena.{Entry}
-use Rattle.dom_model.specs.Forests.Forest.{Node, Forest, empty, node, tops, numbers, entry_in}
-use Rattle.dom_model.specs.Forests.Lies.{Lies}
-use Rattle.dom_model.specs.Worlds.Lengths.{node_length, unit_count}
-use Rattle.dom_model.specs.Worlds.World.{Content, Point, World}
-use Rattle.dom_model.specs.Forests.Nodes.{is_of_kind}
-use Rattle.dom_model.specs.DataAndCopies.Data.{content_in, data_of, joined_data}
-use Rattle.dom_model.specs.TokenText.Tokens.{Token, is_open, Open, Close, point, same_point, no_marks, unit_tokens, child_tokens, stands_at}
-use Rattle.dom_model.specs.TokenText.Gaps.{tokens_ahead}
-use Rattle.dom_model.specs.TokenText.Between.{numbers_of}
-use Rattle.dom_model.specs.TokenText.Fitting.{Childless}
+use Rattle.std.proofs.Common.{◌≡◌, ℕ, suc, ◌+◌, ◌-◌, ◌<◌, ◌≤◌, Bool, true, false, ◌&&◌, if◌then◌else◌, List, [], ◌∷◌, ◌++◌, length, Option, Some, refl, ap, sym, ◌∙◌, subst, arith, append_assoc, append-nil, length-append, inl, inr, filter}
+use Rattle.std.proofs.lemmas.{Bool.false≢true, List.Elements.filter-append, Grind.flat_map-append, Bool.cases_Bool}
+use Rattle.dom_model.specs.Definitions.{is_kind, is_character_data, Entry, Node, Forest, empty, node, tops, numbers, entry_in, Lies, node_length, unit_count, Content, Point, World, is_of_kind, content_in, data_of, joined_data, Token, Open, Close, point, same_point, no_marks, unit_tokens, child_tokens, stands_at, tokens_ahead, numbers_of, Childless}
+use Rattle.dom_model.specs.declared.{Kind.Kind, Kind.TheVariants.Text, Kind.TheVariants.DocumentType}
 use Rattle.dom_model.proofs.PlainLists.Numbers.{same_or, same, apart}
-use Rattle.dom_model.proofs.TokenText.Pieces.TokenLists.{tally-append, opened, AreMarks}
-use Rattle.dom_model.proofs.TokenText.Pieces.TextWalks.{walk, walk-append}
-use Rattle.dom_model.proofs.TokenText.Pieces.TextParts.{own, own-then, breadth, walk-own, walk-all_children}
-use Rattle.dom_model.proofs.TokenText.Contents.Sifted.{sifted}
-use Rattle.dom_model.proofs.TokenText.Contents.LeafPlaces.{units-long, leaf-aside, gap-here, ahead-within}
-use Rattle.dom_model.proofs.TokenText.Contents.LeafUnits.{other-sifted}
-use Rattle.dom_model.proofs.TokenText.Contents.Told.{AtPlace, Told, told-nothing, Tells, tells-joined, tells-token, Quiet, sifted_after}
+use Rattle.dom_model.proofs.TokenText.{Pieces.TokenLists.opened, Pieces.TokenLists.AreMarks, Pieces.TextWalks.walk, Pieces.TextWalks.walk-append, Pieces.TextParts.own, Pieces.TextParts.own-then, Pieces.TextParts.breadth, Pieces.TextParts.walk-own, Pieces.TextParts.walk-all_children, Contents.Sifted.sifted, Contents.LeafPlaces.units-long, Contents.LeafPlaces.leaf-aside, Contents.LeafPlaces.gap-here, Contents.LeafPlaces.ahead-within, Contents.LeafUnits.other-sifted, Contents.Told.AtPlace, Contents.Told.Told, Contents.Told.told-nothing, Contents.Told.Tells, Contents.Told.tells-joined, Contents.Told.tells-token, Contents.Told.Quiet, Contents.Told.sifted_after, Contents.LeafPlaces.opened-around}
 
 -- what is told of a Text by its kind
 pub text-kind : (k : Kind) → is_kind Text k ≡ true → (is_kind k DocumentType ≡ false) × (is_character_data k ≡ true)
-text-kind Element h = absurd (false≢true h)
-text-kind Text h = (refl, refl)
-text-kind ProcessingInstruction h = absurd (false≢true h)
-text-kind Comment h = absurd (false≢true h)
-text-kind Document h = absurd (false≢true h)
-text-kind DocumentType h = absurd (false≢true h)
-text-kind DocumentFragment h = absurd (false≢true h)
+text-kind k h = (grind arith, grind arith)
 
 pub no_text-kind : (k : Kind) → is_character_data k ≡ false → is_kind Text k ≡ false
-no_text-kind Element h = refl
-no_text-kind Text h = absurd (false≢true (sym h))
-no_text-kind ProcessingInstruction h = absurd (false≢true (sym h))
-no_text-kind Comment h = absurd (false≢true (sym h))
-no_text-kind Document h = refl
-no_text-kind DocumentType h = refl
-no_text-kind DocumentFragment h = refl
+no_text-kind k h = grind arith
 
 pub no_mark : (p : Point) → AreMarks (no_marks p)
 no_mark p = tt
@@ -60,11 +27,7 @@ held-append w held ns ms =
     ∙ flat_map-append (data_of w) (filter (λ n. is_of_kind Text w.forest n && held n) ns) (filter (λ n. is_of_kind Text w.forest n && held n) ms)
 
 held-text : (w : World) (held : ℕ → Bool) (n : ℕ) → is_of_kind Text w.forest n ≡ true → held_data w held (n ∷ []) ≡ (if held n then data_of w n else [])
-held-text w held n h = rw h (go (held n))
-  where
-    go : (v : Bool) → flat_map (data_of w) (if v then n ∷ [] else []) ≡ (if v then data_of w n else [])
-    go true = append-nil (data_of w n)
-    go false = refl
+held-text w held n h = rw h (grind (arith, append-nil))
 
 held-other : (w : World) (held : ℕ → Bool) (n : ℕ) (ns : List ℕ) → is_of_kind Text w.forest n ≡ false → held_data w held (n ∷ ns) ≡ held_data w held ns
 held-other w held n ns h = rw h refl
@@ -93,14 +56,7 @@ module _ (w : World) (a b : ℕ) (le : a ≤ b) (s e : Point) (front back : List
 
   -- what is ahead of a node does not open it
   unopened : (pre : List Token) (n : ℕ) (post : List Token) → text ≡ pre ++ (Open n ∷ post) → opened n pre ≡ 0
-  unopened pre n post h =
-      let one : opened n (Open n ∷ post) ≡ 1 + opened n post = (let t = itself n in rw t refl) in
-      let sum : opened n text ≡ opened n pre + opened n (Open n ∷ post) = ap (opened n) h ∙ tally-append (is_open n) pre (Open n ∷ post) in
-      let o = once n in
-      omega arith
-    where
-      itself : (m : ℕ) → (m == m) ≡ true
-      itself m = elim (same_or m m) [ same d t ↦ t | apart ne t ↦ absurd (ne refl) ]
+  unopened pre n post h = let sum = ap (opened n) h ∙ opened-around n pre post in let o = once n in omega arith
 
   -- a node with data that is no Text tells nothing
   tells-other : (pre : List Token) (n : ℕ) (us : List ℕ) (post : List Token) → text ≡ pre ++ (Open n ∷ (unit_tokens no_marks n 0 us ++ (Close ∷ post))) → is_of_kind Text w.forest n ≡ false → Quiet w a b le s e front back pre → Told a b front back (length pre) (2 + length us) (sifted_after w a b le s e front back pre (Open n ∷ (unit_tokens no_marks n 0 us ++ (Close ∷ [])))) []
@@ -136,60 +92,49 @@ module _ (w : World) (a b : ℕ) (le : a ≤ b) (s e : Point) (front back : List
   data-long n us = (let i = length-append (unit_tokens no_marks n 0 us) (Close ∷ []) in let j = units-long n 0 us in omega arith)
 
   tells-data : (pre : List Token) (x : Node Content) (post : List Token) (q : Option ℕ) (c : List ℕ) → entry_in w.forest x.number ≡ Some (record { value = x; parent = q; children = c }) → is_character_data x.label.kind ≡ true → text ≡ pre ++ (Open x.number ∷ (unit_tokens no_marks x.number 0 x.body.text ++ (Close ∷ post))) → Quiet w a b le s e front back pre → says pre (Open x.number ∷ (unit_tokens no_marks x.number 0 x.body.text ++ (Close ∷ []))) (x.number ∷ [])
-  tells-data pre x post q c entry is_data h quiet = go (is_kind Text x.label.kind) refl
-    where
-      kind : is_of_kind Text w.forest x.number ≡ is_kind Text x.label.kind
-      kind = rw entry refl
-
-      data_is : data_of w x.number ≡ x.body.text
-      data_is = ap (λ (o : Option (Entry (Node Content))). (content_in o).text) entry
-
-      ts : List Token
-      ts = Open x.number ∷ (unit_tokens no_marks x.number 0 x.body.text ++ (Close ∷ []))
-
-      long : is_kind Text x.label.kind ≡ true → node_length unit_count w.forest x.number ≡ length (data_of w x.number)
-      long v =
-          let kinds = text-kind x.label.kind v in
-          let d : node_length unit_count w.forest x.number ≡ length x.body.text = rw entry (rw (kinds.0, kinds.1) refl) in
-          d ∙ sym (ap (λ us. length us) data_is)
-
-      go : (v : Bool) → is_kind Text x.label.kind ≡ v → says pre ts (x.number ∷ [])
-      go true v =
-          subst (λ l. Told a b front back (length pre) l (sifted_after w a b le s e front back pre ts) (held_data w held (x.number ∷ []))) (sym (data-long x.number x.body.text))
-          (subst (λ us. Told a b front back (length pre) (2 + length x.body.text) (sifted_after w a b le s e front back pre ts) us) (sym (held-text w held x.number (kind ∙ v)))
-          (subst (λ us. Told a b front back (length pre) (2 + length us) (sifted_after w a b le s e front back pre (Open x.number ∷ (unit_tokens no_marks x.number 0 us ++ (Close ∷ [])))) (if held x.number then data_of w x.number else [])) data_is
-          (tell pre x.number post (h ∙ ap (λ us. pre ++ (Open x.number ∷ (unit_tokens no_marks x.number 0 us ++ (Close ∷ post)))) (sym data_is)) (unopened pre x.number (unit_tokens no_marks x.number 0 x.body.text ++ (Close ∷ post)) h) (kind ∙ v) (long v) quiet)))
-      go false v =
-          subst (λ l. Told a b front back (length pre) l (sifted_after w a b le s e front back pre ts) (held_data w held (x.number ∷ []))) (sym (data-long x.number x.body.text))
-          (subst (λ us. Told a b front back (length pre) (2 + length x.body.text) (sifted_after w a b le s e front back pre ts) us) (sym (held-other w held x.number [] (kind ∙ v)))
-          (tells-other pre x.number x.body.text post h (kind ∙ v) quiet))
+  tells-data pre x post q c entry is_data h quiet =
+      let ts = Open x.number ∷ (unit_tokens no_marks x.number 0 x.body.text ++ (Close ∷ [])) in
+      let kind : is_of_kind Text w.forest x.number ≡ is_kind Text x.label.kind = rw entry refl in
+      let data_is : data_of w x.number ≡ x.body.text = ap (λ (o : Option (Entry (Node Content))). (content_in o).text) entry in
+      subst (λ l. Told a b front back (length pre) l (sifted_after w a b le s e front back pre ts) (held_data w held (x.number ∷ []))) (sym (data-long x.number x.body.text))
+      (elim (cases_Bool (is_kind Text x.label.kind)) [
+        | inl v ↦
+            let kinds = text-kind x.label.kind v in
+            let long : node_length unit_count w.forest x.number ≡ length x.body.text = rw entry (rw (kinds.0, kinds.1) refl) in
+            subst (λ us. Told a b front back (length pre) (2 + length x.body.text) (sifted_after w a b le s e front back pre ts) us) (sym (held-text w held x.number (kind ∙ v)))
+            (subst (λ us. Told a b front back (length pre) (2 + length us) (sifted_after w a b le s e front back pre (Open x.number ∷ (unit_tokens no_marks x.number 0 us ++ (Close ∷ [])))) (if held x.number then data_of w x.number else [])) data_is
+            (tell pre x.number post (h ∙ ap (λ us. pre ++ (Open x.number ∷ (unit_tokens no_marks x.number 0 us ++ (Close ∷ post)))) (sym data_is)) (unopened pre x.number (unit_tokens no_marks x.number 0 x.body.text ++ (Close ∷ post)) h) (kind ∙ v) (long ∙ sym (ap (λ us. length us) data_is)) quiet))
+        | inr v ↦
+            subst (λ us. Told a b front back (length pre) (2 + length x.body.text) (sifted_after w a b le s e front back pre ts) us) (sym (held-other w held x.number [] (kind ∙ v)))
+            (tells-other pre x.number x.body.text post h (kind ∙ v) quiet)
+      ])
 
   -- a node's own tokens, if those of its children tell
   tells-own : (pre : List Token) (x : Node Content) (kids : Forest Content) (post : List Token) (q : Option ℕ) → text ≡ pre ++ (own no_marks x kids ++ post) → Quiet w a b le s e front back pre → entry_in w.forest x.number ≡ Some (record { value = x; parent = q; children = tops kids }) → (is_character_data x.label.kind ≡ true → kids ≡ empty) → ((before : List Token) (behind : List Token) (around : List Point) → text ≡ before ++ (child_tokens no_marks x.number 0 kids ++ behind) → walk before [] ≡ point x.number 0 ∷ around → is_of_kind Text w.forest x.number ≡ false → says before (child_tokens no_marks x.number 0 kids) (numbers kids)) → says pre (own no_marks x kids) (x.number ∷ numbers kids)
-  tells-own pre x kids post q h quiet entry alone below = go (is_character_data x.label.kind) refl h
-    where
-      middle : Bool → List Token
-      middle v = if v then unit_tokens no_marks x.number 0 x.body.text else child_tokens no_marks x.number 0 kids
-
-      go : (v : Bool) → is_character_data x.label.kind ≡ v → text ≡ pre ++ ((Open x.number ∷ (middle v ++ (Close ∷ []))) ++ post) → says pre (Open x.number ∷ (middle v ++ (Close ∷ []))) (x.number ∷ numbers kids)
-      go true v t =
-          subst (λ (f : Forest Content). says pre (Open x.number ∷ (unit_tokens no_marks x.number 0 x.body.text ++ (Close ∷ []))) (x.number ∷ numbers f)) (sym (alone v))
-          (tells-data pre x post q (tops kids) entry v (t ∙ ap (λ us. pre ++ (Open x.number ∷ us)) (append_assoc (unit_tokens no_marks x.number 0 x.body.text) (Close ∷ []) post)) quiet)
-      go false v t =
-          let inner = child_tokens no_marks x.number 0 kids in
-          let here = pre ++ (Open x.number ∷ []) in
-          let flat : text ≡ pre ++ (Open x.number ∷ (inner ++ (Close ∷ post))) = t ∙ ap (λ us. pre ++ (Open x.number ∷ us)) (append_assoc inner (Close ∷ []) post) in
-          let at_kids : text ≡ here ++ (inner ++ (Close ∷ post)) = flat ∙ sym (append_assoc pre (Open x.number ∷ []) (inner ++ (Close ∷ post))) in
-          let at_close : text ≡ (here ++ inner) ++ (Close ∷ post) = at_kids ∙ sym (append_assoc here inner (Close ∷ post)) in
-          let come : walk here [] ≡ point x.number 0 ∷ walk pre [] = walk-append pre (Open x.number ∷ []) [] in
-          let gone : walk (here ++ inner) [] ≡ point x.number (0 + breadth kids) ∷ walk pre [] = walk-append here inner [] ∙ ap (walk inner) come ∙ walk-all_children no_marks no_mark x.number 0 kids (walk pre []) in
-          let none : is_of_kind Text w.forest x.number ≡ false = rw entry (no_text-kind x.label.kind v) in
-          let first = tells-token w a b le s e front back pre (Open x.number) (inner ++ (Close ∷ post)) (sym (ap (tokens_ahead s []) flat) ∙ starts) (sym (ap (tokens_ahead e []) flat) ∙ ends) quiet (λ around. refl) in
-          let last = tells-token w a b le s e front back (here ++ inner) Close post (sym (ap (tokens_ahead s []) at_close) ∙ starts) (sym (ap (tokens_ahead e []) at_close) ∙ ends) (quiet-in (here ++ inner) x.number (0 + breadth kids) (walk pre []) gone none) (λ around. refl) in
-          let kept = below here (Close ∷ post) (walk pre []) at_kids come none in
-          let rest = tells-joined w a b le s e front back here inner (Close ∷ []) (held_data w held (numbers kids)) [] kept last in
-          let all = tells-joined w a b le s e front back pre (Open x.number ∷ []) (inner ++ (Close ∷ [])) [] (held_data w held (numbers kids) ++ []) first rest in
-          subst (λ us. Tells w a b le s e front back pre (Open x.number ∷ (inner ++ (Close ∷ []))) us) (append-nil (held_data w held (numbers kids)) ∙ sym (held-other w held x.number (numbers kids) none)) all
+  tells-own pre x kids post q h quiet entry alone below =
+      elim (cases_Bool (is_character_data x.label.kind)) [
+        | inl v ↦
+            let t = rw v at h in
+            rw v
+            (subst (λ (f : Forest Content). says pre (Open x.number ∷ (unit_tokens no_marks x.number 0 x.body.text ++ (Close ∷ []))) (x.number ∷ numbers f)) (sym (alone v))
+            (tells-data pre x post q (tops kids) entry v (t ∙ ap (λ us. pre ++ (Open x.number ∷ us)) (append_assoc (unit_tokens no_marks x.number 0 x.body.text) (Close ∷ []) post)) quiet))
+        | inr v ↦
+            let t = rw v at h in
+            let inner = child_tokens no_marks x.number 0 kids in
+            let here = pre ++ (Open x.number ∷ []) in
+            let flat : text ≡ pre ++ (Open x.number ∷ (inner ++ (Close ∷ post))) = t ∙ ap (λ us. pre ++ (Open x.number ∷ us)) (append_assoc inner (Close ∷ []) post) in
+            let at_kids : text ≡ here ++ (inner ++ (Close ∷ post)) = flat ∙ sym (append_assoc pre (Open x.number ∷ []) (inner ++ (Close ∷ post))) in
+            let at_close : text ≡ (here ++ inner) ++ (Close ∷ post) = at_kids ∙ sym (append_assoc here inner (Close ∷ post)) in
+            let come : walk here [] ≡ point x.number 0 ∷ walk pre [] = walk-append pre (Open x.number ∷ []) [] in
+            let gone : walk (here ++ inner) [] ≡ point x.number (0 + breadth kids) ∷ walk pre [] = walk-append here inner [] ∙ ap (walk inner) come ∙ walk-all_children no_marks no_mark x.number 0 kids (walk pre []) in
+            let none : is_of_kind Text w.forest x.number ≡ false = rw entry (no_text-kind x.label.kind v) in
+            let first = tells-token w a b le s e front back pre (Open x.number) (inner ++ (Close ∷ post)) (sym (ap (tokens_ahead s []) flat) ∙ starts) (sym (ap (tokens_ahead e []) flat) ∙ ends) quiet (λ around. refl) in
+            let last = tells-token w a b le s e front back (here ++ inner) Close post (sym (ap (tokens_ahead s []) at_close) ∙ starts) (sym (ap (tokens_ahead e []) at_close) ∙ ends) (quiet-in (here ++ inner) x.number (0 + breadth kids) (walk pre []) gone none) (λ around. refl) in
+            let kept = below here (Close ∷ post) (walk pre []) at_kids come none in
+            let rest = tells-joined w a b le s e front back here inner (Close ∷ []) (held_data w held (numbers kids)) [] kept last in
+            let all = tells-joined w a b le s e front back pre (Open x.number ∷ []) (inner ++ (Close ∷ [])) [] (held_data w held (numbers kids) ++ []) first rest in
+            rw v (subst (λ us. Tells w a b le s e front back pre (Open x.number ∷ (inner ++ (Close ∷ []))) us) (append-nil (held_data w held (numbers kids)) ∙ sym (held-other w held x.number (numbers kids) none)) all)
+      ]
 
   tells-children : (q : Option ℕ) (n i : ℕ) (f : Forest Content) (pre post : List Token) (around : List Point) → text ≡ pre ++ (child_tokens no_marks n i f ++ post) → walk pre [] ≡ point n i ∷ around → is_of_kind Text w.forest n ≡ false → Lies (entry_in w.forest) q f → Childless f → says pre (child_tokens no_marks n i f) (numbers f)
   tells-children q n i empty pre post around h come none lies alone = told-nothing a b front back (length pre)

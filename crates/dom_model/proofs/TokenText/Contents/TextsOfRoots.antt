@@ -1,27 +1,11 @@
 -- The tree of a root: its text, without markers and with them, and its nodes among those of the forest.
-use Rattle.std.proofs.Common.{◌≡◌, ℕ, suc, ◌+◌, ◌<◌, ◌≤◌, ◌==◌, Bool, true, false, if◌then◌else◌, List, [], ◌∷◌, ◌++◌, map, Option, Some, None, refl, ap, sym, ◌∙◌, subst, arith, append_assoc, ⊎_elim}
-use Rattle.std.proofs.lemmas.Bool.{false≢true, cases_lt}
-use Rattle.dom_model.specs.PlainLists.Lists.{hits, last_of}
-use Rattle.dom_model.specs.Forests.Kinds.{is_character_data, is_kind}
+use Rattle.std.proofs.Common.{◌≡◌, ℕ, suc, ◌+◌, ◌<◌, ◌≤◌, ◌==◌, true, false, List, [], ◌∷◌, ◌++◌, map, Option, Some, None, refl, ap, sym, ◌∙◌, subst, arith, append_assoc, ⊎_elim, eq-eqb, inl, inr}
+use Rattle.std.proofs.lemmas.{Bool.false≢true, Bool.cases_lt, Bool.cond_both, Bool.Decides.nat_tests, Bool.cases_Bool, Bool.ne_eqb}
+use Rattle.dom_model.specs.Definitions.{hits, last_of, is_character_data, Entry, Node, Forest, empty, node, occurs, tops, numbers, entry_in, root_of, Lies, Content, Point, World, is_of_kind, content_in, data_of, Token, Open, Close, no_marks, unit_tokens, child_tokens, token_texts, text_among, Childless}
 use Rattle.dom_model.specs.declared.Kind.TheVariants.{Text}
-use Rattle.dom_model.specs.Forests.Arena.{Entry}
-use Rattle.dom_model.specs.Forests.Forest.{Node, Forest, empty, node, occurs, tops, numbers, entry_in, root_of}
-use Rattle.dom_model.specs.Forests.Lies.{Lies}
-use Rattle.dom_model.specs.Worlds.World.{Content, Point, World}
-use Rattle.dom_model.specs.Forests.Nodes.{is_of_kind}
-use Rattle.dom_model.specs.DataAndCopies.Data.{content_in, data_of}
-use Rattle.dom_model.specs.TokenText.Tokens.{Token, Open, Close, no_marks, unit_tokens, child_tokens, token_texts, is_root_text}
-use Rattle.dom_model.specs.TokenText.Gaps.{text_among}
-use Rattle.dom_model.specs.TokenText.Fitting.{Childless}
 use Rattle.dom_model.proofs.PlainLists.Numbers.{same_or, same, apart}
-use Rattle.dom_model.proofs.Forests.Tops.{hits-tops}
-use Rattle.dom_model.proofs.Forests.Climbing.{ancestors-absent}
-use Rattle.dom_model.proofs.Forests.Lots.{lot, on_top, beneath, elsewhere, at_top, under_top, root-top, root-elsewhere, root-listed}
-use Rattle.dom_model.proofs.Forests.TreeOrder.Flattened.{hits-numbers}
-use Rattle.dom_model.proofs.TokenText.Pieces.TextParts.{inside, own, own-then}
-use Rattle.dom_model.proofs.TokenText.Contents.Dressed.{dressed}
-use Rattle.dom_model.proofs.TokenText.Contents.BetweenGaps.{NoMarks, NoMarks-append}
-use Rattle.dom_model.proofs.TokenText.Contents.TextTold.{no_text-kind}
+use Rattle.dom_model.proofs.Forests.{Tops.hits-tops, Climbing.ancestors-absent, Lots.lot, Lots.on_top, Lots.beneath, Lots.elsewhere, Lots.at_top, Lots.under_top, Lots.root-top, Lots.root-elsewhere, Lots.root-listed, TreeOrder.Flattened.hits-numbers, Climbing.hits-append}
+use Rattle.dom_model.proofs.TokenText.{Pieces.TextParts.inside, Pieces.TextParts.own, Pieces.TextParts.own-then, Contents.Dressed.dressed, Contents.BetweenGaps.NoMarks, Contents.BetweenGaps.NoMarks-append, Contents.TextTold.no_text-kind}
 
 -- Texts without markers.
 
@@ -30,11 +14,7 @@ no_marks-units n i [] = tt
 no_marks-units n i (u ∷ us) = (refl, no_marks-units n (suc i) us)
 
 no_marks-inside : (x : Node Content) (kids : Forest Content) → NoMarks (child_tokens no_marks x.number 0 kids) → NoMarks (inside no_marks x kids)
-no_marks-inside x kids below = go (is_character_data x.label.kind)
-  where
-    go : (v : Bool) → NoMarks (if v then unit_tokens no_marks x.number 0 x.body.text else child_tokens no_marks x.number 0 kids)
-    go true = no_marks-units x.number 0 x.body.text
-    go false = below
+no_marks-inside x kids below = cond_both (is_character_data x.label.kind) _ _ NoMarks (λ _. no_marks-units x.number 0 x.body.text) (λ _. below)
 
 no_marks-children : (n i : ℕ) (f : Forest Content) → NoMarks (child_tokens no_marks n i f)
 no_marks-children n i empty = tt
@@ -50,17 +30,8 @@ no_marks-own x kids =
 -- the marked text of a root is its text with the markers put in
 pub dressed-among : (marks : Point → List Token) (root : ℕ) (texts : List (List Token)) → text_among root (map (dressed marks []) texts) ≡ dressed marks [] (text_among root texts)
 dressed-among marks root [] = refl
-dressed-among marks root (text ∷ texts) =
-    ap (λ (v : Bool). if v then dressed marks [] text else text_among root (map (dressed marks []) texts)) (first text)
-    ∙ go (is_root_text root text) (dressed-among marks root texts)
-  where
-    first : (ts : List Token) → is_root_text root (dressed marks [] ts) ≡ is_root_text root ts
-    first [] = refl
-    first (t ∷ ts) = refl
-
-    go : (v : Bool) → text_among root (map (dressed marks []) texts) ≡ dressed marks [] (text_among root texts) → (if v then dressed marks [] text else text_among root (map (dressed marks []) texts)) ≡ dressed marks [] (if v then text else text_among root texts)
-    go true h = refl
-    go false h = h
+dressed-among marks root ([] ∷ texts) = dressed-among marks root texts
+dressed-among marks root ((t ∷ ts) ∷ texts) = grind (arith, dressed-among marks root texts)
 
 -- A node with data stands in the text of a tree, with its units.
 
@@ -73,10 +44,7 @@ has_data-left : (n : ℕ) (us : List ℕ) (xs ys : List Token) → HasData n us 
 has_data-left n us xs ys h = record {
   ahead = h.ahead;
   behind = h.behind ++ ys;
-  whole =
-      ap (λ ts. ts ++ ys) h.whole
-      ∙ append_assoc h.ahead (Open n ∷ (unit_tokens no_marks n 0 us ++ (Close ∷ h.behind))) ys
-      ∙ ap (λ ts. h.ahead ++ (Open n ∷ ts)) (append_assoc (unit_tokens no_marks n 0 us) (Close ∷ h.behind) ys);
+  whole = ap (λ ts. ts ++ ys) h.whole ∙ (simp append_assoc);
 }
 
 has_data-right : (n : ℕ) (us : List ℕ) (xs ys : List Token) → HasData n us ys → HasData n us (xs ++ ys)
@@ -89,32 +57,22 @@ has_data-right n us xs ys h = record {
 module _ (w : World) (n : ℕ) (is_text : is_of_kind Text w.forest n ≡ true) where
   data-own : (q : Option ℕ) (x : Node Content) (kids : Forest Content) → entry_in w.forest x.number ≡ Some (record { value = x; parent = q; children = tops kids }) → (is_character_data x.label.kind ≡ true → kids ≡ empty) → (0 < occurs n kids → HasData n (data_of w n) (child_tokens no_marks x.number 0 kids)) → 0 < occurs n (node x kids empty) → HasData n (data_of w n) (own no_marks x kids)
   data-own q x kids entry alone below h =
-      elim (same_or x.number n) [
-        | same d t ↦ itself (is_character_data x.label.kind) refl d
-        | apart ne t ↦ (let k = rw t at h in deeper (is_character_data x.label.kind) refl (omega arith))
+      elim (cases_Bool (is_character_data x.label.kind)) [
+        | inl v ↦
+            elim (same_or x.number n) [
+              | same d t ↦
+                  let data_is : data_of w x.number ≡ x.body.text = ap (λ (o : Option (Entry (Node Content))). (content_in o).text) entry in
+                  rw v (subst (λ m. HasData m (data_of w m) (Open x.number ∷ (unit_tokens no_marks x.number 0 x.body.text ++ (Close ∷ [])))) d
+                  (record { ahead = []; behind = []; whole = ap (λ us. Open x.number ∷ (unit_tokens no_marks x.number 0 us ++ (Close ∷ []))) (sym data_is) }))
+              | apart ne t ↦ absurd (let k = rw t at h in let e = alone v in let z = rw e at k in omega arith)
+            ]
+        | inr v ↦
+            let kind : is_of_kind Text w.forest x.number ≡ false = rw entry (no_text-kind x.label.kind v) in
+            let other : (x.number == n) ≡ false = ne_eqb x.number n (λ d. false≢true (sym kind ∙ subst (λ m. is_of_kind Text w.forest m ≡ true) (sym d) is_text)) in
+            let k = rw other at h in
+            rw v (has_data-right n (data_of w n) (Open x.number ∷ []) (child_tokens no_marks x.number 0 kids ++ (Close ∷ []))
+            (has_data-left n (data_of w n) (child_tokens no_marks x.number 0 kids) (Close ∷ []) (below (omega arith))))
       ]
-    where
-      middle : Bool → List Token
-      middle v = if v then unit_tokens no_marks x.number 0 x.body.text else child_tokens no_marks x.number 0 kids
-
-      kind : is_of_kind Text w.forest x.number ≡ is_kind Text x.label.kind
-      kind = rw entry refl
-
-      data_is : data_of w x.number ≡ x.body.text
-      data_is = ap (λ (o : Option (Entry (Node Content))). (content_in o).text) entry
-
-      itself : (v : Bool) → is_character_data x.label.kind ≡ v → x.number ≡ n → HasData n (data_of w n) (Open x.number ∷ (middle v ++ (Close ∷ [])))
-      itself true v d =
-          subst (λ m. HasData m (data_of w m) (Open x.number ∷ (unit_tokens no_marks x.number 0 x.body.text ++ (Close ∷ [])))) d
-          (record { ahead = []; behind = []; whole = ap (λ us. Open x.number ∷ (unit_tokens no_marks x.number 0 us ++ (Close ∷ []))) (sym data_is) })
-      itself false v d =
-          absurd (false≢true (sym (no_text-kind x.label.kind v) ∙ sym kind ∙ subst (λ m. is_of_kind Text w.forest m ≡ true) (sym d) is_text))
-
-      deeper : (v : Bool) → is_character_data x.label.kind ≡ v → 0 < occurs n kids → HasData n (data_of w n) (Open x.number ∷ (middle v ++ (Close ∷ [])))
-      deeper true v k = absurd (let e = alone v in let z = rw e at k in omega arith)
-      deeper false v k =
-          has_data-right n (data_of w n) (Open x.number ∷ []) (child_tokens no_marks x.number 0 kids ++ (Close ∷ []))
-          (has_data-left n (data_of w n) (child_tokens no_marks x.number 0 kids) (Close ∷ []) (below k))
 
   data-children : (q : Option ℕ) (m i : ℕ) (f : Forest Content) → Lies (entry_in w.forest) q f → Childless f → 0 < occurs n f → HasData n (data_of w n) (child_tokens no_marks m i f)
   data-children q m i empty lies alone h = absurd (omega arith)
@@ -149,10 +107,6 @@ pub record TreeOf (at : ℕ → Option (Entry (Node Content))) (root : ℕ) (f :
   pub not_ahead : (m : ℕ) → 0 < hits m ahead → root_of f m ≡ Some root → ⊥
   pub not_behind : (m : ℕ) → 0 < hits m behind → root_of f m ≡ Some root → ⊥
 
-hits-append : (m : ℕ) (xs ys : List ℕ) → hits m (xs ++ ys) ≡ hits m xs + hits m ys
-hits-append m [] ys = omega arith
-hits-append m (x ∷ xs) ys = omega (arith, hits-append m xs ys)
-
 pub tree_of_root : (at : ℕ → Option (Entry (Node Content))) (root : ℕ) (f : Forest Content) → ((m : ℕ) → occurs m f ≤ 1) → Lies at None f → Childless f → 0 < hits root (tops f) → TreeOf at root f
 tree_of_root at root empty o lies alone h = absurd (omega arith)
 tree_of_root at root (node x kids rest) o lies alone h =
@@ -161,21 +115,18 @@ tree_of_root at root (node x kids rest) o lies alone h =
       | apart ne t ↦ (let k = rw t at h in later ne t (tree_of_root at root rest (λ m. let i = o m in omega arith) lies.2 alone.2 (omega arith)))
     ]
   where
-    f : Forest Content
-    f = node x kids rest
-
     -- a node of the first tree has its top as root, and any other node the root that it has among the rest
     in_first : (m : ℕ) → 0 < occurs m (node x kids empty) → root_of (node x kids rest) m ≡ Some x.number
     in_first m k =
         elim (lot m x kids) [
           | on_top d ↦ root-top m x kids rest (at_top d)
           | beneath ne j ↦ root-top m x kids rest (under_top ne j)
-          | elsewhere ne z ↦ absurd (elim (same_or x.number m) [ same d t ↦ ne d | apart d t ↦ (let i = rw t at k in omega arith) ])
+          | elsewhere ne z ↦ absurd (grind (arith, nat_tests))
         ]
 
     in_rest : (m : ℕ) → occurs m (node x kids empty) ≡ 0 → root_of (node x kids rest) m ≡ root_of rest m
     in_rest m z =
-        root-elsewhere m x kids rest (λ d. elim (same_or x.number m) [ same g t ↦ (let i = rw t at z in absurd (omega arith)) | apart ne t ↦ ne d ]) (omega arith)
+        root-elsewhere m x kids rest (λ d. (let i = rw (eq-eqb x.number m d) at z in absurd (omega arith))) (omega arith)
 
     first : x.number ≡ root → (x.number == root) ≡ true → TreeOf at root (node x kids rest)
     first e t = record {
@@ -188,10 +139,7 @@ tree_of_root at root (node x kids rest) o lies alone h =
       less = alone.1;
       once = λ m. let i = o m in omega arith;
       inside = λ m k. in_first m k ∙ ap (λ i. Some i) e;
-      within = λ m r. ⊎_elim
-          (λ (lt : 0 < occurs m (node x kids empty)). lt)
-          (λ (ge : occurs m (node x kids empty) ≤ 0). absurd (beyond e t m (sym (in_rest m (omega arith)) ∙ r)))
-          (cases_lt 0 (occurs m (node x kids empty)));
+      within = λ m r. let not_none : occurs m (node x kids empty) ≡ 0 → ⊥ = λ z. beyond e t m (sym (in_rest m z) ∙ r) in omega arith;
       ahead = [];
       behind = numbers rest;
       listed = refl;
@@ -237,17 +185,13 @@ tree_of_root at root (node x kids rest) o lies alone h =
       where
         not_first : (x.number ≡ root → ⊥) → (m : ℕ) → root_of (node x kids rest) m ≡ Some root → root_of rest m ≡ Some root
         not_first ne m r =
-            ⊎_elim
-            (λ (lt : 0 < occurs m (node x kids empty)). absurd (ne (let s : Some x.number ≡ Some root = sym (in_first m lt) ∙ r in cc s)))
-            (λ (ge : occurs m (node x kids empty) ≤ 0). sym (in_rest m (omega arith)) ∙ r)
-            (cases_lt 0 (occurs m (node x kids empty)))
+            let none : 0 < occurs m (node x kids empty) → ⊥ = λ lt. ne (let s : Some x.number ≡ Some root = sym (in_first m lt) ∙ r in cc s) in
+            sym (in_rest m (omega arith)) ∙ r
 
         there : (m : ℕ) → root_of rest m ≡ Some root → 0 < occurs m rest
         there m r =
-            ⊎_elim
-            (λ (lt : 0 < occurs m rest). lt)
-            (λ (ge : occurs m rest ≤ 0). absurd (let z : occurs m rest ≡ 0 = omega arith in let s : None ≡ Some root = sym (ap last_of (ancestors-absent m rest z)) ∙ r in cc s))
-            (cases_lt 0 (occurs m rest))
+            let not_none : occurs m rest ≡ 0 → ⊥ = λ z. (let s : None ≡ Some root = sym (ap last_of (ancestors-absent m rest z)) ∙ r in cc s) in
+            omega arith
 
         rest_only : (m : ℕ) → 0 < occurs m rest → occurs m (node x kids empty) ≡ 0
         rest_only m k = let j = o m in omega arith

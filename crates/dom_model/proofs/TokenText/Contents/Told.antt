@@ -1,14 +1,9 @@
 -- What a piece of a text tells of the text of a range: some units where the range starts, the data of contained Texts, and some units where
 -- it ends; and how two pieces next to one another tell it together.
-use Rattle.std.proofs.Common.{◌≡◌, ℕ, ◌+◌, ◌-◌, ◌<◌, ◌≤◌, Bool, true, false, if◌then◌else◌, List, [], ◌∷◌, ◌++◌, length, Some, refl, ap, sym, ◌∙◌, subst, arith, append_assoc, append-nil, length-append, ⊎_elim}
+use Rattle.std.proofs.Common.{◌≡◌, ℕ, ◌+◌, ◌-◌, ◌<◌, ◌≤◌, Bool, true, if◌then◌else◌, List, [], ◌∷◌, ◌++◌, length, Some, refl, ap, sym, ◌∙◌, subst, arith, append_assoc, append-nil, length-append, inl, inr}
 use Rattle.std.proofs.lemmas.Bool.{cases_lt}
-use Rattle.dom_model.specs.Worlds.World.{World, Point}
-use Rattle.dom_model.specs.TokenText.Tokens.{Token, stands_at}
-use Rattle.dom_model.specs.TokenText.Gaps.{tokens_ahead}
-use Rattle.dom_model.specs.TokenText.Between.{numbers_of}
-use Rattle.dom_model.proofs.TokenText.Pieces.TextWalks.{walk, walk-append}
-use Rattle.dom_model.proofs.TokenText.Contents.Sifted.{sifted, sifted-append, numbers-walk, open_past_all, is_within, text_unit}
-use Rattle.dom_model.proofs.TokenText.Contents.LeafPlaces.{gap-here}
+use Rattle.dom_model.specs.Definitions.{World, Point, Token, stands_at, tokens_ahead, numbers_of}
+use Rattle.dom_model.proofs.TokenText.{Pieces.TextWalks.walk, Pieces.TextWalks.walk-append, Contents.Sifted.sifted, Contents.Sifted.sifted-append, Contents.Sifted.numbers-walk, Contents.Sifted.open_past_all, Contents.Sifted.is_within, Contents.Sifted.text_unit, Contents.LeafPlaces.gap-here}
 
 -- units that stand where a piece of so many tokens has the place, and nowhere else
 pub record AtPlace (a k l : ℕ) (units part : List ℕ) : Type 0 where
@@ -28,10 +23,10 @@ pub record Told (a b : ℕ) (front back : List ℕ) (k l : ℕ) (units held : Li
 at-place-joined : (a k l m : ℕ) (units first second : List ℕ) → AtPlace a k l units first → AtPlace a (k + l) m units second → AtPlace a k (l + m) units (first ++ second)
 at-place-joined a k l m units first second i j = record {
   inside = λ h g.
-      ⊎_elim
-      (λ (lt : a < k + l). ap (λ us. first ++ us) (j.before lt) ∙ append-nil first ∙ i.inside h lt)
-      (λ (le : k + l ≤ a). ap (λ us. us ++ second) (i.after le) ∙ j.inside le (omega arith))
-      (cases_lt a (k + l));
+      elim (cases_lt a (k + l)) [
+        | inl lt ↦ ap (λ us. first ++ us) (j.before lt) ∙ append-nil first ∙ i.inside h lt
+        | inr le ↦ ap (λ us. us ++ second) (i.after le) ∙ j.inside le (omega arith)
+      ];
   before = λ h. ap (λ us. us ++ second) (i.before h) ∙ j.before (omega arith);
   after = λ h. ap (λ us. us ++ second) (i.after (omega arith)) ∙ j.after (omega arith);
 }
@@ -42,27 +37,17 @@ told-joined a b front back k l m us vs held more le i j = record {
   last = i.last ++ j.last;
   at_start = at-place-joined a k l m front i.first j.first i.at_start j.at_start;
   at_end = at-place-joined b k l m back i.last j.last i.at_end j.at_end;
-  whole = rw (i.whole, j.whole) (⊎_elim
-      (λ (lt : b < k + l).
-      ended i.first held i.last j.first more j.last (j.at_start.before (omega arith)) (j.late (omega arith)) (j.at_end.before (omega arith)))
-      (λ (ge : k + l ≤ b).
-      ⊎_elim
-      (λ (lt : a < k + l). going i.first held i.last j.first more j.last (i.at_end.after ge) (j.at_start.before lt))
-      (λ (far : k + l ≤ a). begun i.first held i.last j.first more j.last (i.at_start.after far) (i.early far) (i.at_end.after ge))
-      (cases_lt a (k + l)))
-      (cases_lt b (k + l)));
+  whole = rw (i.whole, j.whole) (elim (cases_lt b (k + l)) [
+    | inl lt ↦ rw (j.at_start.before (omega arith), j.late (omega arith), j.at_end.before (omega arith)) (simp (append-nil, append_assoc))
+    | inr ge ↦
+        elim (cases_lt a (k + l)) [
+          | inl lt ↦ rw (i.at_end.after ge, j.at_start.before lt) (simp (append-nil, append_assoc))
+          | inr far ↦ rw (i.at_start.after far, i.early far, i.at_end.after ge) refl
+        ]
+  ]);
   early = λ h. (let e = i.early (omega arith) in let d = j.early (omega arith) in rw (e, d) refl);
   late = λ h. (let e = i.late (omega arith) in let d = j.late (omega arith) in rw (e, d) refl);
 }
-  where
-    ended : (s c e t d f : List ℕ) → t ≡ [] → d ≡ [] → f ≡ [] → (s ++ (c ++ e)) ++ (t ++ (d ++ f)) ≡ (s ++ t) ++ ((c ++ d) ++ (e ++ f))
-    ended s c e t d f x y z = rw (x, y, z, append-nil s, append-nil c, append-nil e) (append-nil (s ++ (c ++ e)))
-
-    going : (s c e t d f : List ℕ) → e ≡ [] → t ≡ [] → (s ++ (c ++ e)) ++ (t ++ (d ++ f)) ≡ (s ++ t) ++ ((c ++ d) ++ (e ++ f))
-    going s c e t d f x y = rw (x, y, append-nil s, append-nil c) (append_assoc s c (d ++ f) ∙ ap (λ us. s ++ us) (sym (append_assoc c d f)))
-
-    begun : (s c e t d f : List ℕ) → s ≡ [] → c ≡ [] → e ≡ [] → (s ++ (c ++ e)) ++ (t ++ (d ++ f)) ≡ (s ++ t) ++ ((c ++ d) ++ (e ++ f))
-    begun s c e t d f x y z = rw (x, y, z) refl
 
 pub told-nothing : (a b : ℕ) (front back : List ℕ) (k : ℕ) → Told a b front back k 0 [] []
 told-nothing a b front back k = record {
@@ -90,10 +75,7 @@ module _ (w : World) (a b : ℕ) (le : a ≤ b) (s e : Point) (front back : List
       let y : b - length pre - length xs ≡ b - (length pre + length xs) = omega arith in
       let n : open_past_all xs (numbers_of (walk pre [])) ≡ numbers_of (walk (pre ++ xs) []) = sym (numbers-walk xs (walk pre [])) ∙ ap numbers_of (sym (walk-append pre xs [])) in
       let u : sifted_after pre (xs ++ ys) ≡ sifted_after pre xs ++ sifted_after (pre ++ xs) ys =
-      sifted-append w (numbers_of (walk pre [])) (a - length pre) (b - length pre) xs ys
-      ∙ ap (λ around. sifted_after pre xs ++ sifted w around (a - length pre - length xs) (b - length pre - length xs) ys) n
-      ∙ ap (λ k. sifted_after pre xs ++ sifted w (numbers_of (walk (pre ++ xs) [])) k (b - length pre - length xs) ys) (x ∙ ap (λ k. a - k) (sym d))
-      ∙ ap (λ k. sifted_after pre xs ++ sifted w (numbers_of (walk (pre ++ xs) [])) (a - length (pre ++ xs)) k ys) (y ∙ ap (λ k. b - k) (sym d))
+      sifted-append w (numbers_of (walk pre [])) (a - length pre) (b - length pre) xs ys ∙ (rw (n, d, x, y) refl)
       in
       let l : length (xs ++ ys) ≡ length xs + length ys = length-append xs ys in
       let t = told-joined a b front back (length pre) (length xs) (length ys) (sifted_after pre xs) (sifted_after (pre ++ xs) ys) held more le i (subst (λ k. Told a b front back k (length ys) (sifted_after (pre ++ xs) ys) more) d j) in
@@ -124,5 +106,4 @@ module _ (w : World) (a b : ℕ) (le : a ≤ b) (s e : Point) (front back : List
   }
     where
       bare : (v : Bool) → (if v then text_unit w (numbers_of (walk pre [])) t else []) ++ [] ≡ []
-      bare true = rw (u (numbers_of (walk pre []))) refl
-      bare false = refl
+      bare v = rw (u (numbers_of (walk pre []))) (grind arith)

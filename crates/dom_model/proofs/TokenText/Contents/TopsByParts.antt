@@ -1,94 +1,77 @@
 -- The contained nodes whose parent is not contained, by parts: those beside the path to the start, the contained children of the common
 -- ancestor, and those beside the path to the end. DOM Standard, "Interface Range".
-use Rattle.std.proofs.Common.{◌≡◌, ℕ, ◌+◌, ◌*◌, ◌<◌, ◌≤◌, ◌==◌, nat_lt, Bool, true, false, not, ◌&&◌, if◌then◌else◌, List, [], ◌∷◌, ◌++◌, take, drop, filter, flat_map, Option, Some, None, refl, ap, sym, ◌∙◌, subst, arith, append-nil, append_assoc, ⊎_elim}
-use Rattle.std.proofs.lemmas.Bool.{cases_lt, false≢true, lt-ltb, le-ltb}
-use Rattle.std.proofs.lemmas.List.Elements.{filter-append}
-use Rattle.std.specs.declared.cmp.Ordering.TheVariants.{Less, Greater}
-use Rattle.dom_model.specs.PlainLists.Lists.{hits, among, place_in, is_same}
-use Rattle.dom_model.specs.Forests.Kinds.{is_character_data, may_be_parent}
-use Rattle.dom_model.specs.Forests.Forest.{occurs, one_at, without, parent_of, children_of, index_of, ancestors, root_of, inclusive_descendants}
-use Rattle.dom_model.specs.Worlds.World.{Range, World}
-use Rattle.dom_model.specs.Soundness.Sound.{IsRange, IsSound}
-use Rattle.dom_model.specs.BoundaryPoints.Points.{path_places, order_of}
-use Rattle.dom_model.specs.MutationAlgorithms.Checks.{if_given}
-use Rattle.dom_model.specs.Forests.Nodes.{kind_passes, same_root}
-use Rattle.dom_model.specs.Worlds.Lengths.{unit_count, node_length}
-use Rattle.dom_model.specs.RangesAndContents.Ranges.{is_less, is_before, common_ancestor}
-use Rattle.dom_model.specs.RangesAndContents.Contents.{path_below, common_of, contained_in, contained_tops, contained_children}
-use Rattle.dom_model.specs.TokenText.Tokens.{point}
-use Rattle.dom_model.specs.Forests.Ways.{IsWay}
-use Rattle.dom_model.specs.RangesAndContents.BesidePaths.{tail_nodes, head_nodes}
+use Rattle.std.proofs.Common.{◌≡◌, ℕ, ◌+◌, ◌*◌, ◌<◌, ◌≤◌, ◌==◌, nat_lt, Bool, true, false, not, ◌&&◌, if◌then◌else◌, List, [], ◌∷◌, ◌++◌, filter, flat_map, Some, refl, ap, sym, ◌∙◌, subst, arith, append-nil, append_assoc, eq-eqb, inl, inr, Less, Greater}
+use Rattle.std.proofs.lemmas.{Bool.cases_lt, Bool.false≢true, Bool.lt-ltb, Bool.le-ltb, List.Elements.filter-append, Bool.and_left, Bool.and_right, Bool.cases_Bool}
+use Rattle.dom_model.specs.Definitions.{hits, among, is_character_data, may_be_parent, occurs, one_at, without, parent_of, children_of, index_of, ancestors, root_of, inclusive_descendants, Range, World, IsRange, IsSound, path_places, order_of, if_given, kind_passes, same_root, unit_count, node_length, is_less, is_before, common_ancestor, path_below, common_of, contained_in, contained_tops, contained_children, point, IsWay, tail_nodes, head_nodes, up_to, past}
 use Rattle.dom_model.proofs.PlainLists.Numbers.{same_or, same, apart}
-use Rattle.dom_model.proofs.Forests.Totals.{total-tree_at}
-use Rattle.dom_model.proofs.Forests.Chains.{index-apart, root-child}
-use Rattle.dom_model.proofs.Forests.Climbing.{hits-append, hits-first, hits-among, not_among-hits, hits-ancestors}
-use Rattle.dom_model.proofs.Forests.Indices.{child-listed, child-once, child-parent, child-there, index-child, path-child}
-use Rattle.dom_model.proofs.Forests.Entries.{occurs-HasNode}
-use Rattle.dom_model.proofs.Forests.TreeOrder.Flattened.{hits-numbers, numbers-without}
-use Rattle.dom_model.proofs.Forests.WaysMeeting.{above-root, above-itself, above-twice, above-child, above-higher, above-apart, depth-child}
-use Rattle.dom_model.proofs.BoundaryPoints.PointOrder.{order-above}
-use Rattle.dom_model.proofs.BoundaryPoints.OrderByWays.{path-through, order-below, order-beside}
-use Rattle.dom_model.proofs.Soundness.SoundForests.{parent-passes, parent_no_data}
-use Rattle.dom_model.proofs.RangesAndContents.ContainedAside.{start-not_contained, end-not_contained}
-use Rattle.dom_model.proofs.RangesAndContents.Drawing.{passes_too}
-use Rattle.dom_model.proofs.RangesAndContents.DrawnPaths.{hits-past, hits-up_to}
-use Rattle.dom_model.proofs.RangesAndContents.StartsAhead.{got_place}
-use Rattle.dom_model.proofs.RangesAndContents.WaysBelow.{IsFork, fork, way-above}
-use Rattle.dom_model.proofs.RangesAndContents.TreesAside.{Aside, aside, swapped}
-use Rattle.dom_model.proofs.RangesAndContents.ListsByParts.{filter-nothing, flat-none, flat-same, flat-filter, flat-drop, flat-take, place-up_to, place-past, flat-first, flat-last, flat-past, flat-up_to}
-use Rattle.dom_model.proofs.RangesAndContents.TopsOfTrees.{sifted-children, is_top, tops_in, itself_if, is_less-either, IsOff, off, contained-off, before-by, after-by, tops-uniform}
+use Rattle.dom_model.proofs.Forests.{Totals.total-tree_at, Chains.index-apart, Chains.root-child, Climbing.hits-append, Climbing.hits-first, Climbing.hits-among, Climbing.not_among-hits, Climbing.hits-ancestors, Indices.child-listed, Indices.child-once, Indices.child-parent, Indices.child-there, Indices.index-child, Indices.path-child, Entries.occurs-HasNode, TreeOrder.Flattened.hits-numbers, TreeOrder.Flattened.numbers-without, WaysMeeting.above-root, WaysMeeting.above-itself, WaysMeeting.above-twice, WaysMeeting.above-child, WaysMeeting.above-higher, WaysMeeting.above-apart, WaysMeeting.depth-child}
+use Rattle.dom_model.proofs.BoundaryPoints.{PointOrder.order-above, OrderByWays.path-through, OrderByWays.order-below, OrderByWays.order-beside}
+use Rattle.dom_model.proofs.Soundness.SoundForests.{parent-passes, parent_no_data, passes-also}
+use Rattle.dom_model.proofs.RangesAndContents.{ContainedAside.start-not_contained, ContainedAside.end-not_contained, DrawnPaths.hits-past, DrawnPaths.hits-up_to, StartsAhead.got_place, WaysBelow.IsFork, WaysBelow.fork, WaysBelow.way-above, TreesAside.Aside, TreesAside.aside, TreesAside.swapped, ListsByParts.filter-nothing, ListsByParts.flat-none, ListsByParts.flat-same, ListsByParts.flat-filter, ListsByParts.flat-drop, ListsByParts.flat-take, ListsByParts.place-up_to, ListsByParts.place-past, ListsByParts.flat-first, ListsByParts.flat-last, ListsByParts.flat-past, ListsByParts.flat-up_to, TopsOfTrees.sifted-children, TopsOfTrees.is_top, TopsOfTrees.tops_in, TopsOfTrees.itself_if, TopsOfTrees.is_less-either, TopsOfTrees.IsOff, TopsOfTrees.off, TopsOfTrees.contained-off, TopsOfTrees.before-by, TopsOfTrees.after-by, TopsOfTrees.tops-uniform, RangesSet.same_option}
 use Rattle.dom_model.proofs.TokenText.Contents.PathTokens.{start_path, end_path}
 
 module _ (w : World) (sound : IsSound w) where
+  -- of a child of a node
+  root-kid : (n x : ℕ) → 0 < hits x (children_of w.forest n) → root_of w.forest x ≡ root_of w.forest n
+  root-kid n x h = root-child w.forest sound.forest.once x n (child-there w.forest sound.forest.once x n h) (child-parent w.forest sound.forest.once x n h)
+
+  path-kid : (n x : ℕ) → 0 < hits x (children_of w.forest n) → path_places w.forest x ≡ path_places w.forest n ++ (2 * index_of w.forest x + 1) ∷ []
+  path-kid n x h = path-child w.forest sound.forest.once x n (child-there w.forest sound.forest.once x n h) (child-parent w.forest sound.forest.once x n h)
+
+  above-kid : (n x m : ℕ) → 0 < occurs m w.forest → 0 < hits x (children_of w.forest n) → 0 < hits x (ancestors m w.forest) → 0 < hits n (ancestors m w.forest)
+  above-kid n x m hm h up = above-child w.forest sound.forest.once x n m hm (child-there w.forest sound.forest.once x n h) up (child-parent w.forest sound.forest.once x n h)
+
+  kids-apart : (n c x : ℕ) → 0 < hits c (children_of w.forest n) → 0 < hits x (children_of w.forest n) → index_of w.forest c ≡ index_of w.forest x → c ≡ x
+  kids-apart n c x lc lx e =
+      index-apart w.forest sound.forest.once c x n (child-there w.forest sound.forest.once c n lc) (child-parent w.forest sound.forest.once c n lc) (child-parent w.forest sound.forest.once x n lx) e
+
   -- a child of a node that is not above another is not above that either
-  child-off : (n x m : ℕ) → 0 < occurs m w.forest → parent_of w.forest x ≡ Some n → 0 < occurs x w.forest → hits n (ancestors m w.forest) ≡ 0 → hits x (ancestors m w.forest) ≡ 0
-  child-off n x m hm p hx z =
-      ⊎_elim
-      (λ (lt : 0 < hits x (ancestors m w.forest)). absurd (let i = above-child w.forest sound.forest.once x n m hm hx lt p in omega arith))
-      (λ (le : hits x (ancestors m w.forest) ≤ 0). omega arith)
-      (cases_lt 0 (hits x (ancestors m w.forest)))
+  child-off : (n x m : ℕ) → 0 < occurs m w.forest → 0 < hits x (children_of w.forest n) → hits n (ancestors m w.forest) ≡ 0 → hits x (ancestors m w.forest) ≡ 0
+  child-off n x m hm h z = let none : 0 < hits x (ancestors m w.forest) → ⊥ = λ lt. (let i = above-kid n x m hm h lt in omega arith) in omega arith
 
   -- a child of a node is not above it
   pub child-under : (n x : ℕ) → 0 < occurs n w.forest → parent_of w.forest x ≡ Some n → 0 < occurs x w.forest → hits x (ancestors n w.forest) ≡ 0
   child-under n x hn p hx =
-      ⊎_elim
-      (λ (lt : 0 < hits x (ancestors n w.forest)).
-      absurd (let i = above-higher w.forest sound.forest.once x n hn lt in let j = depth-child w.forest sound.forest.once x n hx p in omega arith))
-      (λ (le : hits x (ancestors n w.forest) ≤ 0). omega arith)
-      (cases_lt 0 (hits x (ancestors n w.forest)))
+      let none : 0 < hits x (ancestors n w.forest) → ⊥ = λ lt.
+      (let i = above-higher w.forest sound.forest.once x n hn lt in let j = depth-child w.forest sound.forest.once x n hx p in omega arith)
+      in
+      omega arith
 
   -- of the children of one node, one at most is above another
-  child-beside : (n c x m : ℕ) → 0 < occurs m w.forest → parent_of w.forest c ≡ Some n → 0 < occurs c w.forest → parent_of w.forest x ≡ Some n → 0 < occurs x w.forest → 0 < hits c (ancestors m w.forest) → (c ≡ x → ⊥) → hits x (ancestors m w.forest) ≡ 0
-  child-beside n c x m hm p hc q hx above ne =
-      ⊎_elim
-      (λ (lt : 0 < hits x (ancestors m w.forest)).
-      absurd (ne (above-apart w.forest sound.forest.once c x m hm hc hx above lt (depth-child w.forest sound.forest.once c n hc p ∙ sym (depth-child w.forest sound.forest.once x n hx q)))))
-      (λ (le : hits x (ancestors m w.forest) ≤ 0). omega arith)
-      (cases_lt 0 (hits x (ancestors m w.forest)))
+  child-beside : (n c x m : ℕ) → 0 < occurs m w.forest → 0 < hits c (children_of w.forest n) → 0 < hits x (children_of w.forest n) → 0 < hits c (ancestors m w.forest) → (c ≡ x → ⊥) → hits x (ancestors m w.forest) ≡ 0
+  child-beside n c x m hm lc lx above ne =
+      let hc = child-there w.forest sound.forest.once c n lc in
+      let hx = child-there w.forest sound.forest.once x n lx in
+      let depth = depth-child w.forest sound.forest.once c n hc (child-parent w.forest sound.forest.once c n lc) ∙ sym (depth-child w.forest sound.forest.once x n hx (child-parent w.forest sound.forest.once x n lx)) in
+      let none : 0 < hits x (ancestors m w.forest) → ⊥ = λ lt. ne (above-apart w.forest sound.forest.once c x m hm hc hx above lt depth) in
+      omega arith
 
   -- no child stands under data
   pub data-childless : (n x : ℕ) → kind_passes is_character_data w.forest n ≡ true → 0 < hits x (children_of w.forest n) → ⊥
   data-childless n x k h =
       let p = child-parent w.forest sound.forest.once x n h in
       let hx = child-there w.forest sound.forest.once x n h in
-      false≢true (sym (passes_too may_be_parent is_character_data false parent_no_data w.forest n (parent-passes sound.forest x n p hx)) ∙ k)
+      false≢true (sym (passes-also may_be_parent is_character_data false parent_no_data w.forest n (parent-passes sound.forest x n p hx)) ∙ k)
+
+  -- a child ahead of another, or behind it, by where they are listed
+  up_to-ahead : (n m x : ℕ) → parent_of w.forest m ≡ Some n → 0 < hits x (up_to m (children_of w.forest n)) → (0 < hits x (children_of w.forest n)) × (index_of w.forest x < index_of w.forest m) × (m ≡ x → ⊥)
+  up_to-ahead n m x p h =
+      let l : 0 < hits x (children_of w.forest n) = (let i = hits-up_to x m (children_of w.forest n) in omega arith) in
+      let ix = index-child w.forest x n (child-parent w.forest sound.forest.once x n l) in
+      let im = index-child w.forest m n p in
+      let lt : index_of w.forest x < index_of w.forest m = omega (arith, place-up_to x m (children_of w.forest n) h) in
+      (l, lt, λ d. let y = ap (index_of w.forest) d in omega arith)
+
+  past-behind : (n m x : ℕ) → parent_of w.forest m ≡ Some n → 0 < hits x (past m (children_of w.forest n)) → (0 < hits x (children_of w.forest n)) × (index_of w.forest m < index_of w.forest x) × (m ≡ x → ⊥)
+  past-behind n m x p h =
+      let l : 0 < hits x (children_of w.forest n) = (let i = hits-past x m (children_of w.forest n) in omega arith) in
+      let ix = index-child w.forest x n (child-parent w.forest sound.forest.once x n l) in
+      let im = index-child w.forest m n p in
+      let lt : index_of w.forest m < index_of w.forest x = omega (arith, place-past x m (children_of w.forest n) (child-once w.forest sound.forest.once x n) h) in
+      (l, lt, λ d. let y = ap (index_of w.forest) d in omega arith)
 
 not-greater : (v : Bool) → ((if v then Less else Greater) ≡ Greater → ⊥) → v ≡ true
-not-greater true h = refl
-not-greater false h = absurd (h refl)
-
-second-false : (v u : Bool) → u ≡ false → (v && u) ≡ false
-second-false true u e = e
-second-false false u e = refl
-
-first-false : (v u : Bool) → v ≡ false → (v && u) ≡ false
-first-false v u e = ap (λ x. x && u) e
-
-is_same-equal : (o p : Option ℕ) → is_same o p ≡ true → o ≡ p
-is_same-equal None None e = refl
-is_same-equal None (Some b) e = absurd (false≢true e)
-is_same-equal (Some a) None e = absurd (false≢true e)
-is_same-equal (Some a) (Some b) e = elim (same_or a b) [ same d t ↦ ap (λ x. Some x) d | apart ne t ↦ absurd (false≢true (sym t ∙ e)) ]
+not-greater v h = grind arith
 
 module _ (w : World) (sound : IsSound w) (range : Range) (is : IsRange w.forest range) where
   hs : 0 < occurs range.start.node w.forest
@@ -119,24 +102,17 @@ module _ (w : World) (sound : IsSound w) (range : Range) (is : IsRange w.forest 
 
     tail_off : (x : ℕ) → 0 < hits x (children_of w.forest n) → hits x (ancestors range.start.node w.forest) ≡ 0 → IsOff w sound range is x
     tail_off x h z =
-        let hx = child-there w.forest sound.forest.once x n h in
-        let p = child-parent w.forest sound.forest.once x n h in
-        off w sound range is x hx (root-child w.forest sound.forest.once x n hx p ∙ rooted) z (child-off w sound n x range.end.node he p hx clear)
+        off w sound range is x (child-there w.forest sound.forest.once x n h) (root-kid w sound n x h ∙ rooted) z (child-off w sound n x range.end.node he h clear)
 
     tail-given : (x : ℕ) → 0 < hits x (children_of w.forest n) → (k : IsOff w sound range is x) → (v : Bool) → order_of w.forest range.start (point x 0) ≡ (if v then Less else Greater) → tops_in w range x ≡ itself_if w range v x
     tail-given x h k v e =
         let hx = child-there w.forest sound.forest.once x n h in
-        let p = child-parent w.forest sound.forest.once x n h in
-        let up = above-child w.forest sound.forest.once x n x hx hx (above-itself w.forest sound.forest.once x hx) p in
+        let up = above-kid w sound n x x hx h (above-itself w.forest sound.forest.once x hx) in
         let b = after-by w sound range is x k tail_aside.after 0 (tail_aside.ends x 0 hx up) ∙ tail_after in
-        child-told n x (start-not_contained w.forest sound.forest.once unit_count range n hs above) p k
+        child-told n x (start-not_contained w.forest sound.forest.once unit_count range n hs above) (child-parent w.forest sound.forest.once x n h) k
         ∙ ap (λ u. itself_if w range (u && k.end.after) x) (before-by w sound range is x k v e)
         ∙ ap (λ u. itself_if w range (v && u) x) b
-        ∙ ap (λ u. itself_if w range u x) (last-true v)
-      where
-        last-true : (v : Bool) → (v && true) ≡ v
-        last-true true = refl
-        last-true false = refl
+        ∙ ap (λ u. itself_if w range u x) (let e : (v && true) ≡ v = grind arith in e)
 
   -- what stands under a node above the end, and not above the start, is behind the start
   module _ (n : ℕ) (hn : 0 < occurs n w.forest) (rooted : root_of w.forest n ≡ root_of w.forest range.start.node) (above : 0 < hits n (ancestors range.end.node w.forest)) (clear : hits n (ancestors range.start.node w.forest) ≡ 0) where
@@ -148,17 +124,14 @@ module _ (w : World) (sound : IsSound w) (range : Range) (is : IsRange w.forest 
 
     head_off : (x : ℕ) → 0 < hits x (children_of w.forest n) → hits x (ancestors range.end.node w.forest) ≡ 0 → IsOff w sound range is x
     head_off x h z =
-        let hx = child-there w.forest sound.forest.once x n h in
-        let p = child-parent w.forest sound.forest.once x n h in
-        off w sound range is x hx (root-child w.forest sound.forest.once x n hx p ∙ rooted) (child-off w sound n x range.start.node hs p hx clear) z
+        off w sound range is x (child-there w.forest sound.forest.once x n h) (root-kid w sound n x h ∙ rooted) (child-off w sound n x range.start.node hs h clear) z
 
     head-given : (x : ℕ) → 0 < hits x (children_of w.forest n) → (k : IsOff w sound range is x) → (v : Bool) → order_of w.forest (point x 0) range.end ≡ (if v then Less else Greater) → tops_in w range x ≡ itself_if w range v x
     head-given x h k v e =
         let hx = child-there w.forest sound.forest.once x n h in
-        let p = child-parent w.forest sound.forest.once x n h in
-        let up = above-child w.forest sound.forest.once x n x hx hx (above-itself w.forest sound.forest.once x hx) p in
+        let up = above-kid w sound n x x hx h (above-itself w.forest sound.forest.once x hx) in
         let b = before-by w sound range is x k head_aside.before (head_aside.starts x 0 hx up) ∙ head_before in
-        child-told n x (end-not_contained w.forest sound.forest.once unit_count sound.forest.kinds range n he is.ends.within above) p k
+        child-told n x (end-not_contained w.forest sound.forest.once unit_count sound.forest.kinds range n he is.ends.within above) (child-parent w.forest sound.forest.once x n h) k
         ∙ ap (λ u. itself_if w range (u && k.end.after) x) b
         ∙ ap (λ u. itself_if w range u x) (after-by w sound range is x k v 0 e)
 
@@ -166,115 +139,77 @@ module _ (w : World) (sound : IsSound w) (range : Range) (is : IsRange w.forest 
 
   start-order : (n c x : ℕ) → 0 < hits c (children_of w.forest n) → 0 < hits x (children_of w.forest n) → 0 < hits c (ancestors range.start.node w.forest) → (c ≡ x → ⊥) → order_of w.forest range.start (point x 0) ≡ (if nat_lt (index_of w.forest c) (index_of w.forest x) then Less else Greater)
   start-order n c x lc lx above ne =
-      let pc = child-parent w.forest sound.forest.once c n lc in
-      let px = child-parent w.forest sound.forest.once x n lx in
-      let hc = child-there w.forest sound.forest.once c n lc in
-      let hx = child-there w.forest sound.forest.once x n lx in
-      let p = path-through w.forest sound.forest.once range.start.node n c hs above pc in
-      let q = path-child w.forest sound.forest.once x n hx px in
-      order-beside w.forest range.start.node x n (index_of w.forest c) (index_of w.forest x) range.start.offset 0 p.0 [] p.1 q (λ e. ne (index-apart w.forest sound.forest.once c x n hc pc px e))
+      let p = path-through w.forest sound.forest.once range.start.node n c hs above (child-parent w.forest sound.forest.once c n lc) in
+      order-beside w.forest range.start.node x n (index_of w.forest c) (index_of w.forest x) range.start.offset 0 p.0 [] p.1 (path-kid w sound n x lx) (λ e. ne (kids-apart w sound n c x lc lx e))
 
   tail-tops : (path : List ℕ) (n : ℕ) → 0 < occurs n w.forest → root_of w.forest n ≡ root_of w.forest range.start.node → hits n (ancestors range.end.node w.forest) ≡ 0 → IsWay w.forest n path range.start.node → tops_in w range n ≡ tail_nodes w range.start.offset (n ∷ path)
   tail-tops [] n hn rooted clear way =
       let above = subst (λ m. 0 < hits m (ancestors range.start.node w.forest)) (sym way) (above-itself w.forest sound.forest.once range.start.node hs) in
-      opened n hn (start-not_contained w.forest sound.forest.once unit_count range n hs above) ∙ go (kind_passes is_character_data w.forest n) refl above
-    where
-      go : (v : Bool) → kind_passes is_character_data w.forest n ≡ v → 0 < hits n (ancestors range.start.node w.forest) → flat_map (tops_in w range) (children_of w.forest n) ≡ (if v then [] else drop range.start.offset (children_of w.forest n))
-      go true e above = flat-none (tops_in w range) (children_of w.forest n) (λ x h. absurd (data-childless w sound n x e h))
-      go false e above =
-          flat-drop (tops_in w range) (children_of w.forest n) range.start.offset (λ i x g.
-          let at = got_place (children_of w.forest n) i x (λ m. child-once w.forest sound.forest.once m n) g in
-          let p = child-parent w.forest sound.forest.once x n at.1 in
-          let hx = child-there w.forest sound.forest.once x n at.1 in
-          let index = index-child w.forest x n p ∙ at.0 in
-          let under = subst (λ m. hits x (ancestors m w.forest) ≡ 0) way (child-under w sound n x hn p hx) in
-          let k = tail_off n hn rooted above clear x at.1 under in
-          let spelled = path-child w.forest sound.forest.once x n hx p ∙ ap (λ m. path_places w.forest m ++ (2 * index_of w.forest x + 1) ∷ []) way in
-          let order = order-above w.forest range.start.node x (index_of w.forest x) range.start.offset 0 [] spelled ∙ swapped w.forest sound.forest.once (nat_lt (index_of w.forest x) range.start.offset) in
-          let told = tail-given n hn rooted above clear x at.1 k (if nat_lt (index_of w.forest x) range.start.offset then false else true) order in
-          (λ l. told ∙ (rw (lt-ltb (index_of w.forest x) range.start.offset (omega arith)) refl), λ l. told ∙ (rw (le-ltb (index_of w.forest x) range.start.offset (omega arith)) refl)))
+      opened n hn (start-not_contained w.forest sound.forest.once unit_count range n hs above) ∙ elim (cases_Bool (kind_passes is_character_data w.forest n)) [
+        | inl e ↦ rw e (flat-none (tops_in w range) (children_of w.forest n) (λ x h. absurd (data-childless w sound n x e h)))
+        | inr e ↦ rw e
+            (flat-drop (tops_in w range) (children_of w.forest n) range.start.offset (λ i x g.
+            let at = got_place (children_of w.forest n) i x (λ m. child-once w.forest sound.forest.once m n) g in
+            let p = child-parent w.forest sound.forest.once x n at.1 in
+            let index = index-child w.forest x n p ∙ at.0 in
+            let under = subst (λ m. hits x (ancestors m w.forest) ≡ 0) way (child-under w sound n x hn p (child-there w.forest sound.forest.once x n at.1)) in
+            let k = tail_off n hn rooted above clear x at.1 under in
+            let spelled = path-kid w sound n x at.1 ∙ ap (λ m. path_places w.forest m ++ (2 * index_of w.forest x + 1) ∷ []) way in
+            let order = order-above w.forest range.start.node x (index_of w.forest x) range.start.offset 0 [] spelled ∙ swapped w.forest sound.forest.once (nat_lt (index_of w.forest x) range.start.offset) in
+            let told = tail-given n hn rooted above clear x at.1 k (if nat_lt (index_of w.forest x) range.start.offset then false else true) order in
+            (λ l. told ∙ (rw (lt-ltb (index_of w.forest x) range.start.offset (omega arith)) refl), λ l. told ∙ (rw (le-ltb (index_of w.forest x) range.start.offset (omega arith)) refl))))
+      ]
   tail-tops (m ∷ path) n hn rooted clear way =
       let up = way-above w.forest sound.forest.once m path range.start.node way.0 hs way.2 in
       let above = above-child w.forest sound.forest.once m n range.start.node hs way.0 up way.1 in
       let lm = child-listed w.forest sound.forest.once m n way.0 way.1 in
-      let inner = tail-tops path m way.0 (root-child w.forest sound.forest.once m n way.0 way.1 ∙ rooted) (child-off w sound n m range.end.node he way.1 way.0 clear) way.2 in
+      let inner = tail-tops path m way.0 (root-child w.forest sound.forest.once m n way.0 way.1 ∙ rooted) (child-off w sound n m range.end.node he lm clear) way.2 in
       let each : (x : ℕ) → 0 < hits x (children_of w.forest n) → (m ≡ x → ⊥) → tops_in w range x ≡ itself_if w range (nat_lt (index_of w.forest m) (index_of w.forest x)) x = λ x l ne.
-      let p = child-parent w.forest sound.forest.once x n l in
-      let hx = child-there w.forest sound.forest.once x n l in
-      let k = tail_off n hn rooted above clear x l (child-beside w sound n m x range.start.node hs way.1 way.0 p hx up ne) in
+      let k = tail_off n hn rooted above clear x l (child-beside w sound n m x range.start.node hs lm l up ne) in
       tail-given n hn rooted above clear x l k (nat_lt (index_of w.forest m) (index_of w.forest x)) (start-order n m x lm l up ne)
       in
       opened n hn (start-not_contained w.forest sound.forest.once unit_count range n hs above)
       ∙ flat-past (tops_in w range) (tops_in w range) m (tail_nodes w range.start.offset (m ∷ path)) (children_of w.forest n) lm inner
-      (λ x h.
-      let l : 0 < hits x (children_of w.forest n) = (let i = hits-up_to x m (children_of w.forest n) in omega arith) in
-      let lt = place-up_to x m (children_of w.forest n) h in
-      let ix = index-child w.forest x n (child-parent w.forest sound.forest.once x n l) in
-      let im = index-child w.forest m n way.1 in
-      each x l (λ d. let y = ap (λ z. place_in z (children_of w.forest n)) d in omega arith) ∙ (rw (le-ltb (index_of w.forest m) (index_of w.forest x) (omega arith)) refl))
-      (λ x h.
-      let l : 0 < hits x (children_of w.forest n) = (let i = hits-past x m (children_of w.forest n) in omega arith) in
-      let lt = place-past x m (children_of w.forest n) (child-once w.forest sound.forest.once x n) h in
-      let ix = index-child w.forest x n (child-parent w.forest sound.forest.once x n l) in
-      let im = index-child w.forest m n way.1 in
-      each x l (λ d. let y = ap (λ z. place_in z (children_of w.forest n)) d in omega arith) ∙ (rw (lt-ltb (index_of w.forest m) (index_of w.forest x) (omega arith)) refl))
+      (λ x h. let i = up_to-ahead w sound n m x way.1 h in each x i.0 i.2 ∙ (rw (le-ltb (index_of w.forest m) (index_of w.forest x) (omega arith)) refl))
+      (λ x h. let i = past-behind w sound n m x way.1 h in each x i.0 i.2 ∙ (rw (lt-ltb (index_of w.forest m) (index_of w.forest x) (omega arith)) refl))
 
   -- Beside the path to the end.
 
   end-order : (n c x k : ℕ) → 0 < hits c (children_of w.forest n) → 0 < hits x (children_of w.forest n) → 0 < hits c (ancestors range.end.node w.forest) → (c ≡ x → ⊥) → order_of w.forest (point x k) range.end ≡ (if nat_lt (index_of w.forest x) (index_of w.forest c) then Less else Greater)
   end-order n c x k lc lx above ne =
-      let pc = child-parent w.forest sound.forest.once c n lc in
-      let px = child-parent w.forest sound.forest.once x n lx in
-      let hc = child-there w.forest sound.forest.once c n lc in
-      let hx = child-there w.forest sound.forest.once x n lx in
-      let p = path-through w.forest sound.forest.once range.end.node n c he above pc in
-      let q = path-child w.forest sound.forest.once x n hx px in
-      order-beside w.forest x range.end.node n (index_of w.forest x) (index_of w.forest c) k range.end.offset [] p.0 q p.1 (λ e. ne (index-apart w.forest sound.forest.once c x n hc pc px (sym e)))
+      let p = path-through w.forest sound.forest.once range.end.node n c he above (child-parent w.forest sound.forest.once c n lc) in
+      order-beside w.forest x range.end.node n (index_of w.forest x) (index_of w.forest c) k range.end.offset [] p.0 (path-kid w sound n x lx) p.1 (λ e. ne (kids-apart w sound n c x lc lx (sym e)))
 
   head-tops : (path : List ℕ) (n : ℕ) → 0 < occurs n w.forest → root_of w.forest n ≡ root_of w.forest range.start.node → hits n (ancestors range.start.node w.forest) ≡ 0 → IsWay w.forest n path range.end.node → tops_in w range n ≡ head_nodes w range.end.offset (n ∷ path)
   head-tops [] n hn rooted clear way =
       let above = subst (λ m. 0 < hits m (ancestors range.end.node w.forest)) (sym way) (above-itself w.forest sound.forest.once range.end.node he) in
-      opened n hn (end-not_contained w.forest sound.forest.once unit_count sound.forest.kinds range n he is.ends.within above) ∙ go (kind_passes is_character_data w.forest n) refl above
-    where
-      go : (v : Bool) → kind_passes is_character_data w.forest n ≡ v → 0 < hits n (ancestors range.end.node w.forest) → flat_map (tops_in w range) (children_of w.forest n) ≡ (if v then [] else take range.end.offset (children_of w.forest n))
-      go true e above = flat-none (tops_in w range) (children_of w.forest n) (λ x h. absurd (data-childless w sound n x e h))
-      go false e above =
-          flat-take (tops_in w range) (children_of w.forest n) range.end.offset (λ i x g.
-          let at = got_place (children_of w.forest n) i x (λ m. child-once w.forest sound.forest.once m n) g in
-          let p = child-parent w.forest sound.forest.once x n at.1 in
-          let hx = child-there w.forest sound.forest.once x n at.1 in
-          let index = index-child w.forest x n p ∙ at.0 in
-          let under = subst (λ m. hits x (ancestors m w.forest) ≡ 0) way (child-under w sound n x hn p hx) in
-          let k = head_off n hn rooted above clear x at.1 under in
-          let spelled = path-child w.forest sound.forest.once x n hx p ∙ ap (λ m. path_places w.forest m ++ (2 * index_of w.forest x + 1) ∷ []) way in
-          let order = order-below w.forest x range.end.node (index_of w.forest x) 0 range.end.offset [] spelled in
-          let told = head-given n hn rooted above clear x at.1 k (nat_lt (index_of w.forest x) range.end.offset) order in
-          (λ l. told ∙ (rw (lt-ltb (index_of w.forest x) range.end.offset (omega arith)) refl), λ l. told ∙ (rw (le-ltb (index_of w.forest x) range.end.offset (omega arith)) refl)))
+      opened n hn (end-not_contained w.forest sound.forest.once unit_count sound.forest.kinds range n he is.ends.within above) ∙ elim (cases_Bool (kind_passes is_character_data w.forest n)) [
+        | inl e ↦ rw e (flat-none (tops_in w range) (children_of w.forest n) (λ x h. absurd (data-childless w sound n x e h)))
+        | inr e ↦ rw e
+            (flat-take (tops_in w range) (children_of w.forest n) range.end.offset (λ i x g.
+            let at = got_place (children_of w.forest n) i x (λ m. child-once w.forest sound.forest.once m n) g in
+            let p = child-parent w.forest sound.forest.once x n at.1 in
+            let index = index-child w.forest x n p ∙ at.0 in
+            let under = subst (λ m. hits x (ancestors m w.forest) ≡ 0) way (child-under w sound n x hn p (child-there w.forest sound.forest.once x n at.1)) in
+            let k = head_off n hn rooted above clear x at.1 under in
+            let spelled = path-kid w sound n x at.1 ∙ ap (λ m. path_places w.forest m ++ (2 * index_of w.forest x + 1) ∷ []) way in
+            let order = order-below w.forest x range.end.node (index_of w.forest x) 0 range.end.offset [] spelled in
+            let told = head-given n hn rooted above clear x at.1 k (nat_lt (index_of w.forest x) range.end.offset) order in
+            (λ l. told ∙ (rw (lt-ltb (index_of w.forest x) range.end.offset (omega arith)) refl), λ l. told ∙ (rw (le-ltb (index_of w.forest x) range.end.offset (omega arith)) refl))))
+      ]
   head-tops (m ∷ path) n hn rooted clear way =
       let up = way-above w.forest sound.forest.once m path range.end.node way.0 he way.2 in
       let above = above-child w.forest sound.forest.once m n range.end.node he way.0 up way.1 in
       let lm = child-listed w.forest sound.forest.once m n way.0 way.1 in
-      let inner = head-tops path m way.0 (root-child w.forest sound.forest.once m n way.0 way.1 ∙ rooted) (child-off w sound n m range.start.node hs way.1 way.0 clear) way.2 in
+      let inner = head-tops path m way.0 (root-child w.forest sound.forest.once m n way.0 way.1 ∙ rooted) (child-off w sound n m range.start.node hs lm clear) way.2 in
       let each : (x : ℕ) → 0 < hits x (children_of w.forest n) → (m ≡ x → ⊥) → tops_in w range x ≡ itself_if w range (nat_lt (index_of w.forest x) (index_of w.forest m)) x = λ x l ne.
-      let p = child-parent w.forest sound.forest.once x n l in
-      let hx = child-there w.forest sound.forest.once x n l in
-      let k = head_off n hn rooted above clear x l (child-beside w sound n m x range.end.node he way.1 way.0 p hx up ne) in
+      let k = head_off n hn rooted above clear x l (child-beside w sound n m x range.end.node he lm l up ne) in
       head-given n hn rooted above clear x l k (nat_lt (index_of w.forest x) (index_of w.forest m)) (end-order n m x 0 lm l up ne)
       in
       opened n hn (end-not_contained w.forest sound.forest.once unit_count sound.forest.kinds range n he is.ends.within above)
       ∙ flat-up_to (tops_in w range) (tops_in w range) m (head_nodes w range.end.offset (m ∷ path)) (children_of w.forest n) lm inner
-      (λ x h.
-      let l : 0 < hits x (children_of w.forest n) = (let i = hits-up_to x m (children_of w.forest n) in omega arith) in
-      let lt = place-up_to x m (children_of w.forest n) h in
-      let ix = index-child w.forest x n (child-parent w.forest sound.forest.once x n l) in
-      let im = index-child w.forest m n way.1 in
-      each x l (λ d. let y = ap (λ z. place_in z (children_of w.forest n)) d in omega arith) ∙ (rw (lt-ltb (index_of w.forest x) (index_of w.forest m) (omega arith)) refl))
-      (λ x h.
-      let l : 0 < hits x (children_of w.forest n) = (let i = hits-past x m (children_of w.forest n) in omega arith) in
-      let lt = place-past x m (children_of w.forest n) (child-once w.forest sound.forest.once x n) h in
-      let ix = index-child w.forest x n (child-parent w.forest sound.forest.once x n l) in
-      let im = index-child w.forest m n way.1 in
-      each x l (λ d. let y = ap (λ z. place_in z (children_of w.forest n)) d in omega arith) ∙ (rw (le-ltb (index_of w.forest x) (index_of w.forest m) (omega arith)) refl))
+      (λ x h. let i = up_to-ahead w sound n m x way.1 h in each x i.0 i.2 ∙ (rw (lt-ltb (index_of w.forest x) (index_of w.forest m) (omega arith)) refl))
+      (λ x h. let i = past-behind w sound n m x way.1 h in each x i.0 i.2 ∙ (rw (le-ltb (index_of w.forest x) (index_of w.forest m) (omega arith)) refl))
 
   -- Under the common ancestor.
 
@@ -313,46 +248,38 @@ module _ (w : World) (sound : IsSound w) (range : Range) (is : IsRange w.forest 
 
   off-way : (path : List ℕ) (m : ℕ) → 0 < occurs m w.forest → IsWay w.forest (common_of w range) path m → (x : ℕ) → 0 < hits x kids → NotFirst path x → hits x (ancestors m w.forest) ≡ 0
   off-way [] m hm way x l ne =
-      let p = child-parent w.forest sound.forest.once x (common_of w range) l in
-      let hx = child-there w.forest sound.forest.once x (common_of w range) l in
-      subst (λ z. hits x (ancestors z w.forest) ≡ 0) way (child-under w sound (common_of w range) x forked.there p hx)
+      subst (λ z. hits x (ancestors z w.forest) ≡ 0) way
+      (child-under w sound (common_of w range) x forked.there (child-parent w.forest sound.forest.once x (common_of w range) l) (child-there w.forest sound.forest.once x (common_of w range) l))
   off-way (c ∷ path) m hm way x l ne =
-      let p = child-parent w.forest sound.forest.once x (common_of w range) l in
-      let hx = child-there w.forest sound.forest.once x (common_of w range) l in
-      child-beside w sound (common_of w range) c x m hm way.1 way.0 p hx (way-above w.forest sound.forest.once c path m way.0 hm way.2) ne
+      child-beside w sound (common_of w range) c x m hm (child-listed w.forest sound.forest.once c (common_of w range) way.0 way.1) l (way-above w.forest sound.forest.once c path m way.0 hm way.2) ne
 
   -- a child that is on neither way
   chosen-off : (x : ℕ) → 0 < hits x kids → hits x (ancestors range.start.node w.forest) ≡ 0 → hits x (ancestors range.end.node w.forest) ≡ 0 → tops_in w range x ≡ chosen x
   chosen-off x l i j =
-      let p = child-parent w.forest sound.forest.once x (common_of w range) l in
-      let hx = child-there w.forest sound.forest.once x (common_of w range) l in
-      tops-uniform w sound range is x (off w sound range is x hx (root-child w.forest sound.forest.once x (common_of w range) hx p ∙ common_rooted) i j) (ap (if_given (contained_in w range)) p ∙ common-free)
+      tops-uniform w sound range is x
+      (off w sound range is x (child-there w.forest sound.forest.once x (common_of w range) l) (root-kid w sound (common_of w range) x l ∙ common_rooted) i j)
+      (ap (if_given (contained_in w range)) (child-parent w.forest sound.forest.once x (common_of w range) l) ∙ common-free)
 
   chosen-none : (x : ℕ) → contained_in w range x ≡ false → chosen x ≡ []
   chosen-none x e = ap (λ v. if v then x ∷ [] else []) e
 
   given-first : (c : ℕ) (path : List ℕ) → given (c ∷ path) c ≡ tail_nodes w range.start.offset (c ∷ path)
-  given-first c path = elim (same_or c c) [ same e t ↦ rw t refl | apart ne t ↦ absurd (ne refl) ]
+  given-first c path = rw (eq-eqb c c refl) refl
 
   given-other : (path : List ℕ) (x : ℕ) → NotFirst path x → given path x ≡ chosen x
   given-other [] x ne = refl
   given-other (c ∷ path) x ne = elim (same_or c x) [ same e t ↦ absurd (ne e) | apart nx t ↦ rw t refl ]
 
-  module _ (first last : List ℕ) (v : IsWay w.forest (common_of w range) first range.start.node) (u : IsWay w.forest (common_of w range) last range.end.node) (clear : (x : ℕ) → 0 < hits x first → among x (ancestors range.end.node w.forest) ≡ false) where
-    child-gives : (x : ℕ) → 0 < hits x kids → NotFirst last x → tops_in w range x ≡ given first x
-    child-gives x l ne = go first v clear
-      where
-        go : (path : List ℕ) → IsWay w.forest (common_of w range) path range.start.node → ((y : ℕ) → 0 < hits y path → among y (ancestors range.end.node w.forest) ≡ false) → tops_in w range x ≡ given path x
-        go [] way free = chosen-off x l (off-way [] range.start.node hs way x l tt) (off-way last range.end.node he u x l ne)
-        go (c ∷ path) way free =
-            elim (same_or c x) [
-              | same d t ↦
-                  ap (tops_in w range) (sym d)
-                  ∙ tail-tops path c way.0 (root-child w.forest sound.forest.once c (common_of w range) way.0 way.1 ∙ common_rooted) (not_among-hits c (ancestors range.end.node w.forest) (free c (hits-first c path))) way.2
-                  ∙ (rw t refl)
-              | apart nx t ↦
-                  chosen-off x l (off-way (c ∷ path) range.start.node hs way x l nx) (off-way last range.end.node he u x l ne) ∙ sym (given-other (c ∷ path) x nx)
-            ]
+  child-gives : (first last : List ℕ) → IsWay w.forest (common_of w range) first range.start.node → IsWay w.forest (common_of w range) last range.end.node → ((y : ℕ) → 0 < hits y first → among y (ancestors range.end.node w.forest) ≡ false) → (x : ℕ) → 0 < hits x kids → NotFirst last x → tops_in w range x ≡ given first x
+  child-gives [] last way u free x l ne = chosen-off x l (off-way [] range.start.node hs way x l tt) (off-way last range.end.node he u x l ne)
+  child-gives (c ∷ path) last way u free x l ne =
+      elim (same_or c x) [
+        | same d t ↦
+            ap (tops_in w range) (sym d)
+            ∙ tail-tops path c way.0 (root-child w.forest sound.forest.once c (common_of w range) way.0 way.1 ∙ common_rooted) (not_among-hits c (ancestors range.end.node w.forest) (free c (hits-first c path))) way.2
+            ∙ (rw t refl)
+        | apart nx t ↦ chosen-off x l (off-way (c ∷ path) range.start.node hs way x l nx) (off-way last range.end.node he u x l ne) ∙ sym (given-other (c ∷ path) x nx)
+      ]
 
   -- a child ahead of that towards the start is not contained, nor one behind that towards the end
   ahead-free : (c : ℕ) (path : List ℕ) → IsWay w.forest (common_of w range) (c ∷ path) range.start.node → (x : ℕ) → 0 < hits x kids → index_of w.forest x < index_of w.forest c → contained_in w range x ≡ false
@@ -360,14 +287,14 @@ module _ (w : World) (sound : IsSound w) (range : Range) (is : IsRange w.forest 
       let lc = child-listed w.forest sound.forest.once c (common_of w range) way.0 way.1 in
       let order = start-order (common_of w range) c x lc l (way-above w.forest sound.forest.once c path range.start.node way.0 hs way.2) (λ d. let y = ap (index_of w.forest) d in omega arith) in
       let late : is_before w.forest range.start (point x 0) ≡ false = ap is_less order ∙ is_less-either (nat_lt (index_of w.forest c) (index_of w.forest x)) ∙ (rw (le-ltb (index_of w.forest c) (index_of w.forest x) (omega arith)) refl) in
-      second-false (same_root w.forest x range.start.node) (is_before w.forest range.start (point x 0) && is_before w.forest (point x (node_length unit_count w.forest x)) range.end) (first-false (is_before w.forest range.start (point x 0)) (is_before w.forest (point x (node_length unit_count w.forest x)) range.end) late)
+      and_right (same_root w.forest x range.start.node) (is_before w.forest range.start (point x 0) && is_before w.forest (point x (node_length unit_count w.forest x)) range.end) (and_left (is_before w.forest range.start (point x 0)) (is_before w.forest (point x (node_length unit_count w.forest x)) range.end) late)
 
   behind-free : (d : ℕ) (path : List ℕ) → IsWay w.forest (common_of w range) (d ∷ path) range.end.node → (x : ℕ) → 0 < hits x kids → index_of w.forest d < index_of w.forest x → contained_in w range x ≡ false
   behind-free d path way x l lt =
       let ld = child-listed w.forest sound.forest.once d (common_of w range) way.0 way.1 in
       let order = end-order (common_of w range) d x (node_length unit_count w.forest x) ld l (way-above w.forest sound.forest.once d path range.end.node way.0 he way.2) (λ e. let y = ap (index_of w.forest) e in omega arith) in
       let late : is_before w.forest (point x (node_length unit_count w.forest x)) range.end ≡ false = ap is_less order ∙ is_less-either (nat_lt (index_of w.forest x) (index_of w.forest d)) ∙ (rw (le-ltb (index_of w.forest x) (index_of w.forest d) (omega arith)) refl) in
-      second-false (same_root w.forest x range.start.node) (is_before w.forest range.start (point x 0) && is_before w.forest (point x (node_length unit_count w.forest x)) range.end) (second-false (is_before w.forest range.start (point x 0)) (is_before w.forest (point x (node_length unit_count w.forest x)) range.end) late)
+      and_right (same_root w.forest x range.start.node) (is_before w.forest range.start (point x 0) && is_before w.forest (point x (node_length unit_count w.forest x)) range.end) (and_right (is_before w.forest range.start (point x 0)) (is_before w.forest (point x (node_length unit_count w.forest x)) range.end) late)
 
   -- the child towards the start is ahead of that towards the end
   ways-in_order : (c d : ℕ) (first last : List ℕ) → IsWay w.forest (common_of w range) (c ∷ first) range.start.node → IsWay w.forest (common_of w range) (d ∷ last) range.end.node → (c ≡ d → ⊥) → index_of w.forest c < index_of w.forest d
@@ -375,13 +302,8 @@ module _ (w : World) (sound : IsSound w) (range : Range) (is : IsRange w.forest 
       let p = path-through w.forest sound.forest.once range.start.node (common_of w range) c hs (way-above w.forest sound.forest.once c first range.start.node v.0 hs v.2) v.1 in
       let q = path-through w.forest sound.forest.once range.end.node (common_of w range) d he (way-above w.forest sound.forest.once d last range.end.node u.0 he u.2) u.1 in
       let order = order-beside w.forest range.start.node range.end.node (common_of w range) (index_of w.forest c) (index_of w.forest d) range.start.offset range.end.offset p.0 q.0 p.1 q.1 (λ e. ne (index-apart w.forest sound.forest.once c d (common_of w range) v.0 v.1 u.1 e)) in
-      ⊎_elim
-      (λ (lt : index_of w.forest c < index_of w.forest d). lt)
-      (λ (le : index_of w.forest d ≤ index_of w.forest c). absurd (is.in_order (order ∙ (rw (le-ltb (index_of w.forest c) (index_of w.forest d) le) refl))))
-      (cases_lt (index_of w.forest c) (index_of w.forest d))
-
-  child-index : (x : ℕ) → 0 < hits x kids → index_of w.forest x ≡ place_in x kids
-  child-index x l = index-child w.forest x (common_of w range) (child-parent w.forest sound.forest.once x (common_of w range) l)
+      let no_later : index_of w.forest d ≤ index_of w.forest c → ⊥ = λ le. is.in_order (order ∙ (rw (le-ltb (index_of w.forest c) (index_of w.forest d) le) refl)) in
+      omega arith
 
   -- the children but for the one towards the start
   after-first : (first : List ℕ) → IsWay w.forest (common_of w range) first range.start.node → flat_map (given first) kids ≡ tail_nodes w range.start.offset first ++ filter (contained_in w range) kids
@@ -392,15 +314,10 @@ module _ (w : World) (sound : IsSound w) (range : Range) (is : IsRange w.forest 
       flat-first (given (c ∷ path)) chosen c (tail_nodes w range.start.offset (c ∷ path)) kids lc (given-first c path)
       (chosen-none c (start-not_contained w.forest sound.forest.once unit_count range c hs above))
       (λ x h.
-      let l : 0 < hits x kids = (let i = hits-up_to x c kids in omega arith) in
-      let lt = place-up_to x c kids h in
-      let ix = child-index x l in
-      let ic = child-index c lc in
-      let none = chosen-none x (ahead-free c path v x l (omega arith)) in
-      (given-other (c ∷ path) x (λ d. let y = ap (λ z. place_in z kids) d in omega arith) ∙ none, none))
-      (λ x h.
-      let lt = place-past x c kids (child-once w.forest sound.forest.once x (common_of w range)) h in
-      given-other (c ∷ path) x (λ d. let y = ap (λ z. place_in z kids) d in omega arith))
+      let i = up_to-ahead w sound (common_of w range) c x v.1 h in
+      let none = chosen-none x (ahead-free c path v x i.0 i.1) in
+      (given-other (c ∷ path) x i.2 ∙ none, none))
+      (λ x h. given-other (c ∷ path) x (past-behind w sound (common_of w range) c x v.1 h).2)
       ∙ ap (λ ns. tail_nodes w range.start.offset (c ∷ path) ++ ns) (flat-filter (contained_in w range) kids)
 
   not-towards : (first : List ℕ) (d : ℕ) (last : List ℕ) → IsWay w.forest (common_of w range) first range.start.node → IsWay w.forest (common_of w range) (d ∷ last) range.end.node → ((x : ℕ) → 0 < hits x first → among x (ancestors range.end.node w.forest) ≡ false) → NotFirst first d
@@ -424,22 +341,23 @@ module _ (w : World) (sound : IsSound w) (range : Range) (is : IsRange w.forest 
       flat-last (tops_in w range) (given first) d (head_nodes w range.end.offset (d ∷ last)) kids ld
       (head-tops last d u.0 (root-child w.forest sound.forest.once d (common_of w range) u.0 u.1 ∙ common_rooted) off_start u.2)
       (given-other first d ne ∙ chosen-none d (end-not_contained w.forest sound.forest.once unit_count sound.forest.kinds range d he is.ends.within above))
+      (λ x h. let i = up_to-ahead w sound (common_of w range) d x u.1 h in child-gives first (d ∷ last) v u clear x i.0 i.2)
       (λ x h.
-      let l : 0 < hits x kids = (let i = hits-up_to x d kids in omega arith) in
-      let lt = place-up_to x d kids h in
-      child-gives first (d ∷ last) v u clear x l (λ e. let y = ap (λ z. place_in z kids) e in omega arith))
-      (λ x h.
-      let l : 0 < hits x kids = (let i = hits-past x d kids in omega arith) in
-      let lt = place-past x d kids (child-once w.forest sound.forest.once x (common_of w range)) h in
-      let ix = child-index x l in
-      let id = child-index d ld in
-      let none = given-other first x (behind-towards first d last v u ne x (omega arith)) ∙ chosen-none x (behind-free d last u x l (omega arith)) in
-      (child-gives first (d ∷ last) v u clear x l (λ e. let y = ap (λ z. place_in z kids) e in omega arith) ∙ none, none))
+      let i = past-behind w sound (common_of w range) d x u.1 h in
+      let none = given-other first x (behind-towards first d last v u ne x i.1) ∙ chosen-none x (behind-free d last u x i.0 i.1) in
+      (child-gives first (d ∷ last) v u clear x i.0 i.2 ∙ none, none))
 
   -- Nothing is contained outside the common ancestor's tree.
 
   outside-free : (m : ℕ) → 0 < occurs m w.forest → hits (common_of w range) (ancestors m w.forest) ≡ 0 → contained_in w range m ≡ false
-  outside-free m hm z = go (same_root w.forest m range.start.node) refl
+  outside-free m hm z =
+      elim (cases_Bool (same_root w.forest m range.start.node)) [
+        | inl e ↦
+            let one = common_rooted ∙ sym (same_option (root_of w.forest m) (root_of w.forest range.start.node) e) in
+            let k = fork w.forest sound.forest.once (common_of w range) m forked.there hm one in
+            meet (common_ancestor w.forest (common_of w range) m) k.there (path_below w.forest (common_ancestor w.forest (common_of w range) m) (common_of w range)) (path_below w.forest (common_ancestor w.forest (common_of w range) m) m) k.first k.second k.off
+        | inr e ↦ and_left (same_root w.forest m range.start.node) (is_before w.forest range.start (point m 0) && is_before w.forest (point m (node_length unit_count w.forest m)) range.end) e
+      ]
     where
       meet : (top : ℕ) → 0 < occurs top w.forest → (first second : List ℕ) → IsWay w.forest top first (common_of w range) → IsWay w.forest top second m → ((y : ℕ) → 0 < hits y first → among y (ancestors m w.forest) ≡ false) → contained_in w range m ≡ false
       meet top there [] second v u clear = absurd (let i = subst (λ t. 0 < hits t (ancestors m w.forest)) v (way-above w.forest sound.forest.once top second m there hm u) in omega arith)
@@ -458,26 +376,17 @@ module _ (w : World) (sound : IsSound w) (range : Range) (is : IsRange w.forest 
           in
           let starts = ap is_less (order-beside w.forest range.start.node m top (index_of w.forest c) (index_of w.forest d) range.start.offset 0 p.0 r.0 p.1 r.1 ne) ∙ is_less-either (nat_lt (index_of w.forest c) (index_of w.forest d)) in
           let ends = ap is_less (order-beside w.forest m range.end.node top (index_of w.forest d) (index_of w.forest c) (node_length unit_count w.forest m) range.end.offset r.0 q.0 r.1 q.1 (λ e. ne (sym e))) ∙ is_less-either (nat_lt (index_of w.forest d) (index_of w.forest c)) in
-          ⊎_elim
-          (λ (lt : index_of w.forest c < index_of w.forest d).
-          second-false (same_root w.forest m range.start.node) (is_before w.forest range.start (point m 0) && is_before w.forest (point m (node_length unit_count w.forest m)) range.end) (second-false (is_before w.forest range.start (point m 0)) (is_before w.forest (point m (node_length unit_count w.forest m)) range.end) (ends ∙ (rw (le-ltb (index_of w.forest d) (index_of w.forest c) (omega arith)) refl))))
-          (λ (le : index_of w.forest d ≤ index_of w.forest c).
-          second-false (same_root w.forest m range.start.node) (is_before w.forest range.start (point m 0) && is_before w.forest (point m (node_length unit_count w.forest m)) range.end) (first-false (is_before w.forest range.start (point m 0)) (is_before w.forest (point m (node_length unit_count w.forest m)) range.end) (starts ∙ (rw (le-ltb (index_of w.forest c) (index_of w.forest d) le) refl))))
-          (cases_lt (index_of w.forest c) (index_of w.forest d))
-
-      go : (v : Bool) → same_root w.forest m range.start.node ≡ v → contained_in w range m ≡ false
-      go true e =
-          let one = common_rooted ∙ sym (is_same-equal (root_of w.forest m) (root_of w.forest range.start.node) e) in
-          let k = fork w.forest sound.forest.once (common_of w range) m forked.there hm one in
-          meet (common_ancestor w.forest (common_of w range) m) k.there (path_below w.forest (common_ancestor w.forest (common_of w range) m) (common_of w range)) (path_below w.forest (common_ancestor w.forest (common_of w range) m) m) k.first k.second k.off
-      go false e = first-false (same_root w.forest m range.start.node) (is_before w.forest range.start (point m 0) && is_before w.forest (point m (node_length unit_count w.forest m)) range.end) e
+          elim (cases_lt (index_of w.forest c) (index_of w.forest d)) [
+            | inl lt ↦ and_right (same_root w.forest m range.start.node) (is_before w.forest range.start (point m 0) && is_before w.forest (point m (node_length unit_count w.forest m)) range.end) (and_right (is_before w.forest range.start (point m 0)) (is_before w.forest (point m (node_length unit_count w.forest m)) range.end) (ends ∙ (rw (le-ltb (index_of w.forest d) (index_of w.forest c) (omega arith)) refl)))
+            | inr le ↦ and_right (same_root w.forest m range.start.node) (is_before w.forest range.start (point m 0) && is_before w.forest (point m (node_length unit_count w.forest m)) range.end) (and_left (is_before w.forest range.start (point m 0)) (is_before w.forest (point m (node_length unit_count w.forest m)) range.end) (starts ∙ (rw (le-ltb (index_of w.forest c) (index_of w.forest d) le) refl)))
+          ]
 
   not_top-outside : (m : ℕ) → 0 < occurs m (without (common_of w range) w.forest) → is_top w range m ≡ false
   not_top-outside m h =
       let t = total-tree_at (one_at m) (common_of w range) w.forest in
       let o = sound.forest.once m in
       let a = hits-ancestors (common_of w range) m w.forest sound.forest.once in
-      first-false (contained_in w range m) (not (if_given (contained_in w range) (parent_of w.forest m))) (outside-free m (omega arith) (omega arith))
+      and_left (contained_in w range m) (not (if_given (contained_in w range) (parent_of w.forest m))) (outside-free m (omega arith) (omega arith))
 
   all-inside : contained_tops w range ≡ tops_in w range (common_of w range)
   all-inside =

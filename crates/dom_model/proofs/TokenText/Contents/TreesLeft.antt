@@ -1,46 +1,14 @@
 -- Extracting the contents of a live range, and deleting them, leave one tree of its root. DOM Standard, "Interface Range".
-use Rattle.std.proofs.Common.{◌≡◌, ℕ, ◌-◌, ◌<◌, ◌≤◌, Bool, true, false, not, ◌&&◌, if◌then◌else◌, List, [], ◌∷◌, ◌++◌, length, reverse, Option, Some, None, refl, ap, sym, ◌∙◌, subst, arith, append_assoc, ⊎_elim}
-use Rattle.std.proofs.lemmas.Bool.{cases_lt, false≢true}
+use Rattle.std.proofs.Common.{◌≡◌, ℕ, ◌-◌, ◌<◌, ◌≤◌, true, false, not, ◌&&◌, if◌then◌else◌, List, [], ◌∷◌, ◌++◌, length, reverse, Option, Some, None, refl, ap, sym, ◌∙◌, subst, arith, append_assoc, inl, inr}
+use Rattle.std.proofs.lemmas.Bool.{cases_lt, false≢true, cases_Bool, false_from_ne_true}
+use Rattle.dom_model.specs.Definitions.{hits, among, up_to, EachNode, is_character_data, Forest, empty, node, occurs, numbers, tree_at, parent_of, children_of, ancestors, root_of, KindsFit, Content, Range, World, IsRange, IsSound, if_given, kind_passes, node_document, unit_count, data_of, replace_data, remove_each, is_in_one_data, cut_from, cut_up_to, common_of, path_below, contained_in, contained_tops, contained_children, new_fragment, children_into, tail_into, head_into, parts_into, IsWay, tail_nodes, head_nodes}
 use Rattle.dom_model.specs.declared.Kind.{Kind}
-use Rattle.dom_model.specs.PlainLists.Lists.{hits, among, up_to}
-use Rattle.dom_model.specs.Forests.EachNode.{EachNode}
-use Rattle.dom_model.specs.Forests.Kinds.{is_character_data}
-use Rattle.dom_model.specs.Forests.Forest.{Forest, empty, node, occurs, numbers, tree_at, parent_of, children_of, ancestors, root_of, KindsFit}
-use Rattle.dom_model.specs.Worlds.World.{Content, Range, World}
-use Rattle.dom_model.specs.Soundness.Sound.{IsRange, IsSound}
-use Rattle.dom_model.specs.MutationAlgorithms.Checks.{if_given}
-use Rattle.dom_model.specs.Forests.Nodes.{kind_passes}
-use Rattle.dom_model.specs.MutationAlgorithms.Editing.{node_document}
-use Rattle.dom_model.specs.Worlds.Lengths.{unit_count}
-use Rattle.dom_model.specs.DataAndCopies.Data.{data_of, replace_data, remove_each}
-use Rattle.dom_model.specs.RangesAndContents.Contents.{is_in_one_data, cut_from, cut_up_to, common_of, path_below, contained_in, contained_tops, contained_children, new_fragment, children_into, tail_into, head_into, parts_into}
-use Rattle.dom_model.specs.Forests.Ways.{IsWay}
-use Rattle.dom_model.specs.RangesAndContents.BesidePaths.{tail_nodes, head_nodes}
-use Rattle.dom_model.proofs.PlainLists.Numbers.{same_or, same, apart}
-use Rattle.dom_model.proofs.PlainLists.Members.{hits-last_of}
-use Rattle.dom_model.proofs.Forests.Totals.{IsOnce, tree_at-absent}
-use Rattle.dom_model.proofs.Forests.Below.{occurs-tree}
-use Rattle.dom_model.proofs.Forests.Climbing.{hits-append, hits-first, hits-among, hits-ancestors}
-use Rattle.dom_model.proofs.Forests.EachNode.{EachNode-beside}
-use Rattle.dom_model.proofs.Forests.Entries.{occurs-HasNode}
-use Rattle.dom_model.proofs.Forests.Indices.{child-listed, child-parent}
-use Rattle.dom_model.proofs.Forests.Lots.{root-listed}
-use Rattle.dom_model.proofs.Forests.Tops.{hits-tops}
-use Rattle.dom_model.proofs.Forests.WaysMeeting.{above-root, above-itself, above-twice}
+use Rattle.dom_model.proofs.PlainLists.{Numbers.same_or, Numbers.same, Numbers.apart, Members.hits-last_of}
+use Rattle.dom_model.proofs.Forests.{Totals.IsOnce, Totals.tree_at-absent, Below.occurs-tree, Climbing.hits-append, Climbing.hits-first, Climbing.hits-among, Climbing.hits-ancestors, EachNode.EachNode-beside, Entries.occurs-HasNode, Indices.child-listed, Indices.child-parent, Lots.root-listed, Tops.hits-tops, WaysMeeting.above-root, WaysMeeting.above-itself, WaysMeeting.above-twice}
 use Rattle.dom_model.proofs.Soundness.SoundNormalizing.{filter-passed}
 use Rattle.dom_model.proofs.Traversal.IteratorsStay.{tree_at-inside}
-use Rattle.dom_model.proofs.RangesAndContents.ContainedAside.{end-not_contained}
-use Rattle.dom_model.proofs.RangesAndContents.DrawnPaths.{hits-filter}
-use Rattle.dom_model.proofs.RangesAndContents.PathsToEnds.{below_kinds, path_without_top}
-use Rattle.dom_model.proofs.RangesAndContents.WaysBelow.{IsFork, fork, way-above}
-use Rattle.dom_model.proofs.RangesAndContents.TopsOfTrees.{is_top}
-use Rattle.dom_model.proofs.RangesAndContents.TreesOfRoots.{taken, taken-append, occurs-taken, tree-taken, entry-taken}
-use Rattle.dom_model.proofs.RangesAndContents.OldTrees.{data_in, cut_data, HasTree, child-not_root, remove_each-has, fragment-has, replace-has, IsInner, IsOld, old-taken}
-use Rattle.dom_model.proofs.RangesAndContents.TreesDrawn.{has_data, tail_taken, head_taken, AreIn, StayIn, same-kind, same-data, same-children, old-tail, children-has, tail-has, head-has}
-use Rattle.dom_model.proofs.TokenText.EditsMade.EditsOfDrawnContents.{same_ancestors, common-same, contained_children-same}
-use Rattle.dom_model.proofs.TokenText.Contents.PathTokens.{start_path, end_path}
-use Rattle.dom_model.proofs.TokenText.Contents.TopsByParts.{data-childless, tops-by_parts}
-use Rattle.dom_model.proofs.TokenText.Contents.NodesTaken.{cut_tail, cut_head, tail-cut, head-cut, there-taken, no_data-taken, tail-as, tail-held, way-through, Stays, head-as}
+use Rattle.dom_model.proofs.RangesAndContents.{ContainedAside.end-not_contained, DrawnPaths.hits-filter, PathsToEnds.below_kinds, PathsToEnds.path_without_top, WaysBelow.IsFork, WaysBelow.fork, WaysBelow.way-above, TopsOfTrees.is_top, TreesOfRoots.taken, TreesOfRoots.taken-append, TreesOfRoots.occurs-taken, TreesOfRoots.tree-taken, TreesOfRoots.entry-taken, OldTrees.data_in, OldTrees.cut_data, OldTrees.HasTree, OldTrees.child-not_root, OldTrees.remove_each-has, OldTrees.fragment-has, OldTrees.replace-has, OldTrees.IsInner, OldTrees.IsOld, OldTrees.old-taken, TreesDrawn.has_data, TreesDrawn.tail_taken, TreesDrawn.head_taken, TreesDrawn.AreIn, TreesDrawn.StayIn, TreesDrawn.same-kind, TreesDrawn.same-data, TreesDrawn.same-children, TreesDrawn.old-tail, TreesDrawn.children-has, TreesDrawn.tail-has, TreesDrawn.head-has}
+use Rattle.dom_model.proofs.TokenText.{EditsMade.EditsOfDrawnContents.same_ancestors, EditsMade.EditsOfDrawnContents.common-same, EditsMade.EditsOfDrawnContents.contained_children-same, Contents.PathTokens.start_path, Contents.PathTokens.end_path, Contents.TopsByParts.data-childless, Contents.TopsByParts.tops-by_parts, Contents.NodesTaken.cut_tail, Contents.NodesTaken.cut_head, Contents.NodesTaken.tail-cut, Contents.NodesTaken.head-cut, Contents.NodesTaken.there-taken, Contents.NodesTaken.no_data-taken, Contents.NodesTaken.tail-as, Contents.NodesTaken.tail-held, Contents.NodesTaken.way-through, Contents.NodesTaken.Stays, Contents.NodesTaken.head-as, Contents.PlaceOfContents.last-on}
 
 -- In the tree of a root no node but the root is a fragment.
 
@@ -108,29 +76,22 @@ module _ (w : World) (sound : IsSound w) (range : Range) (is : IsRange w.forest 
   -- no tree that goes has a node above the end inside
   clear : (c : ℕ) → 0 < hits c (contained_tops w range) → (x : ℕ) → 0 < hits x (ancestors range.end.node w.forest) → occurs x (tree_at c (tree_at root w.forest)) ≡ 0
   clear c k x l =
-      ⊎_elim
-      (λ (lt : 0 < occurs x (tree_at c (tree_at root w.forest))).
-      let p = (filter-passed (is_top w range) (numbers w.forest) c k).0 in
-      let there : 0 < occurs c (tree_at root w.forest) = held c lt in
-      let e = ap (λ (g : Forest Content). occurs x g) (tree_at-inside c root w.forest sound.forest.once there) in
+      let none : 0 < occurs x (tree_at c (tree_at root w.forest)) → ⊥ = λ lt.
+      (let p = (filter-passed (is_top w range) (numbers w.forest) c k).0 in
+      let e = ap (λ (g : Forest Content). occurs x g) (tree_at-inside c root w.forest sound.forest.once (held c lt)) in
       let a = hits-ancestors c x w.forest sound.forest.once in
       let up = above-twice w.forest sound.forest.once c x range.end.node he l (omega arith) in
       let free = end-not_contained w.forest sound.forest.once unit_count sound.forest.kinds range c he is.ends.within up in
-      absurd (false≢true (sym (ap (λ v. v && not_held c) free) ∙ p)))
-      (λ (le : occurs x (tree_at c (tree_at root w.forest)) ≤ 0). omega arith)
-      (cases_lt 0 (occurs x (tree_at c (tree_at root w.forest))))
+      false≢true (sym (ap (λ v. v && not (if_given (contained_in w range) (parent_of w.forest c))) free) ∙ p))
+      in
+      omega arith
     where
-      not_held : ℕ → Bool
-      not_held c = not (if_given (contained_in w range) (parent_of w.forest c))
-
       held : (c : ℕ) → 0 < occurs x (tree_at c (tree_at root w.forest)) → 0 < occurs c (tree_at root w.forest)
       held c lt =
-          ⊎_elim
-          (λ (some : 0 < occurs c (tree_at root w.forest)). some)
-          (λ (none : occurs c (tree_at root w.forest) ≤ 0).
-          let z : occurs c (tree_at root w.forest) ≡ 0 = omega arith in
-          absurd (let y = ap (λ (g : Forest Content). occurs x g) (tree_at-absent c (tree_at root w.forest) z) in omega arith))
-          (cases_lt 0 (occurs c (tree_at root w.forest)))
+          let none : occurs c (tree_at root w.forest) ≡ 0 → ⊥ = λ z.
+          (let y = ap (λ (g : Forest Content). occurs x g) (tree_at-absent c (tree_at root w.forest) z) in omega arith)
+          in
+          omega arith
 
   -- the nodes beside the path to the start, and the contained children
   abbrev ahead : List ℕ
@@ -145,51 +106,37 @@ module _ (w : World) (sound : IsSound w) (range : Range) (is : IsRange w.forest 
   -- none of them is a child of a node on the path to the end
   ahead-apart : (c x : ℕ) → 0 < hits c ahead → 0 < hits x (end_path w range) → hits c (children_of w.forest x) ≡ 0
   ahead-apart c x k l =
-      ⊎_elim
-      (λ (lt : 0 < hits c (children_of w.forest x)).
-      let p = child-parent w.forest sound.forest.once c x lt in
-      absurd (⊎_elim
-      (λ (some : 0 < hits c (tail_nodes w range.start.offset (start_path w range))). beside_start p some)
-      (λ (none : hits c (tail_nodes w range.start.offset (start_path w range)) ≤ 0).
-      let a = hits-append c (tail_nodes w range.start.offset (start_path w range)) (contained_children w range) in
-      in_middle p (omega arith))
-      (cases_lt 0 (hits c (tail_nodes w range.start.offset (start_path w range))))))
-      (λ (le : hits c (children_of w.forest x) ≤ 0). omega arith)
-      (cases_lt 0 (hits c (children_of w.forest x)))
+      let none : 0 < hits c (children_of w.forest x) → ⊥ = λ lt.
+      (let p = child-parent w.forest sound.forest.once c x lt in
+      elim (cases_lt 0 (hits c (tail_nodes w range.start.offset (start_path w range)))) [
+        | inl some ↦ beside_start p some
+        | inr none ↦ let a = hits-append c (tail_nodes w range.start.offset (start_path w range)) (contained_children w range) in in_middle p (omega arith)
+      ])
+      in
+      omega arith
     where
       beside_start : parent_of w.forest c ≡ Some x → 0 < hits c (tail_nodes w range.start.offset (start_path w range)) → ⊥
       beside_start p some =
           let i = tail-held root w.made (tree_at root w.forest) w sound first-has range.start.offset (start_path w range) c some in
-          let q : Some x ≡ Some i.0 = sym p ∙ child-parent w.forest sound.forest.once c i.0 i.2 in
-          let d : x ≡ i.0 = cc q in
+          let d : x ≡ i.0 = cc (child-parent w.forest sound.forest.once c i.0 i.2) in
           let up = (on-way range.end.node he (end_path w range) forked.second x l).0 in
           false≢true (sym (forked.off i.0 i.1) ∙ hits-among i.0 (ancestors range.end.node w.forest) (subst (λ y. 0 < hits y (ancestors range.end.node w.forest)) d up))
 
       in_middle : parent_of w.forest c ≡ Some x → 0 < hits c (contained_children w range) → ⊥
       in_middle p some =
           let a = hits-filter c (contained_in w range) (children_of w.forest (common_of w range)) in
-          let q : Some x ≡ Some (common_of w range) = sym p ∙ child-parent w.forest sound.forest.once c (common_of w range) (omega arith) in
-          let d : x ≡ common_of w range = cc q in
-          let z = path_without_top w.forest (common_of w range) range.end.node in
-          let y = subst (λ v. 0 < hits v (end_path w range)) d l in
-          omega arith
+          let d : x ≡ common_of w range = cc (child-parent w.forest sound.forest.once c (common_of w range) (omega arith)) in
+          omega (arith, path_without_top w.forest (common_of w range) range.end.node, subst (λ v. 0 < hits v (end_path w range)) d l)
 
   -- nor is the start node on that path
   start-apart : (x : ℕ) → 0 < hits x (end_path w range) → x ≡ range.start.node → ⊥
   start-apart x l d = go (start_path w range) forked.first forked.off
     where
-      way-last_in : (path : List ℕ) (n : ℕ) → IsWay w.forest n path range.start.node → 0 < hits range.start.node (n ∷ path)
-      way-last_in [] n way = subst (λ m. 0 < hits m (n ∷ [])) way (hits-first n [])
-      way-last_in (m ∷ path) n way = let i = way-last_in path m way.2 in omega arith
-
       go : (path : List ℕ) → IsWay w.forest (common_of w range) path range.start.node → ((y : ℕ) → 0 < hits y path → among y (ancestors range.end.node w.forest) ≡ false) → ⊥
-      go [] way off =
-          let z = path_without_top w.forest (common_of w range) range.end.node in
-          let y = subst (λ v. 0 < hits v (end_path w range)) (d ∙ sym way) l in
-          omega arith
+      go [] way off = omega (arith, path_without_top w.forest (common_of w range) range.end.node, subst (λ v. 0 < hits v (end_path w range)) (d ∙ sym way) l)
       go (n ∷ path) way off =
           let up = subst (λ v. 0 < hits v (ancestors range.end.node w.forest)) d (on-way range.end.node he (end_path w range) forked.second x l).0 in
-          false≢true (sym (off range.start.node (way-last_in path n way.2)) ∙ hits-among range.start.node (ancestors range.end.node w.forest) up)
+          false≢true (sym (off range.start.node (last-on w.forest n path range.start.node way.2)) ∙ hits-among range.start.node (ancestors range.end.node w.forest) up)
 
   module _ (two : is_in_one_data w range ≡ false) where
     -- An end node above the other has no data.
@@ -203,11 +150,7 @@ module _ (w : World) (sound : IsSound w) (range : Range) (is : IsRange w.forest 
         absurd (data-childless w sound n c k (subst (λ q. 0 < hits c (children_of w.forest q)) d (child-listed w.forest sound.forest.once c (common_of w range) way.0 way.1)))
 
     bare : (n : ℕ) → (kind_passes is_character_data w.forest n ≡ true → ⊥) → 0 < occurs n (tree_at root w.forest) → has_data (tree_at root w.forest) n ≡ false
-    bare n no_data k = sym (same-kind root w.made n (tree_at root w.forest) w k first-has) ∙ go (kind_passes is_character_data w.forest n) refl
-      where
-        go : (b : Bool) → kind_passes is_character_data w.forest n ≡ b → kind_passes is_character_data w.forest n ≡ false
-        go true e = absurd (no_data e)
-        go false e = e
+    bare n no_data k = sym (same-kind root w.made n (tree_at root w.forest) w k first-has) ∙ false_from_ne_true (kind_passes is_character_data w.forest n) no_data
 
     start-bare : common_of w range ≡ range.start.node → has_data (tree_at root w.forest) range.start.node ≡ false
     start-bare d = bare range.start.node (λ k. one-data (sym d ∙ childless-way range.start.node range.end.node d k (end_path w range) forked.second) k) start_in
@@ -295,9 +238,7 @@ module _ (w : World) (sound : IsSound w) (range : Range) (is : IsRange w.forest 
         ap (λ ns. path_of (common_of grown range) ns) (same_ancestors w sound range is range.start.node hs) ∙ ap (λ a. path_of a (ancestors range.start.node w.forest)) (common-same w sound range is) in
         let last : path_below grown.forest (common_of grown range) range.end.node ≡ end_path w range =
         ap (λ ns. path_of (common_of grown range) ns) (same_ancestors w sound range is range.end.node he) ∙ ap (λ a. path_of a (ancestors range.end.node w.forest)) (common-same w sound range is) in
-        ap (λ path. head_into true w.made range.end.offset path (children_into true w.made (contained_children grown range) (tail_into true w.made range.start.offset (path_below grown.forest (common_of grown range) range.start.node) grown))) last
-        ∙ ap (λ ns. head_into true w.made range.end.offset (end_path w range) (children_into true w.made ns (tail_into true w.made range.start.offset (path_below grown.forest (common_of grown range) range.start.node) grown))) (contained_children-same w sound range is)
-        ∙ ap (λ path. head_into true w.made range.end.offset (end_path w range) (children_into true w.made (contained_children w range) (tail_into true w.made range.start.offset path grown))) first
+        rw (last, contained_children-same w sound range is, first) refl
       where
         path_of : ℕ → List ℕ → List ℕ
         path_of a ns = reverse (up_to a ns)
@@ -318,21 +259,17 @@ module _ (w : World) (sound : IsSound w) (range : Range) (is : IsRange w.forest 
 
     cut-units : (n offset : ℕ) (tree : Forest Content) (v : World) → 0 < occurs n tree → HasTree root w.made tree v → HasTree root w.made (cut_tail n offset tree) (cut_from n offset v)
     cut-units n offset tree v k h =
-        subst (λ b. HasTree root w.made (cut_tail n offset tree) (if b then replace_data n offset (length (data_of v n) - offset) [] v else v)) (sym (same-kind root w.made n tree v k h)) (go (has_data tree n))
-      where
-        go : (b : Bool) → HasTree root w.made (if b then cut_data n offset (length (data_in tree n) - offset) tree else tree) (if b then replace_data n offset (length (data_of v n) - offset) [] v else v)
-        go true =
-            subst (λ xs. HasTree root w.made (cut_data n offset (length xs - offset) tree) (replace_data n offset (length (data_of v n) - offset) [] v)) (same-data root w.made n tree v k h)
-            (replace-has root w.made n offset (length (data_of v n) - offset) tree v k h)
-        go false = h
+        rw (same-kind root w.made n tree v k h)
+        (elim (cases_Bool (has_data tree n)) [
+          | inl e ↦ rw e (subst (λ xs. HasTree root w.made (cut_data n offset (length xs - offset) tree) (replace_data n offset (length (data_of v n) - offset) [] v)) (same-data root w.made n tree v k h)
+              (replace-has root w.made n offset (length (data_of v n) - offset) tree v k h))
+          | inr e ↦ rw e h
+        ])
 
     cut-units_up_to : (n offset : ℕ) (tree : Forest Content) (v : World) → 0 < occurs n tree → HasTree root w.made tree v → HasTree root w.made (cut_head n offset tree) (cut_up_to n offset v)
     cut-units_up_to n offset tree v k h =
-        subst (λ b. HasTree root w.made (cut_head n offset tree) (if b then replace_data n 0 offset [] v else v)) (sym (same-kind root w.made n tree v k h)) (go (has_data tree n))
-      where
-        go : (b : Bool) → HasTree root w.made (if b then cut_data n 0 offset tree else tree) (if b then replace_data n 0 offset [] v else v)
-        go true = replace-has root w.made n 0 offset tree v k h
-        go false = h
+        rw (same-kind root w.made n tree v k h)
+        (elim (cases_Bool (has_data tree n)) [ inl e ↦ rw e (replace-has root w.made n 0 offset tree v k h) | inr e ↦ rw e h ])
 
     -- what is above the end stays
     stay-above : (x : ℕ) → 0 < hits x (ancestors range.end.node w.forest) → 0 < occurs x w.forest → 0 < occurs x (taken (contained_tops w range) cut_first)
@@ -348,12 +285,9 @@ module _ (w : World) (sound : IsSound w) (range : Range) (is : IsRange w.forest 
         let up = hits-last_of (ancestors range.end.node w.forest) root end_rooted in
         let z = clear m k root up in
         let e = subst (λ q. occurs root (tree_at q (tree_at root w.forest)) ≡ 0) d z in
-        let there : 0 < occurs root (tree_at root w.forest) = (let a = hits-ancestors root root w.forest sound.forest.once in let b = above-itself w.forest sound.forest.once root root_there in omega arith) in
-        let f = ap (λ (g : Forest Content). occurs root g) (tree_at-inside root root w.forest sound.forest.once there) in
-        omega arith
-      where
-        root_there : 0 < occurs root w.forest
-        root_there = let a = hits-tops root w.forest in let b = root-listed range.start.node root w.forest rooted in omega arith
+        let root_there : 0 < occurs root w.forest = omega (arith, hits-tops root w.forest, root-listed range.start.node root w.forest rooted) in
+        let there : 0 < occurs root (tree_at root w.forest) = omega (arith, hits-ancestors root root w.forest sound.forest.once, above-itself w.forest sound.forest.once root root_there) in
+        omega (arith, ap (λ (g : Forest Content). occurs root g) (tree_at-inside root root w.forest sound.forest.once there))
 
     pub deleted-has : HasTree root w.made left_tree (cut_up_to range.end.node range.end.offset (remove_each (contained_tops w range) (cut_from range.start.node range.start.offset w)))
     deleted-has =
@@ -365,6 +299,4 @@ module _ (w : World) (sound : IsSound w) (range : Range) (is : IsRange w.forest 
     pub common-left : 0 < occurs (common_of w range) left_tree
     common-left =
         let c = head-cut range.end.node range.end.offset (taken (contained_tops w range) cut_first) in
-        let a = c.numbers (common_of w range) in
-        let b = stay-above (common_of w range) above_end forked.there in
-        omega arith
+        omega (arith, c.numbers (common_of w range), stay-above (common_of w range) above_end forked.there)

@@ -1,32 +1,10 @@
 -- The tokens of nodes or units that stand side by side: what they leave open, and where a walk over them comes to.
-use Rattle.std.proofs.Common.{◌≡◌, ℕ, suc, ◌+◌, ◌<◌, ◌≤◌, ◌==◌, Bool, true, false, if◌then◌else◌, List, [], ◌∷◌, ◌++◌, length, Some, None, option_map, refl, ap, sym, ◌∙◌, subst, arith}
-use Rattle.std.proofs.lemmas.Grind.{flat_map-append}
-use Rattle.dom_model.specs.PlainLists.Lists.{hits}
-use Rattle.dom_model.specs.Forests.Kinds.{is_character_data}
-use Rattle.dom_model.specs.Forests.Forest.{Node, Forest, empty, node, occurs, one_at, tops, tree_at, entry_in, children_of}
-use Rattle.dom_model.specs.Worlds.World.{Content, Point}
-use Rattle.dom_model.specs.Forests.Nodes.{kind_passes}
-use Rattle.dom_model.specs.DataAndCopies.Data.{content_in}
-use Rattle.dom_model.specs.TokenText.Tokens.{Token, Open, Close, OneUnit, point, same_point, is_open, no_marks, unit_tokens, child_tokens, token_texts, tokens_among}
-use Rattle.dom_model.specs.TokenText.Gaps.{tokens_ahead}
-use Rattle.dom_model.specs.TokenText.Fitting.{Childless}
+use Rattle.std.proofs.Common.{◌≡◌, ℕ, suc, ◌+◌, ◌<◌, ◌≤◌, ◌==◌, true, false, if◌then◌else◌, List, [], ◌∷◌, ◌++◌, length, Some, None, option_map, refl, ap, sym, ◌∙◌, subst, arith, eq-eqb, inl, inr}
+use Rattle.std.proofs.lemmas.{Grind.flat_map-append, Bool.cond_both, Bool.ne_eqb, Bool.Decides.nat_tests, Bool.cases_Bool}
+use Rattle.dom_model.specs.Definitions.{hits, is_character_data, Node, Forest, empty, node, occurs, one_at, tops, tree_at, entry_in, children_of, Content, Point, kind_passes, content_in, Token, Open, Close, OneUnit, point, same_point, is_open, no_marks, unit_tokens, child_tokens, token_texts, tokens_among, tokens_ahead, Childless}
 use Rattle.dom_model.proofs.PlainLists.Numbers.{same_or, same, apart}
-use Rattle.dom_model.proofs.Forests.Totals.{total-tree_at, tree_at-absent, beside-empty}
-use Rattle.dom_model.proofs.Forests.Tops.{hits-tops}
-use Rattle.dom_model.proofs.TokenText.Pieces.TokenLists.{opened, tally-append}
-use Rattle.dom_model.proofs.TokenText.Pieces.TextWalks.{walk, walk-append, Misses, Misses-append, Misses-away, Away-walk, stands-away}
-use Rattle.dom_model.proofs.TokenText.Pieces.TextParts.{inside, own, own-then}
-use Rattle.dom_model.proofs.TokenText.Pieces.NodeTokens.{node-tokens}
-use Rattle.dom_model.proofs.TokenText.AlikeTrees.TreesAlike.{Top, top_of}
-use Rattle.dom_model.proofs.TokenText.AlikeTrees.TreesWithin.{tree_within}
-use Rattle.dom_model.proofs.TokenText.Marked.MarkedTexts.{not_inside}
-use Rattle.dom_model.proofs.TokenText.Contents.TextTold.{no_mark}
-use Rattle.dom_model.proofs.TokenText.Contents.LeafPlaces.{ahead-past}
-use Rattle.dom_model.proofs.TokenText.Contents.MatchedPieces.{Matches, matches-none, matches-append, matches-node, matches-units}
-use Rattle.dom_model.proofs.TokenText.Contents.PathTokens.{nodes_tokens}
-
-itself : (n : ℕ) → (n == n) ≡ true
-itself n = elim (same_or n n) [ same d t ↦ t | apart ne t ↦ absurd (ne refl) ]
+use Rattle.dom_model.proofs.Forests.{Totals.total-tree_at, Totals.tree_at-absent, Totals.beside-empty, Tops.hits-tops, Climbing.hits-first}
+use Rattle.dom_model.proofs.TokenText.{Pieces.TokenLists.opened, Pieces.TokenLists.tally-append, Pieces.TextWalks.walk, Pieces.TextWalks.walk-append, Pieces.TextWalks.Misses, Pieces.TextWalks.Misses-append, Pieces.TextWalks.Misses-away, Pieces.TextWalks.Away-walk, Pieces.TextWalks.stands-away, Pieces.TextParts.inside, Pieces.TextParts.own, Pieces.TextParts.own-then, Pieces.NodeTokens.node-tokens, AlikeTrees.TreesAlike.Top, AlikeTrees.TreesAlike.top_of, AlikeTrees.TreesWithin.tree_within, Marked.MarkedTexts.not_inside, Contents.TextTold.no_mark, Contents.LeafPlaces.ahead-past, Contents.MatchedPieces.Matches, Contents.MatchedPieces.matches-none, Contents.MatchedPieces.matches-append, Contents.MatchedPieces.matches-node, Contents.MatchedPieces.matches-units, Contents.PathTokens.nodes_tokens}
 
 -- the tokens of so many nodes or units side by side
 pub record Whole (k : ℕ) (ts : List Token) : Type 0 where
@@ -55,19 +33,12 @@ whole-node m k ts x = record {
   walks = λ n i around. walk-append ts (Close ∷ []) (point m 0 ∷ (point n i ∷ around)) ∙ ap (walk (Close ∷ [])) (x.walks m 0 (point n i ∷ around));
   misses = λ p n i around o h.
       let a = tally-append (is_open p.node) ts (Close ∷ []) in
-      let far : (p.node == m) ≡ false = other p o in (
+      let far : (p.node == m) ≡ false = grind (arith, nat_tests) in (
         h i (omega arith) (omega arith),
         Misses-append p ts (Close ∷ []) (point m 0 ∷ (point n i ∷ around)) (x.misses p m 0 (point n i ∷ around) (omega arith) (λ j b c. rw far refl))
             (subst (λ here. Misses p (Close ∷ []) here) (sym (x.walks m 0 (point n i ∷ around))) (rw far refl, tt)),
       );
 }
-  where
-    other : (p : Point) → opened p.node (Open m ∷ (ts ++ (Close ∷ []))) ≡ 0 → (p.node == m) ≡ false
-    other p o =
-        elim (same_or p.node m) [
-          | same d t ↦ absurd (let v : (m == p.node) ≡ true = subst (λ x. (m == x) ≡ true) (sym d) (itself m) in let k = rw v at o in omega arith)
-          | apart ne t ↦ t
-        ]
 
 whole-unit : (u : ℕ) → Whole 1 (OneUnit u ∷ [])
 whole-unit u = record {
@@ -88,11 +59,8 @@ record Some_whole (ts : List Token) : Type 0 where
   whole : Whole many ts
 
 whole-inside : (x : Node Content) (kids : Forest Content) → Some_whole (child_tokens no_marks x.number 0 kids) → Some_whole (inside no_marks x kids)
-whole-inside x kids below = go (is_character_data x.label.kind)
-  where
-    go : (v : Bool) → Some_whole (if v then unit_tokens no_marks x.number 0 x.body.text else child_tokens no_marks x.number 0 kids)
-    go true = record { many = length x.body.text; whole = whole-units x.number 0 x.body.text }
-    go false = below
+whole-inside x kids below =
+    cond_both (is_character_data x.label.kind) _ _ Some_whole (λ _. record { many = length x.body.text; whole = whole-units x.number 0 x.body.text }) (λ _. below)
 
 whole-children : (n i : ℕ) (f : Forest Content) → Some_whole (child_tokens no_marks n i f)
 whole-children n i empty = record { many = 0; whole = whole-none }
@@ -115,9 +83,9 @@ gap-behind ahead n k front (b ∷ back) x l first inner =
     let away = Away-walk n ahead [] first tt in
     let z : 0 + k ≡ k = omega arith in
     let there : walk front (point n 0 ∷ walk ahead []) ≡ point n k ∷ walk ahead [] = x.walks n 0 (walk ahead []) ∙ ap (λ j. point n j ∷ walk ahead []) z in
-    let here : tokens_ahead (point n k) (walk front (point n 0 ∷ walk ahead [])) (b ∷ back) ≡ Some 0 = rw there (rw (itself n, itself k) refl) in
+    let here : tokens_ahead (point n k) (walk front (point n 0 ∷ walk ahead [])) (b ∷ back) ≡ Some 0 = rw there (rw (eq-eqb n n refl, eq-eqb k k refl) refl) in
     let e : length front + 0 ≡ length front = omega arith in
-    let past = ahead-past (point n k) (point n 0 ∷ walk ahead []) front (b ∷ back) 0 (x.misses (point n k) n 0 (walk ahead []) inner (λ j l g. elim (same_or k j) [ same d t ↦ absurd (omega arith) | apart ne t ↦ rw (itself n, t) refl ])) here in
+    let past = ahead-past (point n k) (point n 0 ∷ walk ahead []) front (b ∷ back) 0 (x.misses (point n k) n 0 (walk ahead []) inner (λ j l g. rw (eq-eqb n n refl, ne_eqb k j (λ d. omega arith)) refl)) here in
     ahead-past (point n k) [] ahead (Open n ∷ (front ++ (b ∷ back))) (suc (length front)) (Misses-away (point n k) ahead [] first tt)
     (rw (stands-away (point n k) (walk ahead []) away) (ap (option_map (λ j. suc j)) (past ∙ ap (λ j. Some j) e)))
 
@@ -140,18 +108,18 @@ module _ (f : Forest Content) (o : (m : ℕ) → occurs m f ≤ 1) (c : Childles
       let e : 1 + length ns ≡ suc (length ns) = omega arith in
       subst (λ k. Whole k (nodes_tokens f (n ∷ ns))) e
       (whole-append 1 (length ns) (tokens_among n (token_texts no_marks f)) (nodes_tokens f ns)
-      (whole-tokens n (h n (let t = itself n in rw t (omega arith)))) (whole-nodes ns (λ m k. h m (omega arith))))
+      (whole-tokens n (h n (hits-first n ns))) (whole-nodes ns (λ m k. h m (omega arith))))
 
   -- the tops of a part of the forest
   nodes-children : (n i : ℕ) (g : Forest Content) → ((m : ℕ) → occurs m g ≤ 1) → ((m : ℕ) → 0 < hits m (tops g) → tree_at m f ≡ tree_at m g) → nodes_tokens f (tops g) ≡ child_tokens no_marks n i g
   nodes-children n i empty og h = refl
   nodes-children n i (node x kids rest) og h =
-      ap (λ ts. ts ++ nodes_tokens f (tops rest)) (node-tokens no_marks no_mark x kids f o c (h x.number (let t = itself x.number in rw t (omega arith)) ∙ alone))
+      ap (λ ts. ts ++ nodes_tokens f (tops rest)) (node-tokens no_marks no_mark x kids f o c (h x.number (hits-first x.number (tops rest)) ∙ alone))
       ∙ ap (λ ts. own no_marks x kids ++ ts) (nodes-children n (suc i) rest (λ m. let a = og m in omega arith) later)
       ∙ sym (own-then no_marks x kids (child_tokens no_marks n (suc i) rest))
     where
       alone : tree_at x.number (node x kids rest) ≡ node x kids empty
-      alone = let t = itself x.number in let a = rw t at (og x.number) in rw (t, tree_at-absent x.number rest (omega arith)) refl
+      alone = let t = eq-eqb x.number x.number refl in let a = rw t at (og x.number) in rw (t, tree_at-absent x.number rest (omega arith)) refl
 
       later : (m : ℕ) → 0 < hits m (tops rest) → tree_at m f ≡ tree_at m rest
       later m k =
@@ -172,7 +140,7 @@ module _ (f : Forest Content) (o : (m : ℕ) → occurs m f ≤ 1) (c : Childles
       ∙ nodes-children n 0 t.kids once_below
       (λ m k.
       let b = hits-tops m t.kids in
-      let far : (t.top.number == m) ≡ false = elim (same_or t.top.number m) [ same d v ↦ absurd (let e : occurs t.top.number t.kids ≡ occurs m t.kids = ap (λ i. occurs i t.kids) d in omega arith) | apart ne v ↦ v ] in
+      let far : (t.top.number == m) ≡ false = ne_eqb t.top.number m (λ d. let e = ap (λ i. occurs i t.kids) d in omega arith) in
       let inner : 0 < occurs m (tree_at n f) = rw t.at (omega arith) in
       sym (tree_within n m f o inner) ∙ ap (tree_at m) t.at ∙ (rw far (beside-empty (tree_at m t.kids))))
     where
@@ -188,13 +156,12 @@ module _ (f : Forest Content) (o : (m : ℕ) → occurs m f ≤ 1) (c : Childles
       let t = top_of None n f o h in
       tokens-own n t
       ∙ ap (λ m. Open m ∷ (inside no_marks t.top t.kids ++ (Close ∷ []))) t.named
-      ∙ ap (λ ts. Open n ∷ (ts ++ (Close ∷ []))) (by t (is_character_data t.top.label.kind) refl)
-    where
-      by : (t : Top n f (entry_in f n)) (v : Bool) → is_character_data t.top.label.kind ≡ v → inside no_marks t.top t.kids ≡ inner_of n
-      by t true e =
-          let k : kind_passes is_character_data f n ≡ true = rw t.told e in
-          let u : (content_in (entry_in f n)).text ≡ t.top.body.text = rw t.told refl in
-          rw (k, e, u) (ap (λ m. unit_tokens no_marks m 0 t.top.body.text) t.named)
-      by t false e =
-          let k : kind_passes is_character_data f n ≡ false = rw t.told e in
-          rw (k, e) (ap (λ m. child_tokens no_marks m 0 t.kids) t.named ∙ sym (children-tokens n t))
+      ∙ ap (λ ts. Open n ∷ (ts ++ (Close ∷ []))) (elim (cases_Bool (is_character_data t.top.label.kind)) [
+        | inl e ↦
+            let k : kind_passes is_character_data f n ≡ true = rw t.told e in
+            let u : (content_in (entry_in f n)).text ≡ t.top.body.text = rw t.told refl in
+            rw (e, k, u) (ap (λ m. unit_tokens no_marks m 0 t.top.body.text) t.named)
+        | inr e ↦
+            let k : kind_passes is_character_data f n ≡ false = rw t.told e in
+            rw (e, k) (ap (λ m. child_tokens no_marks m 0 t.kids) t.named ∙ sym (children-tokens n t))
+      ])

@@ -1,13 +1,10 @@
 -- What primitive edits leave of a world: its trees, its live ranges and the next node number. The edits leave another world where each of
 -- them fits, and they leave these as they are there. Iterators, walkers, observers and static ranges are not told by edits.
 use Rattle.std.proofs.Common.{◌≡◌, ℕ, List, [], ◌∷◌, ◌++◌, Option, Some, None, refl, ap, sym, ◌∙◌, subst}
-use Rattle.dom_model.specs.Forests.Forest.{parent_of}
-use Rattle.dom_model.specs.Worlds.World.{Point, World}
-use Rattle.dom_model.specs.TokenText.Tokens.{Edit, Removal, Insertion, Splice, Parting, Merge, EndSet, Making, RangeMaking, Release, Discard}
-use Rattle.dom_model.specs.TokenText.Edits.{removal_from, parting_from, merge_from, on_world, all_on_world, Trace, begun, doing}
-use Rattle.dom_model.specs.TokenText.Fitting.{IsReady, Fits, AllFit}
-pub use Rattle.dom_model.proofs.TokenText.EditsMade.FittingEdits.{laid}
+use Rattle.dom_model.specs.Definitions.{parent_of, Point, World, Edit, Removal, Insertion, Splice, Parting, Merge, EndSet, Making, RangeMaking, Release, removal_from, parting_from, merge_from, on_world, all_on_world, Trace, begun, doing, IsReady, Fits, AllFit}
+use Rattle.dom_model.specs.TokenText.Tokens.{Discard}
 use Rattle.dom_model.proofs.TokenText.EditsMade.FittingEdits.{ready-laid, fits-laid, AllFit-append}
+pub use Rattle.dom_model.proofs.TokenText.EditsMade.FittingEdits.{laid}
 
 -- the edits fit the first world, and leave the second
 pub record Leave (es : List Edit) (w v : World) : Type 0 where

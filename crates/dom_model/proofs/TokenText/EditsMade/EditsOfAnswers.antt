@@ -1,14 +1,7 @@
 -- The edits of a step that is answered leave the step's world: none where the step is refused.
 use Rattle.std.proofs.Common.{◌≡◌, ℕ, Bool, true, false, if◌then◌else◌, List, [], ◌∷◌, Option, Some, None, Ok, Err, refl, sym, subst}
+use Rattle.dom_model.specs.Definitions.{Range, World, Answer, Reply, Done, Dom, Own, for_range, Outcome, Step, refused, guarded, checked, no_node_given, on_range, done_or_refused, Edit, unless_refused}
 use Rattle.dom_model.specs.declared.DomError.{DomError}
-use Rattle.dom_model.specs.Worlds.World.{Range, World}
-use Rattle.dom_model.specs.Commands.Reply.{Answer, Reply, Done, Dom, Own}
-use Rattle.dom_model.specs.RangesAndContents.Contents.{for_range}
-use Rattle.dom_model.specs.RangesAndContents.Wrapping.{Outcome}
-use Rattle.dom_model.specs.Commands.Guards.{Step, refused, guarded, checked, no_node_given}
-use Rattle.dom_model.specs.Commands.AnswerRanges.{on_range, done_or_refused}
-use Rattle.dom_model.specs.TokenText.Tokens.{Edit}
-use Rattle.dom_model.specs.TokenText.CommandEdits.{unless_refused}
 use Rattle.dom_model.proofs.Soundness.SoundEditing.{AreClear}
 use Rattle.dom_model.proofs.TokenText.EditsMade.EditsLeave.{laid, Leave, leave-none}
 
@@ -23,6 +16,10 @@ IsRefusal r = (es : List Edit) → unless_refused r es ≡ []
 abbrev pub AreRefusals : List (Bool × Reply) → Type 0
 AreRefusals [] = Unit {0}
 AreRefusals (c ∷ cs) = IsRefusal c.1 × AreRefusals cs
+
+-- a refusal of a test
+pub no_edits : (es : List Edit) → ◌≡◌ {A = List Edit} [] []
+no_edits es = refl
 
 pub given-refusal : (n : Option ℕ) (w : World) → IsRefusal (no_node_given n w).1
 given-refusal None w es = refl
@@ -43,8 +40,9 @@ holds-guarded P (c ∷ cs) w step refusing r k = go c.0 refl (holds-guarded P cs
     go true e more = refusing c.1 r.0
     go false e more = more (λ h. k (e, h))
 
-pub leaves-guarded : (es : List Edit) (cs : List (Bool × Reply)) (w : World) (step : Step) → AreRefusals cs → (AreClear cs → StepLeaves es w step) → StepLeaves es w (guarded cs w step)
-leaves-guarded es cs w step r k = holds-guarded (λ x. StepLeaves es w x) cs w step (λ q i. leaves-refused es q w i) r k
+pub leaves-unless : (es : List Edit) (v : Bool) (r : Reply) (w : World) (step : Step) → IsRefusal r → (v ≡ false → StepLeaves es w step) → StepLeaves es w (if v then refused r w else step)
+leaves-unless es true r w step i k = leaves-refused es r w i
+leaves-unless es false r w step i k = k refl
 
 pub leaves-checked : (es : List Edit) (o : Option DomError) (w : World) (step : Step) → (o ≡ None → StepLeaves es w step) → StepLeaves es w (checked o w step)
 leaves-checked es None w step k = k refl

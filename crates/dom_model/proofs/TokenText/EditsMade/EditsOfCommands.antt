@@ -1,35 +1,13 @@
 -- The primitive edits of a command fit every sound world, and leave what the command leaves: the nesting, the data, the live ranges and the
 -- next node number. For all commands but those that adopt or set attributes they leave node documents and attributes too: the forest itself.
-use Rattle.std.proofs.Common.{◌≡◌, ℕ, ◌==◌, Bool, true, false, ◌||◌, if◌then◌else◌, List, [], ◌∷◌, Option, refl, ap, sym, ◌∙◌, subst}
-use Rattle.std.proofs.lemmas.Bool.{false≢true}
-use Rattle.dom_model.specs.declared.Kind.TheVariants.{Element, Document}
-use Rattle.dom_model.specs.declared.DomError.TheVariants.{NotSupportedError}
-use Rattle.dom_model.specs.Forests.Kinds.{is_kind}
-use Rattle.dom_model.specs.Forests.Names.{is_attribute_name}
-use Rattle.dom_model.specs.Forests.Attributes.{Attribute}
-use Rattle.dom_model.specs.Forests.Forest.{Node, Forest, empty, node, map_nodes, with_node, in_document, adopted}
-use Rattle.dom_model.specs.Worlds.World.{Content, World}
-use Rattle.dom_model.specs.Commands.Reply.{Reply, Flag, Done}
-use Rattle.dom_model.specs.Forests.Nodes.{is_of_kind}
-use Rattle.dom_model.specs.MutationAlgorithms.Editing.{remove, adopt}
-use Rattle.dom_model.specs.DataAndCopies.Data.{with_attributes, set_attribute, has_attribute, remove_attribute, remove_attribute_if, is_toggled_on, toggled, toggle_attribute}
-use Rattle.dom_model.specs.Commands.Guards.{Bounds, Step, refused, guarded, no_node, wrong_kind, bad_name, throws, does}
-use Rattle.dom_model.specs.Commands.Command.{Command, Notify, AdoptNode, SetAttribute, RemoveAttribute, ToggleAttribute}
-use Rattle.dom_model.specs.Commands.AnswerTree.{gives}
-use Rattle.dom_model.specs.Commands.Answer.{answer}
-use Rattle.dom_model.specs.TokenText.Tokens.{Edit}
-use Rattle.dom_model.specs.TokenText.Edits.{all_on_world, remove_edits}
-use Rattle.dom_model.specs.TokenText.CommandEdits.{unless_refused, command_edits, edits_of}
-use Rattle.dom_model.specs.Soundness.Sound.{IsSound}
-use Rattle.dom_model.specs.TokenText.Fitting.{AllFit}
+use Rattle.std.proofs.Common.{◌≡◌, ℕ, ◌==◌, Bool, true, false, List, [], ◌∷◌, Option, refl, ap, sym, ◌∙◌, subst, inl, inr}
+use Rattle.std.proofs.lemmas.Bool.{false≢true, cond_both, cases_Bool}
+use Rattle.dom_model.specs.Definitions.{Notify, is_kind, is_attribute_name, Attribute, Node, Forest, empty, node, map_nodes, with_node, in_document, adopted, Content, World, Reply, Flag, Done, is_of_kind, remove, adopt, with_attributes, set_attribute, has_attribute, remove_attribute, remove_attribute_if, is_toggled_on, toggled, toggle_attribute, Bounds, Step, refused, guarded, no_node, wrong_kind, bad_name, throws, does, Command, AdoptNode, SetAttribute, RemoveAttribute, ToggleAttribute, gives, answer, Edit, all_on_world, remove_edits, unless_refused, command_edits, edits_of, IsSound, AllFit, point_before, point_after, SetStartBefore, SetStartAfter, SetEndBefore, SetEndAfter, SurroundContents}
+use Rattle.dom_model.specs.declared.{Kind.TheVariants.Element, Kind.TheVariants.Document, DomError.TheVariants.NotSupportedError}
 use Rattle.dom_model.proofs.PlainLists.Numbers.{same_or, same, apart}
-use Rattle.dom_model.proofs.TokenText.EditsMade.EditsLeave.{laid, Leave, leave-laid}
-use Rattle.dom_model.proofs.TokenText.EditsMade.EditsOfSteps.{leave-remove}
-use Rattle.dom_model.proofs.TokenText.EditsMade.EditsOfSurrounding.{KeepSound}
-use Rattle.dom_model.proofs.TokenText.EditsMade.EditsOfAnswers.{StepLeaves, IsRefusal, AreRefusals, holds-guarded}
-use Rattle.dom_model.proofs.TokenText.EditsMade.EditsOfTreeCommands.{edits_trees, tree-leaves}
-use Rattle.dom_model.proofs.TokenText.EditsMade.EditsOfRangeCommands.{edits_ranges, surrounds, range-leaves, surround-leaves}
-use Rattle.dom_model.proofs.TokenText.EditsMade.EditsOfOtherCommands.{edits_nothing, other-leaves}
+use Rattle.dom_model.proofs.Soundness.{SoundGuards.there_unless, SoundGuards.passes_unless, SoundTreeSteps.offset_within}
+use Rattle.dom_model.proofs.RangesAndContents.RangesSet.{boundary_before, boundary_after}
+use Rattle.dom_model.proofs.TokenText.{EditsMade.EditsLeave.laid, EditsMade.EditsLeave.Leave, EditsMade.EditsLeave.leave-laid, EditsMade.EditsOfSteps.leave-remove, EditsMade.EditsOfSurrounding.KeepSound, EditsMade.EditsOfAnswers.StepLeaves, EditsMade.EditsOfAnswers.IsRefusal, EditsMade.EditsOfAnswers.AreRefusals, EditsMade.EditsOfAnswers.holds-guarded, EditsMade.EditsOfAnswers.given-refusal, EditsMade.EditsOfAnswers.leaves-done, EditsMade.EditsOfAnswers.leaves-unless, EditsMade.EditsOfAnswers.leaves-checked, EditsMade.EditsOfSurrounding.leave-surround, EditsMade.EditsOfAnswers.leaves-on_range, EditsMade.EditsOfAnswers.leaves-outcome, EditsMade.EditsOfAnswers.no_edits, EditsMade.EditsOfAnswers.leaves-nothing, EditsMade.EditsOfOtherCommands.stays, EditsMade.EditsOfRangeCommands.live-unless, EditsMade.EditsOfRangeCommands.leaves-start_at, EditsMade.EditsOfRangeCommands.leaves-end_at, EditsMade.EditsOfTreeCommands.trees_edited, EditsMade.EditsOfRangeCommands.ranges_edited}
 
 -- a command of which the edits tell all: it neither adopts nor sets attributes by itself
 abbrev pub tells_all : Command → Bool
@@ -39,25 +17,33 @@ tells_all (RemoveAttribute e name) = false
 tells_all (ToggleAttribute e name force) = false
 tells_all _ = true
 
-no : {A : Type 0} {x y : A} → true ≡ false → x ≡ y
-no e = absurd (false≢true (sym e))
+abbrev pub surrounds : Command → Bool
+surrounds (SurroundContents r n) = true
+surrounds _ = false
 
-none : {A : Type 0} {x y : A} → false ≡ true → x ≡ y
-none e = absurd (false≢true e)
+-- commands that the tests exclude
+untold : {es : List Edit} {w : World} {step : Step} → false ≡ true → StepLeaves es w step
+untold e = absurd (false≢true e)
 
-one-of : (c : Command) → tells_all c ≡ true → surrounds c ≡ false → (edits_trees c || (edits_ranges c || edits_nothing c)) ≡ true
-one-of Notify e f = refl
-one-of c e f = search (none, no)
+other : {es : List Edit} {w : World} {step : Step} → true ≡ false → StepLeaves es w step
+other e = absurd (false≢true (sym e))
+
+-- Each test in turn, and each step by its edits.
+ruleset answers = (leaves-unless, leaves-checked, leaves-done, leaves-on_range, leaves-outcome, no_edits, given-refusal, there_unless, passes_unless, untold, other)
 
 module _ (b : Bounds) (w : World) (s : IsSound w) where
   step-leaves : (c : Command) → tells_all c ≡ true → surrounds c ≡ false → StepLeaves (command_edits c w) w (answer b w c)
-  step-leaves c e f = go (edits_trees c) (edits_ranges c) (edits_nothing c) refl refl refl (one-of c e f)
-    where
-      go : (x y z : Bool) → edits_trees c ≡ x → edits_ranges c ≡ y → edits_nothing c ≡ z → (x || (y || z)) ≡ true → StepLeaves (command_edits c w) w (answer b w c)
-      go true y z i j k h = tree-leaves b w s c i
-      go false true z i j k h = range-leaves b w s c j
-      go false false true i j k h = other-leaves b c w k
-      go false false false i j k h = absurd (false≢true h)
+  step-leaves (SetStartBefore r n) e f = leaves-start_at w r n (point_before w.forest n) s (boundary_before s.forest n)
+  step-leaves (SetStartAfter r n) e f = leaves-start_at w r n (point_after w.forest n) s (boundary_after s.forest n)
+  step-leaves (SetEndBefore r n) e f = leaves-end_at w r n (point_before w.forest n) s (boundary_before s.forest n)
+  step-leaves (SetEndAfter r n) e f = leaves-end_at w r n (point_after w.forest n) s (boundary_after s.forest n)
+  step-leaves Notify e f = leaves-nothing w (answer b w Notify) (record { same = refl })
+  step-leaves c e f = search (answers, stays, trees_edited, ranges_edited, offset_within) depth 12
+
+  -- surrounding, where extracting and inserting a node leave sound worlds
+  surround-leaves : KeepSound → (c : Command) → surrounds c ≡ true → StepLeaves (command_edits c w) w (answer b w c)
+  surround-leaves keeps (SurroundContents r n) e = search (answers, leave-surround, live-unless) depth 12
+  surround-leaves keeps c e = untold e
 
   -- the forest, the live ranges and the next number
   pub edits-leave_all : (c : Command) → tells_all c ≡ true → surrounds c ≡ false → Leave (edits_of b w c) w (answer b w c).world
@@ -65,7 +51,7 @@ module _ (b : Bounds) (w : World) (s : IsSound w) where
 
   -- so also of surrounding, where extracting and inserting a node leave sound worlds
   pub edits-leave_surrounding : KeepSound → (c : Command) → surrounds c ≡ true → Leave (edits_of b w c) w (answer b w c).world
-  edits-leave_surrounding keeps c e = let k = surround-leaves b w s keeps c e in k.left
+  edits-leave_surrounding keeps c e = let k = surround-leaves keeps c e in k.left
 
 -- A node without its node document and its attributes.
 abbrev pub plain_node : Node Content → Node Content
@@ -103,11 +89,8 @@ plain-adopted n d (node x kids rest) =
 plain-attributes : (n : ℕ) (attributes : List Attribute) (f : Forest Content) → plain (with_node n (with_attributes attributes) f) ≡ plain f
 plain-attributes n attributes empty = refl
 plain-attributes n attributes (node x kids rest) =
-    rw (plain-attributes n attributes kids, plain-attributes n attributes rest) (ap (λ y. node y (plain kids) (plain rest)) (go (x.number == n)))
-  where
-    go : (v : Bool) → plain_node (if v then with_attributes attributes x else x) ≡ plain_node x
-    go true = refl
-    go false = refl
+    rw (plain-attributes n attributes kids, plain-attributes n attributes rest)
+    (cond_both (x.number == n) (with_attributes attributes x) x (λ y. node (plain_node y) (plain kids) (plain rest) ≡ node (plain_node x) (plain kids) (plain rest)) (λ _. refl) (λ _. refl))
 
 left-set : (n : ℕ) (name value : List ℕ) (w : World) → IsLeftAs w (set_attribute n name value w)
 left-set n name value w = record { forest = sym (plain-attributes n _ w.forest); ranges = refl; made = refl }
@@ -141,12 +124,9 @@ left-refused es w r k = record { fits = subst (λ fs. AllFit (laid w) fs) (sym (
 left-guarded : (es : List Edit) (cs : List (Bool × Reply)) (w : World) (step : Step) → AreRefusals cs → StepIsLeft es w step → StepIsLeft es w (guarded cs w step)
 left-guarded es cs w step r k = holds-guarded (λ x. StepIsLeft es w x) cs w step (left-refused es w) r (λ h. k)
 
-any : (es : List Edit) → ◌≡◌ {A = List Edit} [] []
-any es = refl
-
 left-adopt : (b : Bounds) (d n : ℕ) (w : World) → IsSound w → StepIsLeft (remove_edits n w) w (answer b w (AdoptNode d n))
 left-adopt b d n w s =
-    left-guarded (remove_edits n w) (no_node d w ∷ no_node n w ∷ wrong_kind (is_kind Document) d w ∷ throws (is_of_kind Document w.forest n) NotSupportedError ∷ []) w (gives n (adopt n d w)) (any, (any, (any, (any, tt))))
+    left-guarded (remove_edits n w) (no_node d w ∷ no_node n w ∷ wrong_kind (is_kind Document) d w ∷ throws (is_of_kind Document w.forest n) NotSupportedError ∷ []) w (gives n (adopt n d w)) (no_edits, (no_edits, (no_edits, (no_edits, tt))))
     (record { fits = (let k = leave-remove false n w s in k.fits); left = adopted_left })
   where
     out : World
@@ -165,18 +145,15 @@ left-of_all b w c h = record { fits = h.fits; left = left-laid (all_on_world (ed
 pub edits-leave : (b : Bounds) (w : World) → IsSound w → (c : Command) → surrounds c ≡ false → StepIsLeft (command_edits c w) w (answer b w c)
 edits-leave b w s (AdoptNode d n) f = left-adopt b d n w s
 edits-leave b w s (SetAttribute e name value) f =
-    left-guarded [] (no_node e w ∷ wrong_kind (is_kind Element) e w ∷ bad_name (is_attribute_name name) ∷ []) w (does (set_attribute e name value w)) (any, (any, (any, tt))) (record { fits = tt; left = left-set e name value w })
+    left-guarded [] (no_node e w ∷ wrong_kind (is_kind Element) e w ∷ bad_name (is_attribute_name name) ∷ []) w (does (set_attribute e name value w)) (no_edits, (no_edits, (no_edits, tt))) (record { fits = tt; left = left-set e name value w })
 edits-leave b w s (RemoveAttribute e name) f =
-    left-guarded [] (no_node e w ∷ wrong_kind (is_kind Element) e w ∷ []) w (does (remove_attribute e name w)) (any, (any, tt)) (record { fits = tt; left = left-removed e name w })
+    left-guarded [] (no_node e w ∷ wrong_kind (is_kind Element) e w ∷ []) w (does (remove_attribute e name w)) (no_edits, (no_edits, tt)) (record { fits = tt; left = left-removed e name w })
 edits-leave b w s (ToggleAttribute e name force) f =
     let step : Step = record { reply = Done (Flag (is_toggled_on force (has_attribute w e name))); world = toggle_attribute e name force w } in
-    left-guarded [] (no_node e w ∷ wrong_kind (is_kind Element) e w ∷ bad_name (is_attribute_name name) ∷ []) w step (any, (any, (any, tt))) (record { fits = tt; left = left-toggled e name force w })
+    left-guarded [] (no_node e w ∷ wrong_kind (is_kind Element) e w ∷ bad_name (is_attribute_name name) ∷ []) w step (no_edits, (no_edits, (no_edits, tt))) (record { fits = tt; left = left-toggled e name force w })
 edits-leave b w s c f = left-of_all b w c (edits-leave_all b w s c refl f)
 
 -- and of every command, where extracting and inserting a node leave sound worlds
 pub edits-leave_every : KeepSound → (b : Bounds) (w : World) → IsSound w → (c : Command) → StepIsLeft (command_edits c w) w (answer b w c)
-edits-leave_every keeps b w s c = go (surrounds c) refl
-  where
-    go : (v : Bool) → surrounds c ≡ v → StepIsLeft (command_edits c w) w (answer b w c)
-    go true e = left-of_all b w c (edits-leave_surrounding b w s keeps c e)
-    go false e = edits-leave b w s c e
+edits-leave_every keeps b w s c =
+    elim (cases_Bool (surrounds c)) [ inl e ↦ left-of_all b w c (edits-leave_surrounding b w s keeps c e) | inr e ↦ edits-leave b w s c e ]

@@ -1,19 +1,9 @@
 -- The edits of deleting the contents of a live range leave what deleting leaves. DOM Standard, "Interface Range": deleteContents.
 use Rattle.std.proofs.Common.{◌≡◌, ℕ, ◌-◌, ◌≤◌, Bool, true, false, if◌then◌else◌, List, [], ◌∷◌, length, Option, Some, None, is_some, refl, ap, ◌∙◌, subst, arith}
-use Rattle.dom_model.specs.Forests.Kinds.{is_character_data}
-use Rattle.dom_model.specs.Worlds.World.{Range, World}
-use Rattle.dom_model.specs.Forests.Nodes.{kind_passes}
-use Rattle.dom_model.specs.MutationAlgorithms.Editing.{remove}
-use Rattle.dom_model.specs.RangesAndContents.Ranges.{is_collapsed, collapsed_at, range_at, with_range}
-use Rattle.dom_model.specs.DataAndCopies.Data.{data_of, replace_data, remove_each}
-use Rattle.dom_model.specs.RangesAndContents.Contents.{for_range, is_in_one_data, cut_from, cut_up_to, contained_tops, new_place, deleted_between, deleted, delete_contents}
-use Rattle.dom_model.specs.TokenText.Edits.{Trace, begun, remove_edits, ends_edits_at, replace_data_edits, doing_ends, doing_remove, doing_remove_each, doing_replace_data, doing_cut_from, doing_cut_up_to, deleted_between_trace, deleted_edits, delete_contents_edits}
-use Rattle.dom_model.specs.Soundness.Sound.{IsRange, IsSound}
-use Rattle.dom_model.proofs.Soundness.SoundWorlds.{IsLive, sound-remove}
-use Rattle.dom_model.proofs.Soundness.SoundRangeSteps.{live_range}
-use Rattle.dom_model.proofs.Soundness.SoundDeleting.{offset_of_start, in_data, one, sound-second, three, place_left}
-use Rattle.dom_model.proofs.TokenText.EditsMade.EditsLeave.{Leave, leave-none, Comes, Follows, comes-begun, comes-then, follows-none, follows-then, follows-doing}
-use Rattle.dom_model.proofs.TokenText.EditsMade.EditsOfSteps.{leave-remove, leave-replace_data, leave-ends}
+use Rattle.std.proofs.lemmas.Bool.{cond_both}
+use Rattle.dom_model.specs.Definitions.{is_character_data, Range, World, kind_passes, remove, is_collapsed, collapsed_at, range_at, with_range, data_of, replace_data, remove_each, for_range, is_in_one_data, cut_from, cut_up_to, contained_tops, new_place, deleted_between, deleted, delete_contents, Trace, begun, remove_edits, ends_edits_at, replace_data_edits, doing_ends, doing_remove, doing_remove_each, doing_replace_data, doing_cut_from, doing_cut_up_to, deleted_between_trace, deleted_edits, delete_contents_edits, IsRange, IsSound}
+use Rattle.dom_model.proofs.Soundness.{SoundWorlds.IsLive, SoundWorlds.sound-remove, SoundRangeSteps.live_range, SoundDeleting.offset_of_start, SoundDeleting.in_data, SoundDeleting.one, SoundDeleting.sound-second, SoundDeleting.three, SoundDeleting.place_left}
+use Rattle.dom_model.proofs.TokenText.{EditsMade.EditsLeave.Leave, EditsMade.EditsLeave.leave-none, EditsMade.EditsLeave.Comes, EditsMade.EditsLeave.Follows, EditsMade.EditsLeave.comes-begun, EditsMade.EditsLeave.comes-then, EditsMade.EditsLeave.follows-none, EditsMade.EditsLeave.follows-then, EditsMade.EditsLeave.follows-doing, EditsMade.EditsOfSteps.leave-remove, EditsMade.EditsOfSteps.leave-replace_data, EditsMade.EditsOfSteps.leave-ends}
 use Rattle.dom_model.proofs.RangesAndContents.LiveRangesKept.{is_live, live-there, remove_each-live, replace_data-live}
 
 -- a range that is there, and both its ends set
@@ -50,18 +40,15 @@ follows-cut_up_to n offset v s w es l =
     (λ k. follows-replace_data n 0 offset [] v s k (omega arith)) (follows-none v) w es l
 
 pub cut_from-live : (r n offset : ℕ) (w : World) → is_live r (cut_from n offset w) ≡ is_live r w
-cut_from-live r n offset w = go (kind_passes is_character_data w.forest n)
-  where
-    go : (b : Bool) → is_live r (if b then replace_data n offset (length (data_of w n) - offset) [] w else w) ≡ is_live r w
-    go true = replace_data-live r n offset (length (data_of w n) - offset) [] w
-    go false = refl
+cut_from-live r n offset w =
+    let count = length (data_of w n) - offset in
+    cond_both (kind_passes is_character_data w.forest n) (replace_data n offset count [] w) w (λ v. is_live r v ≡ is_live r w)
+    (λ e. replace_data-live r n offset count [] w) (λ e. refl)
 
 pub cut_up_to-live : (r n offset : ℕ) (w : World) → is_live r (cut_up_to n offset w) ≡ is_live r w
-cut_up_to-live r n offset w = go (kind_passes is_character_data w.forest n)
-  where
-    go : (b : Bool) → is_live r (if b then replace_data n 0 offset [] w else w) ≡ is_live r w
-    go true = replace_data-live r n 0 offset [] w
-    go false = refl
+cut_up_to-live r n offset w =
+    cond_both (kind_passes is_character_data w.forest n) (replace_data n 0 offset [] w) w (λ v. is_live r v ≡ is_live r w)
+    (λ e. replace_data-live r n 0 offset [] w) (λ e. refl)
 
 -- Delete contents.
 

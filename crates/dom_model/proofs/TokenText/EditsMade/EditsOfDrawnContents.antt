@@ -1,46 +1,18 @@
 -- The edits of extracting and of cloning the contents of a live range leave what these leave, and the contents that are drawn leave a sound
 -- world. DOM Standard, "Interface Range": extractContents, cloneContents.
-use Rattle.std.proofs.Common.{◌≡◌, ℕ, ◌+◌, ◌-◌, ◌<◌, ◌≤◌, ◌==◌, Bool, true, false, ◌&&◌, ◌||◌, if◌then◌else◌, List, [], ◌∷◌, length, filter, Option, Some, None, is_some, unwrap_or, refl, ap, sym, ◌∙◌, subst, arith, ◌⊎◌, inl, inr, ⊎_elim}
-use Rattle.std.proofs.lemmas.Bool.{cases_lt, false≢true}
+use Rattle.std.proofs.Common.{◌≡◌, ℕ, ◌+◌, ◌-◌, ◌<◌, ◌≤◌, ◌==◌, Bool, true, false, ◌&&◌, ◌||◌, if◌then◌else◌, List, [], ◌∷◌, length, filter, Option, Some, None, is_some, unwrap_or, refl, ap, sym, ◌∙◌, subst, arith, inl, inr}
+use Rattle.std.proofs.lemmas.Bool.{cases_lt, false≢true, or_parts}
 use Rattle.std.specs.List.{list_any}
-use Rattle.dom_model.specs.declared.DomError.TheVariants.{HierarchyRequestError}
-use Rattle.dom_model.specs.declared.Kind.{Kind}
-use Rattle.dom_model.specs.declared.Kind.TheVariants.{DocumentType, DocumentFragment}
-use Rattle.dom_model.specs.PlainLists.Lists.{hits, among, head_of, first_refusal, is_same}
-use Rattle.dom_model.specs.Forests.Kinds.{is_kind, is_character_data, may_be_parent}
-use Rattle.dom_model.specs.Forests.Forest.{Node, empty, node, occurs, entry_in, parent_of, children_of, ancestors, root_of}
-use Rattle.dom_model.specs.Worlds.World.{Content, Range, World, no_content}
-use Rattle.dom_model.specs.BoundaryPoints.Points.{order_of}
-use Rattle.dom_model.specs.MutationAlgorithms.Checks.{has_kind}
-use Rattle.dom_model.specs.Forests.Nodes.{entry_has, kind_passes, is_of_kind}
-use Rattle.dom_model.specs.MutationAlgorithms.Editing.{node_document}
-use Rattle.dom_model.specs.Worlds.Lengths.{unit_count, node_length}
-use Rattle.dom_model.specs.Worlds.Making.{named}
-use Rattle.dom_model.specs.DataAndCopies.Data.{data_of}
-use Rattle.dom_model.specs.RangesAndContents.Ranges.{is_collapsed, is_less, range_at, collapsed_at, with_range}
-use Rattle.dom_model.specs.RangesAndContents.Contents.{for_range, is_in_one_data, new_place, new_fragment, common_of, path_below, contained_in, contained_children, units_into, children_into, tail_into, parts_into, contents_drawn, check_draw, check_extract, extracted, extract, clone_contents}
-use Rattle.dom_model.specs.TokenText.Tokens.{point}
-use Rattle.dom_model.specs.TokenText.Edits.{Trace, doing_fragment, doing_units, doing_children, doing_tail, doing_head, doing_parts, doing_ends, drawn_trace, extracted_trace, extract_edits, clone_contents_edits}
-use Rattle.dom_model.specs.Soundness.Sound.{IsRange, IsSound}
+use Rattle.dom_model.specs.Definitions.{hits, among, head_of, first_refusal, is_same, is_kind, is_character_data, may_be_parent, Node, empty, node, occurs, entry_in, parent_of, children_of, ancestors, root_of, Content, Range, World, no_content, order_of, has_kind, entry_has, kind_passes, is_of_kind, node_document, unit_count, node_length, named, data_of, is_collapsed, is_less, range_at, collapsed_at, with_range, for_range, is_in_one_data, new_place, new_fragment, common_of, path_below, contained_in, contained_children, units_into, children_into, tail_into, parts_into, contents_drawn, check_draw, check_extract, extracted, extract, clone_contents, point, Trace, doing_fragment, doing_units, doing_children, doing_tail, doing_head, doing_parts, doing_ends, drawn_trace, extracted_trace, extract_edits, clone_contents_edits, IsRange, IsSound}
+use Rattle.dom_model.specs.declared.{DomError.TheVariants.HierarchyRequestError, Kind.Kind, Kind.TheVariants.DocumentType, Kind.TheVariants.DocumentFragment}
 use Rattle.dom_model.proofs.PlainLists.Numbers.{same_or, same, apart}
-use Rattle.dom_model.proofs.Forests.Entries.{occurs-HasNode}
-use Rattle.dom_model.proofs.Forests.Indices.{child-parent, child-there}
-use Rattle.dom_model.proofs.Forests.OneMoreRoot.{more-once, entry-more, entry-new, children-more, root-more, order-more}
-use Rattle.dom_model.proofs.Worlds.Measured.{length-beside}
-use Rattle.dom_model.proofs.Worlds.Parts.{ancestors-part, path-there}
-use Rattle.dom_model.proofs.Soundness.SoundWorlds.{IsLive, child_there}
-use Rattle.dom_model.proofs.Soundness.SoundRangeSteps.{live_range}
+use Rattle.dom_model.proofs.Forests.{Entries.occurs-HasNode, Indices.child-parent, Indices.child-there, OneMoreRoot.more-once, OneMoreRoot.entry-more, OneMoreRoot.entry-new, OneMoreRoot.children-more, OneMoreRoot.root-more, OneMoreRoot.order-more}
+use Rattle.dom_model.proofs.Worlds.{Measured.length-beside, Parts.ancestors-part, Parts.path-there}
+use Rattle.dom_model.proofs.Soundness.{SoundWorlds.IsLive, SoundWorlds.child_there, SoundRangeSteps.live_range, SoundDeleting.offset_of_start, SoundContents.sound-extracted}
 use Rattle.dom_model.proofs.DataAndCopies.CopiesPlaced.{parent-copies}
-use Rattle.dom_model.proofs.RangesAndContents.LiveRangesKept.{is_live, live-there}
-use Rattle.dom_model.proofs.Soundness.SoundDeleting.{offset_of_start}
-use Rattle.dom_model.proofs.Soundness.SoundContents.{sound-extracted}
-use Rattle.dom_model.proofs.TokenText.EditsMade.EditsOfSteps.{range-of_sound}
-use Rattle.dom_model.proofs.TokenText.EditsMade.EditsLeave.{Leave, leave-none, Comes, comes-then}
-use Rattle.dom_model.proofs.TokenText.EditsMade.EditsOfDeletedContents.{follows-ends}
-use Rattle.dom_model.proofs.RangesAndContents.Drawing.{IsDrawing, data-copies, extends-then, Draws, draws-none, draws-then, draws-as, passes_there, IsHolder, holder-extends}
-use Rattle.dom_model.proofs.RangesAndContents.DrawnPieces.{is_drawn, IsDrawable, drawable-extends, draws-fragment, draws-units, draws-children}
-use Rattle.dom_model.proofs.RangesAndContents.DrawnPaths.{ArePath, path-extends, kind-drawn, hits-filter, draws-tail, draws-head}
-use Rattle.dom_model.proofs.RangesAndContents.PathsToEnds.{common-above, path-down, path-within}
+use Rattle.dom_model.proofs.RangesAndContents.{LiveRangesKept.is_live, LiveRangesKept.live-there, Drawing.IsDrawing, Drawing.data-copies, Drawing.extends-then, Drawing.Draws, Drawing.draws-none, Drawing.draws-then, Drawing.draws-as, Drawing.passes_there, Drawing.IsHolder, Drawing.holder-extends, DrawnPieces.is_drawn, DrawnPieces.IsDrawable, DrawnPieces.drawable-extends, DrawnPieces.draws-fragment, DrawnPieces.draws-units, DrawnPieces.draws-children, DrawnPaths.ArePath, DrawnPaths.path-extends, DrawnPaths.kind-drawn, DrawnPaths.hits-filter, DrawnPaths.draws-tail, DrawnPaths.draws-head, PathsToEnds.common-above, PathsToEnds.path-down, PathsToEnds.path-within}
+use Rattle.dom_model.proofs.TokenText.{EditsMade.EditsOfSteps.range-of_sound, EditsMade.EditsLeave.Leave, EditsMade.EditsLeave.leave-none, EditsMade.EditsLeave.Comes, EditsMade.EditsLeave.comes-then, EditsMade.EditsOfDeletedContents.follows-ends}
+use Rattle.dom_model.proofs.MutationAlgorithms.ChecksKept.{filter-same}
 
 -- A live range of a sound world is in order.
 
@@ -49,20 +21,11 @@ sound-range w r range s e = subst (IsLive w.forest) e (live_range w s r)
 
 -- Lists and tests.
 
-filter-agree : (test other : ℕ → Bool) (ns : List ℕ) → ((n : ℕ) → 0 < hits n ns → test n ≡ other n) → filter test ns ≡ filter other ns
-filter-agree test other [] h = refl
-filter-agree test other (n ∷ ns) h =
-    let i : test n ≡ other n = h n (elim (same_or n n) [ same e t ↦ rw t (omega arith) | apart ne t ↦ absurd (ne refl) ]) in
-    let j = filter-agree test other ns (λ m k. h m (omega arith)) in
-    ap (λ b. if b then n ∷ filter test ns else filter test ns) i ∙ ap (λ xs. if other n then n ∷ xs else xs) j
-
 hits-passing : (n : ℕ) (test : ℕ → Bool) (ns : List ℕ) → list_any test ns ≡ false → 0 < hits n ns → test n ≡ false
 hits-passing n test [] e h = absurd (omega arith)
-hits-passing n test (m ∷ ns) e h = go (test m) refl e (hits-passing n test ns)
-  where
-    go : (b : Bool) → test m ≡ b → (b || list_any test ns) ≡ false → (list_any test ns ≡ false → 0 < hits n ns → test n ≡ false) → test n ≡ false
-    go true t k more = absurd (false≢true (sym k))
-    go false t k more = elim (same_or m n) [ same d s ↦ ap test (sym d) ∙ t | apart ne s ↦ more k (let j = rw s at h in omega arith) ]
+hits-passing n test (m ∷ ns) e h =
+    let p = or_parts (test m) (list_any test ns) e in
+    elim (same_or m n) [ same d s ↦ ap test (sym d) ∙ p.0 | apart ne s ↦ hits-passing n test ns p.1 (let j = rw s at h in omega arith) ]
 
 no_refusal : (b : Bool) → first_refusal ((b, HierarchyRequestError) ∷ []) ≡ None → b ≡ false
 no_refusal true h = absurd (let k : Some HierarchyRequestError ≡ None = h in cc k)
@@ -97,29 +60,18 @@ module _ (w : World) (s : IsSound w) (range : Range) (h : IsRange w.forest range
   holds = record { fresh = omega arith; kind = ap (entry_has may_be_parent) (entry-new w.forest s.forest.once fragment fresh) }
 
   below-made : (n : ℕ) → 0 < occurs n w.forest → n < w.made
-  below-made n k =
-      ⊎_elim
-      (λ (lt : n < w.made). lt)
-      (λ (le : w.made ≤ n). absurd (let z = s.forest.small n le in omega arith))
-      (cases_lt n w.made)
+  below-made n k = elim (cases_lt n w.made) [ inl lt ↦ lt | inr le ↦ absurd (let z = s.forest.small n le in omega arith) ]
 
   -- each node with a parent is old
   old : (c q : ℕ) → parent_of grown.forest c ≡ Some q → c < w.made
-  old c q e = told (parent-copies document w.made w.forest (node fragment empty empty) c q e)
-    where
-      told : (parent_of w.forest c ≡ Some q) ⊎ ((w.made ≤ q) × (q < c)) → c < w.made
-      told (inl i) = below-made c (child_there w.forest c q i)
-      told (inr i) =
-          let k = child_there grown.forest c q e in
-          let sg = first.drawing.sound in
-          ⊎_elim
-          (λ (lt : c < w.made). lt)
-          (λ (le : w.made ≤ c).
-          absurd (⊎_elim
-          (λ (lt : c < w.made + 1). let a = i.0 in let b = i.1 in omega arith)
-          (λ (ge : w.made + 1 ≤ c). let z = sg.forest.small c ge in omega arith)
-          (cases_lt c (w.made + 1))))
-          (cases_lt c w.made)
+  old c q e = elim (parent-copies document w.made w.forest (node fragment empty empty) c q e) [
+    | inl i ↦ below-made c (child_there w.forest c q i)
+    | inr i ↦
+        let k = child_there grown.forest c q e in
+        let a = i.0 in
+        let b = i.1 in
+        elim (cases_lt c (w.made + 1)) [ inl lt ↦ absurd (omega arith) | inr ge ↦ absurd (let z = first.drawing.sound.forest.small c ge in omega arith) ]
+  ]
 
   hs : 0 < occurs range.start.node w.forest
   hs = occurs-HasNode w.forest range.start.node h.starts.there
@@ -176,16 +128,13 @@ module _ (w : World) (s : IsSound w) (range : Range) (h : IsRange w.forest range
       let a = ap (λ x. is_same x (root_of grown.forest range.start.node)) (root n k) ∙ ap (λ x. is_same (root_of w.forest n) x) (root range.start.node hs) in
       let b = ap is_less (order range.start.node n range.start.offset 0 hs k) in
       let c = ap (λ x. is_less (order_of grown.forest (point n x) range.end)) (length-beside w.forest (node fragment empty empty) n k) ∙ ap is_less (order n range.end.node whole range.end.offset k he) in
-      both a (both b c)
-    where
-      both : {a b c d : Bool} → a ≡ b → c ≡ d → (a && c) ≡ (b && d)
-      both {a} {b} {c} {d} e f = ap (λ x. x && c) e ∙ ap (λ x. b && x) f
+      rw (a, b, c) refl
 
   pub contained_children-same : contained_children grown range ≡ contained_children w range
   contained_children-same =
       ap (λ m. filter (contained_in grown range) (children_of grown.forest m)) common-same
       ∙ ap (λ ns. filter (contained_in grown range) ns) (children-more w.forest s.forest.once fragment fresh (common_of w range) common_there)
-      ∙ filter-agree (contained_in grown range) (contained_in w range) (children_of w.forest (common_of w range)) (λ n k. contained-same n (child-there w.forest s.forest.once n (common_of w range) k))
+      ∙ filter-same (contained_in grown range) (contained_in w range) (children_of w.forest (common_of w range)) (λ n k. contained-same n (child-there w.forest s.forest.once n (common_of w range) k))
 
   module _ (no_doctype : check_draw w range ≡ None) where
     pub contained_drawable : (c : ℕ) → 0 < hits c (contained_children grown range) → IsDrawable w.made grown c

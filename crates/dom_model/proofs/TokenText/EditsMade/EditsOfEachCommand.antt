@@ -1,23 +1,8 @@
 -- The primitive edits of every command fit every world that commands reach, and leave what the command leaves.
-use Rattle.std.proofs.Common.{◌≡◌, ℕ, List, ◌<◌, subst}
-use Rattle.std.specs.Prelude.{Ok}
-use Rattle.dom_model.specs.Worlds.World.{World, first_world}
-use Rattle.dom_model.specs.Commands.Command.{Command}
-use Rattle.dom_model.specs.Commands.Guards.{Bounds}
-use Rattle.dom_model.specs.Commands.Answer.{answer}
-use Rattle.dom_model.specs.TokenText.Edits.{all_on_world}
-use Rattle.dom_model.specs.TokenText.CommandEdits.{edits_of, world_past}
-use Rattle.dom_model.specs.Soundness.Sound.{IsSound}
-use Rattle.dom_model.specs.Forests.Forest.{occurs}
-use Rattle.dom_model.specs.RangesAndContents.Wrapping.{insert_node}
-use Rattle.dom_model.specs.TokenText.Fitting.{AllFit}
-use Rattle.dom_model.proofs.Soundness.SoundContents.{sound-extract}
-use Rattle.dom_model.proofs.Soundness.SoundPlacedNode.{Gives}
-use Rattle.dom_model.proofs.Soundness.SoundInsertedNode.{insert-next}
-use Rattle.dom_model.proofs.Soundness.SoundAnswers.{sound-reached}
-use Rattle.dom_model.proofs.TokenText.EditsMade.EditsLeave.{laid}
-use Rattle.dom_model.proofs.TokenText.EditsMade.EditsOfSurrounding.{KeepSound}
-use Rattle.dom_model.proofs.TokenText.EditsMade.EditsOfCommands.{IsLeftAs, edits-leave_every}
+use Rattle.std.proofs.Common.{◌≡◌, ℕ, List, ◌<◌, subst, Ok}
+use Rattle.dom_model.specs.Definitions.{World, first_world, Command, Bounds, answer, all_on_world, edits_of, world_past, IsSound, occurs, insert_node, AllFit}
+use Rattle.dom_model.proofs.Soundness.{SoundContents.sound-extract, SoundPlacedNode.Gives, SoundInsertedNode.insert-next, SoundAnswers.sound-reached}
+use Rattle.dom_model.proofs.TokenText.{EditsMade.EditsLeave.laid, EditsMade.EditsOfSurrounding.KeepSound, EditsMade.EditsOfCommands.IsLeftAs, EditsMade.EditsOfCommands.edits-leave_every}
 
 -- extracting and inserting a node leave sound worlds
 keeps_sound : KeepSound

@@ -1,38 +1,14 @@
 -- The edits of inserting a node into a live range leave what that leaves. DOM Standard, "Interface Range": insertNode.
-use Rattle.std.proofs.Common.{◌≡◌, ℕ, ◌<◌, ◌≤◌, Bool, true, false, if◌then◌else◌, List, [], length, Option, Some, None, is_some, Ok, Err, refl, ap, sym, ◌∙◌, subst, arith}
-use Rattle.dom_model.specs.declared.DomError.{DomError}
-use Rattle.dom_model.specs.declared.Kind.TheVariants.{Text}
-use Rattle.dom_model.specs.Forests.Forest.{Forest, empty, node, occurs, one_at, with_node, parent_of}
-use Rattle.dom_model.specs.Worlds.World.{Content, Point, Range, World}
-use Rattle.dom_model.specs.MutationAlgorithms.Checks.{check_insert}
-use Rattle.dom_model.specs.Forests.Nodes.{is_of_kind}
-use Rattle.dom_model.specs.MutationAlgorithms.Editing.{remove, pre_insert, reference_child, node_document}
-use Rattle.dom_model.specs.Worlds.Making.{made_node, named, with_text}
-use Rattle.dom_model.specs.RangesAndContents.Ranges.{is_collapsed, range_at, with_range}
-use Rattle.dom_model.specs.DataAndCopies.Data.{data_of, tail_of, replace_data, split_off, split, with_data, cut_count}
-use Rattle.dom_model.specs.Forests.Texts.{spliced}
-use Rattle.dom_model.specs.RangesAndContents.Contents.{for_range}
-use Rattle.dom_model.specs.RangesAndContents.Wrapping.{Outcome, and_then, unless, is_text, reference_at, parent_at, check_start, split_at, reference_after, offset_past, end_if_collapsed, placed_at, inserted_at, insert_node}
-use Rattle.dom_model.specs.TokenText.Edits.{Trace, remove_edits, split_edits, pre_insert_edits, doing, doing_remove, doing_ends, doing_split_at, doing_pre_insert, doing_end_if_collapsed, doing_placed, doing_insert_at, doing_insert_node, insert_node_edits}
-use Rattle.dom_model.specs.Soundness.Sound.{IsBoundary, IsSound}
-use Rattle.dom_model.proofs.Forests.Totals.{total-beside}
-use Rattle.dom_model.proofs.Forests.Entries.{occurs-HasNode}
+use Rattle.std.proofs.Common.{◌≡◌, ℕ, ◌<◌, ◌≤◌, Bool, true, false, if◌then◌else◌, List, [], length, Option, Some, None, is_some, Ok, refl, ap, sym, ◌∙◌, subst, arith}
+use Rattle.std.proofs.lemmas.Bool.{cond_both}
+use Rattle.dom_model.specs.Definitions.{Forest, empty, node, occurs, one_at, with_node, parent_of, Content, Point, Range, World, check_insert, is_of_kind, remove, pre_insert, reference_child, node_document, made_node, named, with_text, is_collapsed, range_at, with_range, data_of, tail_of, replace_data, split_off, split, with_data, cut_count, spliced, for_range, Outcome, and_then, unless, is_text, reference_at, parent_at, check_start, split_at, reference_after, offset_past, end_if_collapsed, placed_at, inserted_at, insert_node, Trace, remove_edits, split_edits, pre_insert_edits, doing, doing_remove, doing_ends, doing_split_at, doing_pre_insert, doing_end_if_collapsed, doing_placed, doing_insert_at, doing_insert_node, insert_node_edits, IsBoundary, IsSound}
+use Rattle.dom_model.specs.declared.{DomError.DomError, Kind.TheVariants.Text}
+use Rattle.dom_model.proofs.Forests.{Totals.total-beside, Entries.occurs-HasNode}
 use Rattle.dom_model.proofs.Worlds.SameShape.{with_node-alike, occurs-alike}
-use Rattle.dom_model.proofs.MutationAlgorithms.Extending.{put_by_insert}
-use Rattle.dom_model.proofs.Soundness.SoundEditing.{may_come_before, sound-pre_insert}
-use Rattle.dom_model.proofs.Soundness.SoundPlacedNode.{Gives}
-use Rattle.dom_model.proofs.Soundness.SoundInsertedNode.{insert-next}
+use Rattle.dom_model.proofs.MutationAlgorithms.{Extending.put_by_insert, Loosened.loosened-remove}
+use Rattle.dom_model.proofs.Soundness.{SoundEditing.may_come_before, SoundEditing.sound-pre_insert, SoundPlacedNode.Gives, SoundInsertedNode.insert-next, SoundWorlds.sound-remove, SoundData.length-data, SoundSplitting.text_has_data, SoundSplitting.new_text, SoundSplitting.there-old, SoundSplitting.there-parted, SoundSplitting.forest_is, SoundSplitting.after_parting, SoundSplitting.split_off_is, SoundSplitting.sound-split}
 use Rattle.dom_model.proofs.RangesAndContents.LiveRangesKept.{is_live, remove-live, pre_insert-live, split-live, with_range-live}
-use Rattle.dom_model.proofs.MutationAlgorithms.Loosened.{loosened-remove}
-use Rattle.dom_model.proofs.Soundness.SoundWorlds.{sound-remove}
-use Rattle.dom_model.proofs.Soundness.SoundData.{length-data}
-use Rattle.dom_model.proofs.Soundness.SoundSplitting.{text_has_data, new_text, there-old, there-parted, forest_is, after_parting, split_off_is, sound-split}
-use Rattle.dom_model.proofs.TokenText.EditsMade.EditsLeave.{Leave, leave-none, Comes, comes-then, Follows, follows-none, follows-then, follows-doing}
-use Rattle.dom_model.proofs.TokenText.EditsMade.EditsOfSteps.{range-of_sound, leave-remove}
-use Rattle.dom_model.proofs.TokenText.EditsMade.EditsOfTrees.{leave-pre_insert}
-use Rattle.dom_model.proofs.TokenText.EditsMade.EditsOfSplitting.{leave-split}
-use Rattle.dom_model.proofs.TokenText.EditsMade.EditsOfDeletedContents.{follows-ends}
-use Rattle.dom_model.proofs.TokenText.EditsMade.EditsOfDrawnContents.{sound-range}
+use Rattle.dom_model.proofs.TokenText.{EditsMade.EditsLeave.Leave, EditsMade.EditsLeave.leave-none, EditsMade.EditsLeave.Comes, EditsMade.EditsLeave.comes-then, EditsMade.EditsLeave.Follows, EditsMade.EditsLeave.follows-none, EditsMade.EditsLeave.follows-then, EditsMade.EditsLeave.follows-doing, EditsMade.EditsOfSteps.range-of_sound, EditsMade.EditsOfSteps.leave-remove, EditsMade.EditsOfTrees.leave-pre_insert, EditsMade.EditsOfSplitting.leave-split, EditsMade.EditsOfDeletedContents.follows-ends, EditsMade.EditsOfDrawnContents.sound-range}
 
 -- Nodes are there once a Text is split.
 
@@ -88,6 +64,10 @@ pub unrefused : (c : Option DomError) (w v : World) (step : World → Outcome) �
 unrefused None w v step h = (refl, h)
 unrefused (Some e) w v step h = absurd (cc h)
 
+pub unrefused-step : (c : Option DomError) (w v : World) (f : (World → World)) (step : (World → Outcome)) → IsDone (and_then (and_then (unless c w) (λ x. Ok (f x))) step) v → (c ≡ None) × IsDone (step (f w)) v
+unrefused-step None w v f step h = (refl, h)
+unrefused-step (Some e) w v f step h = absurd (cc h)
+
 -- The node leaves its parent and comes in, and the range goes around it where it is collapsed.
 
 follows-end : (r : ℕ) (p : Point) (v : World) → IsSound v → IsSound (end_if_collapsed r p v) → Follows (doing_end_if_collapsed r p) v (end_if_collapsed r p v)
@@ -104,34 +84,21 @@ follows-end r p v s k = go (range_at v r) refl k
 end-forest : (r : ℕ) (p : Point) (v : World) → (end_if_collapsed r p v).forest ≡ v.forest
 end-forest r p v = go (range_at v r)
   where
-    part : (range : Range) (b : Bool) → (if b then with_range r (record range { end = p }) v else v).forest ≡ v.forest
-    part range true = refl
-    part range false = refl
-
     go : (o : Option Range) → (for_range o v (λ range. if is_collapsed range then with_range r (record range { end = p }) v else v)).forest ≡ v.forest
     go None = refl
-    go (Some range) = part range (is_collapsed range)
+    go (Some range) = cond_both (is_collapsed range) (with_range r (record range { end = p }) v) v (λ (u : World). u.forest ≡ v.forest) (λ e. refl) (λ e. refl)
 
 end-live : (r : ℕ) (p : Point) (v : World) → is_live r v ≡ true → is_live r (end_if_collapsed r p v) ≡ true
 end-live r p v h = go (range_at v r)
   where
-    part : (range : Range) (b : Bool) → is_live r (if b then with_range r (record range { end = p }) v else v) ≡ true
-    part range true = with_range-live r (record range { end = p }) v h
-    part range false = h
-
     go : (o : Option Range) → is_live r (for_range o v (λ range. if is_collapsed range then with_range r (record range { end = p }) v else v)) ≡ true
     go None = h
-    go (Some range) = part range (is_collapsed range)
+    go (Some range) =
+        let set = record range { end = p } in
+        cond_both (is_collapsed range) (with_range r set v) v (λ (u : World). is_live r u ≡ true) (λ e. with_range-live r set v h) (λ e. h)
 
 pub done-same : (u v : World) → IsDone (Ok u) v → u ≡ v
-done-same u v h = ok_of h
-  where
-    value : Outcome → World
-    value (Ok x) = x
-    value (Err e) = u
-
-    ok_of : IsDone (Ok u) v → u ≡ v
-    ok_of k = ap value k
+done-same u v h = cc h
 
 -- a node of the forest is placed, where the check of the insertion refuses nothing
 module _ (r n parent : ℕ) (reference : Option ℕ) (w : World) (s : IsSound w) (hn : 0 < occurs n w.forest) where
@@ -142,11 +109,9 @@ module _ (r n parent : ℕ) (reference : Option ℕ) (w : World) (s : IsSound w)
   past_it = record { node = parent; offset = offset_past out parent reference n }
 
   checked-placed : (v : World) → IsDone (placed_at r n parent reference w) v → (check_insert out.forest parent n reference ≡ None) × (end_if_collapsed r past_it (pre_insert n parent reference out) ≡ v)
-  checked-placed v h = go (check_insert out.forest parent n reference) refl h
-    where
-      go : (c : Option DomError) → check_insert out.forest parent n reference ≡ c → IsDone (and_then (and_then (unless c out) (λ x. Ok (pre_insert n parent reference x))) (λ x. Ok (end_if_collapsed r past_it x))) v → (check_insert out.forest parent n reference ≡ None) × (end_if_collapsed r past_it (pre_insert n parent reference out) ≡ v)
-      go None e i = (e, done-same (end_if_collapsed r past_it (pre_insert n parent reference out)) v i)
-      go (Some x) e i = absurd (cc i)
+  checked-placed v h =
+      let c = unrefused-step (check_insert out.forest parent n reference) out v (pre_insert n parent reference) (λ x. Ok (end_if_collapsed r past_it x)) h in
+      (c.0, done-same (end_if_collapsed r past_it (pre_insert n parent reference out)) v c.1)
 
   there-out : (m : ℕ) → 0 < occurs m w.forest → 0 < occurs m out.forest
   there-out m h = let k = loosened-remove false n w s hn in subst (λ x. 0 < x) (sym (k.numbers m)) h

@@ -1,31 +1,13 @@
 -- The edits of an insertion leave what the insertion leaves: each node comes into a gap of its own, where the standard makes one for all.
 -- DOM Standard, "Mutation algorithms": insert, pre-insert, append.
-use Rattle.std.proofs.Common.{◌≡◌, ℕ, suc, ◌+◌, ◌<◌, ◌≤◌, true, List, [], ◌∷◌, length, Option, Some, None, All, slice_get, refl, ap, sym, ◌∙◌, subst, arith}
-use Rattle.std.proofs.lemmas.Bool.{le-ltb}
-use Rattle.std.proofs.lemmas.Option.{slice_get_past}
-use Rattle.std.proofs.lemmas.List.Elements.{All-head, All-tail}
-use Rattle.dom_model.specs.PlainLists.Lists.{hits, place_in, entered}
-use Rattle.dom_model.specs.Forests.Kinds.{may_be_parent}
-use Rattle.dom_model.specs.Forests.Forest.{Forest, occurs, children_of, index_of, put}
-use Rattle.dom_model.specs.Worlds.World.{Content, Point, Range, World}
-use Rattle.dom_model.specs.BoundaryPoints.Points.{after_gap, map_ranges}
-use Rattle.dom_model.specs.Forests.Nodes.{kind_passes}
-use Rattle.dom_model.specs.Worlds.Lengths.{unit_count, node_length}
-use Rattle.dom_model.specs.MutationAlgorithms.Editing.{put_in, put_all, gap_before}
-use Rattle.dom_model.specs.TokenText.Tokens.{point, Insertion}
-use Rattle.dom_model.specs.TokenText.Edits.{index_before, insertions, on_world}
-use Rattle.dom_model.specs.Soundness.Sound.{IsBoundary, IsRange, IsSound}
-use Rattle.dom_model.specs.MutationAlgorithms.Insertable.{IsPlaceable, ArePlaceable, IsChildOf}
-use Rattle.dom_model.specs.TokenText.Fitting.{Fits, fits_insertion}
+use Rattle.std.proofs.Common.{◌≡◌, ℕ, suc, ◌+◌, ◌<◌, ◌≤◌, true, List, [], ◌∷◌, length, Option, Some, None, All, slice_get, refl, ap, sym, ◌∙◌, subst, arith, option_map, IfSome}
+use Rattle.std.proofs.lemmas.{Bool.le-ltb, Option.slice_get_past, List.Elements.All-head, List.Elements.All-tail}
+use Rattle.dom_model.specs.Definitions.{hits, place_in, entered, may_be_parent, Forest, occurs, children_of, index_of, put, Content, Point, Range, World, after_gap, map_ranges, kind_passes, unit_count, node_length, put_in, put_all, gap_before, point, Insertion, index_before, insertions, on_world, IsBoundary, IsRange, IsSound, IsPlaceable, ArePlaceable, IsChildOf, Fits, fits_insertion, moved_range, Lives}
 use Rattle.dom_model.proofs.PlainLists.Numbers.{same_or, same, apart}
-use Rattle.dom_model.proofs.Forests.Entries.{children-put}
-use Rattle.dom_model.proofs.Forests.Indices.{child-listed, index-child}
-use Rattle.dom_model.proofs.Worlds.Measured.{length-parent, length-entered}
-use Rattle.dom_model.proofs.Worlds.SameShape.{children-alike}
-use Rattle.dom_model.proofs.Soundness.SoundWorlds.{IsLive, child_there}
-use Rattle.dom_model.proofs.Soundness.SoundPlacing.{gap_before-none, gap-apart, placed-forest, apart_from, passes, renamed, after_adoption, occurs_placed, index_placed, all_placeable, child_placed, sound-put_one}
-use Rattle.dom_model.proofs.TokenText.EditsMade.FittingEdits.{ready-sound, holder-no_data}
-use Rattle.dom_model.proofs.TokenText.EditsMade.EditsLeave.{laid, Leave, leave-none, leave-edit, leave-then}
+use Rattle.dom_model.proofs.Forests.{Entries.children-put, Indices.child-listed, Indices.index-child, Siblings.place_in-length}
+use Rattle.dom_model.proofs.Worlds.{Measured.length-parent, Measured.length-entered, SameShape.children-alike}
+use Rattle.dom_model.proofs.Soundness.{SoundWorlds.IsLive, SoundWorlds.child_there, SoundPlacing.gap_before-none, SoundPlacing.gap-apart, SoundPlacing.placed-forest, SoundPlacing.apart_from, SoundPlacing.passes, SoundPlacing.renamed, SoundPlacing.after_adoption, SoundPlacing.occurs_placed, SoundPlacing.index_placed, SoundPlacing.all_placeable, SoundPlacing.child_placed, SoundPlacing.sound-put_one}
+use Rattle.dom_model.proofs.TokenText.{EditsMade.FittingEdits.ready-sound, EditsMade.FittingEdits.holder-no_data, EditsMade.EditsLeave.laid, EditsMade.EditsLeave.Leave, EditsMade.EditsLeave.leave-none, EditsMade.EditsLeave.leave-edit, EditsMade.EditsLeave.leave-then}
 
 -- the child of an index
 pub get-place : (n : ℕ) (ns : List ℕ) → 0 < hits n ns → slice_get ns (place_in n ns) ≡ Some n
@@ -36,18 +18,19 @@ get-place n (x ∷ xs) h =
       | apart ne t ↦ (let k = rw t at h in let e : 1 + place_in n xs ≡ suc (place_in n xs) = omega arith in rw (t, e) (get-place n xs (omega arith)))
     ]
 
-place-within : (n : ℕ) (ns : List ℕ) → place_in n ns ≤ length ns
-place-within n [] = omega arith
-place-within n (x ∷ xs) = elim (same_or x n) [ same e t ↦ rw t (omega arith) | apart ne t ↦ rw t (omega (arith, place-within n xs)) ]
-
 -- Ends of live ranges that a map leaves.
 
+-- ends that a map leaves
+pub lives-stay : (P : Range → Type 0) (move : Point → Point) → ((r : Range) → P r → moved_range move r ≡ r) → (rs : List (Option Range)) → Lives P rs → map_ranges move rs ≡ rs
+lives-stay P move stays [] h = refl
+lives-stay P move stays (r ∷ rs) h = rw (lives-stay P move stays rs (All-tail (λ (o : Option Range). IfSome o P) r rs h)) (ap (λ x. x ∷ rs) (each r (All-head (λ (o : Option Range). IfSome o P) r rs h)))
+  where
+    each : (o : Option Range) → IfSome o P → option_map (moved_range move) o ≡ o
+    each None k = refl
+    each (Some r) k = ap (λ x. Some x) (stays r k)
+
 pub ranges-stay : (f : Forest Content) (move : Point → Point) → ((q : Point) → IsBoundary f q → move q ≡ q) → (rs : List (Option Range)) → All (IsLive f) rs → map_ranges move rs ≡ rs
-ranges-stay f move stays [] h = refl
-ranges-stay f move stays (None ∷ rs) h = ap (λ x. None ∷ x) (ranges-stay f move stays rs (All-tail (IsLive f) None rs h))
-ranges-stay f move stays (Some r ∷ rs) h =
-    let k : IsRange f r = All-head (IsLive f) (Some r) rs h in
-    rw (ranges-stay f move stays rs (All-tail (IsLive f) (Some r) rs h), stays r.start k.starts, stays r.end k.ends) refl
+ranges-stay f move stays rs h = lives-stay (IsRange f) move (λ r k. rw (stays r.start k.starts, stays r.end k.ends) refl) rs h
 
 -- no point of a parent is past its last child
 pub gap-last : (f : Forest Content) (parent count : ℕ) → kind_passes may_be_parent f parent ≡ true → (q : Point) → IsBoundary f q → after_gap parent (length (children_of f parent)) count q ≡ q
@@ -87,7 +70,7 @@ module _ (parent n : ℕ) (child : Option ℕ) (w : World) (s : IsSound w) (hp :
     where
       go : (b : Option ℕ) → IsChildOf w.forest parent b → index_before w parent b ≤ length (children_of w.forest parent)
       go None c = omega arith
-      go (Some d) c = let i = index-child w.forest d parent c in let j = place-within d (children_of w.forest parent) in omega arith
+      go (Some d) c = let i = index-child w.forest d parent c in let j = place_in-length d (children_of w.forest parent) in omega arith
 
   pub come_in-fits : Fits w (Insertion n (point parent (index_before w parent child)))
   come_in-fits =

@@ -1,50 +1,19 @@
 -- The edits of normalize leave what normalize leaves: each Text that follows is merged by itself, where the standard joins all data, then moves
 -- all ends, then removes all Texts. DOM Standard, "Interface Node": normalize.
-use Rattle.std.proofs.Common.{◌≡◌, ℕ, ◌+◌, ◌<◌, ◌≤◌, ◌==◌, Bool, true, false, if◌then◌else◌, List, [], ◌∷◌, ◌++◌, take, drop, length, Option, Some, None, IfSome, option_map, refl, ap, sym, ◌∙◌, subst, arith, append_assoc, append-nil, length-append}
-use Rattle.std.proofs.lemmas.Bool.{le-ltb}
-use Rattle.std.proofs.lemmas.List.{take_all, drop_all}
-use Rattle.std.proofs.lemmas.List.Elements.{All-head, All-tail}
+use Rattle.std.proofs.Common.{◌≡◌, ℕ, ◌+◌, ◌<◌, ◌≤◌, ◌==◌, Bool, true, false, if◌then◌else◌, List, [], ◌∷◌, ◌++◌, drop, length, Option, Some, None, refl, ap, sym, ◌∙◌, subst, arith, append_assoc, append-nil, length-append}
+use Rattle.std.proofs.lemmas.{Bool.le-ltb, List.take_all, List.drop_all, Bool.eq-eqb, Bool.ne_eqb}
+use Rattle.dom_model.specs.Definitions.{hits, is_kind, is_character_data, Forest, occurs, cut, with_node, entry_in, parent_of, index_of, inclusive_descendants, spliced, Content, Point, Range, World, after_splice, after_merge, after_removal, map_ranges, is_of_kind, unit_count, node_length, removed_from, remove, end_of, data_of, with_data, following_texts, joined_data, merge_ends, remove_each, join_following, normalize_text, is_descendant, text_descendants, normalize_each, normalize, Merge, merge_from, on_world, remove_edits, merges, normalize_text_edits, normalize_each_edits, normalize_edits, IsBoundary, IsRange, IsSound, Lives, AreUpTo, AreJoinable, IsPoint, IsReady, Fits, fits_merge}
 use Rattle.dom_model.specs.declared.Kind.TheVariants.{Text}
-use Rattle.dom_model.specs.PlainLists.Lists.{hits}
-use Rattle.dom_model.specs.Forests.Arena.{Entry}
-use Rattle.dom_model.specs.Forests.Kinds.{is_kind, is_character_data}
-use Rattle.dom_model.specs.Forests.Forest.{Node, Forest, occurs, cut, with_node, entry_in, parent_of, index_of, inclusive_descendants}
-use Rattle.dom_model.specs.Forests.Texts.{spliced}
-use Rattle.dom_model.specs.Worlds.World.{Content, Point, Range, World}
-use Rattle.dom_model.specs.BoundaryPoints.Points.{after_splice, after_merge, after_removal, moved_range, map_ranges}
-use Rattle.dom_model.specs.Forests.Nodes.{is_of_kind}
-use Rattle.dom_model.specs.Worlds.Lengths.{unit_count, node_length}
-use Rattle.dom_model.specs.MutationAlgorithms.Editing.{removed_from, remove}
-use Rattle.dom_model.specs.RangesAndContents.Ranges.{end_of}
-use Rattle.dom_model.specs.DataAndCopies.Data.{content_in, data_of, with_data, following_texts, joined_data, merge_ends, remove_each, join_following, normalize_text, is_descendant, text_descendants, normalize_each, normalize}
-use Rattle.dom_model.specs.TokenText.Tokens.{Merge}
-use Rattle.dom_model.specs.TokenText.Edits.{merge_from, on_world, remove_edits, merges, normalize_text_edits, normalize_each_edits, normalize_edits}
-use Rattle.dom_model.specs.Soundness.Sound.{IsBoundary, IsRange, IsSound}
-use Rattle.dom_model.specs.DataAndCopies.Joinable.{Lives, AreUpTo, AreJoinable}
-use Rattle.dom_model.specs.TokenText.Fitting.{IsPoint, IsReady, Fits, fits_merge}
 use Rattle.dom_model.proofs.PlainLists.Numbers.{same_or, same, apart}
-use Rattle.dom_model.proofs.Forests.Climbing.{hits-append, hits-first}
-use Rattle.dom_model.proofs.Forests.Changes.{change_at}
+use Rattle.dom_model.proofs.Forests.{Climbing.hits-append, Climbing.hits-first, Entries.occurs-HasNode, Changes.seen, Changes.nothing, Changes.just}
 use Rattle.dom_model.proofs.DataAndCopies.ChangedNodes.{cut-with_node, data-twice, data-same}
-use Rattle.dom_model.proofs.Worlds.SameShape.{IsAlike, with_node-alike, occurs-alike, parent-alike, kind-alike, index-alike, inside-alike}
-use Rattle.dom_model.proofs.Worlds.Measured.{entry-with_node}
-use Rattle.dom_model.proofs.Soundness.SoundForests.{entry_there}
-use Rattle.dom_model.proofs.Soundness.SoundWorlds.{each-kept}
-use Rattle.dom_model.proofs.Soundness.SoundData.{length-data, length-other}
-use Rattle.dom_model.proofs.Soundness.SoundSplitting.{text_has_data}
-use Rattle.dom_model.proofs.Soundness.SoundJoining.{lives-both, first_in, t_apart, index_first, text_first, is_child, is_there, merged_is, content_left, joinable_left, in_either_order, further, moved, left}
-use Rattle.dom_model.proofs.Soundness.SoundNormalizing.{kept-one, below_parent, base, count, joint, joinable, no_count, others, joined-same, filter-passed}
-use Rattle.dom_model.proofs.Forests.Entries.{occurs-HasNode}
-use Rattle.dom_model.proofs.TokenText.EditsMade.FittingEdits.{ready-lives}
-use Rattle.dom_model.proofs.TokenText.EditsMade.EditsLeave.{laid, Leave, leave-none, leave-edit, leave-then, leave-alike}
-use Rattle.dom_model.proofs.TokenText.EditsMade.EditsOfSteps.{leave-remove}
+use Rattle.dom_model.proofs.Worlds.{SameShape.IsAlike, SameShape.with_node-alike, SameShape.occurs-alike, SameShape.parent-alike, SameShape.kind-alike, SameShape.index-alike, SameShape.inside-alike, Measured.entry-with_node}
+use Rattle.dom_model.proofs.Soundness.{SoundForests.entry_there, SoundWorlds.each-kept, SoundData.length-data, SoundData.length-other, SoundSplitting.text_has_data, SoundJoining.lives-both, SoundJoining.first_in, SoundJoining.t_apart, SoundJoining.index_first, SoundJoining.text_first, SoundJoining.is_child, SoundJoining.is_there, SoundJoining.merged_is, SoundJoining.content_left, SoundJoining.joinable_left, SoundJoining.in_either_order, SoundJoining.further, SoundJoining.moved, SoundJoining.left, SoundNormalizing.kept-one, SoundNormalizing.below_parent, SoundNormalizing.base, SoundNormalizing.count, SoundNormalizing.joint, SoundNormalizing.joinable, SoundNormalizing.no_count, SoundNormalizing.others, SoundNormalizing.joined-same, SoundNormalizing.filter-passed}
+use Rattle.dom_model.proofs.TokenText.{EditsMade.FittingEdits.ready-lives, EditsMade.EditsLeave.laid, EditsMade.EditsLeave.Leave, EditsMade.EditsLeave.leave-none, EditsMade.EditsLeave.leave-edit, EditsMade.EditsLeave.leave-then, EditsMade.EditsLeave.leave-alike, EditsMade.EditsOfSteps.leave-remove, EditsMade.EditsOfInsertions.lives-stay}
 
 -- units that are put at the end
 spliced-end : (units more : List ℕ) → spliced (length units) 0 more units ≡ units ++ more
-spliced-end units more =
-    let a : take (length units) units ≡ units = take_all (length units) units (omega arith) in
-    let b : drop (length units + 0) units ≡ [] = drop_all (length units + 0) units (omega arith) in
-    rw (a, b) (append-nil (units ++ more))
+spliced-end units more = rw (take_all (length units) units (omega arith), drop_all (length units + 0) units (omega arith)) (append-nil (units ++ more))
 
 -- the world with other data in a Text
 abbrev with_text_of : ℕ → List ℕ → World → World
@@ -53,28 +22,12 @@ with_text_of t units v = record v { forest = with_node t (with_data units) v.for
 data-itself : (t : ℕ) (units : List ℕ) (v : World) → 0 < occurs t v.forest → data_of (with_text_of t units v) t ≡ units
 data-itself t units v h =
     let e = entry_there v.forest t h in
-    ap (λ o. (content_in o).text) (entry-with_node (with_data units) (λ x. refl) t t None v.forest)
-    ∙ ap (λ o. (content_in (change_at (with_data units) t t o)).text) e.1
-    ∙ (elim (same_or t t) [ same _ u ↦ rw u refl | apart ne u ↦ absurd (ne refl) ])
+    rw (entry-with_node (with_data units) (λ x. refl) t t None v.forest, data_of) (rw (e.1, eq-eqb t t refl) refl)
 
 data-other : (t : ℕ) (units : List ℕ) (v : World) (m : ℕ) → (m ≡ t → ⊥) → data_of (with_text_of t units v) m ≡ data_of v m
-data-other t units v m ne = ap (λ o. (content_in o).text) (entry-with_node (with_data units) (λ x. refl) t m None v.forest) ∙ go (entry_in v.forest m)
-  where
-    far : (m == t) ≡ false
-    far = elim (same_or m t) [ same e u ↦ absurd (ne e) | apart _ u ↦ u ]
-
-    go : (o : Option (Entry (Node Content))) → (content_in (change_at (with_data units) t m o)).text ≡ (content_in o).text
-    go None = refl
-    go (Some e) = rw far refl
-
--- ends that a map leaves
-lives-stay : (P : Range → Type 0) (move : Point → Point) → ((r : Range) → P r → moved_range move r ≡ r) → (rs : List (Option Range)) → Lives P rs → map_ranges move rs ≡ rs
-lives-stay P move stays [] h = refl
-lives-stay P move stays (r ∷ rs) h = rw (lives-stay P move stays rs (All-tail (λ (o : Option Range). IfSome o P) r rs h)) (ap (λ x. x ∷ rs) (each r (All-head (λ (o : Option Range). IfSome o P) r rs h)))
-  where
-    each : (o : Option Range) → IfSome o P → option_map (moved_range move) o ≡ o
-    each None k = refl
-    each (Some r) k = ap (λ x. Some x) (stays r k)
+data-other t units v m ne =
+    rw (entry-with_node (with_data units) (λ x. refl) t m None v.forest, data_of)
+    (elim (seen (entry_in v.forest m)) [ nothing e ↦ rw (data_of, e) refl | just a e ↦ rw (data_of, e, ne_eqb m t ne) refl ])
 
 -- units that come in behind all ends move none
 up_to-stays : (t base count : ℕ) (rs : List (Option Range)) → Lives (AreUpTo t base) rs → map_ranges (after_splice t base 0 count) rs ≡ rs
@@ -96,15 +49,6 @@ module _ (v : World) (t p first : ℕ) (ts units : List ℕ) (j : AreJoinable v 
   abbrev before : World
   before = with_text_of t units v
 
-  -- what a merge leaves, by what it reads
-  abbrev merge_world : ℕ → List ℕ → List ℕ → ℕ → Forest Content → World
-  merge_world base added own index g =
-      let joined = with_node t (with_data (spliced base 0 added own)) g in
-      record v {
-        forest = cut first joined;
-        ranges = map_ranges (after_removal (inclusive_descendants joined first) p (index_of joined first)) (map_ranges (after_merge first t base p index) (map_ranges (after_splice t base 0 (length added)) v.ranges));
-      }
-
   -- and by the forest with the joined data
   abbrev left_world : Forest Content → List (Option Range) → World
   left_world g rs = record v { forest = cut first g; ranges = map_ranges (after_removal (inclusive_descendants g first) p (index_of g first)) (map_ranges (after_merge first t (length units) p (index_of v.forest first)) rs) }
@@ -124,12 +68,7 @@ module _ (v : World) (t p first : ℕ) (ts units : List ℕ) (j : AreJoinable v 
       let own = data-itself t units v t_there in
       let added = data-other t units v first first_apart in
       ap (λ o. laid (merge_from t first o before)) (parent-alike a first ∙ par_first)
-      ∙ ap (λ xs. laid (merge_world (length xs) (data_of before first) xs (index_of before.forest first) before.forest)) own
-      ∙ ap (λ xs. laid (merge_world (length units) xs units (index_of before.forest first) before.forest)) added
-      ∙ ap (λ i. laid (merge_world (length units) more units i before.forest)) (index-alike a first)
-      ∙ ap (λ xs. laid (left_world (with_node t (with_data xs) before.forest) (map_ranges (after_splice t (length units) 0 (length more)) v.ranges))) (spliced-end units more)
-      ∙ ap (λ g. laid (left_world g (map_ranges (after_splice t (length units) 0 (length more)) v.ranges))) (data-twice t (units ++ more) units v.forest)
-      ∙ ap (λ rs. laid (left_world (with_node t (with_data (units ++ more)) v.forest) rs)) (up_to-stays t (length units) (length more) v.ranges j.up_to)
+      ∙ (rw (own, added, index-alike a first, spliced-end units more, data-twice t (units ++ more) units v.forest, up_to-stays t (length units) (length more) v.ranges j.up_to) refl)
 
   abbrev after : World
   after = left v t p (length units) first ts j

@@ -2,31 +2,13 @@
 -- DOM Standard, "Interface Text": split.
 use Rattle.std.proofs.Common.{◌≡◌, ℕ, ◌+◌, ◌-◌, ◌<◌, ◌≤◌, true, List, [], ◌∷◌, ◌++◌, length, Option, Some, None, refl, ap, sym, ◌∙◌, subst, arith, length-drop}
 use Rattle.std.proofs.lemmas.Bool.Decides.{nat_tests}
+use Rattle.dom_model.specs.Definitions.{is_character_data, Forest, empty, node, occurs, parent_of, children_of, next_of, index_of, Content, World, map_ranges, after_split, is_of_kind, node_document, made_node, named, with_text, content_in, data_of, cut_count, replace_units, replace_data, tail_of, split_off, split, point, Splice, Parting, index_before, insertion_at, parting_from, making, replace_data_edits, split_edits_by, split_edits, IsSound, IsChildOf, fits_parting}
 use Rattle.dom_model.specs.declared.Kind.TheVariants.{Text}
-use Rattle.dom_model.specs.Forests.Kinds.{is_character_data}
-use Rattle.dom_model.specs.Forests.Forest.{Forest, empty, node, occurs, parent_of, children_of, next_of, index_of}
-use Rattle.dom_model.specs.Worlds.World.{Content, World}
-use Rattle.dom_model.specs.BoundaryPoints.Points.{map_ranges, after_split}
-use Rattle.dom_model.specs.Forests.Nodes.{is_of_kind}
-use Rattle.dom_model.specs.MutationAlgorithms.Editing.{node_document}
-use Rattle.dom_model.specs.Worlds.Making.{made_node, named, with_text}
-use Rattle.dom_model.specs.DataAndCopies.Data.{content_in, data_of, cut_count, replace_units, replace_data, tail_of, split_off, split}
-use Rattle.dom_model.specs.TokenText.Tokens.{point, Splice, Parting}
-use Rattle.dom_model.specs.TokenText.Edits.{index_before, insertion_at, parting_from, making, replace_data_edits, split_edits_by, split_edits}
-use Rattle.dom_model.specs.Soundness.Sound.{IsSound}
-use Rattle.dom_model.specs.MutationAlgorithms.Insertable.{IsChildOf}
-use Rattle.dom_model.specs.TokenText.Fitting.{fits_parting}
-use Rattle.dom_model.proofs.Forests.Siblings.{place-next}
+use Rattle.dom_model.proofs.Forests.{Siblings.place-next, Indices.index-child, OneMoreRoot.index-more}
 use Rattle.dom_model.proofs.PlainLists.Places.{place_before}
-use Rattle.dom_model.proofs.Forests.Indices.{index-child}
-use Rattle.dom_model.proofs.Forests.OneMoreRoot.{index-more}
 use Rattle.dom_model.proofs.Worlds.Measured.{entry-beside, kind-beside}
-use Rattle.dom_model.proofs.Soundness.SoundSplitting.{text_has_data, new_text, made, sm, there-old, hp, par-made, placeable, before_child, placed, after_parting, forest_is, index-kept, split_off_is, length_after}
-use Rattle.dom_model.proofs.Soundness.SoundMaking.{sound-made_node}
-use Rattle.dom_model.proofs.TokenText.EditsMade.FittingEdits.{ready-sound}
-use Rattle.dom_model.proofs.TokenText.EditsMade.EditsLeave.{laid, Leave, leave-edit, leave-then}
-use Rattle.dom_model.proofs.TokenText.EditsMade.EditsOfSteps.{leave-making, leave-replace_data}
-use Rattle.dom_model.proofs.TokenText.EditsMade.EditsOfInsertions.{come_in-edit}
+use Rattle.dom_model.proofs.Soundness.{SoundSplitting.text_has_data, SoundSplitting.new_text, SoundSplitting.made, SoundSplitting.sm, SoundSplitting.there-old, SoundSplitting.hp, SoundSplitting.par-made, SoundSplitting.placeable, SoundSplitting.before_child, SoundSplitting.placed, SoundSplitting.after_parting, SoundSplitting.forest_is, SoundSplitting.index-kept, SoundSplitting.split_off_is, SoundSplitting.length_after, SoundMaking.sound-made_node}
+use Rattle.dom_model.proofs.TokenText.{EditsMade.FittingEdits.ready-sound, EditsMade.EditsLeave.laid, EditsMade.EditsLeave.Leave, EditsMade.EditsLeave.leave-edit, EditsMade.EditsLeave.leave-then, EditsMade.EditsOfSteps.leave-making, EditsMade.EditsOfSteps.leave-replace_data, EditsMade.EditsOfInsertions.come_in-edit}
 
 -- all units from an offset on are the tail
 pub cut-tail : (w : World) (n offset whole : ℕ) → whole ≡ length (data_of w n) → cut_count whole offset (length (tail_of w n offset)) ≡ length (tail_of w n offset)

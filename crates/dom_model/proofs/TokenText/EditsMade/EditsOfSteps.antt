@@ -1,30 +1,13 @@
 -- The edits of the steps that are one edit, or one for each of a list: new nodes and copies, removals, data, range ends.
-use Rattle.std.proofs.Common.{◌≡◌, ℕ, ◌+◌, ◌<◌, ◌≤◌, Bool, true, false, if◌then◌else◌, List, [], ◌∷◌, length, Option, Some, None, option_map, slice_set, refl, ap, sym, ◌∙◌, subst, arith, ⊎_elim}
-use Rattle.std.proofs.lemmas.Bool.{cases_lt, false≢true}
-use Rattle.std.proofs.lemmas.List.{set-set, set-get_or, get_or-set_same, get_or_past}
-use Rattle.dom_model.specs.Forests.Kinds.{Label, is_character_data}
-use Rattle.dom_model.specs.PlainLists.Lists.{hits}
-use Rattle.dom_model.specs.Forests.Forest.{Node, Forest, empty, node, size, parent_of, KindsFit}
-use Rattle.dom_model.specs.Worlds.World.{Content, Point, Range, World}
-use Rattle.dom_model.specs.MutationAlgorithms.Editing.{removed_from, remove, remove_all, tree_record_unless}
-use Rattle.dom_model.specs.Worlds.Making.{made_node}
-use Rattle.dom_model.specs.RangesAndContents.Ranges.{end_of, range_at, with_range, made_range, released}
-use Rattle.dom_model.specs.DataAndCopies.Data.{data_of, cut_count, replace_data}
-use Rattle.dom_model.specs.Forests.Nodes.{kind_passes}
-use Rattle.dom_model.specs.Soundness.Sound.{IsRange, IsSound}
-use Rattle.dom_model.specs.DataAndCopies.Clones.{renumbered, with_copies}
-use Rattle.dom_model.specs.MutationAlgorithms.Discarding.{discarded}
-use Rattle.dom_model.specs.TokenText.Tokens.{same_point, Removal, Splice, EndSet, Making, RangeMaking, Release, Discard}
-use Rattle.dom_model.specs.TokenText.Edits.{set_side, removal_from, removal_if, remove_edits, removals, making, copies_edits, replace_data_edits, end_edit, ends_edits}
-use Rattle.dom_model.specs.TokenText.Fitting.{IsPoint, IsReady, fits_removal, fits_end_set, fits_range_making, fits_release, fits_discard}
+use Rattle.std.proofs.Common.{◌≡◌, ℕ, ◌+◌, ◌<◌, ◌≤◌, Bool, true, false, if◌then◌else◌, List, [], ◌∷◌, length, Option, Some, None, option_map, slice_set, refl, ap, sym, ◌∙◌, subst, arith, inl, inr, ◌==◌}
+use Rattle.std.proofs.lemmas.{Bool.cases_lt, List.set-set, List.set-get_or, List.get_or-set_same, List.get_or_past, Bool.and_parts, Bool.eqb-true}
+use Rattle.dom_model.specs.Definitions.{Label, is_character_data, hits, Node, Forest, empty, node, size, parent_of, KindsFit, Content, Point, Range, World, removed_from, remove, remove_all, tree_record_unless, made_node, end_of, range_at, with_range, made_range, released, data_of, cut_count, replace_data, kind_passes, IsRange, IsSound, renumbered, with_copies, discarded, same_point, Removal, Splice, EndSet, Making, RangeMaking, Release, set_side, removal_from, removal_if, remove_edits, removals, making, copies_edits, replace_data_edits, end_edit, ends_edits, IsPoint, IsReady, fits_removal, fits_end_set, fits_range_making, fits_release, fits_discard}
+use Rattle.dom_model.specs.TokenText.Tokens.{Discard}
 use Rattle.dom_model.proofs.PlainLists.Numbers.{same_or, same, apart}
 use Rattle.dom_model.proofs.Forests.Climbing.{hits-append, hits-first}
 use Rattle.dom_model.proofs.MutationAlgorithms.Loosened.{parent-remove}
-use Rattle.dom_model.proofs.Soundness.SoundWorlds.{IsLive, child_there, sound-remove}
-use Rattle.dom_model.proofs.Soundness.SoundRangeSteps.{live_range}
-use Rattle.dom_model.proofs.Soundness.SoundMaking.{sound-made_node, sound-copies}
-use Rattle.dom_model.proofs.TokenText.EditsMade.FittingEdits.{end-point, ready-sound, ready-with_range, fits-making, fits-splice}
-use Rattle.dom_model.proofs.TokenText.EditsMade.EditsLeave.{laid, Leave, leave-none, leave-edit, leave-then, leave-alike}
+use Rattle.dom_model.proofs.Soundness.{SoundWorlds.IsLive, SoundWorlds.child_there, SoundWorlds.sound-remove, SoundRangeSteps.live_range, SoundMaking.sound-made_node, SoundMaking.sound-copies}
+use Rattle.dom_model.proofs.TokenText.{EditsMade.FittingEdits.end-point, EditsMade.FittingEdits.ready-sound, EditsMade.FittingEdits.ready-with_range, EditsMade.FittingEdits.fits-making, EditsMade.FittingEdits.fits-splice, EditsMade.EditsLeave.laid, EditsMade.EditsLeave.Leave, EditsMade.EditsLeave.leave-none, EditsMade.EditsLeave.leave-edit, EditsMade.EditsLeave.leave-then, EditsMade.EditsLeave.leave-alike}
 
 -- New nodes and copies.
 
@@ -102,14 +85,8 @@ leave-discarded n w s e = leave-edit (Discard n) w (discarded n w) (ready-sound 
 
 same-points : (p q : Point) → same_point p q ≡ true → p ≡ q
 same-points p q h =
-    elim (same_or p.node q.node) [
-      | same e t ↦
-          elim (same_or p.offset q.offset) [
-            | same d u ↦ ap {B = Point} (λ n. record { node = n; offset = p.offset }) e ∙ ap {B = Point} (λ k. record { node = q.node; offset = k }) d
-            | apart ne u ↦ absurd (let k = rw (t, u) at h in false≢true k)
-          ]
-      | apart ne t ↦ absurd (let k = rw t at h in false≢true k)
-    ]
+    let i = and_parts (p.node == q.node) (p.offset == q.offset) h in
+    ap {B = Point} (λ n. record { node = n; offset = p.offset }) (eqb-true p.node q.node i.0) ∙ ap {B = Point} (λ k. record { node = q.node; offset = k }) (eqb-true p.offset q.offset i.1)
 
 -- a side that is set to where it stands
 set-same : (side : Bool) (p : Point) (range : Range) → end_of side range ≡ p → set_side side p range ≡ range
@@ -118,10 +95,10 @@ set-same false p range e = ap (λ (q : Point). set_side false q range) (sym e)
 
 range-there : (w : World) (r : ℕ) (range : Range) → range_at w r ≡ Some range → r < length w.ranges
 range-there w r range e =
-    ⊎_elim
-    (λ (lt : r < length w.ranges). lt)
-    (λ (le : length w.ranges ≤ r). absurd (let k : Some range ≡ None = sym e ∙ get_or_past w.ranges r None le in cc k))
-    (cases_lt r (length w.ranges))
+    elim (cases_lt r (length w.ranges)) [
+      | inl lt ↦ lt
+      | inr le ↦ absurd (let k : Some range ≡ None = sym e ∙ get_or_past w.ranges r None le in cc k)
+    ]
 
 pub range-set : (w : World) (r : ℕ) (old new : Range) → range_at w r ≡ Some old → range_at (with_range r new w) r ≡ Some new
 range-set w r old new e = get_or-set_same w.ranges r (Some new) None (range-there w r old e)

@@ -1,27 +1,13 @@
 -- The edits of surrounding the contents of a live range leave what that leaves, where extracting and inserting a node leave sound worlds.
 -- DOM Standard, "Interface Range": surroundContents.
-use Rattle.std.proofs.Common.{◌≡◌, ℕ, ◌<◌, Bool, true, false, ◌||◌, if◌then◌else◌, List, [], ◌∷◌, Option, Some, None, is_some, Ok, Err, refl, ap, sym, ◌∙◌, subst}
-use Rattle.dom_model.specs.declared.DomError.{DomError}
-use Rattle.dom_model.specs.Forests.Forest.{Forest, occurs, children_of}
-use Rattle.dom_model.specs.Worlds.World.{Content, Range, World}
-use Rattle.dom_model.specs.MutationAlgorithms.Checks.{check_insert}
-use Rattle.dom_model.specs.MutationAlgorithms.Editing.{pre_insert, append, remove_all, replaced_record, replace_all}
-use Rattle.dom_model.specs.RangesAndContents.Ranges.{is_collapsed, collapsed_at, around, range_at, with_range}
-use Rattle.dom_model.specs.RangesAndContents.Contents.{for_range, is_in_one_data, new_place, contents_drawn, check_extract, extracted, extract}
-use Rattle.dom_model.specs.RangesAndContents.Wrapping.{Outcome, and_then, unless, try_pre_insert, insert_node, check_surround, try_extract, selected, try_select, surrounded, surround}
-use Rattle.dom_model.specs.TokenText.Edits.{begun, append_edits, replace_all_edits, extract_edits, doing, doing_append, doing_insert_node, doing_ends, doing_selected, doing_select, doing_surround, surround_edits}
-use Rattle.dom_model.specs.Soundness.Sound.{IsSound}
+use Rattle.std.proofs.Common.{◌≡◌, ℕ, ◌<◌, true, ◌||◌, List, [], ◌∷◌, Option, Some, None, is_some, Ok, Err, refl, ap, sym, ◌∙◌, subst}
+use Rattle.std.proofs.lemmas.Bool.{cond_both}
+use Rattle.dom_model.specs.Definitions.{Forest, occurs, children_of, Content, Range, World, check_insert, pre_insert, append, remove_all, replaced_record, replace_all, is_collapsed, collapsed_at, around, range_at, with_range, for_range, is_in_one_data, new_place, contents_drawn, check_extract, extracted, extract, Outcome, and_then, try_pre_insert, insert_node, check_surround, try_extract, selected, try_select, surrounded, surround, begun, append_edits, replace_all_edits, extract_edits, doing, doing_append, doing_insert_node, doing_ends, doing_selected, doing_select, doing_surround, surround_edits, IsSound}
 use Rattle.dom_model.proofs.Forests.Indices.{child-there}
 use Rattle.dom_model.proofs.MutationAlgorithms.Loosened.{loosened-remove_all}
-use Rattle.dom_model.proofs.Soundness.SoundEditing.{sound-pre_insert, sound-replace_all}
-use Rattle.dom_model.proofs.Soundness.SoundWorlds.{IsLive}
-use Rattle.dom_model.proofs.RangesAndContents.RangesSet.{range_selected}
-use Rattle.dom_model.proofs.RangesAndContents.LiveRangesKept.{is_live, live-there, append-live, replace_all-live, with_range-live}
-use Rattle.dom_model.proofs.TokenText.EditsMade.EditsLeave.{Leave, Comes, Follows, comes-begun, comes-then, follows-doing}
-use Rattle.dom_model.proofs.TokenText.EditsMade.EditsOfTrees.{leave-pre_insert, leave-replace_all}
-use Rattle.dom_model.proofs.TokenText.EditsMade.EditsOfDeletedContents.{follows-ends}
-use Rattle.dom_model.proofs.TokenText.EditsMade.EditsOfDrawnContents.{sound-range, check-range, there-contents_drawn, fragment-contents_drawn, live-contents_drawn, leave-extract}
-use Rattle.dom_model.proofs.TokenText.EditsMade.EditsOfInsertedNodes.{IsDone, unrefused, done-same, AreKept, kept-insert_node, follows-insert_node}
+use Rattle.dom_model.proofs.Soundness.{SoundEditing.sound-pre_insert, SoundEditing.sound-replace_all, SoundWorlds.IsLive}
+use Rattle.dom_model.proofs.RangesAndContents.{RangesSet.range_selected, LiveRangesKept.is_live, LiveRangesKept.live-there, LiveRangesKept.append-live, LiveRangesKept.replace_all-live, LiveRangesKept.with_range-live}
+use Rattle.dom_model.proofs.TokenText.{EditsMade.EditsLeave.Leave, EditsMade.EditsLeave.Comes, EditsMade.EditsLeave.Follows, EditsMade.EditsLeave.comes-begun, EditsMade.EditsLeave.comes-then, EditsMade.EditsLeave.follows-doing, EditsMade.EditsOfTrees.leave-pre_insert, EditsMade.EditsOfTrees.leave-replace_all, EditsMade.EditsOfDeletedContents.follows-ends, EditsMade.EditsOfDrawnContents.sound-range, EditsMade.EditsOfDrawnContents.check-range, EditsMade.EditsOfDrawnContents.there-contents_drawn, EditsMade.EditsOfDrawnContents.fragment-contents_drawn, EditsMade.EditsOfDrawnContents.live-contents_drawn, EditsMade.EditsOfDrawnContents.leave-extract, EditsMade.EditsOfInsertedNodes.IsDone, EditsMade.EditsOfInsertedNodes.unrefused, EditsMade.EditsOfInsertedNodes.done-same, EditsMade.EditsOfInsertedNodes.AreKept, EditsMade.EditsOfInsertedNodes.kept-insert_node, EditsMade.EditsOfInsertedNodes.follows-insert_node, EditsMade.EditsOfInsertedNodes.unrefused-step}
 
 -- What extracting keeps, and the fragment.
 
@@ -32,24 +18,24 @@ record IsExtracted (r : ℕ) (w v : World) : Type 0 where
 
 kept-extract : (r : ℕ) (range : Range) (w : World) → IsSound w → range_at w r ≡ Some range → check_extract r w ≡ None → IsExtracted r w (extract r w)
 kept-extract r range w s e c =
-    subst (λ o. IsExtracted r w (for_range o w (λ range. extracted r range w))) (sym e) (go (is_collapsed range || is_in_one_data w range))
+    subst (λ o. IsExtracted r w (for_range o w (λ range. extracted r range w))) (sym e)
+    (cond_both (is_collapsed range || is_in_one_data w range) drawn (with_range r place drawn) (IsExtracted r w) (λ _. record { there = there; fragment = fragment; live = live })
+    (λ _. record { there = there; fragment = fragment; live = with_range-live r place drawn live }))
   where
-    live : is_live r (contents_drawn true range w) ≡ true
-    live = live-contents_drawn w s range (sound-range w r range s e) (check-range w r range e c) true r ∙ ap is_some e
+    drawn : World
+    drawn = contents_drawn true range w
 
-    go : (v : Bool) → IsExtracted r w (if v then contents_drawn true range w else with_range r (collapsed_at (new_place w.forest range)) (contents_drawn true range w))
-    go true =
-        record {
-          there = there-contents_drawn w s range (sound-range w r range s e) (check-range w r range e c) true;
-          fragment = fragment-contents_drawn w s range (sound-range w r range s e) (check-range w r range e c) true;
-          live = live;
-        }
-    go false =
-        record {
-          there = there-contents_drawn w s range (sound-range w r range s e) (check-range w r range e c) true;
-          fragment = fragment-contents_drawn w s range (sound-range w r range s e) (check-range w r range e c) true;
-          live = with_range-live r (collapsed_at (new_place w.forest range)) (contents_drawn true range w) live;
-        }
+    place : Range
+    place = collapsed_at (new_place w.forest range)
+
+    there : (m : ℕ) → 0 < occurs m w.forest → 0 < occurs m drawn.forest
+    there = there-contents_drawn w s range (sound-range w r range s e) (check-range w r range e c) true
+
+    fragment : 0 < occurs w.made drawn.forest
+    fragment = fragment-contents_drawn w s range (sound-range w r range s e) (check-range w r range e c) true
+
+    live : is_live r drawn ≡ true
+    live = live-contents_drawn w s range (sound-range w r range s e) (check-range w r range e c) true r ∙ ap is_some e
 
 -- the children of a node go
 there-emptied : (n : ℕ) (w : World) → IsSound w → (m : ℕ) → 0 < occurs m w.forest → 0 < occurs m (replace_all None n w).forest
@@ -128,29 +114,14 @@ module _ (keeps : KeepSound) (r n : ℕ) (range : Range) (w : World) (s : IsSoun
 
   leave-surrounded : (v : World) → IsDone (surrounded r n range w) v → Leave (surround_edits r n w) w v
   leave-surrounded v h =
-      let a = unrefused (check_surround w range n) w v (λ v. and_then (try_extract r v) (λ v. and_then (insert_node r n (replace_all None n v)) (λ v. and_then (try_pre_insert w.made n None v) (λ v. try_select r n v)))) h in
-      let b = unrefused_extract v a.1 in
-      let c = done-step (insert_node r n second) v (λ v. and_then (try_pre_insert w.made n None v) (λ v. try_select r n v)) b.1 in
-      let third = c.0 in
-      let d = unrefused_insert third v c.2 in
-      let k = comes-selected b.0 third c.1 d.0 v d.1 in
-      k.left
-    where
-      unrefused_extract : (v : World) → IsDone (and_then (try_extract r w) (λ v. and_then (insert_node r n (replace_all None n v)) (λ v. and_then (try_pre_insert w.made n None v) (λ v. try_select r n v)))) v
-          → (check_extract r w ≡ None) × IsDone (and_then (insert_node r n second) (λ v. and_then (try_pre_insert w.made n None v) (λ v. try_select r n v))) v
-      unrefused_extract v h = go (check_extract r w) refl h
-        where
-          go : (c : Option DomError) → check_extract r w ≡ c → IsDone (and_then (and_then (unless c w) (λ v. Ok (extract r v))) (λ v. and_then (insert_node r n (replace_all None n v)) (λ v. and_then (try_pre_insert w.made n None v) (λ v. try_select r n v)))) v
-              → (check_extract r w ≡ None) × IsDone (and_then (insert_node r n second) (λ v. and_then (try_pre_insert w.made n None v) (λ v. try_select r n v))) v
-          go None d i = (d, i)
-          go (Some x) d i = absurd (cc i)
-
-      unrefused_insert : (third v : World) → IsDone (and_then (try_pre_insert w.made n None third) (λ v. try_select r n v)) v → (check_insert third.forest n w.made None ≡ None) × IsDone (try_select r n (append w.made n third)) v
-      unrefused_insert third v h = go (check_insert third.forest n w.made None) refl h
-        where
-          go : (c : Option DomError) → check_insert third.forest n w.made None ≡ c → IsDone (and_then (and_then (unless c third) (λ v. Ok (pre_insert w.made n None v))) (λ v. try_select r n v)) v → (check_insert third.forest n w.made None ≡ None) × IsDone (try_select r n (append w.made n third)) v
-          go None d i = (d, i)
-          go (Some x) d i = absurd (cc i)
+      let last = λ (x : World). try_select r n x in
+      let rest = λ (x : World). and_then (try_pre_insert w.made n None x) last in
+      let put = λ (x : World). and_then (insert_node r n (replace_all None n x)) rest in
+      let a = unrefused (check_surround w range n) w v (λ x. and_then (try_extract r x) put) h in
+      let b = unrefused-step (check_extract r w) w v (extract r) put a.1 in
+      let c = done-step (insert_node r n second) v rest b.1 in
+      let d = unrefused-step (check_insert c.0.forest n w.made None) c.0 v (pre_insert w.made n None) last c.2 in
+      (comes-selected b.0 c.0 c.1 d.0 v d.1).left
 
 pub leave-surround : KeepSound → (r n : ℕ) (w v : World) → IsSound w → 0 < occurs n w.forest → is_live r w ≡ true → surround r n w ≡ Ok v → Leave (surround_edits r n w) w v
 leave-surround keeps r n w v s hn l h =

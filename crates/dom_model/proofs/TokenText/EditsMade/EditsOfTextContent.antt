@@ -1,26 +1,12 @@
 -- The edits of setting text content leave what that leaves. DOM Standard, "Interface Node": textContent, string replace all.
 use Rattle.std.proofs.Common.{◌≡◌, ℕ, ◌<◌, true, List, [], ◌∷◌, ◌++◌, length, Option, Some, None, refl, ap, ◌∙◌, arith}
-use Rattle.dom_model.specs.declared.Kind.{Kind}
-use Rattle.dom_model.specs.declared.Kind.TheVariants.{Element, Text, ProcessingInstruction, Comment, Document, DocumentType, DocumentFragment}
-use Rattle.dom_model.specs.Forests.Kinds.{is_kind, is_character_data, may_be_parent}
-use Rattle.dom_model.specs.Forests.Arena.{Entry}
-use Rattle.dom_model.specs.Forests.Forest.{Node, occurs, entry_in}
-use Rattle.dom_model.specs.Worlds.World.{Content, World}
-use Rattle.dom_model.specs.Forests.Nodes.{entry_has, kind_passes}
-use Rattle.dom_model.specs.MutationAlgorithms.Editing.{node_document, replace_all}
-use Rattle.dom_model.specs.Worlds.Making.{made_node, named, with_text}
-use Rattle.dom_model.specs.DataAndCopies.Data.{data_of, by_kind, set_data, string_replace_all, set_text_content_by, set_text_content}
-use Rattle.dom_model.specs.TokenText.Edits.{making, set_data_edits, replace_all_edits, string_replace_all_edits, set_text_content_edits_by, set_text_content_edits}
-use Rattle.dom_model.specs.Soundness.Sound.{IsSound}
-use Rattle.dom_model.specs.MutationAlgorithms.Insertable.{IsInsertable}
-use Rattle.dom_model.proofs.Forests.Climbing.{hits-ancestors}
-use Rattle.dom_model.proofs.Forests.OneMoreRoot.{more-there, new-there, children-new, entry-new}
+use Rattle.dom_model.specs.Definitions.{is_kind, is_character_data, may_be_parent, Entry, Node, occurs, entry_in, Content, World, entry_has, kind_passes, node_document, replace_all, made_node, named, with_text, data_of, by_kind, set_data, string_replace_all, set_text_content_by, set_text_content, making, set_data_edits, replace_all_edits, string_replace_all_edits, set_text_content_edits_by, set_text_content_edits, IsSound, IsInsertable}
+use Rattle.dom_model.specs.declared.{Kind.Kind, Kind.TheVariants.Element, Kind.TheVariants.Text, Kind.TheVariants.ProcessingInstruction, Kind.TheVariants.Comment, Kind.TheVariants.Document, Kind.TheVariants.DocumentType, Kind.TheVariants.DocumentFragment}
+use Rattle.dom_model.proofs.Forests.{Climbing.hits-ancestors, OneMoreRoot.more-there, OneMoreRoot.new-there, OneMoreRoot.children-new, OneMoreRoot.entry-new}
 use Rattle.dom_model.proofs.BoundaryPoints.SplitOrder.{inside-childless}
 use Rattle.dom_model.proofs.Worlds.Measured.{kind-beside}
 use Rattle.dom_model.proofs.Soundness.SoundMaking.{sound-made_node}
-use Rattle.dom_model.proofs.TokenText.EditsMade.EditsLeave.{Leave, leave-none, leave-then}
-use Rattle.dom_model.proofs.TokenText.EditsMade.EditsOfSteps.{leave-making, leave-replace_data}
-use Rattle.dom_model.proofs.TokenText.EditsMade.EditsOfTrees.{leave-replace_all}
+use Rattle.dom_model.proofs.TokenText.{EditsMade.EditsLeave.Leave, EditsMade.EditsLeave.leave-none, EditsMade.EditsLeave.leave-then, EditsMade.EditsOfSteps.leave-making, EditsMade.EditsOfSteps.leave-replace_data, EditsMade.EditsOfTrees.leave-replace_all}
 
 -- a new Text may come in wherever there may be children
 module _ (n document : ℕ) (text : List ℕ) (w : World) (s : IsSound w) (hn : 0 < occurs n w.forest) (holds : kind_passes may_be_parent w.forest n ≡ true) where
@@ -68,7 +54,7 @@ leave-string_replace_all : (text : List ℕ) (n : ℕ) (w : World) → IsSound w
 leave-string_replace_all [] n w s h k = leave-replace_all None n w s tt
 leave-string_replace_all (u ∷ us) n w s h k = leave-new_text n (node_document w n) (u ∷ us) w s h k
 
-leave-text : (n : ℕ) (text : List ℕ) (w : World) → IsSound w → kind_passes is_character_data w.forest n ≡ true → Leave (set_data_edits n text w) w (set_data n text w)
+pub leave-text : (n : ℕ) (text : List ℕ) (w : World) → IsSound w → kind_passes is_character_data w.forest n ≡ true → Leave (set_data_edits n text w) w (set_data n text w)
 leave-text n text w s d = leave-replace_data n 0 (length (data_of w n)) text w s d (omega arith)
 
 leave-text_by : (k : Kind) (n : ℕ) (text : List ℕ) (w : World) → IsSound w → 0 < occurs n w.forest → kind_passes may_be_parent w.forest n ≡ may_be_parent k → kind_passes is_character_data w.forest n ≡ is_character_data k → Leave (set_text_content_edits_by k n text w) w (set_text_content_by k n text w)

@@ -1,22 +1,11 @@
 -- The edits of insert, pre-insert, append, replace, replace all and adopt leave what these leave; adopting leaves node documents too, which
 -- the edits do not tell. DOM Standard, "Mutation algorithms".
 use Rattle.std.proofs.Common.{◌≡◌, ℕ, ◌<◌, Bool, true, false, if◌then◌else◌, List, [], ◌∷◌, length, Option, Some, None, refl, ap, sym, ◌∙◌}
-use Rattle.dom_model.specs.Forests.Forest.{occurs, children_of, next_of}
-use Rattle.dom_model.specs.Worlds.World.{World}
-use Rattle.dom_model.specs.MutationAlgorithms.Checks.{check_insert, check_replace}
-use Rattle.dom_model.specs.MutationAlgorithms.Editing.{remove, remove_all, is_fragment, nodes_of, emptied_fragment, freed, put_all, gap_before, insert_nodes, insert, reference_child, pre_insert, append, replace, added_by, insert_if_any, replaced_record, replace_all, previous_to}
-use Rattle.dom_model.specs.TokenText.Edits.{removals, remove_edits, freed_edits, index_before, insertions, insert_edits, pre_insert_edits, append_edits, replace_edits, insert_edits_if_any, replace_all_edits}
-use Rattle.dom_model.specs.Soundness.Sound.{IsSound}
-use Rattle.dom_model.specs.MutationAlgorithms.Insertable.{IsInsertable}
+use Rattle.dom_model.specs.Definitions.{occurs, children_of, next_of, World, check_insert, check_replace, remove, remove_all, is_fragment, nodes_of, emptied_fragment, freed, put_all, gap_before, insert_nodes, insert, reference_child, pre_insert, append, replace, added_by, insert_if_any, replaced_record, replace_all, previous_to, removals, remove_edits, freed_edits, index_before, insertions, insert_edits, pre_insert_edits, append_edits, replace_edits, insert_edits_if_any, replace_all_edits, IsSound, IsInsertable}
 use Rattle.dom_model.proofs.Forests.Indices.{child-once, child-parent, child-there}
 use Rattle.dom_model.proofs.MutationAlgorithms.Loosened.{loosened-remove_all}
-use Rattle.dom_model.proofs.Soundness.SoundWorlds.{sound-remove, sound-remove_all}
-use Rattle.dom_model.proofs.Soundness.SoundPlacing.{gap_before-none}
-use Rattle.dom_model.proofs.Soundness.SoundInserting.{freed_ready}
-use Rattle.dom_model.proofs.Soundness.SoundEditing.{MayComeIn, insertable-loosened, may_come_before, may_come_instead}
-use Rattle.dom_model.proofs.TokenText.EditsMade.EditsLeave.{laid, Leave, leave-none, leave-then, leave-alike}
-use Rattle.dom_model.proofs.TokenText.EditsMade.EditsOfSteps.{record-laid, leave-remove, leave-remove_all}
-use Rattle.dom_model.proofs.TokenText.EditsMade.EditsOfInsertions.{leave-insertions}
+use Rattle.dom_model.proofs.Soundness.{SoundWorlds.sound-remove, SoundWorlds.sound-remove_all, SoundPlacing.gap_before-none, SoundInserting.freed_ready, SoundEditing.MayComeIn, SoundEditing.insertable-loosened, SoundEditing.may_come_before, SoundEditing.may_come_instead}
+use Rattle.dom_model.proofs.TokenText.{EditsMade.EditsLeave.laid, EditsMade.EditsLeave.Leave, EditsMade.EditsLeave.leave-none, EditsMade.EditsLeave.leave-then, EditsMade.EditsLeave.leave-alike, EditsMade.EditsOfSteps.record-laid, EditsMade.EditsOfSteps.leave-remove, EditsMade.EditsOfSteps.leave-remove_all, EditsMade.EditsOfInsertions.leave-insertions}
 
 -- Insert.
 

@@ -1,28 +1,12 @@
 -- Lists of edits that fit, one after another; a sound world is ready for any edit, and what an edit asks for in one.
-use Rattle.std.proofs.Common.{◌≡◌, ℕ, ◌<◌, ◌≤◌, Bool, true, false, List, [], ◌∷◌, ◌++◌, length, Option, Some, None, IfSome, option_map, refl, sym, ◌∙◌, subst, arith, ⊎_elim}
-use Rattle.std.proofs.lemmas.Bool.{cases_lt, false≢true}
-use Rattle.std.proofs.lemmas.List.{get_or_past}
+use Rattle.std.proofs.Common.{◌≡◌, ℕ, ◌<◌, ◌≤◌, Bool, true, false, List, [], ◌∷◌, ◌++◌, length, Option, Some, None, IfSome, option_map, refl, sym, ◌∙◌, subst, arith, inl, inr}
+use Rattle.std.proofs.lemmas.{Bool.cases_lt, Bool.false≢true, List.get_or_past}
+use Rattle.dom_model.specs.Definitions.{is_character_data, may_be_parent, Forest, empty, node, occurs, one_at, beside, entry_in, Content, Point, Range, World, first_world, kind_passes, end_of, range_at, with_range, data_of, cut_count, Edit, Splice, Making, all_on_world, IsBoundary, IsRange, IsSound, Childless, end_at, IsPoint, IsReady, Fits, fits_removal, fits_insertion, fits_splice, fits_parting, fits_merge, fits_end_set, fits_making, fits_range_making, fits_release, fits_discard, AllFit, Lives}
 use Rattle.dom_model.specs.declared.Kind.{Kind}
-use Rattle.dom_model.specs.Forests.Kinds.{is_character_data, may_be_parent}
-use Rattle.dom_model.specs.Forests.Arena.{Entry}
-use Rattle.dom_model.specs.Forests.Forest.{Node, Forest, empty, node, occurs, one_at, beside, entry_in}
-use Rattle.dom_model.specs.Worlds.World.{Content, Point, Range, World, first_world}
-use Rattle.dom_model.specs.Forests.Nodes.{entry_has, kind_passes}
-use Rattle.dom_model.specs.RangesAndContents.Ranges.{end_of, range_at, with_range}
-use Rattle.dom_model.specs.DataAndCopies.Data.{data_of, cut_count}
-use Rattle.dom_model.specs.TokenText.Tokens.{Edit, Splice, Making}
-use Rattle.dom_model.specs.TokenText.Edits.{all_on_world}
-use Rattle.dom_model.specs.Soundness.Sound.{IsBoundary, IsRange, IsSound}
-use Rattle.dom_model.specs.TokenText.Fitting.{Childless, end_at, IsPoint, IsReady, Fits, fits_removal, fits_insertion, fits_splice, fits_parting, fits_merge, fits_end_set, fits_making, fits_range_making, fits_release, fits_discard, AllFit}
-use Rattle.dom_model.specs.DataAndCopies.Joinable.{Lives}
 use Rattle.dom_model.proofs.PlainLists.Numbers.{same_or, same, apart}
-use Rattle.dom_model.proofs.Forests.Changes.{seen, nothing, just}
-use Rattle.dom_model.proofs.Forests.Totals.{total-beside}
-use Rattle.dom_model.proofs.Forests.Entries.{occurs-HasNode}
-use Rattle.dom_model.proofs.Soundness.SoundForests.{IsWood, parent_no_data}
-use Rattle.dom_model.proofs.Soundness.SoundData.{cut_fits}
-use Rattle.dom_model.proofs.TokenText.Marked.MarkedFirst.{kinds-childless}
-use Rattle.dom_model.proofs.TokenText.Marked.MarkedEnds.{end_at-other, end_at-set}
+use Rattle.dom_model.proofs.Forests.{Changes.seen, Changes.nothing, Changes.just, Totals.total-beside, Entries.occurs-HasNode}
+use Rattle.dom_model.proofs.Soundness.{SoundForests.IsWood, SoundForests.parent_no_data, SoundData.cut_fits}
+use Rattle.dom_model.proofs.TokenText.{Marked.MarkedFirst.kinds-childless, Marked.MarkedEnds.end_at-other, Marked.MarkedEnds.end_at-set}
 
 -- the trees, the live ranges and the next number alone
 abbrev pub laid : World → World
@@ -67,11 +51,7 @@ pub ready-lives : (P : Range → Type 0) (w : World) → ((n : ℕ) → occurs n
 ready-lives P w once lives each = record { once = once; points = λ r side p e. go side p (range_at w r) (here r) e }
   where
     here : (r : ℕ) → IfSome (range_at w r) P
-    here r =
-        ⊎_elim
-        (λ (lt : r < length w.ranges). lives r None lt)
-        (λ (le : length w.ranges ≤ r). subst (λ o. IfSome o P) (sym (get_or_past w.ranges r None le)) tt)
-        (cases_lt r (length w.ranges))
+    here r = elim (cases_lt r (length w.ranges)) [ inl lt ↦ lives r None lt | inr le ↦ subst (λ o. IfSome o P) (sym (get_or_past w.ranges r None le)) tt ]
 
     go : (side : Bool) (p : Point) (o : Option Range) → IfSome o P → option_map (end_of side) o ≡ Some p → IsPoint w p
     go side p None l e = absurd (cc e)
@@ -86,7 +66,7 @@ pub ready-with_range : (w : World) (r : ℕ) (old new : Range) → range_at w r 
 ready-with_range w r old new e k starts ends = record { once = k.once; points = points }
   where
     given : r < length w.ranges
-    given = ⊎_elim (λ (lt : r < length w.ranges). lt) (λ (le : length w.ranges ≤ r). absurd (let d : None ≡ Some old = sym (get_or_past w.ranges r None le) ∙ e in cc d)) (cases_lt r (length w.ranges))
+    given = elim (cases_lt r (length w.ranges)) [ inl lt ↦ lt | inr le ↦ absurd (let d : None ≡ Some old = sym (get_or_past w.ranges r None le) ∙ e in cc d) ]
 
     again : (p : Point) → IsPoint w p → IsPoint (with_range r new w) p
     again p i = record { there = i.there; within = i.within }
@@ -118,11 +98,11 @@ passes_there test f n h =
 
 -- a node that may have children has no data
 pub holder-no_data : (f : Forest Content) (n : ℕ) → kind_passes may_be_parent f n ≡ true → kind_passes is_character_data f n ≡ false
-holder-no_data f n h = go (entry_in f n) h
-  where
-    go : (o : Option (Entry (Node Content))) → entry_has may_be_parent o ≡ true → entry_has is_character_data o ≡ false
-    go None k = refl
-    go (Some e) k = parent_no_data e.value.label.kind k
+holder-no_data f n h =
+    elim (seen (entry_in f n)) [
+      | nothing e ↦ rw e refl
+      | just a e ↦ rw e (parent_no_data a.value.label.kind (rw e at h))
+    ]
 
 childless-beside : (f g : Forest Content) → Childless (beside f g) → Childless g
 childless-beside empty g h = h

@@ -1,22 +1,7 @@
 -- Over any list of commands each end of each live range stands where its marker stands, in the token texts that the commands' edits leave.
 use Rattle.std.proofs.Common.{◌≡◌, ℕ, Bool, List, [], ◌∷◌, Option, option_map, refl, ap, sym, ◌∙◌}
-use Rattle.dom_model.specs.Worlds.World.{Range, World, first_world}
-use Rattle.dom_model.specs.Commands.Command.{Command}
-use Rattle.dom_model.specs.Commands.Guards.{Bounds}
-use Rattle.dom_model.specs.Commands.Answer.{answer}
-use Rattle.dom_model.specs.RangesAndContents.Ranges.{end_of, range_at}
-use Rattle.dom_model.specs.TokenText.Tokens.{Token, texts_of, unmarked, tokens_among, gap_among, all_on_texts}
-use Rattle.dom_model.specs.TokenText.Edits.{all_on_world}
-use Rattle.dom_model.specs.TokenText.CommandEdits.{edits_of, texts_after, world_past, ranges_along, marks_along}
-use Rattle.dom_model.specs.Soundness.Sound.{IsSound}
-use Rattle.dom_model.proofs.TokenText.AlikeTrees.TreesAlike.{bared}
-use Rattle.dom_model.proofs.TokenText.Marked.MarkedTexts.{Marked}
-use Rattle.dom_model.proofs.TokenText.Pieces.NodeTokens.{tokens-same}
-use Rattle.dom_model.proofs.TokenText.Marked.MarkedFirst.{marked-first, marked-kept, kinds-childless}
-use Rattle.dom_model.proofs.TokenText.Marked.MarkedEdits.{marked-edits, end-found, ranges-found}
-use Rattle.dom_model.proofs.TokenText.EditsMade.FittingEdits.{laid, ready-sound}
-use Rattle.dom_model.proofs.TokenText.EditsMade.EditsLeave.{edits-laid}
-use Rattle.dom_model.proofs.TokenText.EditsMade.EditsOfEachCommand.{edits-leave_each, edits-fit_each}
+use Rattle.dom_model.specs.Definitions.{Range, World, first_world, Command, Bounds, answer, end_of, range_at, Token, texts_of, unmarked, tokens_among, gap_among, all_on_texts, all_on_world, edits_of, texts_after, world_past, ranges_along, marks_along, IsSound}
+use Rattle.dom_model.proofs.TokenText.{AlikeTrees.TreesAlike.bared, Marked.MarkedTexts.Marked, Pieces.NodeTokens.tokens-same, Marked.MarkedFirst.marked-first, Marked.MarkedFirst.marked-kept, Marked.MarkedFirst.kinds-childless, Marked.MarkedEdits.marked-edits, Marked.MarkedEdits.end-found, Marked.MarkedEdits.ranges-found, EditsMade.FittingEdits.laid, EditsMade.FittingEdits.ready-sound, EditsMade.EditsLeave.edits-laid, EditsMade.EditsOfEachCommand.edits-leave_each, EditsMade.EditsOfEachCommand.edits-fit_each}
 use Rattle.dom_model.proofs.Soundness.SoundAnswers.{sound-answer, sound-after, sound-reached}
 
 -- a sound world's own token texts

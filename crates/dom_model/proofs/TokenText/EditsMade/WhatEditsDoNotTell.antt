@@ -1,12 +1,6 @@
 -- The edits tell no node documents and no attributes: where a node is adopted, or an attribute set, they leave these as they were.
-use Rattle.std.specs.Prelude.{◌≡◌, refl, [], ◌∷◌, length}
-use Rattle.dom_model.specs.Worlds.World.{World, first_world}
-use Rattle.dom_model.specs.Commands.Command.{Command, NewDocument, CreateElement, AdoptNode, SetAttribute}
-use Rattle.dom_model.specs.MutationAlgorithms.Editing.{node_document}
-use Rattle.dom_model.specs.DataAndCopies.Data.{attributes_of}
-use Rattle.dom_model.specs.TokenText.Edits.{all_on_world}
-use Rattle.dom_model.specs.Commands.Answer.{Bounds, answer}
-use Rattle.dom_model.specs.TokenText.CommandEdits.{edits_of, world_past}
+use Rattle.std.proofs.Common.{◌≡◌, refl, [], ◌∷◌, length}
+use Rattle.dom_model.specs.Definitions.{World, first_world, Command, NewDocument, CreateElement, AdoptNode, SetAttribute, node_document, attributes_of, all_on_world, Bounds, answer, edits_of, world_past}
 
 abbrev bounds : Bounds
 bounds = record { numbers = 4294967295; line = 1048576 }

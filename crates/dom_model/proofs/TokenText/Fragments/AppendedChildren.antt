@@ -1,21 +1,11 @@
 -- The children of each node once a node is appended: the parent has what comes in behind those that it had, and no other node has it.
 -- DOM Standard, "Mutation algorithms": append.
 use Rattle.std.proofs.Common.{◌≡◌, ℕ, ◌<◌, ◌==◌, Bool, true, false, if◌then◌else◌, List, [], ◌∷◌, ◌++◌, None, refl, ap, sym, ◌∙◌, subst, arith, append_assoc, append-nil}
-use Rattle.dom_model.specs.PlainLists.Lists.{hits, entered}
-use Rattle.dom_model.specs.Forests.Forest.{occurs, children_of}
-use Rattle.dom_model.specs.Worlds.World.{World}
-use Rattle.dom_model.specs.MutationAlgorithms.Editing.{remove, is_fragment, nodes_of, emptied_fragment, freed, put_in, put_all, insert_nodes, append}
-use Rattle.dom_model.specs.Soundness.Sound.{IsSound}
-use Rattle.dom_model.specs.MutationAlgorithms.Insertable.{IsPlaceable, ArePlaceable, IsInsertable}
-use Rattle.dom_model.proofs.Forests.Climbing.{hits-first}
-use Rattle.dom_model.proofs.Forests.Lying.{left_out-absent}
-use Rattle.dom_model.proofs.Forests.Entries.{children-put}
-use Rattle.dom_model.proofs.Forests.Indices.{child-there}
+use Rattle.dom_model.specs.Definitions.{hits, entered, occurs, children_of, World, remove, is_fragment, nodes_of, emptied_fragment, freed, put_in, put_all, insert_nodes, append, IsSound, IsPlaceable, ArePlaceable, IsInsertable}
+use Rattle.dom_model.proofs.Forests.{Climbing.hits-first, Lying.left_out-absent, Entries.children-put, Indices.child-there}
 use Rattle.dom_model.proofs.Worlds.SameShape.{children-alike}
-use Rattle.dom_model.proofs.MutationAlgorithms.Loosened.{loosened-remove, loosened-remove_all}
-use Rattle.dom_model.proofs.MutationAlgorithms.Emptied.{all_left_out, children-remove, children-remove_all}
-use Rattle.dom_model.proofs.Soundness.SoundPlacing.{apart_from, renamed, occurs_placed, all_placeable, sound-put_one}
-use Rattle.dom_model.proofs.Soundness.SoundInserting.{IsReady, freed_ready}
+use Rattle.dom_model.proofs.MutationAlgorithms.{Loosened.loosened-remove, Loosened.loosened-remove_all, Emptied.all_left_out, Emptied.children-remove, Emptied.children-remove_all}
+use Rattle.dom_model.proofs.Soundness.{SoundPlacing.apart_from, SoundPlacing.renamed, SoundPlacing.occurs_placed, SoundPlacing.all_placeable, SoundPlacing.sound-put_one, SoundInserting.IsReady, SoundInserting.freed_ready}
 
 entered-last : (c : ℕ) (xs : List ℕ) → entered None c xs ≡ xs ++ (c ∷ [])
 entered-last c [] = refl
@@ -34,21 +24,13 @@ children-put_one parent n w s hp k m h =
     ∙ ap (λ xs. if m == parent then xs else children_of w.forest m) (entered-last n (children_of w.forest m))
 
 children-put_all : (parent : ℕ) (ns : List ℕ) (w : World) → IsSound w → 0 < occurs parent w.forest → ArePlaceable w.forest parent ns → (m : ℕ) → 0 < occurs m w.forest → children_of (put_all parent None ns w).forest m ≡ (if m == parent then children_of w.forest m ++ ns else children_of w.forest m)
-children-put_all parent [] w s hp k m h = go (m == parent)
-  where
-    go : (v : Bool) → children_of w.forest m ≡ (if v then children_of w.forest m ++ [] else children_of w.forest m)
-    go true = sym (append-nil (children_of w.forest m))
-    go false = refl
+children-put_all parent [] w s hp k m h = grind (arith, append-nil)
 children-put_all parent (n ∷ ns) w s hp k m h =
     let v = put_in parent None n w in
     let stay = occurs_placed parent n None w s hp k.0 in
     children-put_all parent ns v (sound-put_one parent n None w s hp k.0 tt) (subst (λ x. 0 < x) (sym (stay parent)) hp) (all_placeable parent n None w s hp k.0 ns k.1 k.2) m (subst (λ x. 0 < x) (sym (stay m)) h)
     ∙ ap (λ xs. if m == parent then xs ++ ns else xs) (children-put_one parent n w s hp k.0 m h)
-    ∙ go (m == parent)
-  where
-    go : (v : Bool) → (if v then (if v then children_of w.forest m ++ (n ∷ []) else children_of w.forest m) ++ ns else (if v then children_of w.forest m ++ (n ∷ []) else children_of w.forest m)) ≡ (if v then children_of w.forest m ++ (n ∷ ns) else children_of w.forest m)
-    go true = append_assoc (children_of w.forest m) (n ∷ []) ns
-    go false = refl
+    ∙ (grind (arith, append_assoc))
 
 module _ (n parent : ℕ) (w : World) (s : IsSound w) (k : IsInsertable w.forest n parent None) where
   children-freed : (m : ℕ) → children_of (freed n (nodes_of w n) w).forest m ≡ all_left_out (nodes_of w n) (children_of w.forest m)
@@ -69,11 +51,7 @@ module _ (n parent : ℕ) (w : World) (s : IsSound w) (k : IsInsertable w.forest
   children-append m h = go (nodes_of w n) (freed_ready n parent None w s k) (there-freed m) (children-freed m)
     where
       go : (ns : List ℕ) → IsReady (freed n ns w) parent None ns → occurs m (freed n ns w).forest ≡ occurs m w.forest → children_of (freed n ns w).forest m ≡ all_left_out ns (children_of w.forest m) → children_of (insert_nodes false n parent None ns w).forest m ≡ (if m == parent then all_left_out ns (children_of w.forest m) ++ ns else all_left_out ns (children_of w.forest m))
-      go [] r t e = either (m == parent)
-        where
-          either : (v : Bool) → children_of w.forest m ≡ (if v then children_of w.forest m ++ [] else children_of w.forest m)
-          either true = sym (append-nil (children_of w.forest m))
-          either false = refl
+      go [] r t e = grind (arith, append-nil)
       go (c ∷ cs) r t e =
           children-put_all parent (c ∷ cs) (freed n (c ∷ cs) w) r.sound r.parent_there r.placeable m (subst (λ x. 0 < x) (sym t) h)
           ∙ ap (λ xs. if m == parent then xs ++ (c ∷ cs) else xs) e

@@ -1,34 +1,13 @@
 -- A copy of some units comes into a fragment, and a copy of a node that is filled: each with the tokens of what it holds around them.
 -- DOM Standard, "Interface Range": extract, clone the contents.
 use Rattle.std.proofs.Common.{◌≡◌, ℕ, ◌<◌, ◌≤◌, Bool, true, false, List, [], ◌∷◌, ◌++◌, length, None, refl, ap, sym, ◌∙◌, subst, arith, inl, inr}
+use Rattle.dom_model.specs.Definitions.{hits, is_kind, is_character_data, may_be_parent, Node, Forest, empty, node, occurs, tops, map_nodes, entry_in, children_of, substring, Content, World, no_content, entry_has, kind_passes, is_fragment, node_document, append, named, data_of, with_data, renumbered, alone_of, original, document_of_clone, clone_node, new_fragment, clone_with, cut_if, units_into, copy_into, Token, Open, Close, no_marks, unit_tokens, opened_in, InStep, doing_clone_with, doing_append, doing_clone, doing_fragment, IsInsertable}
 use Rattle.dom_model.specs.declared.Kind.TheVariants.{Document, DocumentType, DocumentFragment}
-use Rattle.dom_model.specs.PlainLists.Lists.{hits}
-use Rattle.dom_model.specs.Forests.Kinds.{is_kind, is_character_data, may_be_parent}
-use Rattle.dom_model.specs.Forests.Forest.{Node, Forest, empty, node, occurs, tops, map_nodes, entry_in, children_of}
-use Rattle.dom_model.specs.Forests.Texts.{substring}
-use Rattle.dom_model.specs.Worlds.World.{Content, World, no_content}
-use Rattle.dom_model.specs.Forests.Nodes.{entry_has, kind_passes}
-use Rattle.dom_model.specs.MutationAlgorithms.Editing.{is_fragment, node_document, append}
-use Rattle.dom_model.specs.Worlds.Making.{named}
-use Rattle.dom_model.specs.DataAndCopies.Data.{data_of, with_data}
-use Rattle.dom_model.specs.DataAndCopies.Clones.{renumbered, alone_of, original, document_of_clone, clone_node}
-use Rattle.dom_model.specs.RangesAndContents.Contents.{new_fragment, clone_with, cut_if, units_into, copy_into}
-use Rattle.dom_model.specs.TokenText.Tokens.{Token, Open, Close, no_marks, unit_tokens}
-use Rattle.dom_model.specs.TokenText.Originals.{opened_in, InStep}
-use Rattle.dom_model.specs.TokenText.Edits.{doing_clone_with, doing_append, doing_clone, doing_fragment}
-use Rattle.dom_model.specs.MutationAlgorithms.Insertable.{IsInsertable}
 use Rattle.dom_model.proofs.DataAndCopies.CopiesPlaced.{kind-copy}
-use Rattle.dom_model.proofs.TokenText.AlikeTrees.TreesAlike.{Top, top_of}
+use Rattle.dom_model.proofs.TokenText.{AlikeTrees.TreesAlike.Top, AlikeTrees.TreesAlike.top_of, Fragments.Shapes.shape, Fragments.Shapes.shape-append, Fragments.Shapes.shape-units, Fragments.Shapes.tree_shape, Fragments.OpensInStep.opened_in-append, Fragments.OpensInStep.opened_in-units, Fragments.OpensInStep.tree_nodes, Fragments.StandingTrees.IsAs, Fragments.StandingTrees.Stands, Fragments.StandingTrees.Keeps, Fragments.StandingTrees.keeps-then, Fragments.StandingTrees.stands-kept, Fragments.SteppedTrees.keeps-copies, Fragments.SteppedTrees.stands-copies, Fragments.SteppedTrees.unlisted-copies, Fragments.SteppedTrees.keeps-alone, Fragments.SteppedTrees.added-alone, Fragments.SteppedTrees.keeps-children, Fragments.SteppedTrees.added-children, Fragments.SteppedTrees.data-kept, Fragments.SteppedTrees.keeps-cut_if, Fragments.DrawnTrees.NodeFrom, Fragments.DrawnTrees.IsCopy, Fragments.DrawnTrees.is_copy, Fragments.DrawnTrees.TagFrom, Fragments.DrawnTrees.steps-one, Fragments.DrawnTrees.steps-around, Fragments.DrawnTrees.IsSafe, Fragments.DrawnTrees.each-weaker, Fragments.DrawnTrees.copies-safe, Fragments.DrawnTrees.Drew, Fragments.DrawnTrees.AreOld, Fragments.DrawnTrees.safe-kept, Fragments.DrawnNodes.old-one, Fragments.DrawnNodes.far-from}
 use Rattle.dom_model.proofs.MutationAlgorithms.Extending.{tag_in, tag_at}
-use Rattle.dom_model.proofs.RangesAndContents.Drawing.{IsDrawing, Extends, extends-then, Draws, passes_there, passes_too, data-copies, IsHolder, holder-extends, IsComing, may_come, data-append, draws-append}
-use Rattle.dom_model.proofs.RangesAndContents.DrawnPieces.{draws-clone_with, draws-cut_if, new-greater, is_drawn, drawn-fragment, data-drawn, IsDrawable, coming}
-use Rattle.dom_model.proofs.RangesAndContents.DrawnPaths.{first, second, third, kind_copied, copy_holds, kind_inner, greater, inner_there, inner_holds, extended}
-use Rattle.dom_model.proofs.TokenText.Fragments.Shapes.{shape, shape-append, shape-units, tree_shape}
-use Rattle.dom_model.proofs.TokenText.Fragments.OpensInStep.{opened_in-append, opened_in-units, tree_nodes}
-use Rattle.dom_model.proofs.TokenText.Fragments.StandingTrees.{IsAs, Stands, Keeps, keeps-then, stands-kept}
-use Rattle.dom_model.proofs.TokenText.Fragments.SteppedTrees.{keeps-copies, stands-copies, unlisted-copies, keeps-alone, added-alone, keeps-children, added-children, text-children, keeps-cut_if}
-use Rattle.dom_model.proofs.TokenText.Fragments.DrawnTrees.{NodeFrom, TagFrom, steps-one, steps-around, IsSafe, each-weaker, copies-safe, Drew, AreOld, safe-kept}
-use Rattle.dom_model.proofs.TokenText.Fragments.DrawnNodes.{old-one, far-from}
+use Rattle.dom_model.proofs.RangesAndContents.{Drawing.IsDrawing, Drawing.Extends, Drawing.extends-then, Drawing.Draws, Drawing.passes_there, Drawing.data-copies, Drawing.IsHolder, Drawing.holder-extends, Drawing.IsComing, Drawing.may_come, Drawing.data-append, Drawing.draws-append, DrawnPieces.draws-clone_with, DrawnPieces.draws-cut_if, DrawnPieces.new-greater, DrawnPieces.is_drawn, DrawnPieces.data-drawn, DrawnPieces.IsDrawable, DrawnPaths.first, DrawnPaths.second, DrawnPaths.third, DrawnPaths.kind_copied, DrawnPaths.copy_holds, DrawnPaths.kind_inner, DrawnPaths.greater, DrawnPaths.inner_there, DrawnPaths.inner_holds, DrawnPaths.extended}
+use Rattle.dom_model.proofs.Soundness.SoundForests.{passes-also}
 
 -- Units.
 
@@ -51,25 +30,16 @@ module _ (low : ℕ) (bad : List ℕ) (old : (x : ℕ) → low ≤ x → hits x 
   copy_drawn : kind_passes is_drawn copied.forest v.made ≡ true
   copy_drawn =
       kind-copy is_drawn (node_document v n) v.made false (with_data (substring offset count (data_of v n))) (λ x. refl) n v.forest d.sound.forest.once (d.sound.forest.small v.made (omega arith)) n_there
-      ∙ passes_too is_character_data is_drawn true data-drawn v.forest n has_data
+      ∙ passes-also is_character_data is_drawn true data-drawn v.forest n has_data
 
-  holder : IsHolder low copied into
-  holder = holder-extends low v copied into made.extends k
-
-  comes : IsComing low copied into v.made
-  comes = coming low copied into v.made copy_drawn (inr (new-greater low v d into into_there))
-
-  fits : IsInsertable copied.forest v.made into None
-  fits = may_come low copied made.drawing into v.made holder comes
-
-  alone : is_fragment copied v.made ≡ false
-  alone = passes_too is_drawn (is_kind DocumentFragment) false drawn-fragment copied.forest v.made copy_drawn
+  copy : IsCopy low v copied into
+  copy = is_copy low v copied into d k made.drawing made.extends copy_drawn
 
   abbrev put : World
   put = append v.made into copied
 
   came : Draws low (doing_append v.made into) copied put
-  came = draws-append low copied made.drawing into v.made holder comes
+  came = draws-append low copied made.drawing into v.made copy.holder copy.comes
 
   top : Top n v.forest (entry_in v.forest n)
   top = top_of None n v.forest d.sound.forest.once n_there
@@ -93,6 +63,11 @@ module _ (low : ℕ) (bad : List ℕ) (old : (x : ℕ) → low ≤ x → hits x 
       ∙ ap (λ ts. Open 0 ∷ (ts ++ (Close ∷ []))) (sym (shape-units n 0 (substring offset count (data_of v n))))
       ∙ ap (λ ts. Open 0 ∷ ts) (sym (shape-append (unit_tokens no_marks n 0 (substring offset count (data_of v n))) (Close ∷ [])))
 
+  in_one : (related : ℕ → Node Content → Type 0) → related n first_node → InStep related (opened_in (Open n ∷ (unit_tokens no_marks n 0 (substring offset count (data_of v n)) ++ (Close ∷ [])))) (tree_nodes copies)
+  in_one related h =
+      rw (opened_in-append (unit_tokens no_marks n 0 (substring offset count (data_of v n))) (Close ∷ []), opened_in-units n 0 (substring offset count (data_of v n)), one)
+      (steps-one related n first_node h)
+
   unlisted : (x : ℕ) → hits v.made (children_of copied.forest x) ≡ 0
   unlisted = unlisted-copies (node_document v n) original_copy v d.sound made.drawing.sound
 
@@ -100,11 +75,11 @@ module _ (low : ℕ) (bad : List ℕ) (old : (x : ℕ) → low ≤ x → hits x 
   keeps_first = keeps-copies (node_document v n) original_copy v
 
   keeps_put : (x : ℕ) → 0 < occurs x copied.forest → (x ≡ into → ⊥) → Keeps copied put x
-  keeps_put x h ne = keeps-alone v.made into copied made.drawing.sound fits alone x h ne (unlisted x)
+  keeps_put x h ne = keeps-alone v.made into copied made.drawing.sound copy.fits copy.alone x h ne (unlisted x)
 
   same_data : data_of put n ≡ data_of v n
   same_data =
-      data-append low copied made.drawing into v.made holder comes n (made.extends.there n n_there)
+      data-append low copied made.drawing into v.made copy.holder copy.comes n (made.extends.there n n_there)
       ∙ data-copies low v d (node_document v n) original_copy n n_there
 
   put_extends : Extends v put
@@ -126,20 +101,12 @@ module _ (low : ℕ) (bad : List ℕ) (old : (x : ℕ) → low ≤ x → hits x 
             (stands-copies (node_document v n) original_copy v d.sound made.drawing.sound);
         added =
             into_kept.children
-            ∙ added-alone v.made into copied made.drawing.sound fits alone (unlisted into)
+            ∙ added-alone v.made into copied made.drawing.sound copy.fits copy.alone (unlisted into)
             ∙ ap (λ ns. ns ++ (v.made ∷ [])) into_first.children
             ∙ ap (λ g. children_of v.forest into ++ tops g) (sym one);
         shaped = has_shape;
-        steps =
-            subst (λ g. InStep (NodeFrom moves low bad) (opened_in (Open n ∷ (unit_tokens no_marks n 0 (substring offset count (data_of v n)) ++ (Close ∷ [])))) (tree_nodes g)) (sym one)
-            (subst (λ ns. InStep (NodeFrom moves low bad) (n ∷ ns) (tree_nodes (node first_node empty empty)))
-            (sym (opened_in-append (unit_tokens no_marks n 0 (substring offset count (data_of v n))) (Close ∷ []) ∙ ap (λ (ns : List ℕ). ns ++ []) (opened_in-units n 0 (substring offset count (data_of v n)))))
-            (steps-one (NodeFrom moves low bad) n first_node (inr (inr n_bad, d.begun))));
-        tagged =
-            subst (λ g. InStep (TagFrom w) (opened_in (Open n ∷ (unit_tokens no_marks n 0 (substring offset count (data_of v n)) ++ (Close ∷ [])))) (tree_nodes g)) (sym one)
-            (subst (λ ns. InStep (TagFrom w) (n ∷ ns) (tree_nodes (node first_node empty empty)))
-            (sym (opened_in-append (unit_tokens no_marks n 0 (substring offset count (data_of v n))) (Close ∷ []) ∙ ap (λ (ns : List ℕ). ns ++ []) (opened_in-units n 0 (substring offset count (data_of v n)))))
-            (steps-one (TagFrom w) n first_node (same_tag ∙ ap tag_in top.told)));
+        steps = in_one (NodeFrom moves low bad) (inr (inr n_bad, d.begun));
+        tagged = in_one (TagFrom w) (same_tag ∙ ap tag_in top.told);
         safe = safe;
         keeps = λ x h ne z. keeps-then v copied (cut_if moves n offset count put) x (keeps_first x h) (later x (made.extends.there x h) ne z);
         drawing = cut.drawing;
@@ -193,17 +160,11 @@ module _ (low : ℕ) (bad : List ℕ) (into n : ℕ) (v : World) (d : IsDrawing 
   copy_no_data : is_character_data copy_top.top.label.kind ≡ false
   copy_no_data = sym (ap (entry_has is_character_data) copy_top.told) ∙ no_data
 
-  copy_holder : IsHolder low one_copy into
-  copy_holder = holder-extends low v one_copy into a.extends k
-
   copy_kind : kind_passes is_drawn one_copy.forest v.made ≡ true
   copy_kind = kind_copied low into n v d k drawable no_data is_drawn ∙ drawable.kind
 
-  copy_fits : IsInsertable one_copy.forest v.made into None
-  copy_fits = may_come low one_copy a.drawing into v.made copy_holder (coming low one_copy into v.made copy_kind (inr (new-greater low v d into v_into)))
-
-  copy_alone : is_fragment one_copy v.made ≡ false
-  copy_alone = passes_too is_drawn (is_kind DocumentFragment) false drawn-fragment one_copy.forest v.made copy_kind
+  first_copy : IsCopy low v one_copy into
+  first_copy = is_copy low v one_copy into d k a.drawing a.extends copy_kind
 
   copy_unlisted : (x : ℕ) → hits v.made (children_of one_copy.forest x) ≡ 0
   copy_unlisted = unlisted-copies (document_of_clone v n) (original false n v.forest) v d.sound a.drawing.sound
@@ -212,7 +173,7 @@ module _ (low : ℕ) (bad : List ℕ) (into n : ℕ) (v : World) (d : IsDrawing 
   to_copy = keeps-copies (document_of_clone v n) (original false n v.forest) v
 
   to_held : (x : ℕ) → 0 < occurs x one_copy.forest → (x ≡ into → ⊥) → Keeps one_copy held x
-  to_held x h ne = keeps-alone v.made into one_copy a.drawing.sound copy_fits copy_alone x h ne (copy_unlisted x)
+  to_held x h ne = keeps-alone v.made into one_copy a.drawing.sound first_copy.fits first_copy.alone x h ne (copy_unlisted x)
 
   to_begun : (x : ℕ) → 0 < occurs x held.forest → Keeps held begun x
   to_begun = keeps-copies (node_document v n) new_node held
@@ -295,7 +256,7 @@ module _ (low : ℕ) (bad : List ℕ) (into n : ℕ) (v : World) (d : IsDrawing 
           there = e.there v.made copy_is.there;
           kind = e.kinds is_character_data v.made copy_is.there ∙ copy_is.kind;
           tag = e.tags v.made copy_is.there ∙ copy_is.tag;
-          text = text-children held.made v.made filled f.drawing.sound fragment_fits is_one v.made (f.extends.there v.made j) ∙ copy_kept.text ∙ copy_is.text;
+          text = data-kept held.made v.made filled f.drawing.sound fragment_fits v.made (f.extends.there v.made j) ∙ copy_kept.text ∙ copy_is.text;
           children = copy_children;
         }
 
@@ -320,7 +281,7 @@ module _ (low : ℕ) (bad : List ℕ) (into n : ℕ) (v : World) (d : IsDrawing 
         k5.children
         ∙ k4.children
         ∙ k3.children
-        ∙ added-alone v.made into one_copy a.drawing.sound copy_fits copy_alone (copy_unlisted into)
+        ∙ added-alone v.made into one_copy a.drawing.sound first_copy.fits first_copy.alone (copy_unlisted into)
         ∙ ap (λ ns. ns ++ (v.made ∷ [])) k1.children
 
     filled-drew : Drew w moves low bad touched v final into (Open n ∷ (ts ++ (Close ∷ [])))

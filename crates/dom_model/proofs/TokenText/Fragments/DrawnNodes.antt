@@ -1,34 +1,14 @@
 -- A contained child comes into a fragment, itself or as a copy, and children come one after another: the fragment has their tokens.
 -- DOM Standard, "Interface Range": extract, clone the contents.
-use Rattle.std.proofs.Common.{◌≡◌, ℕ, ◌<◌, ◌≤◌, Bool, true, false, List, [], ◌∷◌, ◌++◌, Some, None, refl, ap, sym, ◌∙◌, subst, arith, append-nil, inl, inr, ⊎_elim}
-use Rattle.std.proofs.lemmas.Bool.{cases_lt}
+use Rattle.std.proofs.Common.{◌≡◌, ℕ, ◌<◌, ◌≤◌, Bool, true, false, List, [], ◌∷◌, ◌++◌, Some, None, refl, ap, sym, ◌∙◌, subst, arith, append-nil, inl, inr}
+use Rattle.std.proofs.lemmas.Bool.Decides.{nat_tests}
+use Rattle.dom_model.specs.Definitions.{hits, is_kind, may_be_parent, Forest, occurs, tops, tree_at, parent_of, children_of, EachNode, Content, World, kind_passes, is_fragment, append, renumbered, document_of_clone, clone_node, child_into, children_into, no_marks, token_texts, tokens_among, opened_in, InStep, doing_clone, IsInsertable}
 use Rattle.dom_model.specs.declared.Kind.TheVariants.{DocumentFragment}
-use Rattle.dom_model.specs.PlainLists.Lists.{hits}
-use Rattle.dom_model.specs.Forests.Kinds.{is_kind, may_be_parent}
-use Rattle.dom_model.specs.Forests.Forest.{Forest, occurs, tops, tree_at, parent_of, children_of}
-use Rattle.dom_model.specs.Forests.EachNode.{EachNode}
-use Rattle.dom_model.specs.Worlds.World.{Content, World}
-use Rattle.dom_model.specs.Forests.Nodes.{kind_passes}
-use Rattle.dom_model.specs.MutationAlgorithms.Editing.{is_fragment, append}
-use Rattle.dom_model.specs.DataAndCopies.Clones.{renumbered, document_of_clone, clone_node}
-use Rattle.dom_model.specs.RangesAndContents.Contents.{child_into, children_into}
-use Rattle.dom_model.specs.TokenText.Tokens.{no_marks, token_texts, tokens_among}
-use Rattle.dom_model.specs.TokenText.Originals.{opened_in, InStep}
-use Rattle.dom_model.specs.TokenText.Edits.{doing_clone}
-use Rattle.dom_model.specs.MutationAlgorithms.Insertable.{IsInsertable}
-use Rattle.dom_model.proofs.PlainLists.Numbers.{same_or, same, apart}
-use Rattle.dom_model.proofs.Forests.Climbing.{hits-first}
-use Rattle.dom_model.proofs.Forests.Indices.{child-parent}
+use Rattle.dom_model.proofs.Forests.{Climbing.hits-first, Indices.child-parent}
 use Rattle.dom_model.proofs.DataAndCopies.CopiesPlaced.{kind-clone}
-use Rattle.dom_model.proofs.TokenText.AlikeTrees.TreesAlike.{top_of}
-use Rattle.dom_model.proofs.RangesAndContents.Drawing.{IsDrawing, extends-then, Draws, passes_there, passes_too, IsHolder, holder-extends, IsComing, may_come, draws-append}
-use Rattle.dom_model.proofs.RangesAndContents.DrawnPieces.{draws-clone, new-greater, is_drawn, drawn-fragment, IsDrawable, drawable-extends, coming}
-use Rattle.dom_model.proofs.TokenText.Contents.PathTokens.{nodes_tokens}
-use Rattle.dom_model.proofs.TokenText.Fragments.Shapes.{shape, tree_shape, tree_shape-renumbered}
-use Rattle.dom_model.proofs.TokenText.Fragments.OpensInStep.{tree_nodes, tree_numbers}
-use Rattle.dom_model.proofs.TokenText.Fragments.StandingTrees.{Stands, stands-shape, stands-numbers, stands-tags, Keeps, keeps-then}
-use Rattle.dom_model.proofs.TokenText.Fragments.SteppedTrees.{stands-tree_at, stands-forest, keeps-copies, parent_kept-copies, stands-copies, unlisted-copies, keeps-alone, added-alone, parent_kept-alone}
-use Rattle.dom_model.proofs.TokenText.Fragments.DrawnTrees.{NodeFrom, TagFrom, AreTagged, tags-itself, tags-copies, steps-itself, steps-copies, IsSafe, each-weaker, copies-safe, Drew, drew-none, drew-as, AreOld, safe-kept, drew-then}
+use Rattle.dom_model.proofs.TokenText.{AlikeTrees.TreesAlike.top_of, Contents.PathTokens.nodes_tokens, Fragments.Shapes.shape, Fragments.Shapes.tree_shape, Fragments.Shapes.tree_shape-renumbered, Fragments.OpensInStep.tree_nodes, Fragments.OpensInStep.tree_numbers, Fragments.StandingTrees.Stands, Fragments.StandingTrees.stands-shape, Fragments.StandingTrees.stands-numbers, Fragments.StandingTrees.stands-tags, Fragments.StandingTrees.Keeps, Fragments.StandingTrees.keeps-then, Fragments.SteppedTrees.stands-tree_at, Fragments.SteppedTrees.stands-forest, Fragments.SteppedTrees.keeps-copies, Fragments.SteppedTrees.parent_kept-copies, Fragments.SteppedTrees.stands-copies, Fragments.SteppedTrees.unlisted-copies, Fragments.SteppedTrees.keeps-alone, Fragments.SteppedTrees.added-alone, Fragments.SteppedTrees.parent_kept-alone, Fragments.DrawnTrees.IsCopy, Fragments.DrawnTrees.is_copy, Fragments.DrawnTrees.NodeFrom, Fragments.DrawnTrees.TagFrom, Fragments.DrawnTrees.AreTagged, Fragments.DrawnTrees.tags-itself, Fragments.DrawnTrees.tags-copies, Fragments.DrawnTrees.steps-itself, Fragments.DrawnTrees.steps-copies, Fragments.DrawnTrees.IsSafe, Fragments.DrawnTrees.each-weaker, Fragments.DrawnTrees.copies-safe, Fragments.DrawnTrees.Drew, Fragments.DrawnTrees.drew-none, Fragments.DrawnTrees.drew-as, Fragments.DrawnTrees.AreOld, Fragments.DrawnTrees.safe-kept, Fragments.DrawnTrees.drew-then}
+use Rattle.dom_model.proofs.RangesAndContents.{Drawing.IsDrawing, Drawing.extends-then, Drawing.Draws, Drawing.passes_there, Drawing.IsHolder, Drawing.holder-extends, Drawing.IsComing, Drawing.may_come, Drawing.draws-append, DrawnPieces.draws-clone, DrawnPieces.new-greater, DrawnPieces.is_drawn, DrawnPieces.drawn-fragment, DrawnPieces.IsDrawable, DrawnPieces.drawable-extends, DrawnPieces.coming}
+use Rattle.dom_model.proofs.Soundness.SoundForests.{passes-also}
 
 -- an old tree that is nowhere on the ways to the ends, with its tokens
 pub record IsAside (low : ℕ) (bad : List ℕ) (w : World) (n : ℕ) : Type 0 where
@@ -41,19 +21,15 @@ pub record IsAside (low : ℕ) (bad : List ℕ) (w : World) (n : ℕ) : Type 0 w
 pub old-one : (low : ℕ) (bad : List ℕ) → ((x : ℕ) → low ≤ x → hits x bad ≡ 0) → (p : ℕ) → 0 < hits p bad → AreOld low bad (p ∷ [])
 old-one low bad old p h = record {
   old = old;
-  within = λ x z. elim (same_or p x) [ same e t ↦ absurd (let i = subst (λ q. 0 < hits q bad) e h in omega arith) | apart ne t ↦ rw t refl ];
+  within = λ x z. grind (arith, nat_tests);
 }
 
 pub far-from : (p x : ℕ) → hits x (p ∷ []) ≡ 0 → x ≡ p → ⊥
-far-from p x z e = elim (same_or p x) [ same d t ↦ (let i = rw t at z in omega arith) | apart ne t ↦ ne (sym e) ]
+far-from p x z e = grind (arith, nat_tests)
 
 -- a node is the child of its parent alone
 unlisted : (v : World) (low : ℕ) → IsDrawing low v → (n p x : ℕ) → parent_of v.forest n ≡ Some p → (x ≡ p → ⊥) → hits n (children_of v.forest x) ≡ 0
-unlisted v low d n p x e ne =
-    ⊎_elim
-    (λ (lt : 0 < hits n (children_of v.forest x)). absurd (ne (let i : Some x ≡ Some p = sym (child-parent v.forest d.sound.forest.once n x lt) ∙ e in cc i)))
-    (λ (le : hits n (children_of v.forest x) ≤ 0). omega arith)
-    (cases_lt 0 (hits n (children_of v.forest x)))
+unlisted v low d n p x e ne = let c = child-parent v.forest d.sound.forest.once n x in grind arith
 
 module _ (low : ℕ) (bad : List ℕ) (old : (x : ℕ) → low ≤ x → hits x bad ≡ 0) (w : World) (into n p : ℕ) (v : World) (d : IsDrawing low v) (k : IsHolder low v into) (h : IsDrawable low v n) (e : parent_of v.forest n ≡ Some p) (p_old : p < low) (p_bad : 0 < hits p bad) where
   into_there : 0 < occurs into v.forest
@@ -62,7 +38,7 @@ module _ (low : ℕ) (bad : List ℕ) (old : (x : ℕ) → low ≤ x → hits x 
   -- the child itself
 
   no_fragment : is_fragment v n ≡ false
-  no_fragment = passes_too is_drawn (is_kind DocumentFragment) false drawn-fragment v.forest n h.kind
+  no_fragment = passes-also is_drawn (is_kind DocumentFragment) false drawn-fragment v.forest n h.kind
 
   comes : IsComing low v into n
   comes = coming low v into n h.kind (inl (h.old, no_fragment))
@@ -103,17 +79,8 @@ module _ (low : ℕ) (bad : List ℕ) (old : (x : ℕ) → low ≤ x → hits x 
   copy_drawn : kind_passes is_drawn copied.forest v.made ≡ true
   copy_drawn = kind-clone is_drawn (document_of_clone v n) v.made true n v.forest d.sound.forest.once (d.sound.forest.small v.made (omega arith)) n_there ∙ h.kind
 
-  copy_holder : IsHolder low copied into
-  copy_holder = holder-extends low v copied into first.extends k
-
-  copy_comes : IsComing low copied into v.made
-  copy_comes = coming low copied into v.made copy_drawn (inr (new-greater low v d into into_there))
-
-  copy_alone : is_fragment copied v.made ≡ false
-  copy_alone = passes_too is_drawn (is_kind DocumentFragment) false drawn-fragment copied.forest v.made copy_drawn
-
-  copy_fits : IsInsertable copied.forest v.made into None
-  copy_fits = may_come low copied first.drawing into v.made copy_holder copy_comes
+  copy : IsCopy low v copied into
+  copy = is_copy low v copied into d k first.drawing first.extends copy_drawn
 
   abbrev copies : Forest Content
   copies = renumbered (document_of_clone v n) v.made (tree_at n v.forest)
@@ -126,9 +93,11 @@ module _ (low : ℕ) (bad : List ℕ) (old : (x : ℕ) → low ≤ x → hits x 
 
   as_copy : IsAside low bad w n → Stands v (tree_at n w.forest) → Drew w false low bad (p ∷ []) v (append v.made into copied) into (nodes_tokens w.forest (n ∷ []))
   as_copy a st =
-      let second = draws-append low copied first.drawing into v.made copy_holder copy_comes in
+      let here = stands-tree_at v n v.forest (stands-forest v d.sound) in
+      let numbers = stands-numbers v (tree_at n v.forest) (tree_at n w.forest) here st (same_top ∙ sym a.top) in
+      let second = draws-append low copied first.drawing into v.made copy.holder copy.comes in
       let ext = extends-then v copied (append v.made into copied) first.extends second.extends in
-      let later : (x : ℕ) → 0 < occurs x copied.forest → (x ≡ into → ⊥) → Keeps copied (append v.made into copied) x = λ x i ne. keeps-alone v.made into copied first.drawing.sound copy_fits copy_alone x i ne (unlisted-copies (document_of_clone v n) (tree_at n v.forest) v d.sound first.drawing.sound x) in
+      let later : (x : ℕ) → 0 < occurs x copied.forest → (x ≡ into → ⊥) → Keeps copied (append v.made into copied) x = λ x i ne. keeps-alone v.made into copied first.drawing.sound copy.fits copy.alone x i ne (unlisted-copies (document_of_clone v n) (tree_at n v.forest) v d.sound first.drawing.sound x) in
       let safe = copies-safe low bad v.made (document_of_clone v n) v.made (tree_at n v.forest) (omega arith) in
       record {
         trees = copies;
@@ -136,21 +105,20 @@ module _ (low : ℕ) (bad : List ℕ) (old : (x : ℕ) → low ≤ x → hits x 
             safe-kept low bad [] (record { old = old; within = λ x z. refl }) v.made copied (append v.made into copied) into k.fresh (new-greater low v d into into_there) d.begun second.extends (λ x i ne z. later x i ne) copies safe
             (stands-copies (document_of_clone v n) (tree_at n v.forest) v d.sound first.drawing.sound);
         added =
-            added-alone v.made into copied first.drawing.sound copy_fits copy_alone (unlisted-copies (document_of_clone v n) (tree_at n v.forest) v d.sound first.drawing.sound into)
+            added-alone v.made into copied first.drawing.sound copy.fits copy.alone (unlisted-copies (document_of_clone v n) (tree_at n v.forest) v d.sound first.drawing.sound into)
             ∙ ap (λ ns. ns ++ (v.made ∷ [])) (old_children into into_there)
             ∙ ap (λ ns. children_of v.forest into ++ ns) (sym one_top);
         shaped =
             tree_shape-renumbered (document_of_clone v n) v.made (tree_at n v.forest)
-            ∙ stands-shape v (tree_at n v.forest) (tree_at n w.forest) (stands-tree_at v n v.forest (stands-forest v d.sound)) st (same_top ∙ sym a.top)
+            ∙ stands-shape v (tree_at n v.forest) (tree_at n w.forest) here st (same_top ∙ sym a.top)
             ∙ a.told;
         steps =
             subst (λ ns. InStep (NodeFrom false low bad) ns (tree_nodes copies))
-            (stands-numbers v (tree_at n v.forest) (tree_at n w.forest) (stands-tree_at v n v.forest (stands-forest v d.sound)) st (same_top ∙ sym a.top) ∙ a.opens)
+            (numbers ∙ a.opens)
             (steps-copies low bad (document_of_clone v n) v.made (tree_at n v.forest) d.begun);
         tagged =
             subst (λ ns. InStep (TagFrom w) ns (tree_nodes copies)) a.opens
-            (tags-copies w v (document_of_clone v n) v.made (tree_at n w.forest) (tree_at n v.forest) a.tagged (stands-tags v (tree_at n w.forest) st) (stands-tags v (tree_at n v.forest) (stands-tree_at v n v.forest (stands-forest v d.sound)))
-            (stands-numbers v (tree_at n v.forest) (tree_at n w.forest) (stands-tree_at v n v.forest (stands-forest v d.sound)) st (same_top ∙ sym a.top)));
+            (tags-copies w v (document_of_clone v n) v.made (tree_at n w.forest) (tree_at n v.forest) a.tagged (stands-tags v (tree_at n w.forest) st) (stands-tags v (tree_at n v.forest) here) numbers);
         safe = safe;
         keeps = λ x i ne z. keeps-then v copied (append v.made into copied) x (keeps-copies (document_of_clone v n) (tree_at n v.forest) v x i) (later x (first.extends.there x i) ne);
         drawing = second.drawing;
@@ -168,7 +136,7 @@ module _ (low : ℕ) (bad : List ℕ) (old : (x : ℕ) → low ≤ x → hits x 
   pub child-parents : (moves : Bool) (x : ℕ) → 0 < occurs x v.forest → (x ≡ n → ⊥) → parent_of (child_into moves into n v).forest x ≡ parent_of v.forest x
   child-parents true x i ne = parent_kept-alone n into v d.sound fits no_fragment x i ne
   child-parents false x i ne =
-      parent_kept-alone v.made into copied first.drawing.sound copy_fits copy_alone x (first.extends.there x i) (λ j. let z = d.sound.forest.small x (omega arith) in omega arith)
+      parent_kept-alone v.made into copied first.drawing.sound copy.fits copy.alone x (first.extends.there x i) (λ j. let z = d.sound.forest.small x (omega arith) in omega arith)
       ∙ parent_kept-copies (document_of_clone v n) (tree_at n v.forest) v x i
 
 -- the tokens of nodes are those of the first and those of the others
@@ -200,7 +168,7 @@ children-drew low bad old w into p p_old p_bad moves (n ∷ ns) v d k each once 
         let a = each n (hits-first n ns) in
         let b = each m (omega arith) in
         let hi = passes_there may_be_parent v.forest into k.kind in
-        let ne : m ≡ n → ⊥ = λ e. let o = once n in let j = subst (λ c. 0 < hits c ns) e i in elim (same_or n n) [ same _ t ↦ (let o2 = rw t at o in omega arith) | apart far t ↦ far refl ] in
+        let ne : m ≡ n → ⊥ = λ e. let o = once n in grind (arith, nat_tests) in
         let far = each-weaker (λ x. (x < low) × (hits x bad ≡ 0)) (IsSafe low bad v.made) (λ x j. inr j) (tree_at m w.forest) b.aside.far in
         record {
           drawable = drawable-extends low v (child_into moves into n v) m first.extends b.drawable;

@@ -1,37 +1,14 @@
 -- The contents of a range that is not within one node with data come into a fragment with the tokens between its ends, all pairs matched.
 -- DOM Standard, "Interface Range": extract, clone the contents.
-use Rattle.std.proofs.Common.{◌≡◌, ℕ, ◌<◌, ◌≤◌, Bool, List, [], ◌∷◌, ◌++◌, length, None, Some, refl, ap, sym, ◌∙◌, subst, arith, append_assoc}
-use Rattle.std.specs.Prelude.{replicate, reverse}
+use Rattle.std.proofs.Common.{◌≡◌, ℕ, ◌<◌, ◌≤◌, Bool, List, [], ◌∷◌, ◌++◌, length, None, Some, refl, ap, sym, ◌∙◌, subst, arith, append_assoc, replicate, reverse}
+use Rattle.std.proofs.lemmas.Bool.Decides.{nat_tests}
+use Rattle.dom_model.specs.Definitions.{hits, up_to, Forest, empty, node, occurs, tree_at, parent_of, children_of, ancestors, Content, Range, World, no_content, IsRange, IsSound, node_document, named, new_fragment, common_of, path_below, contained_in, contained_children, children_into, tail_into, head_into, parts_into, check_draw, Token, Close, opened_in, tail_nodes, head_nodes}
 use Rattle.dom_model.specs.declared.Kind.TheVariants.{DocumentFragment}
-use Rattle.dom_model.specs.PlainLists.Lists.{hits, up_to}
-use Rattle.dom_model.specs.Forests.Forest.{Forest, empty, node, occurs, tree_at, parent_of, children_of, ancestors}
-use Rattle.dom_model.specs.Worlds.World.{Content, Range, World, no_content}
-use Rattle.dom_model.specs.Soundness.Sound.{IsRange, IsSound}
-use Rattle.dom_model.specs.MutationAlgorithms.Editing.{node_document}
-use Rattle.dom_model.specs.Worlds.Making.{named}
-use Rattle.dom_model.specs.RangesAndContents.Contents.{new_fragment, common_of, path_below, contained_in, contained_children, children_into, tail_into, head_into, parts_into, check_draw}
-use Rattle.dom_model.specs.TokenText.Tokens.{Token, Close}
-use Rattle.dom_model.specs.TokenText.Originals.{opened_in}
-use Rattle.dom_model.specs.RangesAndContents.BesidePaths.{tail_nodes, head_nodes}
 use Rattle.dom_model.proofs.PlainLists.Numbers.{same_or, same, apart}
 use Rattle.dom_model.proofs.Forests.Climbing.{hits-append, hits-first}
-use Rattle.dom_model.proofs.Forests.Indices.{child-there}
-use Rattle.dom_model.proofs.Soundness.SoundWorlds.{child_there}
-use Rattle.dom_model.proofs.Soundness.SoundDeleting.{offset_of_start}
-use Rattle.dom_model.proofs.RangesAndContents.Drawing.{IsDrawing, Extends, extends-then, passes_there, IsHolder, holder-extends}
-use Rattle.dom_model.proofs.RangesAndContents.DrawnPieces.{is_drawn, IsDrawable}
-use Rattle.dom_model.proofs.RangesAndContents.DrawnPaths.{ArePath, IsWithin, hits-filter}
-use Rattle.dom_model.proofs.RangesAndContents.PathsToEnds.{path-within, path-down}
-use Rattle.dom_model.proofs.TokenText.EditsMade.EditsOfDrawnContents.{at_start, first, holds, same_ancestors, common-same, contained_children-same, contained_drawable}
-use Rattle.dom_model.proofs.TokenText.Contents.PathTokens.{nodes_tokens, tail_tokens, head_tokens, start_path, end_path, parts_tokens}
-use Rattle.dom_model.proofs.TokenText.Contents.PathShapes.{opens_of}
-use Rattle.dom_model.proofs.TokenText.Fragments.Shapes.{shape}
-use Rattle.dom_model.proofs.TokenText.Fragments.StandingTrees.{Stands, Keeps}
-use Rattle.dom_model.proofs.TokenText.Fragments.SteppedTrees.{stands-tree_at, stands-forest, keeps-copies}
-use Rattle.dom_model.proofs.TokenText.Fragments.DrawnTrees.{Drew, drew-as, AreOld, drew-then}
-use Rattle.dom_model.proofs.TokenText.Fragments.DrawnNodes.{IsAside, old-one}
-use Rattle.dom_model.proofs.TokenText.Fragments.DrawnTails.{IsReady, old-ones, aside-stands, ready-later, some-drew, tail-drew, head-drew}
-use Rattle.dom_model.proofs.TokenText.Fragments.NodesAside.{hs, he, top_start, top_end, common_there, below-made, ways-old, tail-aside, head-aside, contained-aside, start-once, end-once, end-apart, common-off_start, common-off_end}
+use Rattle.dom_model.proofs.Soundness.{SoundWorlds.child_there, SoundDeleting.offset_of_start}
+use Rattle.dom_model.proofs.RangesAndContents.{Drawing.IsDrawing, Drawing.Extends, Drawing.extends-then, Drawing.passes_there, Drawing.IsHolder, Drawing.holder-extends, DrawnPieces.is_drawn, DrawnPieces.IsDrawable, DrawnPaths.ArePath, DrawnPaths.IsWithin, DrawnPaths.hits-filter, PathsToEnds.path-within, PathsToEnds.path-down}
+use Rattle.dom_model.proofs.TokenText.{Fragments.MatchedParts.contained_there, EditsMade.EditsOfDrawnContents.at_start, EditsMade.EditsOfDrawnContents.first, EditsMade.EditsOfDrawnContents.holds, EditsMade.EditsOfDrawnContents.same_ancestors, EditsMade.EditsOfDrawnContents.common-same, EditsMade.EditsOfDrawnContents.contained_children-same, EditsMade.EditsOfDrawnContents.contained_drawable, Contents.PathTokens.nodes_tokens, Contents.PathTokens.tail_tokens, Contents.PathTokens.head_tokens, Contents.PathTokens.start_path, Contents.PathTokens.end_path, Contents.PathTokens.parts_tokens, Contents.PathShapes.opens_of, Fragments.Shapes.shape, Fragments.StandingTrees.Stands, Fragments.StandingTrees.Keeps, Fragments.SteppedTrees.stands-tree_at, Fragments.SteppedTrees.stands-forest, Fragments.SteppedTrees.keeps-copies, Fragments.DrawnTrees.Drew, Fragments.DrawnTrees.drew-as, Fragments.DrawnTrees.AreOld, Fragments.DrawnTrees.drew-then, Fragments.DrawnNodes.IsAside, Fragments.DrawnNodes.old-one, Fragments.DrawnTails.IsReady, Fragments.DrawnTails.old-ones, Fragments.DrawnTails.aside-stands, Fragments.DrawnTails.ready-later, Fragments.DrawnTails.some-drew, Fragments.DrawnTails.tail-drew, Fragments.DrawnTails.head-drew, Fragments.NodesAside.hs, Fragments.NodesAside.he, Fragments.NodesAside.top_start, Fragments.NodesAside.top_end, Fragments.NodesAside.common_there, Fragments.NodesAside.below-made, Fragments.NodesAside.ways-old, Fragments.NodesAside.tail-aside, Fragments.NodesAside.head-aside, Fragments.NodesAside.contained-aside, Fragments.NodesAside.start-once, Fragments.NodesAside.end-once, Fragments.NodesAside.end-apart, Fragments.NodesAside.common-off_start, Fragments.NodesAside.common-off_end}
 
 path-drawable : (low : ℕ) (v : World) (path : List ℕ) → ArePath low v path → (n : ℕ) → 0 < hits n path → IsDrawable low v n
 path-drawable low v [] p n h = absurd (omega arith)
@@ -101,35 +78,29 @@ module _ (w : World) (sound : IsSound w) (range : Range) (is : IsRange w.forest 
   stand : (c : ℕ) → IsAside w.made bad w c → Stands grown (tree_at c w.forest)
   stand c a = aside-stands w.made bad [] none_touched w w grown w.made (omega arith) grows (λ y t ne z. kept y t) c a (stands-tree_at w c w.forest (stands-forest w sound))
 
-  start_ready : IsReady w.made bad w grown (start_path w range) (tail_nodes w range.start.offset (start_path w range))
-  start_ready = record {
-    in_bad = start_in;
-    once = start-once w sound range is;
-    drawable = path-drawable w.made w (start_path w range) start_down;
-    keeps = λ n h. let d = path-drawable w.made w (start_path w range) start_down n h in kept n (passes_there is_drawn w.forest n d.kind);
-    aside = tail-aside w sound range is;
-    stands = λ c h. stand c (tail-aside w sound range is c h);
+  -- a path and the nodes beside it, as the drawing starts
+  ready : (path beside : List ℕ) → ((n : ℕ) → 0 < hits n path → 0 < hits n bad) → ((n : ℕ) → hits n path ≤ 1) → ArePath w.made w path → ((c : ℕ) → 0 < hits c beside → IsAside w.made bad w c) → IsReady w.made bad w grown path beside
+  ready path beside in_bad once down aside = record {
+    in_bad = in_bad;
+    once = once;
+    drawable = path-drawable w.made w path down;
+    keeps = λ n h. let d = path-drawable w.made w path down n h in kept n (passes_there is_drawn w.forest n d.kind);
+    aside = aside;
+    stands = λ c h. stand c (aside c h);
   }
+
+  start_ready : IsReady w.made bad w grown (start_path w range) (tail_nodes w range.start.offset (start_path w range))
+  start_ready =
+      ready (start_path w range) (tail_nodes w range.start.offset (start_path w range)) start_in (start-once w sound range is) start_down (tail-aside w sound range is)
 
   end_ready : IsReady w.made bad w grown (end_path w range) (head_nodes w range.end.offset (end_path w range))
-  end_ready = record {
-    in_bad = end_in;
-    once = end-once w sound range is;
-    drawable = path-drawable w.made w (end_path w range) end_down;
-    keeps = λ n h. let d = path-drawable w.made w (end_path w range) end_down n h in kept n (passes_there is_drawn w.forest n d.kind);
-    aside = head-aside w sound range is;
-    stands = λ c h. stand c (head-aside w sound range is c h);
-  }
+  end_ready =
+      ready (end_path w range) (head_nodes w range.end.offset (end_path w range)) end_in (end-once w sound range is) end_down (head-aside w sound range is)
 
-  start_path-same : path_below grown.forest (common_of grown range) range.start.node ≡ start_path w range
-  start_path-same =
-      ap (λ ns. reverse (up_to (common_of grown range) ns)) (same_ancestors w sound range is range.start.node (hs w sound range is))
-      ∙ ap (λ m. reverse (up_to m (ancestors range.start.node w.forest))) (common-same w sound range is)
-
-  end_path-same : path_below grown.forest (common_of grown range) range.end.node ≡ end_path w range
-  end_path-same =
-      ap (λ ns. reverse (up_to (common_of grown range) ns)) (same_ancestors w sound range is range.end.node (he w sound range is))
-      ∙ ap (λ m. reverse (up_to m (ancestors range.end.node w.forest))) (common-same w sound range is)
+  path-same : (n : ℕ) → 0 < occurs n w.forest → path_below grown.forest (common_of grown range) n ≡ path_below w.forest (common_of w range) n
+  path-same n h =
+      ap (λ ns. reverse (up_to (common_of grown range) ns)) (same_ancestors w sound range is n h)
+      ∙ ap (λ m. reverse (up_to m (ancestors n w.forest))) (common-same w sound range is)
 
   module _ (no_doctype : check_draw w range ≡ None) (moves : Bool) where
     abbrev opens : List Token
@@ -156,10 +127,7 @@ module _ (w : World) (sound : IsSound w) (range : Range) (is : IsRange w.forest 
     child_drawable : (c : ℕ) → 0 < hits c (contained_children w range) → IsDrawable w.made w c
     child_drawable c h =
         let k = contained_drawable w sound range is no_doctype c (subst (λ ns. 0 < hits c ns) (sym (contained_children-same w sound range is)) h) in
-        record { old = k.old; kind = sym (grows.kinds is_drawn c (contained_there c h)) ∙ k.kind }
-      where
-        contained_there : (c : ℕ) → 0 < hits c (contained_children w range) → 0 < occurs c w.forest
-        contained_there c h = let i = hits-filter c (contained_in w range) (children_of w.forest (common_of w range)) in child-there w.forest sound.forest.once c (common_of w range) (omega arith)
+        record { old = k.old; kind = sym (grows.kinds is_drawn c (contained_there w sound range is c h)) ∙ k.kind }
 
     common_kept : children_of after_tail.forest (common_of w range) ≡ children_of w.forest (common_of w range)
     common_kept =
@@ -184,11 +152,7 @@ module _ (w : World) (sound : IsSound w) (range : Range) (is : IsRange w.forest 
         (ready-later w.made bad (start_path w range) (old-ones w.made bad (start_path w range) old start_in) w grown after_tail w.made (omega arith) grows tail_came.extends tail_came.keeps (end_path w range) (head_nodes w range.end.offset (end_path w range)) (end_path w range) (head_nodes w range.end.offset (end_path w range)) (λ n. omega arith) (end-apart w sound range is) (λ n. omega arith) end_ready)
       where
         far : (n : ℕ) → 0 < hits n (end_path w range) → hits n (common_of w range ∷ []) ≡ 0
-        far n h =
-            elim (same_or (common_of w range) n) [
-              | same e t ↦ absurd (let z = common-off_end w sound range is in let i = subst (λ m. 0 < hits m (end_path w range)) (sym e) h in omega arith)
-              | apart ne t ↦ rw t refl
-            ]
+        far n h = let z = common-off_end w sound range is in grind (arith, nat_tests)
 
     head_came : Drew w moves w.made bad (end_path w range) after_children after_head w.made (head_tokens w range.end.offset (end_path w range) ++ closes)
     head_came =
@@ -199,9 +163,9 @@ module _ (w : World) (sound : IsSound w) (range : Range) (is : IsRange w.forest 
 
     parts-same : after_head ≡ parts_into moves w.made range grown
     parts-same =
-        sym (ap (λ ns. head_into moves w.made range.end.offset ns (children_into moves w.made (contained_children grown range) (tail_into moves w.made range.start.offset (path_below grown.forest (common_of grown range) range.start.node) grown))) end_path-same
+        sym (ap (λ ns. head_into moves w.made range.end.offset ns (children_into moves w.made (contained_children grown range) (tail_into moves w.made range.start.offset (path_below grown.forest (common_of grown range) range.start.node) grown))) (path-same range.end.node (he w sound range is))
         ∙ ap (λ ns. head_into moves w.made range.end.offset (end_path w range) (children_into moves w.made ns (tail_into moves w.made range.start.offset (path_below grown.forest (common_of grown range) range.start.node) grown))) (contained_children-same w sound range is)
-        ∙ ap (λ ns. head_into moves w.made range.end.offset (end_path w range) (children_into moves w.made (contained_children w range) (tail_into moves w.made range.start.offset ns grown))) start_path-same)
+        ∙ ap (λ ns. head_into moves w.made range.end.offset (end_path w range) (children_into moves w.made (contained_children w range) (tail_into moves w.made range.start.offset ns grown))) (path-same range.start.node (hs w sound range is)))
 
     pub parts-drew : Drew w moves w.made bad bad grown (parts_into moves w.made range grown) w.made (opens_of (start_path w range) ++ (parts_tokens w range ++ replicate (length (end_path w range)) Close))
     parts-drew =

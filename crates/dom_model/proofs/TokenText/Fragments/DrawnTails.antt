@@ -1,32 +1,11 @@
 -- What lies beside a path and at its end comes into a fragment, in copies of the nodes of the path: the fragment has the tokens of that part
 -- of the tree, with opens in front or closes behind that make all pairs match. DOM Standard, "Interface Range": extract, clone the contents.
-use Rattle.std.proofs.Common.{◌≡◌, ℕ, suc, ◌+◌, ◌-◌, ◌<◌, ◌≤◌, Bool, true, false, if◌then◌else◌, List, [], ◌∷◌, ◌++◌, take, drop, length, refl, ap, sym, ◌∙◌, subst, arith, append_assoc, length-drop, inr, ⊎_elim}
-use Rattle.std.specs.Prelude.{replicate}
-use Rattle.std.proofs.lemmas.Bool.{cases_lt}
-use Rattle.std.proofs.lemmas.List.{take_all, replicate_more}
-use Rattle.dom_model.specs.PlainLists.Lists.{hits, past, up_to}
-use Rattle.dom_model.specs.Forests.Kinds.{is_character_data, may_be_parent}
-use Rattle.dom_model.specs.Forests.Forest.{occurs, tree_at, children_of}
-use Rattle.dom_model.specs.Worlds.World.{World}
-use Rattle.dom_model.specs.Forests.Nodes.{kind_passes}
-use Rattle.dom_model.specs.DataAndCopies.Data.{data_of}
-use Rattle.dom_model.specs.RangesAndContents.Contents.{units_into, children_into, copy_into, tail_into, head_into}
-use Rattle.dom_model.specs.TokenText.Tokens.{Token, Open, Close, no_marks, unit_tokens}
-use Rattle.dom_model.specs.TokenText.Originals.{opened_in}
-use Rattle.dom_model.specs.RangesAndContents.BesidePaths.{tail_nodes, head_nodes}
-use Rattle.dom_model.proofs.PlainLists.Numbers.{same_or, same, apart}
-use Rattle.dom_model.proofs.Forests.Climbing.{hits-append, hits-first}
-use Rattle.dom_model.proofs.Forests.Indices.{child-parent, child-once}
-use Rattle.dom_model.proofs.RangesAndContents.Drawing.{IsDrawing, Extends, extends-same, extends-then, passes_there, IsHolder, holder-extends}
-use Rattle.dom_model.proofs.RangesAndContents.DrawnPieces.{new-greater, is_drawn, IsDrawable, drawable-extends}
-use Rattle.dom_model.proofs.RangesAndContents.DrawnPaths.{ArePath, IsWithin, child-drawable, hits-drop, hits-take, hits-past, hits-up_to}
-use Rattle.dom_model.proofs.TokenText.Contents.PathTokens.{nodes_tokens, tail_tokens, head_tokens}
-use Rattle.dom_model.proofs.TokenText.Contents.PathShapes.{opens_of}
-use Rattle.dom_model.proofs.TokenText.Fragments.Shapes.{shape}
-use Rattle.dom_model.proofs.TokenText.Fragments.StandingTrees.{Stands, Keeps, keeps-then}
-use Rattle.dom_model.proofs.TokenText.Fragments.DrawnTrees.{IsSafe, each-weaker, Drew, drew-none, drew-as, AreOld, safe-kept, drew-then}
-use Rattle.dom_model.proofs.TokenText.Fragments.DrawnNodes.{IsAside, old-one, children-drew}
-use Rattle.dom_model.proofs.TokenText.Fragments.DrawnCopies.{units-drew, copy-drew}
+use Rattle.std.proofs.Common.{◌≡◌, ℕ, suc, ◌+◌, ◌-◌, ◌<◌, ◌≤◌, Bool, true, false, if◌then◌else◌, List, [], ◌∷◌, ◌++◌, take, drop, length, refl, ap, sym, ◌∙◌, subst, arith, append_assoc, length-drop, inr, replicate}
+use Rattle.std.proofs.lemmas.{List.take_all, List.replicate_more, Bool.Decides.nat_tests}
+use Rattle.dom_model.specs.Definitions.{hits, past, up_to, is_character_data, may_be_parent, occurs, tree_at, children_of, World, kind_passes, data_of, units_into, children_into, copy_into, tail_into, head_into, Token, Open, Close, no_marks, unit_tokens, opened_in, tail_nodes, head_nodes}
+use Rattle.dom_model.proofs.Forests.{Climbing.hits-append, Climbing.hits-first, Indices.child-parent, Indices.child-once}
+use Rattle.dom_model.proofs.RangesAndContents.{Drawing.IsDrawing, Drawing.Extends, Drawing.extends-same, Drawing.extends-then, Drawing.passes_there, Drawing.IsHolder, Drawing.holder-extends, DrawnPieces.new-greater, DrawnPieces.is_drawn, DrawnPieces.IsDrawable, DrawnPieces.drawable-extends, DrawnPaths.ArePath, DrawnPaths.IsWithin, DrawnPaths.child-drawable, DrawnPaths.hits-drop, DrawnPaths.hits-take, DrawnPaths.hits-past, DrawnPaths.hits-up_to}
+use Rattle.dom_model.proofs.TokenText.{Contents.PathTokens.nodes_tokens, Contents.PathTokens.tail_tokens, Contents.PathTokens.head_tokens, Contents.PathShapes.opens_of, Fragments.Shapes.shape, Fragments.StandingTrees.Stands, Fragments.StandingTrees.Keeps, Fragments.StandingTrees.keeps-then, Fragments.DrawnTrees.IsSafe, Fragments.DrawnTrees.each-weaker, Fragments.DrawnTrees.Drew, Fragments.DrawnTrees.drew-none, Fragments.DrawnTrees.drew-as, Fragments.DrawnTrees.AreOld, Fragments.DrawnTrees.safe-kept, Fragments.DrawnTrees.drew-then, Fragments.DrawnNodes.IsAside, Fragments.DrawnNodes.old-one, Fragments.DrawnNodes.children-drew, Fragments.DrawnCopies.units-drew, Fragments.DrawnCopies.copy-drew}
 
 -- A path and the nodes beside it, which are as they were in the world that is read.
 pub record IsReady (low : ℕ) (bad : List ℕ) (w v : World) (path beside : List ℕ) : Type 0 where
@@ -41,7 +20,7 @@ pub record IsReady (low : ℕ) (bad : List ℕ) (w v : World) (path beside : Lis
 pub old-ones : (low : ℕ) (bad path : List ℕ) → ((x : ℕ) → low ≤ x → hits x bad ≡ 0) → ((n : ℕ) → 0 < hits n path → 0 < hits n bad) → AreOld low bad path
 old-ones low bad path old h = record {
   old = old;
-  within = λ x z. ⊎_elim (λ (lt : 0 < hits x path). absurd (let i = h x lt in omega arith)) (λ (le : hits x path ≤ 0). omega arith) (cases_lt 0 (hits x path));
+  within = λ x z. let i = h x in grind arith;
 }
 
 -- what is old and aside stands on
@@ -85,10 +64,10 @@ module _ (low : ℕ) (bad : List ℕ) (old : (x : ℕ) → low ≤ x → hits x 
   beside-drew n ns h n_bad fewer aside = some-drew n ns h.old n_bad fewer (λ c i. child-drawable low w dw n c h (let j = fewer c in omega arith)) aside
 
   first-in : (n : ℕ) (ns : List ℕ) → ((m : ℕ) → hits m (n ∷ ns) ≤ 1) → hits n ns ≡ 0
-  first-in n ns once = elim (same_or n n) [ same e t ↦ (let o = once n in let o2 = rw t at o in omega arith) | apart ne t ↦ absurd (ne refl) ]
+  first-in n ns once = let o = once n in grind (arith, nat_tests)
 
   apart-first : (n y : ℕ) (ns : List ℕ) → ((m : ℕ) → hits m (n ∷ ns) ≤ 1) → 0 < hits y ns → hits y (n ∷ []) ≡ 0
-  apart-first n y ns once h = elim (same_or n y) [ same e t ↦ (let o = once y in let o2 = rw t at o in absurd (omega arith)) | apart ne t ↦ rw t refl ]
+  apart-first n y ns once h = let o = once y in grind (arith, nat_tests)
 
   -- of the last node of a path, or of the only one
 

@@ -1,22 +1,13 @@
 -- What a step of drawing contents brings into a fragment, told by the trees that then stand under it; and two such steps one after another.
 -- DOM Standard, "Interface Range": extract, clone the contents.
-use Rattle.std.proofs.Common.{◌≡◌, ℕ, ◌+◌, ◌<◌, ◌≤◌, Bool, true, false, if◌then◌else◌, List, [], ◌∷◌, ◌++◌, refl, ap, sym, ◌∙◌, subst, arith, append_assoc, append-nil, ◌⊎◌, inl, inr}
-use Rattle.dom_model.specs.PlainLists.Lists.{hits}
-use Rattle.dom_model.specs.Forests.Kinds.{is_character_data}
-use Rattle.dom_model.specs.Forests.Forest.{Node, Forest, empty, node, occurs, tops, size, beside, children_of}
-use Rattle.dom_model.specs.Forests.EachNode.{EachNode}
-use Rattle.dom_model.specs.Worlds.World.{Content, World}
-use Rattle.dom_model.specs.DataAndCopies.Clones.{renumbered}
-use Rattle.dom_model.specs.TokenText.Tokens.{Token, Open, Close}
-use Rattle.dom_model.specs.TokenText.Originals.{opened_in, InStep}
-use Rattle.dom_model.proofs.Forests.Climbing.{hits-append}
-use Rattle.dom_model.proofs.Forests.EachNode.{EachNode-beside}
-use Rattle.dom_model.proofs.Forests.Tops.{tops-beside}
+use Rattle.std.proofs.Common.{◌≡◌, ℕ, ◌+◌, ◌<◌, ◌≤◌, Bool, true, false, if◌then◌else◌, List, [], ◌∷◌, ◌++◌, refl, ap, sym, ◌∙◌, subst, arith, append_assoc, append-nil, ◌⊎◌, inl, inr, None}
+use Rattle.dom_model.specs.Definitions.{hits, is_character_data, Node, Forest, empty, node, occurs, tops, size, beside, children_of, EachNode, Content, World, renumbered, Token, Open, Close, opened_in, InStep, IsInsertable, is_fragment, kind_passes, may_be_parent, is_kind}
+use Rattle.dom_model.specs.declared.Kind.TheVariants.{DocumentFragment}
+use Rattle.dom_model.proofs.Forests.{Climbing.hits-append, EachNode.EachNode-beside, Tops.tops-beside}
 use Rattle.dom_model.proofs.MutationAlgorithms.Extending.{tag_at}
-use Rattle.dom_model.proofs.RangesAndContents.Drawing.{IsDrawing, Extends, extends-same, extends-then}
-use Rattle.dom_model.proofs.TokenText.Fragments.Shapes.{shape, shape-append, tree_shape, tree_shape-beside}
-use Rattle.dom_model.proofs.TokenText.Fragments.OpensInStep.{EachOf, each-map, each-both, steps-left, steps-self, steps-of, numbers-nodes, steps-append, opened_in-append, tree_nodes, tree_numbers, tree_nodes-beside}
-use Rattle.dom_model.proofs.TokenText.Fragments.StandingTrees.{tag_of, Stands, stands-beside, Keeps, keeps-then, stands-kept}
+use Rattle.dom_model.proofs.RangesAndContents.{Drawing.IsDrawing, Drawing.Extends, Drawing.extends-same, Drawing.extends-then, Drawing.IsHolder, Drawing.holder-extends, Drawing.IsComing, Drawing.may_come, Drawing.passes_there, DrawnPieces.is_drawn, DrawnPieces.drawn-fragment, DrawnPieces.new-greater, DrawnPieces.coming}
+use Rattle.dom_model.proofs.TokenText.{Fragments.Shapes.shape, Fragments.Shapes.shape-append, Fragments.Shapes.tree_shape, Fragments.Shapes.tree_shape-beside, Fragments.OpensInStep.EachOf, Fragments.OpensInStep.each-map, Fragments.OpensInStep.each-both, Fragments.OpensInStep.steps-if, Fragments.OpensInStep.steps-left, Fragments.OpensInStep.steps-self, Fragments.OpensInStep.steps-of, Fragments.OpensInStep.numbers-nodes, Fragments.OpensInStep.steps-append, Fragments.OpensInStep.opened_in-append, Fragments.OpensInStep.tree_nodes, Fragments.OpensInStep.tree_numbers, Fragments.OpensInStep.tree_nodes-beside, Fragments.StandingTrees.tag_of, Fragments.StandingTrees.Stands, Fragments.StandingTrees.stands-beside, Fragments.StandingTrees.Keeps, Fragments.StandingTrees.keeps-then, Fragments.StandingTrees.stands-kept}
+use Rattle.dom_model.proofs.Soundness.SoundForests.{passes-also}
 
 -- a new node, or an old one that is nowhere on the ways to the ends
 abbrev pub IsSafe : ℕ → List ℕ → ℕ → ℕ → Type 0
@@ -42,27 +33,22 @@ NodeFrom moves low bad n x = IsFrom moves low bad n x.number
 -- trees that come in as they are
 pub steps-itself : (low : ℕ) (bad : List ℕ) (f : Forest Content) → EachNode (λ x. (x.number < low) × (hits x.number bad ≡ 0)) f → InStep (NodeFrom true low bad) (tree_numbers f) (tree_nodes f)
 steps-itself low bad empty p = tt
-steps-itself low bad (node x kids rest) p = (inl (refl, p.0.1, refl), go (is_character_data x.label.kind) (steps-itself low bad kids p.1) (steps-itself low bad rest p.2))
-  where
-    go : (v : Bool) → InStep (NodeFrom true low bad) (tree_numbers kids) (tree_nodes kids) → InStep (NodeFrom true low bad) (tree_numbers rest) (tree_nodes rest) → InStep (NodeFrom true low bad) ((if v then [] else tree_numbers kids) ++ tree_numbers rest) ((if v then [] else tree_nodes kids) ++ tree_nodes rest)
-    go true h k = k
-    go false h k = steps-append (NodeFrom true low bad) (tree_numbers kids) (tree_numbers rest) (tree_nodes kids) (tree_nodes rest) h k
+steps-itself low bad (node x kids rest) p = (
+  inl (refl, p.0.1, refl),
+  steps-if (NodeFrom true low bad) (is_character_data x.label.kind) (tree_numbers kids) (tree_numbers rest) (tree_nodes kids) (tree_nodes rest)
+      (steps-itself low bad kids p.1) (steps-itself low bad rest p.2),
+)
 
 -- and copies of them
 pub steps-copies : (low : ℕ) (bad : List ℕ) (document next : ℕ) (f : Forest Content) → low ≤ next → InStep (NodeFrom false low bad) (tree_numbers f) (tree_nodes (renumbered document next f))
 steps-copies low bad document next empty l = tt
 steps-copies low bad document next (node x kids rest) l =
-    (inr (inl refl, l), go (is_character_data x.label.kind) (steps-copies low bad document (next + 1) kids (omega arith)) (steps-copies low bad document (next + 1 + size kids) rest (omega arith)))
-  where
-    below : Forest Content
-    below = renumbered document (next + 1) kids
-
-    beside_it : Forest Content
-    beside_it = renumbered document (next + 1 + size kids) rest
-
-    go : (v : Bool) → InStep (NodeFrom false low bad) (tree_numbers kids) (tree_nodes below) → InStep (NodeFrom false low bad) (tree_numbers rest) (tree_nodes beside_it) → InStep (NodeFrom false low bad) ((if v then [] else tree_numbers kids) ++ tree_numbers rest) ((if v then [] else tree_nodes below) ++ tree_nodes beside_it)
-    go true h k = k
-    go false h k = steps-append (NodeFrom false low bad) (tree_numbers kids) (tree_numbers rest) (tree_nodes below) (tree_nodes beside_it) h k
+    let below = renumbered document (next + 1) kids in
+    let beside_it = renumbered document (next + 1 + size kids) rest in (
+      inr (inl refl, l),
+      steps-if (NodeFrom false low bad) (is_character_data x.label.kind) (tree_numbers kids) (tree_numbers rest) (tree_nodes below) (tree_nodes beside_it)
+          (steps-copies low bad document (next + 1) kids (omega arith)) (steps-copies low bad document (next + 1 + size kids) rest (omega arith)),
+    )
 
 -- what stands for a node has its label and attributes
 abbrev pub TagFrom : World → ℕ → Node Content → Type 0
@@ -73,17 +59,13 @@ SameTag x y = tag_of x ≡ tag_of y
 
 copies-tags : (document next : ℕ) (f : Forest Content) → InStep SameTag (tree_nodes f) (tree_nodes (renumbered document next f))
 copies-tags document next empty = tt
-copies-tags document next (node x kids rest) = (refl, go (is_character_data x.label.kind) (copies-tags document (next + 1) kids) (copies-tags document (next + 1 + size kids) rest))
-  where
-    below : Forest Content
-    below = renumbered document (next + 1) kids
-
-    beside_it : Forest Content
-    beside_it = renumbered document (next + 1 + size kids) rest
-
-    go : (v : Bool) → InStep SameTag (tree_nodes kids) (tree_nodes below) → InStep SameTag (tree_nodes rest) (tree_nodes beside_it) → InStep SameTag ((if v then [] else tree_nodes kids) ++ tree_nodes rest) ((if v then [] else tree_nodes below) ++ tree_nodes beside_it)
-    go true h k = k
-    go false h k = steps-append SameTag (tree_nodes kids) (tree_nodes rest) (tree_nodes below) (tree_nodes beside_it) h k
+copies-tags document next (node x kids rest) =
+    let below = renumbered document (next + 1) kids in
+    let beside_it = renumbered document (next + 1 + size kids) rest in (
+      refl,
+      steps-if SameTag (is_character_data x.label.kind) (tree_nodes kids) (tree_nodes rest) (tree_nodes below) (tree_nodes beside_it)
+          (copies-tags document (next + 1) kids) (copies-tags document (next + 1 + size kids) rest),
+    )
 
 -- the nodes of trees are labelled as in a world
 abbrev pub AreTagged : World → Forest Content → Type 0
@@ -175,6 +157,28 @@ safe-kept low bad touched o made v u into l lt b e keeps f safe h = stands-kept 
     each x (inl i) k = keeps x k (λ d. omega arith) (o.within x (o.old x (omega arith)))
     each x (inr i) k = keeps x k (λ d. let a = i.0 in omega arith) (o.within x i.1)
 
+-- a new node that came in as the first copy, on its way into a node
+pub record IsCopy (low : ℕ) (v u : World) (into : ℕ) : Type 0 where
+  pub holder : IsHolder low u into
+  pub comes : IsComing low u into v.made
+  pub fits : IsInsertable u.forest v.made into None
+  pub alone : is_fragment u v.made ≡ false
+
+pub is_copy : (low : ℕ) (v u : World) (into : ℕ) → IsDrawing low v → IsHolder low v into → IsDrawing low u → Extends v u → kind_passes is_drawn u.forest v.made ≡ true → IsCopy low v u into
+is_copy low v u into d k du e drawn =
+    let holder = holder-extends low v u into e k in
+    let comes = coming low u into v.made drawn (inr (new-greater low v d into (passes_there may_be_parent v.forest into k.kind))) in
+    record {
+      holder = holder;
+      comes = comes;
+      fits = may_come low u du into v.made holder comes;
+      alone = passes-also is_drawn (is_kind DocumentFragment) false drawn-fragment u.forest v.made drawn;
+    }
+
+steps-beside : (related : ℕ → Node Content → Type 0) (ts us : List Token) (f g : Forest Content) → InStep related (opened_in ts) (tree_nodes f) → InStep related (opened_in us) (tree_nodes g) → InStep related (opened_in (ts ++ us)) (tree_nodes (beside f g))
+steps-beside related ts us f g h k =
+    rw (opened_in-append ts us, tree_nodes-beside f g) (steps-append related (opened_in ts) (opened_in us) (tree_nodes f) (tree_nodes g) h k)
+
 -- one step after another
 pub drew-then : (w : World) (moves : Bool) (low : ℕ) (bad first second : List ℕ) → AreOld low bad second → (v u y : World) (into : ℕ) (ts us : List Token) → low ≤ into → into < v.made → low ≤ v.made → Drew w moves low bad first v u into ts → Drew w moves low bad second u y into us → Drew w moves low bad (first ++ second) v y into (ts ++ us)
 drew-then w moves low bad first second o v u y into ts us l lt b d e = record {
@@ -190,14 +194,8 @@ drew-then w moves low bad first second o v u y into ts us l lt b d e = record {
       ∙ ap (λ xs. xs ++ tree_shape e.trees) d.shaped
       ∙ ap (λ xs. shape ts ++ xs) e.shaped
       ∙ sym (shape-append ts us);
-  steps =
-      subst (λ ns. InStep (NodeFrom moves low bad) ns (tree_nodes (beside d.trees e.trees))) (sym (opened_in-append ts us))
-      (subst (λ xs. InStep (NodeFrom moves low bad) (opened_in ts ++ opened_in us) xs) (sym (tree_nodes-beside d.trees e.trees))
-      (steps-append (NodeFrom moves low bad) (opened_in ts) (opened_in us) (tree_nodes d.trees) (tree_nodes e.trees) d.steps e.steps));
-  tagged =
-      subst (λ ns. InStep (TagFrom w) ns (tree_nodes (beside d.trees e.trees))) (sym (opened_in-append ts us))
-      (subst (λ xs. InStep (TagFrom w) (opened_in ts ++ opened_in us) xs) (sym (tree_nodes-beside d.trees e.trees))
-      (steps-append (TagFrom w) (opened_in ts) (opened_in us) (tree_nodes d.trees) (tree_nodes e.trees) d.tagged e.tagged));
+  steps = steps-beside (NodeFrom moves low bad) ts us d.trees e.trees d.steps e.steps;
+  tagged = steps-beside (TagFrom w) ts us d.trees e.trees d.tagged e.tagged;
   safe =
       EachNode-beside (λ x. IsSafe low bad v.made x.number) d.trees e.trees d.safe
       (each-weaker (IsSafe low bad u.made) (IsSafe low bad v.made) later e.trees e.safe);

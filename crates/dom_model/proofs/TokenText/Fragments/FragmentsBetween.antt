@@ -1,52 +1,13 @@
 -- The fragment that extracting or cloning the contents of a live range makes holds what lies between the range's markers.
 -- DOM Standard, "Interface Range": extractContents, cloneContents.
-use Rattle.std.proofs.Common.{◌≡◌, ℕ, suc, ◌-◌, ◌<◌, ◌≤◌, ◌==◌, Bool, true, false, ◌||◌, if◌then◌else◌, List, [], ◌∷◌, ◌++◌, take, drop, length, Option, Some, None, refl, ap, sym, ◌∙◌, subst, arith, append-nil, length-drop, ⊎_elim}
-use Rattle.std.specs.Prelude.{replicate}
-use Rattle.std.proofs.lemmas.Bool.{cases_lt, false≢true}
-use Rattle.std.proofs.lemmas.List.{length-take-le}
+use Rattle.std.proofs.Common.{◌≡◌, ℕ, suc, ◌-◌, ◌<◌, ◌≤◌, ◌==◌, Bool, true, false, ◌||◌, if◌then◌else◌, List, [], ◌∷◌, ◌++◌, take, drop, length, Option, Some, None, refl, ap, sym, ◌∙◌, subst, arith, append-nil, length-drop, eq-eqb, map, replicate}
+use Rattle.std.proofs.lemmas.{List.length-take-le, Bool.Decides.nat_tests}
+use Rattle.dom_model.specs.Definitions.{hits, last_of, is_character_data, may_be_parent, Entry, parent_in, children_in, Node, Forest, empty, node, occurs, tops, entry_in, parent_of, children_of, root_of, substring, Content, Range, World, no_content, IsRange, IsSound, entry_has, kind_passes, node_document, named, data_of, is_collapsed, range_at, with_range, collapsed_at, for_range, is_in_one_data, new_place, new_fragment, units_into, parts_into, contents_drawn, check_draw, check_extract, extracted, extract, clone_contents, Token, Open, Close, no_marks, unit_tokens, texts_of, text_among, root_text, tokens_ahead, between, without_first, same_shape, are_units, fragment_shape, opened_in, opened_inside, InStep}
 use Rattle.dom_model.specs.declared.Kind.TheVariants.{DocumentFragment}
-use Rattle.dom_model.specs.PlainLists.Lists.{hits, last_of}
-use Rattle.dom_model.specs.Forests.Kinds.{is_character_data, may_be_parent}
-use Rattle.dom_model.specs.Forests.Arena.{Entry, parent_in, children_in}
-use Rattle.dom_model.specs.Forests.Forest.{Node, Forest, empty, node, occurs, tops, entry_in, parent_of, children_of, root_of}
-use Rattle.dom_model.specs.Forests.Texts.{substring}
-use Rattle.dom_model.specs.Worlds.World.{Content, Range, World, no_content}
-use Rattle.dom_model.specs.Soundness.Sound.{IsRange, IsSound}
-use Rattle.dom_model.specs.Forests.Nodes.{entry_has, kind_passes}
-use Rattle.dom_model.specs.MutationAlgorithms.Editing.{node_document}
-use Rattle.dom_model.specs.Worlds.Making.{named}
-use Rattle.dom_model.specs.DataAndCopies.Data.{data_of}
-use Rattle.dom_model.specs.RangesAndContents.Ranges.{is_collapsed, range_at, with_range, collapsed_at}
-use Rattle.dom_model.specs.RangesAndContents.Contents.{for_range, is_in_one_data, new_place, new_fragment, units_into, parts_into, contents_drawn, check_draw, check_extract, extracted, extract, clone_contents}
-use Rattle.dom_model.specs.TokenText.Tokens.{Token, Open, Close, no_marks, unit_tokens, texts_of}
-use Rattle.dom_model.specs.TokenText.Gaps.{text_among, root_text, tokens_ahead}
-use Rattle.dom_model.specs.TokenText.Between.{between, without_first, same_shape, are_units, fragment_shape}
-use Rattle.dom_model.specs.TokenText.Originals.{opened_in, opened_inside, InStep}
-use Rattle.dom_model.proofs.PlainLists.Numbers.{same_or, same, apart}
-use Rattle.dom_model.proofs.Forests.Changes.{seen, nothing, just}
-use Rattle.dom_model.proofs.Forests.Climbing.{hits-first}
-use Rattle.dom_model.proofs.Forests.Entries.{Lies-entry_in, occurs-HasNode}
-use Rattle.dom_model.proofs.Forests.OneMoreRoot.{entry-new}
-use Rattle.dom_model.proofs.Forests.Paths.{root-path}
-use Rattle.dom_model.proofs.MutationAlgorithms.Loosened.{root-listed}
-use Rattle.dom_model.proofs.TokenText.Marked.MarkedFirst.{kinds-childless}
-use Rattle.dom_model.proofs.TokenText.EditsMade.EditsOfDrawnContents.{sound-range, check-range, first, holds, start_data, start_within, second-too}
-use Rattle.dom_model.proofs.MutationAlgorithms.Extending.{tag_at}
+use Rattle.dom_model.proofs.Forests.{Changes.seen, Changes.nothing, Changes.just, Climbing.hits-first, Entries.Lies-entry_in, Entries.occurs-HasNode, OneMoreRoot.entry-new, Paths.root-path}
+use Rattle.dom_model.proofs.MutationAlgorithms.{Loosened.root-listed, Extending.tag_at}
+use Rattle.dom_model.proofs.TokenText.{Marked.MarkedFirst.kinds-childless, EditsMade.EditsOfDrawnContents.sound-range, EditsMade.EditsOfDrawnContents.check-range, EditsMade.EditsOfDrawnContents.first, EditsMade.EditsOfDrawnContents.holds, EditsMade.EditsOfDrawnContents.start_data, EditsMade.EditsOfDrawnContents.start_within, EditsMade.EditsOfDrawnContents.second-too, Contents.TextsOfRoots.TreeOf, Contents.TextsOfRoots.tree_of_root, Contents.PartsByGaps.parts-by_gaps, Contents.DeletedInPlace.same-ends, Contents.WithinData.BothIn, Contents.WithinData.both-in, Contents.WithinData.end-fits, Contents.WithinData.in_order, Contents.WithinData.between-within, Contents.PathTokens.start_path, Contents.PathTokens.end_path, Contents.PathTokens.parts_tokens, Contents.PathShapes.opens_of, Contents.BetweenParts.between-parts, Fragments.Shapes.shape, Fragments.Shapes.shape-append, Fragments.Shapes.shape-same, Fragments.Shapes.shape-children, Fragments.Shapes.tree_shape, Fragments.OpensInStep.steps-right, Fragments.OpensInStep.steps-map, Fragments.OpensInStep.opened_in-children, Fragments.OpensInStep.tree_nodes, Fragments.OpensInStep.tree_numbers, Fragments.OpensInStep.numbers-nodes, Fragments.StandingTrees.tag_of, Fragments.StandingTrees.Stands, Fragments.StandingTrees.stands-lies, Fragments.StandingTrees.stands-shape, Fragments.StandingTrees.stands-numbers, Fragments.StandingTrees.stands-tags, Fragments.DrawnTrees.IsFrom, Fragments.DrawnTrees.TagFrom, Fragments.DrawnTrees.Drew, Fragments.DrawnTrees.drew-none, Fragments.DrawnCopies.units-drew, Fragments.DrawnParts.parts-drew, Fragments.MatchedParts.parts-shape}
 use Rattle.dom_model.proofs.RangesAndContents.Drawing.{IsDrawing, passes_there}
-use Rattle.dom_model.proofs.TokenText.Contents.TextsOfRoots.{TreeOf, tree_of_root}
-use Rattle.dom_model.proofs.TokenText.Contents.PartsByGaps.{parts-by_gaps}
-use Rattle.dom_model.proofs.TokenText.Contents.DeletedInPlace.{same-ends}
-use Rattle.dom_model.proofs.TokenText.Contents.WithinData.{BothIn, both-in, end-fits, in_order, between-within}
-use Rattle.dom_model.proofs.TokenText.Contents.PathTokens.{start_path, end_path, parts_tokens}
-use Rattle.dom_model.proofs.TokenText.Contents.PathShapes.{opens_of}
-use Rattle.dom_model.proofs.TokenText.Contents.BetweenParts.{between-parts}
-use Rattle.dom_model.proofs.TokenText.Fragments.Shapes.{shape, shape-append, shape-same, shape-children, tree_shape}
-use Rattle.dom_model.proofs.TokenText.Fragments.OpensInStep.{steps-right, steps-map, opened_in-children, tree_nodes, tree_numbers, numbers-nodes}
-use Rattle.dom_model.proofs.TokenText.Fragments.StandingTrees.{tag_of, Stands, stands-lies, stands-shape, stands-numbers, stands-tags}
-use Rattle.dom_model.proofs.TokenText.Fragments.DrawnTrees.{IsFrom, TagFrom, Drew, drew-none}
-use Rattle.dom_model.proofs.TokenText.Fragments.DrawnCopies.{units-drew}
-use Rattle.dom_model.proofs.TokenText.Fragments.DrawnParts.{parts-drew}
-use Rattle.dom_model.proofs.TokenText.Fragments.MatchedParts.{parts-shape}
 
 -- The text of a root that holds trees.
 
@@ -57,7 +18,7 @@ module _ (v : World) (sound : IsSound v) (n : ℕ) (there : 0 < occurs n v.fores
       (root-listed v.forest sound.forest.once n top there)
 
   top_there : 0 < occurs tree.top.number (node tree.top tree.kids empty)
-  top_there = elim (same_or tree.top.number tree.top.number) [ same e t ↦ rw t (omega arith) | apart ne t ↦ absurd (ne refl) ]
+  top_there = rw (eq-eqb tree.top.number tree.top.number refl) (omega arith)
 
   in_forest : 0 < occurs tree.top.number v.forest
   in_forest = occurs-HasNode v.forest tree.top.number (rw tree.entry refl)
@@ -100,16 +61,20 @@ shape-opens (n ∷ path) ts = ap (λ us. Open 0 ∷ us) (shape-opens path ts)
 
 -- ends in one node that are not one point
 apart-ends : (range : Range) → range.start.node ≡ range.end.node → is_collapsed range ≡ false → range.start.offset ≤ range.end.offset → range.start.offset < range.end.offset
-apart-ends range one wide le =
-    ⊎_elim
-    (λ (lt : range.start.offset < range.end.offset). lt)
-    (λ (ge : range.end.offset ≤ range.start.offset).
-    let e : range.start.offset ≡ range.end.offset = omega arith in
-    absurd (elim (same_or range.start.node range.end.node) [
-      | same d t ↦ elim (same_or range.start.offset range.end.offset) [ same i u ↦ false≢true (sym wide ∙ (rw (t, u) refl)) | apart ne u ↦ ne e ]
-      | apart ne t ↦ ne one
-    ]))
-    (cases_lt range.start.offset range.end.offset)
+apart-ends range one wide le = grind (arith, nat_tests)
+
+-- nothing is between ends that are one point
+pub between-none : (w : World) → IsSound w → (range : Range) (r root : ℕ) → range_at w r ≡ Some range → root_of w.forest range.start.node ≡ Some root → is_collapsed range ≡ true → between r (text_among root (texts_of w)) ≡ []
+between-none w sound range r root h rooted one =
+    let p = parts-by_gaps w r root range sound h rooted in
+    let e : Some p.a ≡ Some p.b = sym p.starts ∙ ap (λ q. tokens_ahead q [] (root_text w.forest root)) (same-ends range one) ∙ p.ends in
+    let d : p.a ≡ p.b = cc e in
+    let z : p.b - p.a ≡ 0 = omega arith in
+    p.inside ∙ ap (λ k. take k (drop p.a (root_text w.forest root))) z
+
+pub units-are : (n i : ℕ) (us : List ℕ) → are_units (unit_tokens no_marks n i us) ≡ true
+units-are n i [] = refl
+units-are n i (u ∷ us) = units-are n (suc i) us
 
 -- The fragment of a drawing.
 
@@ -149,18 +114,19 @@ module _ (w : World) (sound : IsSound w) (range : Range) (is : IsRange w.forest 
         text-shape u d.drawing.sound w.made (d.extends.there w.made fragment_there) fragment_root fragment_bare d.trees d.stands fragment_children
         ∙ ap (λ us. Open 0 ∷ (us ++ (Close ∷ []))) d.shaped
 
+    drawn-numbers : map (λ (x : Node Content). x.number) (tree_nodes d.trees) ≡ opened_inside (root_text u.forest w.made)
+    drawn-numbers = numbers-nodes d.trees ∙ sym (text-numbers u d.drawing.sound w.made (d.extends.there w.made fragment_there) fragment_root fragment_bare d.trees d.stands fragment_children)
+
     -- and its opens are in step with those of what was drawn
     pub drawn-steps : InStep (IsFrom moves w.made bad) (opened_in ts) (opened_inside (root_text u.forest w.made))
     drawn-steps =
-        subst (λ ns. InStep (IsFrom moves w.made bad) (opened_in ts) ns)
-        (numbers-nodes d.trees ∙ sym (text-numbers u d.drawing.sound w.made (d.extends.there w.made fragment_there) fragment_root fragment_bare d.trees d.stands fragment_children))
+        subst (λ ns. InStep (IsFrom moves w.made bad) (opened_in ts) ns) drawn-numbers
         (steps-map (IsFrom moves w.made bad) (λ (x : Node Content). x.number) (opened_in ts) (tree_nodes d.trees) d.steps)
 
     -- with the labels and attributes of the nodes that they stand for
     pub drawn-tags : InStep (TaggedAs w.forest u.forest) (opened_in ts) (opened_inside (root_text u.forest w.made))
     drawn-tags =
-        subst (λ ns. InStep (TaggedAs w.forest u.forest) (opened_in ts) ns)
-        (numbers-nodes d.trees ∙ sym (text-numbers u d.drawing.sound w.made (d.extends.there w.made fragment_there) fragment_root fragment_bare d.trees d.stands fragment_children))
+        subst (λ ns. InStep (TaggedAs w.forest u.forest) (opened_in ts) ns) drawn-numbers
         (steps-map (TaggedAs w.forest u.forest) (λ (x : Node Content). x.number) (opened_in ts) (tree_nodes d.trees)
         (steps-right (TagFrom w) (λ n x. TaggedAs w.forest u.forest n x.number) (λ (x : Node Content). tag_at u.forest x.number ≡ tag_of x) (opened_in ts) (tree_nodes d.trees) (λ n x i j. i ∙ sym j) (stands-tags u d.trees d.stands) d.tagged))
 
@@ -171,28 +137,19 @@ module _ (w : World) (sound : IsSound w) (range : Range) (is : IsRange w.forest 
     -- a range whose ends are one point
     of_none : is_collapsed range ≡ true → shape (root_text grown.forest w.made) ≡ wanted
     of_none one =
-        let p = parts-by_gaps w r root range sound h rooted in
-        let e : Some p.a ≡ Some p.b = sym p.starts ∙ ap (λ q. tokens_ahead q [] (root_text w.forest root)) (same-ends range one) ∙ p.ends in
-        let d : p.a ≡ p.b = cc e in
-        let z : p.b - p.a ≡ 0 = omega arith in
-        let none : between r (text_among root (texts_of w)) ≡ [] = p.inside ∙ ap (λ k. take k (drop p.a (root_text w.forest root))) z in
+        let none = between-none w sound range r root h rooted one in
         drawn-shape moves [] [] grown [] (drew-none w moves w.made [] [] grown w.made begins) ∙ sym (ap (λ ts. shape (fragment_shape ts)) none)
 
     -- one within a node with data
     one_node-shape : (n : ℕ) (us : List ℕ) → 0 < length us → fragment_shape (unit_tokens no_marks n 0 us) ≡ Open 0 ∷ ((Open 0 ∷ (unit_tokens no_marks n 0 us ++ (Close ∷ []))) ++ (Close ∷ []))
     one_node-shape n [] l = absurd (omega arith)
     one_node-shape n (u ∷ us) l = rw (units-are n 1 us) refl
-      where
-        units-are : (n i : ℕ) (us : List ℕ) → are_units (unit_tokens no_marks n i us) ≡ true
-        units-are n i [] = refl
-        units-are n i (u ∷ us) = units-are n (suc i) us
 
     one_old : (x : ℕ) → w.made ≤ x → hits x (range.start.node ∷ []) ≡ 0
     one_old x l =
-        elim (same_or range.start.node x) [
-          | same e t ↦ absurd (let z = sound.forest.small x l in let i = subst (λ m. 0 < occurs m w.forest) e (occurs-HasNode w.forest range.start.node is.starts.there) in omega arith)
-          | apart ne t ↦ rw t refl
-        ]
+        let z = sound.forest.small x l in
+        let i = occurs-HasNode w.forest range.start.node is.starts.there in
+        grind (arith, nat_tests)
 
     pub units-came : is_in_one_data w range ≡ true → Drew w moves w.made (range.start.node ∷ []) (range.start.node ∷ []) grown (units_into moves w.made range.start.node range.start.offset (range.end.offset - range.start.offset) grown) w.made (Open range.start.node ∷ (unit_tokens no_marks range.start.node 0 (substring range.start.offset (range.end.offset - range.start.offset) (data_of grown range.start.node)) ++ (Close ∷ [])))
     units-came one =
@@ -243,14 +200,25 @@ module _ (w : World) (sound : IsSound w) (range : Range) (is : IsRange w.forest 
         go false true e d = of_units e d
         go false false e d = of_parts e d no_doctype
 
+-- the forests that cloning and extracting the contents leave
+
+pub cloned-forest : (w : World) (r : ℕ) (range : Range) → range_at w r ≡ Some range → (clone_contents r w).forest ≡ (contents_drawn false range w).forest
+cloned-forest w r range h = ap (λ (o : Option Range). (for_range o w (λ x. contents_drawn false x w)).forest) h
+
+pub extracted-forest : (w : World) (r : ℕ) (range : Range) → range_at w r ≡ Some range → (extract r w).forest ≡ (contents_drawn true range w).forest
+extracted-forest w r range h = ap (λ (o : Option Range). (for_range o w (λ x. extracted r x w)).forest) h ∙ go (is_collapsed range || is_in_one_data w range)
+  where
+    go : (v : Bool) → (if v then contents_drawn true range w else with_range r (collapsed_at (new_place w.forest range)) (contents_drawn true range w)).forest ≡ (contents_drawn true range w).forest
+    go true = refl
+    go false = refl
+
 -- clone the contents
 pub cloned-between : (w : World) (r root : ℕ) (range : Range) → IsSound w → range_at w r ≡ Some range → root_of w.forest range.start.node ≡ Some root → check_extract r w ≡ None →
     same_shape (root_text (clone_contents r w).forest w.made) (fragment_shape (between r (text_among root (texts_of w)))) ≡ true
 cloned-between w r root range sound h rooted fits =
     let is = sound-range w r range sound h in
     let e = drawn-between w sound range is r root h rooted false (check-range w r range h fits) in
-    let d : clone_contents r w ≡ contents_drawn false range w = ap (λ (o : Option Range). for_range o w (λ x. contents_drawn false x w)) h in
-    shape-same (root_text (clone_contents r w).forest w.made) (fragment_shape (between r (text_among root (texts_of w)))) (ap (λ (u : World). shape (root_text u.forest w.made)) d ∙ e)
+    shape-same (root_text (clone_contents r w).forest w.made) (fragment_shape (between r (text_among root (texts_of w)))) (ap (λ f. shape (root_text f w.made)) (cloned-forest w r range h) ∙ e)
 
 -- extract
 pub extracted-between : (w : World) (r root : ℕ) (range : Range) → IsSound w → range_at w r ≡ Some range → root_of w.forest range.start.node ≡ Some root → check_extract r w ≡ None →
@@ -258,10 +226,4 @@ pub extracted-between : (w : World) (r root : ℕ) (range : Range) → IsSound w
 extracted-between w r root range sound h rooted fits =
     let is = sound-range w r range sound h in
     let e = drawn-between w sound range is r root h rooted true (check-range w r range h fits) in
-    let d : extract r w ≡ extracted r range w = ap (λ (o : Option Range). for_range o w (λ x. extracted r x w)) h in
-    let moved : (extracted r range w).forest ≡ (contents_drawn true range w).forest = go (is_collapsed range || is_in_one_data w range) in
-    shape-same (root_text (extract r w).forest w.made) (fragment_shape (between r (text_among root (texts_of w)))) (ap (λ (u : World). shape (root_text u.forest w.made)) d ∙ ap (λ f. shape (root_text f w.made)) moved ∙ e)
-  where
-    go : (v : Bool) → (if v then contents_drawn true range w else with_range r (collapsed_at (new_place w.forest range)) (contents_drawn true range w)).forest ≡ (contents_drawn true range w).forest
-    go true = refl
-    go false = refl
+    shape-same (root_text (extract r w).forest w.made) (fragment_shape (between r (text_among root (texts_of w)))) (ap (λ f. shape (root_text f w.made)) (extracted-forest w r range h) ∙ e)

@@ -1,43 +1,20 @@
 -- The fragment's shape by parts of the tree: as many opens in front as the start's path has nodes, and as many closes behind as the end's.
-use Rattle.std.proofs.Common.{◌≡◌, ℕ, zero, suc, ◌<◌, Bool, true, false, List, [], ◌∷◌, ◌++◌, length, None, refl, ap, sym, ◌∙◌, arith, append-nil, length-append}
-use Rattle.std.specs.Prelude.{replicate}
+use Rattle.std.proofs.Common.{◌≡◌, ℕ, ◌<◌, Bool, true, false, List, [], ◌∷◌, ◌++◌, length, None, refl, ap, sym, ◌∙◌, arith, append-nil, length-append, replicate}
 use Rattle.std.proofs.lemmas.Bool.{false≢true}
-use Rattle.dom_model.specs.PlainLists.Lists.{hits}
-use Rattle.dom_model.specs.Forests.Forest.{occurs, children_of}
-use Rattle.dom_model.specs.Worlds.World.{Range, World}
-use Rattle.dom_model.specs.Soundness.Sound.{IsRange, IsSound}
-use Rattle.dom_model.specs.RangesAndContents.Contents.{common_of, contained_in, contained_children}
-use Rattle.dom_model.specs.TokenText.Tokens.{Token, Open, Close, OneUnit, Mark}
-use Rattle.dom_model.specs.TokenText.Between.{opens_left, closes_left, are_units, matched, fragment_shape}
-use Rattle.dom_model.proofs.Forests.Climbing.{hits-first}
-use Rattle.dom_model.proofs.Forests.Indices.{child-there}
-use Rattle.dom_model.proofs.RangesAndContents.DrawnPaths.{hits-filter}
-use Rattle.dom_model.proofs.RangesAndContents.WaysBelow.{IsFork}
-use Rattle.dom_model.proofs.TokenText.AlikeTrees.TreesAlike.{top_of}
-use Rattle.dom_model.proofs.TokenText.Contents.MatchedPieces.{Matches}
-use Rattle.dom_model.proofs.TokenText.Contents.PathTokens.{nodes_tokens, tail_tokens, head_tokens, start_path, end_path, parts_tokens}
-use Rattle.dom_model.proofs.TokenText.Contents.WholePieces.{tokens-own}
-use Rattle.dom_model.proofs.TokenText.Contents.PathShapes.{closes_of, opens_of, childless, whole-listed, closes-tail, opens-tail, closes-head, opens-head}
-use Rattle.dom_model.proofs.TokenText.Fragments.NodesAside.{forked}
+use Rattle.dom_model.specs.Definitions.{hits, occurs, children_of, Range, World, IsRange, IsSound, common_of, contained_in, contained_children, Token, Open, Close, opens_left, closes_left, are_units, matched, fragment_shape}
+use Rattle.dom_model.proofs.Forests.{Climbing.hits-first, Indices.child-there}
+use Rattle.dom_model.proofs.RangesAndContents.{DrawnPaths.hits-filter, WaysBelow.IsFork}
+use Rattle.dom_model.proofs.TokenText.{AlikeTrees.TreesAlike.top_of, Contents.MatchedPieces.Matches, Contents.PathTokens.nodes_tokens, Contents.PathTokens.tail_tokens, Contents.PathTokens.head_tokens, Contents.PathTokens.start_path, Contents.PathTokens.end_path, Contents.PathTokens.parts_tokens, Contents.WholePieces.tokens-own, Contents.PathShapes.closes_of, Contents.PathShapes.opens_of, Contents.PathShapes.childless, Contents.PathShapes.whole-listed, Contents.PathShapes.closes-tail, Contents.PathShapes.opens-tail, Contents.PathShapes.closes-head, Contents.PathShapes.opens-head, Fragments.NodesAside.forked}
 
 -- Units alone leave nothing.
 
 units-close : (depth : ℕ) (ts : List Token) → are_units ts ≡ true → closes_left depth ts ≡ []
-units-close zero [] h = refl
-units-close (suc depth) [] h = refl
-units-close depth (Open n ∷ ts) h = absurd (false≢true h)
-units-close depth (Close ∷ ts) h = absurd (false≢true h)
-units-close zero (OneUnit u ∷ ts) h = units-close zero ts h
-units-close (suc depth) (OneUnit u ∷ ts) h = units-close (suc depth) ts h
-units-close zero (Mark r side ∷ ts) h = units-close zero ts h
-units-close (suc depth) (Mark r side ∷ ts) h = units-close (suc depth) ts h
+units-close depth [] h = grind arith
+units-close depth (t ∷ ts) h = grind (arith, units-close depth ts)
 
 units-open : (ts : List Token) → are_units ts ≡ true → opens_left [] ts ≡ []
 units-open [] h = refl
-units-open (Open n ∷ ts) h = absurd (false≢true h)
-units-open (Close ∷ ts) h = absurd (false≢true h)
-units-open (OneUnit u ∷ ts) h = units-open ts h
-units-open (Mark r side ∷ ts) h = units-open ts h
+units-open (t ∷ ts) h = grind (arith, units-open ts)
 
 -- where there are no units alone, all pairs are matched
 mixed-shape : (ts : List Token) → are_units ts ≡ false → fragment_shape ts ≡ Open 0 ∷ (matched ts ++ (Close ∷ []))
@@ -61,7 +38,7 @@ module _ (w : World) (sound : IsSound w) (range : Range) (is : IsRange w.forest 
   fork_is : IsFork w.forest sound.forest.once range.start.node range.end.node (common_of w range)
   fork_is = forked w sound range is
 
-  contained_there : (c : ℕ) → 0 < hits c (contained_children w range) → 0 < occurs c w.forest
+  pub contained_there : (c : ℕ) → 0 < hits c (contained_children w range) → 0 < occurs c w.forest
   contained_there c h =
       let i = hits-filter c (contained_in w range) (children_of w.forest (common_of w range)) in
       child-there w.forest sound.forest.once c (common_of w range) (omega arith)

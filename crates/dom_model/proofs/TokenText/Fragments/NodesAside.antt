@@ -1,60 +1,27 @@
 -- The children beside the paths to a range's ends, and those contained, stand aside: no node of a path is in their trees.
 -- DOM Standard, "Interface Range".
-use Rattle.std.proofs.Common.{◌≡◌, ℕ, ◌<◌, ◌≤◌, Bool, true, false, if◌then◌else◌, List, [], ◌∷◌, ◌++◌, take, drop, None, Some, refl, ap, sym, ◌∙◌, subst, arith, append-nil, ◌⊎◌, inl, inr, ⊎_elim}
-use Rattle.std.proofs.lemmas.Bool.{cases_lt, false≢true}
-use Rattle.dom_model.specs.PlainLists.Lists.{hits, past, up_to}
-use Rattle.dom_model.specs.Forests.Kinds.{is_character_data}
-use Rattle.dom_model.specs.Forests.Forest.{Forest, empty, node, occurs, one_at, tops, tree_at, parent_of, children_of, ancestors}
-use Rattle.dom_model.specs.Forests.EachNode.{EachNode}
-use Rattle.dom_model.specs.Worlds.Lengths.{unit_count}
-use Rattle.dom_model.specs.Worlds.World.{Content, Range, World}
-use Rattle.dom_model.specs.Soundness.Sound.{IsRange, IsSound}
-use Rattle.dom_model.specs.Forests.Nodes.{kind_passes}
-use Rattle.dom_model.specs.RangesAndContents.Contents.{path_below, common_of, contained_in, contained_children}
-use Rattle.dom_model.specs.TokenText.Tokens.{no_marks, token_texts, tokens_among}
-use Rattle.dom_model.specs.TokenText.Originals.{opened_in}
-use Rattle.dom_model.specs.Forests.Ways.{IsWay}
-use Rattle.dom_model.specs.RangesAndContents.BesidePaths.{tail_nodes, head_nodes}
-use Rattle.dom_model.proofs.PlainLists.Numbers.{same_or, same, apart}
-use Rattle.dom_model.proofs.Forests.Totals.{total-tree_at}
-use Rattle.dom_model.proofs.Forests.Climbing.{hits-append, hits-reverse, hits-first, hits-ancestors, not_among-hits}
-use Rattle.dom_model.proofs.Forests.Entries.{occurs-HasNode}
-use Rattle.dom_model.proofs.Forests.Indices.{child-parent, child-once, child-there}
-use Rattle.dom_model.proofs.Forests.Paths.{parent-path}
-use Rattle.dom_model.proofs.Forests.WaysMeeting.{depth-child, above-itself, above-twice, above-child, above-higher, above-apart}
+use Rattle.std.proofs.Common.{◌≡◌, ℕ, ◌<◌, ◌≤◌, List, [], ◌∷◌, ◌++◌, None, Some, refl, ap, sym, ◌∙◌, subst, arith, append-nil, ◌⊎◌, ⊎_elim, eq-eqb}
+use Rattle.std.proofs.lemmas.{Bool.cases_lt, Bool.false≢true, Bool.Decides.nat_tests}
+use Rattle.dom_model.specs.Definitions.{hits, past, up_to, Forest, empty, node, occurs, one_at, tops, tree_at, parent_of, children_of, ancestors, EachNode, unit_count, Content, Range, World, IsRange, IsSound, path_below, common_of, contained_in, contained_children, no_marks, token_texts, tokens_among, opened_in, IsWay, tail_nodes, head_nodes}
+use Rattle.dom_model.proofs.Forests.{Totals.total-tree_at, Climbing.hits-append, Climbing.hits-reverse, Climbing.hits-first, Climbing.hits-ancestors, Climbing.not_among-hits, Entries.occurs-HasNode, Indices.child-parent, Indices.child-once, Indices.child-there, Paths.parent-path, WaysMeeting.depth-child, WaysMeeting.above-itself, WaysMeeting.above-twice, WaysMeeting.above-child, WaysMeeting.above-higher, WaysMeeting.above-apart}
 use Rattle.dom_model.proofs.Worlds.Parts.{path-there}
 use Rattle.dom_model.proofs.Soundness.SoundNormalizing.{filter-passed}
-use Rattle.dom_model.proofs.RangesAndContents.ContainedAside.{start-not_contained, end-not_contained}
-use Rattle.dom_model.proofs.RangesAndContents.DrawnPaths.{hits-drop, hits-take, hits-past, hits-up_to, hits-filter}
-use Rattle.dom_model.proofs.RangesAndContents.PathsToEnds.{not_up_to, path_without_top}
-use Rattle.dom_model.proofs.RangesAndContents.WaysBelow.{IsFork, fork, way-above}
-use Rattle.dom_model.proofs.TokenText.AlikeTrees.TreesAlike.{top_of}
-use Rattle.dom_model.proofs.TokenText.Marked.MarkedFirst.{kinds-childless}
-use Rattle.dom_model.proofs.TokenText.Contents.PathTokens.{start_path, end_path}
-use Rattle.dom_model.proofs.TokenText.Contents.WholePieces.{tokens-own}
-use Rattle.dom_model.proofs.TokenText.Fragments.Shapes.{shape, shape-children, tree_shape}
-use Rattle.dom_model.proofs.TokenText.Fragments.StandingTrees.{stands-tags}
-use Rattle.dom_model.proofs.TokenText.Fragments.SteppedTrees.{stands-tree_at, stands-forest}
-use Rattle.dom_model.proofs.TokenText.Fragments.OpensInStep.{tree_numbers, opened_in-children}
-use Rattle.dom_model.proofs.TokenText.Fragments.DrawnNodes.{IsAside}
+use Rattle.dom_model.proofs.RangesAndContents.{ContainedAside.start-not_contained, ContainedAside.end-not_contained, DrawnPaths.hits-drop, DrawnPaths.hits-take, DrawnPaths.hits-past, DrawnPaths.hits-up_to, DrawnPaths.hits-filter, PathsToEnds.not_up_to, PathsToEnds.path_without_top, WaysBelow.IsFork, WaysBelow.fork, WaysBelow.way-above}
+use Rattle.dom_model.proofs.TokenText.{AlikeTrees.TreesAlike.top_of, Marked.MarkedFirst.kinds-childless, Contents.PathTokens.start_path, Contents.PathTokens.end_path, Contents.WholePieces.tokens-own, Fragments.Shapes.shape, Fragments.Shapes.shape-children, Fragments.Shapes.tree_shape, Fragments.StandingTrees.stands-tags, Fragments.SteppedTrees.stands-tree_at, Fragments.SteppedTrees.stands-forest, Fragments.OpensInStep.tree_numbers, Fragments.OpensInStep.opened_in-children, Fragments.DrawnNodes.IsAside}
 
 -- Lists.
 
 past-once : (m : ℕ) (ns : List ℕ) → hits m ns ≤ 1 → hits m (past m ns) ≡ 0
 past-once m [] h = refl
-past-once m (x ∷ xs) h =
-    elim (same_or x m) [
-      | same e t ↦ (let k = rw t at h in rw t (omega arith))
-      | apart ne t ↦ (let k = rw t at h in rw t (past-once m xs (omega arith)))
-    ]
+past-once m (x ∷ xs) h = grind (arith, nat_tests, past-once m xs)
 
 none-hit : (m : ℕ) (ns : List ℕ) → (0 < hits m ns → ⊥) → hits m ns ≡ 0
-none-hit m ns h = ⊎_elim (λ (lt : 0 < hits m ns). absurd (h lt)) (λ (le : hits m ns ≤ 0). omega arith) (cases_lt 0 (hits m ns))
+none-hit m ns h = grind arith
 
 each-occurs : (P : ℕ → Type 0) (f : Forest Content) → ((x : ℕ) → 0 < occurs x f → P x) → EachNode (λ x. P x.number) f
 each-occurs P empty h = tt
 each-occurs P (node x kids rest) h = (
-  h x.number (elim (same_or x.number x.number) [ same e t ↦ rw t (omega arith) | apart ne t ↦ absurd (ne refl) ]),
+  h x.number (rw (eq-eqb x.number x.number refl) (omega arith)),
   each-occurs P kids (λ y k. h y (omega arith)),
   each-occurs P rest (λ y k. h y (omega arith)),
 )
@@ -85,22 +52,20 @@ module _ (w : World) (sound : IsSound w) where
   way-through : (u : ℕ) (ms : List ℕ) (n x : ℕ) → IsWay w.forest u ms n → 0 < hits x ms → 0 < hits u (ancestors x w.forest)
   way-through u [] n x way h = absurd (omega arith)
   way-through u (m ∷ ms) n x way h =
-      elim (same_or m x) [
-        | same d t ↦ subst (λ y. 0 < hits u (ancestors y w.forest)) d (above-child w.forest sound.forest.once m u m way.0 way.0 (above-itself w.forest sound.forest.once m way.0) way.1)
-        | apart ne t ↦
-            let k = rw t at h in
-            let above = way-through m ms n x way.2 (omega arith) in
-            let hx = there-on m ms n x way.2 (omega arith) in
-            above-child w.forest sound.forest.once m u x hx way.0 above way.1
-      ]
+      let self = above-itself w.forest sound.forest.once m way.0 in
+      let deeper = way-through m ms n x way.2 in
+      let there = there-on m ms n x way.2 in
+      let up = above-child w.forest sound.forest.once m u x in
+      let first = way.0 in
+      let parent = way.1 in
+      grind (arith, nat_tests)
     where
       there-on : (u : ℕ) (ms : List ℕ) (n x : ℕ) → IsWay w.forest u ms n → 0 < hits x ms → 0 < occurs x w.forest
       there-on u [] n x way h = absurd (omega arith)
       there-on u (m ∷ ms) n x way h =
-          elim (same_or m x) [
-            | same d t ↦ subst (λ y. 0 < occurs y w.forest) d way.0
-            | apart ne t ↦ (let k = rw t at h in there-on m ms n x way.2 (omega arith))
-          ]
+          let first = way.0 in
+          let others = there-on m ms n x way.2 in
+          grind (arith, nat_tests)
 
   once-above : (c n : ℕ) → hits c (ancestors n w.forest) ≤ 1
   once-above c n = let a = hits-ancestors c n w.forest sound.forest.once in let b = total-tree_at (one_at n) c w.forest in let d = once n in omega arith
@@ -131,11 +96,9 @@ module _ (w : World) (sound : IsSound w) where
 
     pub tail-off : (offset u : ℕ) (path : List ℕ) → IsWay w.forest u path s → ((x : ℕ) → 0 < hits x path → hits x (ancestors e w.forest) ≡ 0) → (c : ℕ) → 0 < hits c (tail_nodes w offset path) → IsOff s e c
     tail-off offset u [] way z c h = absurd (omega arith)
-    tail-off offset u (n ∷ []) way z c h = go (kind_passes is_character_data w.forest n) h
-      where
-        go : (v : Bool) → 0 < hits c (if v then [] else drop offset (children_of w.forest n)) → IsOff s e c
-        go true k = absurd (omega arith)
-        go false k = last-off c n way.2 (let i = hits-drop c offset (children_of w.forest n) in omega arith) (z n (hits-first n []))
+    tail-off offset u (n ∷ []) way z c h =
+        let i = hits-drop c offset (children_of w.forest n) in
+        last-off c n way.2 (grind arith) (z n (hits-first n []))
     tail-off offset u (n ∷ m ∷ path) way z c h =
         let i = hits-append c (tail_nodes w offset (m ∷ path)) (past m (children_of w.forest n)) in
         ⊎_elim
@@ -147,11 +110,9 @@ module _ (w : World) (sound : IsSound w) where
 
     pub head-off : (offset u : ℕ) (path : List ℕ) → IsWay w.forest u path s → ((x : ℕ) → 0 < hits x path → hits x (ancestors e w.forest) ≡ 0) → (c : ℕ) → 0 < hits c (head_nodes w offset path) → IsOff s e c
     head-off offset u [] way z c h = absurd (omega arith)
-    head-off offset u (n ∷ []) way z c h = go (kind_passes is_character_data w.forest n) h
-      where
-        go : (v : Bool) → 0 < hits c (if v then [] else take offset (children_of w.forest n)) → IsOff s e c
-        go true k = absurd (omega arith)
-        go false k = last-off c n way.2 (let i = hits-take c offset (children_of w.forest n) in omega arith) (z n (hits-first n []))
+    head-off offset u (n ∷ []) way z c h =
+        let i = hits-take c offset (children_of w.forest n) in
+        last-off c n way.2 (grind arith) (z n (hits-first n []))
     head-off offset u (n ∷ m ∷ path) way z c h =
         let i = hits-append c (up_to m (children_of w.forest n)) (head_nodes w offset (m ∷ path)) in
         ⊎_elim
@@ -192,27 +153,21 @@ module _ (w : World) (sound : IsSound w) (range : Range) (is : IsRange w.forest 
         where
           higher : 0 < hits x (ancestors range.start.node w.forest) → 0 < hits m (ancestors range.start.node w.forest)
           higher l =
-              elim (same_or m x) [
-                | same d t ↦ subst (λ y. 0 < hits y (ancestors range.start.node w.forest)) (sym d) l
-                | apart ne t ↦ (let k = rw t at h in above-twice w.forest sound.forest.once m x range.start.node hs l (way-through w sound m ms range.end.node x b.2 (omega arith)))
-              ]
+              let a = above-twice w.forest sound.forest.once m x range.start.node hs l in
+              let b = way-through w sound m ms range.end.node x b.2 in
+              grind (arith, nat_tests)
 
           clash : (first : List ℕ) → IsWay w.forest (common_of w range) first range.start.node → ((y : ℕ) → 0 < hits y first → hits y (ancestors range.end.node w.forest) ≡ 0) → 0 < hits m (ancestors range.start.node w.forest) → ⊥
           clash [] a z l = let c = no_cycle w sound m (common_of w range) b.0 b.1 in let k = subst (λ y. 0 < hits m (ancestors y w.forest)) (sym a) l in omega arith
           clash (c ∷ cs) a z l =
               let on_end = way-above w.forest sound.forest.once m ms range.end.node b.0 he b.2 in
               let on_start = way-above w.forest sound.forest.once c cs range.start.node a.0 hs a.2 in
-              elim (same_or m c) [
-                | same d t ↦ (let k = z c (hits-first c cs) in let j = subst (λ y. 0 < hits y (ancestors range.end.node w.forest)) d on_end in omega arith)
-                | apart ne t ↦ (let k = sibling w sound m c (common_of w range) range.start.node b.0 a.0 hs b.1 a.1 ne on_start in omega arith)
-              ]
+              let k = z c (hits-first c cs) in
+              let s = sibling w sound m c (common_of w range) range.start.node b.0 a.0 hs b.1 a.1 in
+              grind arith
 
   pub below-made : (n : ℕ) → 0 < occurs n w.forest → n < w.made
-  below-made n k =
-      ⊎_elim
-      (λ (lt : n < w.made). lt)
-      (λ (le : w.made ≤ n). absurd (let z = sound.forest.small n le in omega arith))
-      (cases_lt n w.made)
+  below-made n k = let z = sound.forest.small n in grind arith
 
   -- each node of the ways is above an end
   way-over : (x : ℕ) → 0 < hits x (start_path w range ++ (common_of w range ∷ end_path w range)) → (0 < hits x (ancestors range.start.node w.forest)) ⊎ (0 < hits x (ancestors range.end.node w.forest))
@@ -220,14 +175,8 @@ module _ (w : World) (sound : IsSound w) (range : Range) (is : IsRange w.forest 
       let i = hits-append x (start_path w range) (common_of w range ∷ end_path w range) in
       let a = path-above w sound (common_of w range) range.start.node x in
       let b = path-above w sound (common_of w range) range.end.node x in
-      elim (same_or (common_of w range) x) [
-        | same d t ↦ inl (subst (λ y. 0 < hits y (ancestors range.start.node w.forest)) d top_start)
-        | apart ne t ↦
-            ⊎_elim
-            (λ (lt : 0 < hits x (start_path w range)). inl (omega arith))
-            (λ (le : hits x (start_path w range) ≤ 0). inr (let j : hits x (common_of w range ∷ end_path w range) ≡ hits x (end_path w range) = rw t (omega arith) in omega arith))
-            (cases_lt 0 (hits x (start_path w range)))
-      ]
+      let c = top_start in
+      grind (arith, nat_tests)
 
   pub ways-old : (x : ℕ) → w.made ≤ x → hits x (start_path w range ++ (common_of w range ∷ end_path w range)) ≡ 0
   ways-old x l =

@@ -1,25 +1,8 @@
 -- The opens that wait for their closes ahead of the start marker of a live range: the innermost are those of the path down to the start.
-use Rattle.std.proofs.Common.{◌≡◌, ℕ, ◌+◌, ◌-◌, ◌<◌, ◌≤◌, ◌==◌, Bool, true, false, ◌||◌, if◌then◌else◌, List, [], ◌∷◌, ◌++◌, drop, take, length, reverse, Some, refl, ap, sym, ◌∙◌, arith, append_assoc, append-nil, length-append}
+use Rattle.std.proofs.Common.{◌≡◌, ℕ, ◌-◌, ◌<◌, ◌≤◌, true, false, List, [], ◌∷◌, ◌++◌, drop, take, length, reverse, Some, refl, ap, sym, ◌∙◌, arith, append_assoc, append-nil, length-append}
 use Rattle.std.proofs.lemmas.List.{reverse-append}
-use Rattle.dom_model.specs.PlainLists.Lists.{hits, up_to}
-use Rattle.dom_model.specs.Forests.Forest.{children_of, root_of}
-use Rattle.dom_model.specs.Worlds.World.{Range, World}
-use Rattle.dom_model.specs.Soundness.Sound.{IsSound, IsRange}
-use Rattle.dom_model.specs.RangesAndContents.Ranges.{range_at}
-use Rattle.dom_model.specs.RangesAndContents.Contents.{is_in_one_data, common_of}
-use Rattle.dom_model.specs.TokenText.Tokens.{Token, Open, Close, OneUnit, Mark, no_marks, unit_tokens, unmarked, texts_of, is_open, has_open}
-use Rattle.dom_model.specs.TokenText.Gaps.{text_among, root_text}
-use Rattle.dom_model.specs.TokenText.Between.{before_mark, opens_left}
-use Rattle.dom_model.specs.TokenText.Originals.{opened_in, innermost}
-use Rattle.dom_model.specs.Forests.Ways.{IsWay}
-use Rattle.dom_model.proofs.TokenText.Pieces.TokenLists.{opened, tally-append}
-use Rattle.dom_model.proofs.TokenText.Contents.DeletedUnits.{take-front, drop-front}
-use Rattle.dom_model.proofs.TokenText.Contents.MatchedPieces.{matches-units, opens-open}
-use Rattle.dom_model.proofs.TokenText.Contents.PathTokens.{nodes_tokens, head_tokens, tail_tokens, start_path, end_path, parts_tokens}
-use Rattle.dom_model.proofs.TokenText.Contents.PathShapes.{opens_of, up_to-there, whole-listed, opens-head}
-use Rattle.dom_model.proofs.TokenText.Contents.BetweenParts.{IsParted, text-by_parts, once-ahead}
-use Rattle.dom_model.proofs.TokenText.Fragments.MatchedParts.{opens-long}
-use Rattle.dom_model.proofs.TokenText.Fragments.NodesAside.{forked}
+use Rattle.dom_model.specs.Definitions.{hits, up_to, children_of, root_of, Range, World, IsSound, IsRange, range_at, is_in_one_data, common_of, Token, Open, Close, OneUnit, Mark, no_marks, unit_tokens, unmarked, texts_of, is_open, has_open, text_among, root_text, before_mark, opens_left, opened_in, innermost, IsWay}
+use Rattle.dom_model.proofs.TokenText.{Pieces.TokenLists.opened, Pieces.TokenLists.tally-append, Contents.DeletedUnits.take-front, Contents.DeletedUnits.drop-front, Contents.MatchedPieces.matches-units, Contents.MatchedPieces.opens-open, Contents.PathTokens.nodes_tokens, Contents.PathTokens.head_tokens, Contents.PathTokens.tail_tokens, Contents.PathTokens.start_path, Contents.PathTokens.end_path, Contents.PathTokens.parts_tokens, Contents.PathShapes.opens_of, Contents.PathShapes.up_to-there, Contents.PathShapes.whole-listed, Contents.PathShapes.opens-head, Contents.BetweenParts.IsParted, Contents.BetweenParts.text-by_parts, Contents.BetweenParts.once-ahead, Fragments.MatchedParts.opens-long, Fragments.NodesAside.forked}
 
 -- the opens that wait past tokens
 waiting : (above xs : List Token) → (st : List Token) × ((us : List Token) → opens_left above (xs ++ us) ≡ opens_left st us)
@@ -44,10 +27,7 @@ innermost-none xs = ap (innermost 0) (sym (append-nil xs)) ∙ innermost-last 0 
 -- how often tokens open a node
 pub hits-opened : (n : ℕ) (ts : List Token) → hits n (opened_in ts) ≡ opened n ts
 hits-opened n [] = refl
-hits-opened n (Open m ∷ ts) = ap (λ k. (if m == n then 1 else 0) + k) (hits-opened n ts)
-hits-opened n (Close ∷ ts) = omega (arith, hits-opened n ts)
-hits-opened n (OneUnit u ∷ ts) = omega (arith, hits-opened n ts)
-hits-opened n (Mark r side ∷ ts) = omega (arith, hits-opened n ts)
+hits-opened n (t ∷ ts) = grind (arith, hits-opened n ts)
 
 pub opened_in-path : (path : List ℕ) → opened_in (opens_of path) ≡ path
 opened_in-path [] = refl
@@ -55,11 +35,7 @@ opened_in-path (n ∷ path) = ap (λ ns. n ∷ ns) (opened_in-path path)
 
 pub has_open-some : (n : ℕ) (ts : List Token) → 0 < opened n ts → has_open n ts ≡ true
 has_open-some n [] h = absurd (omega arith)
-has_open-some n (t ∷ ts) h = go (is_open n t) h (has_open-some n ts)
-  where
-    go : (v : Bool) → 0 < (if v then 1 else 0) + opened n ts → (0 < opened n ts → has_open n ts ≡ true) → (v || has_open n ts) ≡ true
-    go true h k = refl
-    go false h k = k (omega arith)
+has_open-some n (t ∷ ts) h = grind (arith, has_open-some n ts)
 
 -- units in a node: that node waits last
 pub units-wait : (ahead : List Token) (n : ℕ) (us : List ℕ) → innermost 1 (opens_left [] (ahead ++ (Open n ∷ unit_tokens no_marks n 0 us))) ≡ Open n ∷ []

@@ -1,33 +1,30 @@
 -- The opens of tokens and the nodes of trees, and lists in step with one another.
-use Rattle.std.proofs.Common.{◌≡◌, ℕ, suc, ◌<◌, Bool, true, false, if◌then◌else◌, List, [], ◌∷◌, ◌++◌, map, refl, ap, sym, ◌∙◌, arith, append_assoc}
-use Rattle.dom_model.specs.PlainLists.Lists.{hits}
-use Rattle.dom_model.specs.Forests.Kinds.{is_character_data}
-use Rattle.dom_model.specs.Forests.Forest.{Node, Forest, empty, node, beside}
-use Rattle.dom_model.specs.Worlds.World.{Content}
-use Rattle.dom_model.specs.TokenText.Tokens.{Token, Open, Close, OneUnit, Mark, no_marks, unit_tokens, child_tokens}
-use Rattle.dom_model.specs.TokenText.Originals.{opened_in, InStep}
+use Rattle.std.proofs.Common.{◌≡◌, ℕ, suc, ◌<◌, if◌then◌else◌, List, [], ◌∷◌, ◌++◌, map, refl, arith, append_assoc, Bool, true, false}
+use Rattle.std.proofs.lemmas.List.{map-append}
+use Rattle.dom_model.specs.Definitions.{hits, is_character_data, Node, Forest, empty, node, beside, Content, Token, no_marks, unit_tokens, child_tokens, opened_in, InStep}
 use Rattle.dom_model.proofs.Forests.Climbing.{hits-first}
 
 -- Lists in step.
 
 pub steps-append : {A B : Type 0} (related : A → B → Type 0) (xs us : List A) (ys vs : List B) → InStep related xs ys → InStep related us vs → InStep related (xs ++ us) (ys ++ vs)
 steps-append related [] us [] vs h k = k
-steps-append related [] us (y ∷ ys) vs h k = absurd h
-steps-append related (x ∷ xs) us [] vs h k = absurd h
 steps-append related (x ∷ xs) us (y ∷ ys) vs h k = (h.0, steps-append related xs us ys vs h.1 k)
+steps-append related xs us ys vs h k = absurd h
+
+pub steps-if : {A B : Type 0} (related : A → B → Type 0) (v : Bool) (xs zs : List A) (ys us : List B) → InStep related xs ys → InStep related zs us → InStep related ((if v then [] else xs) ++ zs) ((if v then [] else ys) ++ us)
+steps-if related true xs zs ys us h k = k
+steps-if related false xs zs ys us h k = steps-append related xs zs ys us h k
 
 -- another relation of the same elements
 pub steps-among : {B : Type 0} (related other : ℕ → B → Type 0) (xs : List ℕ) (ys : List B) → ((x : ℕ) (y : B) → 0 < hits x xs → related x y → other x y) → InStep related xs ys → InStep other xs ys
 steps-among related other [] [] f h = tt
-steps-among related other [] (y ∷ ys) f h = absurd h
-steps-among related other (x ∷ xs) [] f h = absurd h
 steps-among related other (x ∷ xs) (y ∷ ys) f h = (f x y (hits-first x xs) h.0, steps-among related other xs ys (λ z v k. f z v (omega arith)) h.1)
+steps-among related other xs ys f h = absurd h
 
 pub steps-map : {A B C : Type 0} (related : A → C → Type 0) (of : B → C) (xs : List A) (ys : List B) → InStep (λ x y. related x (of y)) xs ys → InStep related xs (map of ys)
 steps-map related of [] [] h = tt
-steps-map related of [] (y ∷ ys) h = absurd h
-steps-map related of (x ∷ xs) [] h = absurd h
 steps-map related of (x ∷ xs) (y ∷ ys) h = (h.0, steps-map related of xs ys h.1)
+steps-map related of xs ys h = absurd h
 
 -- each of a list
 abbrev pub EachOf : {A : Type 0} → (A → Type 0) → List A → Type 0
@@ -49,15 +46,13 @@ each-both is also both (x ∷ xs) f h k = (f x h.0 k.0, each-both is also both x
 -- with what is told of each of the first list, and of each of the second
 pub steps-left : {A B : Type 0} (related other : A → B → Type 0) (is : A → Type 0) (xs : List A) (ys : List B) → ((x : A) (y : B) → is x → related x y → other x y) → EachOf is xs → InStep related xs ys → InStep other xs ys
 steps-left related other is [] [] f e h = tt
-steps-left related other is [] (y ∷ ys) f e h = absurd h
-steps-left related other is (x ∷ xs) [] f e h = absurd h
 steps-left related other is (x ∷ xs) (y ∷ ys) f e h = (f x y e.0 h.0, steps-left related other is xs ys f e.1 h.1)
+steps-left related other is xs ys f e h = absurd h
 
 pub steps-right : {A B : Type 0} (related other : A → B → Type 0) (is : B → Type 0) (xs : List A) (ys : List B) → ((x : A) (y : B) → is y → related x y → other x y) → EachOf is ys → InStep related xs ys → InStep other xs ys
 steps-right related other is [] [] f e h = tt
-steps-right related other is [] (y ∷ ys) f e h = absurd h
-steps-right related other is (x ∷ xs) [] f e h = absurd h
 steps-right related other is (x ∷ xs) (y ∷ ys) f e h = (f x y e.0 h.0, steps-right related other is xs ys f e.1 h.1)
+steps-right related other is xs ys f e h = absurd h
 
 -- a list with what each of it comes of
 pub steps-self : {A B : Type 0} (related : A → B → Type 0) (of : B → A) (ys : List B) → EachOf (λ y. related (of y) y) ys → InStep related (map of ys) ys
@@ -66,18 +61,14 @@ steps-self related of (y ∷ ys) h = (h.0, steps-self related of ys h.1)
 
 pub steps-of : {A B C : Type 0} (related : C → B → Type 0) (of : A → C) (xs : List A) (ys : List B) → InStep (λ x y. related (of x) y) xs ys → InStep related (map of xs) ys
 steps-of related of [] [] h = tt
-steps-of related of [] (y ∷ ys) h = absurd h
-steps-of related of (x ∷ xs) [] h = absurd h
 steps-of related of (x ∷ xs) (y ∷ ys) h = (h.0, steps-of related of xs ys h.1)
+steps-of related of xs ys h = absurd h
 
 -- The opens of tokens.
 
 pub opened_in-append : (xs ys : List Token) → opened_in (xs ++ ys) ≡ opened_in xs ++ opened_in ys
 opened_in-append [] ys = refl
-opened_in-append (Open n ∷ xs) ys = ap (λ ns. n ∷ ns) (opened_in-append xs ys)
-opened_in-append (Close ∷ xs) ys = opened_in-append xs ys
-opened_in-append (OneUnit u ∷ xs) ys = opened_in-append xs ys
-opened_in-append (Mark r side ∷ xs) ys = opened_in-append xs ys
+opened_in-append (x ∷ xs) ys = grind (arith, opened_in-append xs ys)
 
 pub opened_in-units : (n i : ℕ) (us : List ℕ) → opened_in (unit_tokens no_marks n i us) ≡ []
 opened_in-units n i [] = refl
@@ -93,40 +84,15 @@ abbrev pub tree_numbers : Forest Content → List ℕ
 tree_numbers empty = []
 tree_numbers (node x kids rest) = x.number ∷ ((if is_character_data x.label.kind then [] else tree_numbers kids) ++ tree_numbers rest)
 
-map-append : {A B : Type 0} (f : A → B) (xs ys : List A) → map f (xs ++ ys) ≡ map f xs ++ map f ys
-map-append f [] ys = refl
-map-append f (x ∷ xs) ys = ap (λ zs. f x ∷ zs) (map-append f xs ys)
-
 pub numbers-nodes : (f : Forest Content) → map (λ (x : Node Content). x.number) (tree_nodes f) ≡ tree_numbers f
 numbers-nodes empty = refl
-numbers-nodes (node x kids rest) =
-    ap (λ ns. x.number ∷ ns)
-    (map-append (λ (y : Node Content). y.number) (if is_character_data x.label.kind then [] else tree_nodes kids) (tree_nodes rest)
-    ∙ ap (λ ns. map (λ (y : Node Content). y.number) (if is_character_data x.label.kind then [] else tree_nodes kids) ++ ns) (numbers-nodes rest)
-    ∙ ap (λ ns. ns ++ tree_numbers rest) (each (is_character_data x.label.kind) (numbers-nodes kids)))
-  where
-    each : (v : Bool) → map (λ (y : Node Content). y.number) (tree_nodes kids) ≡ tree_numbers kids → map (λ (y : Node Content). y.number) (if v then [] else tree_nodes kids) ≡ (if v then [] else tree_numbers kids)
-    each true h = refl
-    each false h = h
+numbers-nodes (node x kids rest) = grind (arith, map-append, numbers-nodes kids, numbers-nodes rest)
 
 pub opened_in-children : (n i : ℕ) (f : Forest Content) → opened_in (child_tokens no_marks n i f) ≡ tree_numbers f
 opened_in-children n i empty = refl
 opened_in-children n i (node x kids rest) =
-    ap (λ ns. x.number ∷ ns)
-    (opened_in-append (middle (is_character_data x.label.kind)) (Close ∷ child_tokens no_marks n (suc i) rest)
-    ∙ ap (λ ns. opened_in (middle (is_character_data x.label.kind)) ++ ns) (opened_in-children n (suc i) rest)
-    ∙ ap (λ ns. ns ++ tree_numbers rest) (each (is_character_data x.label.kind) (opened_in-children x.number 0 kids)))
-  where
-    middle : Bool → List Token
-    middle v = if v then unit_tokens no_marks x.number 0 x.body.text else child_tokens no_marks x.number 0 kids
-
-    each : (v : Bool) → opened_in (child_tokens no_marks x.number 0 kids) ≡ tree_numbers kids → opened_in (middle v) ≡ (if v then [] else tree_numbers kids)
-    each true h = opened_in-units x.number 0 x.body.text
-    each false h = h
+    grind (arith, opened_in-append, opened_in-units, opened_in-children x.number 0 kids, opened_in-children n (suc i) rest)
 
 pub tree_nodes-beside : (f g : Forest Content) → tree_nodes (beside f g) ≡ tree_nodes f ++ tree_nodes g
 tree_nodes-beside empty g = refl
-tree_nodes-beside (node x kids rest) g =
-    ap (λ ns. x ∷ ns)
-    (ap (λ ns. (if is_character_data x.label.kind then [] else tree_nodes kids) ++ ns) (tree_nodes-beside rest g)
-    ∙ sym (append_assoc (if is_character_data x.label.kind then [] else tree_nodes kids) (tree_nodes rest) (tree_nodes g)))
+tree_nodes-beside (node x kids rest) g = simp (append_assoc, tree_nodes-beside rest g)

@@ -1,39 +1,11 @@
 -- The opens of the fragment that extracting or cloning makes, in step with those between the range's markers: a node that lies there wholly is
 -- moved, where the contents are extracted, and each other open is a new node's, with the label and the attributes of the node that it is a copy
 -- of. DOM Standard, "Interface Range".
-use Rattle.std.proofs.Common.{◌≡◌, ℕ, zero, suc, ◌-◌, ◌<◌, ◌≤◌, Bool, true, false, not, ◌&&◌, ◌||◌, if◌then◌else◌, List, [], ◌∷◌, ◌++◌, take, drop, length, Option, Some, None, refl, ap, sym, ◌∙◌, subst, arith, append-nil, inl, inr, ⊎_elim, ◌⊎◌}
-use Rattle.std.specs.Prelude.{replicate}
-use Rattle.std.proofs.lemmas.Bool.{cases_lt, false≢true}
-use Rattle.dom_model.specs.PlainLists.Lists.{hits}
-use Rattle.dom_model.specs.Forests.Kinds.{Label}
-use Rattle.dom_model.specs.Forests.Attributes.{Attribute}
-use Rattle.dom_model.specs.Forests.Texts.{substring}
-use Rattle.dom_model.specs.Forests.Forest.{Forest, entry_in, root_of}
-use Rattle.dom_model.specs.Worlds.World.{Content, Range, World}
-use Rattle.dom_model.specs.Soundness.Sound.{IsRange, IsSound}
-use Rattle.dom_model.specs.MutationAlgorithms.Editing.{node_document}
-use Rattle.dom_model.specs.DataAndCopies.Data.{content_in, data_of, attributes_of}
-use Rattle.dom_model.specs.RangesAndContents.Ranges.{is_collapsed, range_at, with_range, collapsed_at}
-use Rattle.dom_model.specs.RangesAndContents.Contents.{for_range, is_in_one_data, common_of, new_place, new_fragment, units_into, parts_into, contents_drawn, check_draw, check_extract, extracted, extract, clone_contents}
-use Rattle.dom_model.specs.TokenText.Tokens.{Token, Open, Close, no_marks, unit_tokens, unmarked, texts_of, has_open}
-use Rattle.dom_model.specs.TokenText.Gaps.{text_among, root_text, tokens_ahead}
-use Rattle.dom_model.specs.TokenText.Between.{before_mark, between, opens_left, closes_left, are_units}
-use Rattle.dom_model.specs.TokenText.Originals.{opened_in, opened_inside, lies_in, innermost, front_count, originals, label_of, InStep}
+use Rattle.std.proofs.Common.{◌≡◌, ℕ, zero, suc, ◌-◌, ◌<◌, ◌≤◌, Bool, true, false, if◌then◌else◌, List, [], ◌∷◌, ◌++◌, take, drop, length, Option, Some, None, refl, ap, sym, ◌∙◌, subst, arith, append-nil, ◌⊎◌, replicate}
+use Rattle.std.proofs.lemmas.Bool.{false≢true}
+use Rattle.dom_model.specs.Definitions.{hits, Label, Attribute, substring, Forest, entry_in, root_of, Content, Range, World, IsRange, IsSound, node_document, content_in, data_of, attributes_of, is_collapsed, range_at, is_in_one_data, common_of, new_fragment, units_into, parts_into, contents_drawn, check_draw, check_extract, extract, clone_contents, Token, Open, Close, no_marks, unit_tokens, unmarked, texts_of, text_among, root_text, before_mark, between, opens_left, closes_left, are_units, opened_in, opened_inside, lies_in, innermost, front_count, originals, label_of, InStep}
 use Rattle.dom_model.proofs.Forests.Climbing.{hits-append}
-use Rattle.dom_model.proofs.TokenText.EditsMade.EditsOfDrawnContents.{sound-range, check-range}
-use Rattle.dom_model.proofs.TokenText.Pieces.TokenLists.{opened, has_open-none}
-use Rattle.dom_model.proofs.TokenText.Contents.PartsByGaps.{parts-by_gaps}
-use Rattle.dom_model.proofs.TokenText.Contents.DeletedInPlace.{same-ends}
-use Rattle.dom_model.proofs.TokenText.Contents.WithinData.{BothIn, both-in, between-within, before-within}
-use Rattle.dom_model.proofs.TokenText.Contents.PathTokens.{start_path, end_path, parts_tokens}
-use Rattle.dom_model.proofs.TokenText.Contents.PathShapes.{opens_of}
-use Rattle.dom_model.proofs.TokenText.Contents.BetweenParts.{between-parts}
-use Rattle.dom_model.proofs.TokenText.Fragments.OpensInStep.{steps-among, opened_in-append, opened_in-units}
-use Rattle.dom_model.proofs.TokenText.Fragments.OpensAround.{innermost-none, hits-opened, opened_in-path, has_open-some, units-wait, path-waits, path-not_inside}
-use Rattle.dom_model.proofs.TokenText.Fragments.DrawnTrees.{IsFrom, drew-none}
-use Rattle.dom_model.proofs.TokenText.Fragments.DrawnParts.{parts-drew}
-use Rattle.dom_model.proofs.TokenText.Fragments.MatchedParts.{opens-parts, closes-parts, closes-long, parts-none, start_path-none}
-use Rattle.dom_model.proofs.TokenText.Fragments.FragmentsBetween.{TaggedAs, drawn-steps, drawn-tags, begins, units-came, units-some}
+use Rattle.dom_model.proofs.TokenText.{EditsMade.EditsOfDrawnContents.sound-range, EditsMade.EditsOfDrawnContents.check-range, Pieces.TokenLists.opened, Pieces.TokenLists.has_open-none, Contents.WithinData.BothIn, Contents.WithinData.both-in, Contents.WithinData.between-within, Contents.WithinData.before-within, Contents.PathTokens.start_path, Contents.PathTokens.end_path, Contents.PathTokens.parts_tokens, Contents.PathShapes.opens_of, Contents.BetweenParts.between-parts, Fragments.OpensInStep.steps-among, Fragments.OpensInStep.opened_in-append, Fragments.OpensInStep.opened_in-units, Fragments.OpensAround.innermost-none, Fragments.OpensAround.hits-opened, Fragments.OpensAround.opened_in-path, Fragments.OpensAround.has_open-some, Fragments.OpensAround.units-wait, Fragments.OpensAround.path-waits, Fragments.OpensAround.path-not_inside, Fragments.DrawnTrees.Drew, Fragments.DrawnTrees.IsFrom, Fragments.DrawnTrees.drew-none, Fragments.DrawnParts.parts-drew, Fragments.MatchedParts.opens-parts, Fragments.MatchedParts.closes-parts, Fragments.MatchedParts.closes-long, Fragments.MatchedParts.parts-none, Fragments.MatchedParts.start_path-none, Fragments.FragmentsBetween.between-none, Fragments.FragmentsBetween.units-are, Fragments.FragmentsBetween.cloned-forest, Fragments.FragmentsBetween.extracted-forest, Fragments.FragmentsBetween.TaggedAs, Fragments.FragmentsBetween.drawn-steps, Fragments.FragmentsBetween.drawn-tags, Fragments.FragmentsBetween.begins, Fragments.FragmentsBetween.units-came, Fragments.FragmentsBetween.units-some}
 
 -- An open of the fragment: that of the node itself, where nodes are moved and it lies wholly among the tokens, and else of a new one.
 abbrev pub IsOf : Bool → ℕ → List Token → ℕ → ℕ → Type 0
@@ -48,23 +20,17 @@ told-steps : (moves : Bool) (low : ℕ) (bad ns ms : List ℕ) (ts : List Token)
 told-steps moves low bad ns ms ts t h = steps-among (IsFrom moves low bad) (IsOf moves low ts) ns ms each h
   where
     each : (n m : ℕ) → 0 < hits n ns → IsFrom moves low bad n m → IsOf moves low ts n m
-    each n m k (inl i) = inl (i.0, t.whole n k i.1, i.2)
-    each n m k (inr i) = inr (fresh i.0, i.1)
-      where
-        fresh : (moves ≡ false) ⊎ (0 < hits n bad) → (moves ≡ false) ⊎ (lies_in ts n ≡ false)
-        fresh (inl e) = inl e
-        fresh (inr l) = inr (t.parted n k l)
+    each n m k i =
+        let a = t.whole n k in
+        let b = t.parted n k in
+        grind arith
 
 opened-units : (m n i : ℕ) (us : List ℕ) → opened m (unit_tokens no_marks n i us) ≡ 0
 opened-units m n i us = sym (hits-opened m (unit_tokens no_marks n i us)) ∙ ap (hits m) (opened_in-units n i us)
 
 front_count-units : (n : ℕ) (us : List ℕ) → 0 < length us → front_count (unit_tokens no_marks n 0 us) ≡ 1
 front_count-units n [] l = absurd (omega arith)
-front_count-units n (u ∷ us) l = rw (units-are 1 us) refl
-  where
-    units-are : (i : ℕ) (us : List ℕ) → are_units (unit_tokens no_marks n i us) ≡ true
-    units-are i [] = refl
-    units-are i (u ∷ us) = units-are (suc i) us
+front_count-units n (u ∷ us) l = rw (units-are n 1 us) refl
 
 front_count-mixed : (ts : List Token) → are_units ts ≡ false → front_count ts ≡ length (closes_left 0 ts)
 front_count-mixed [] h = absurd (false≢true (sym h))
@@ -85,21 +51,22 @@ module _ (w : World) (sound : IsSound w) (range : Range) (is : IsRange w.forest 
       InStep (IsOf moves w.made inner) (originals r text) (opened_inside (root_text u.forest w.made))
       × InStep (TaggedAs w.forest u.forest) (originals r text) (opened_inside (root_text u.forest w.made))
 
+  -- by what was drawn: which nodes the text's opens and those drawn name, and which of them are on the ways
+  in_order : (bad touched ns : List ℕ) (u : World) (ts : List Token) → Drew w moves w.made bad touched grown u w.made ts → originals r text ≡ ns → opened_in ts ≡ ns → ToldBy bad inner ns → InOrder u
+  in_order bad touched ns u ts came named drawn told =
+      let opens = opened_inside (root_text u.forest w.made) in (
+        subst (λ ms. InStep (IsOf moves w.made inner) ms opens) (sym named)
+            (told-steps moves w.made bad ns opens inner told (subst (λ ms. InStep (IsFrom moves w.made bad) ms opens) drawn (drawn-steps w sound range is moves bad touched u ts came))),
+        subst (λ ms. InStep (TaggedAs w.forest u.forest) ms opens) (drawn ∙ sym named) (drawn-tags w sound range is moves bad touched u ts came),
+      )
+
   of_none : is_collapsed range ≡ true → InOrder grown
   of_none one =
-      let p = parts-by_gaps w r root range sound h rooted in
-      let e : Some p.a ≡ Some p.b = sym p.starts ∙ ap (λ q. tokens_ahead q [] (root_text w.forest root)) (same-ends range one) ∙ p.ends in
-      let d : p.a ≡ p.b = cc e in
-      let z : p.b - p.a ≡ 0 = omega arith in
-      let none : inner ≡ [] = p.inside ∙ ap (λ k. take k (drop p.a (root_text w.forest root))) z in
+      let none = between-none w sound range r root h rooted one in
       let opens = opens_left [] (unmarked (before_mark r true text)) in
       let named : originals r text ≡ [] = ap (λ ts. opened_in (innermost (front_count ts) opens ++ ts)) none ∙ ap (λ ts. opened_in (ts ++ [])) (innermost-none opens) in
-      let came = drew-none w moves w.made [] [] grown w.made (begins w sound range is) in (
-        subst (λ ns. InStep (IsOf moves w.made inner) ns (opened_inside (root_text grown.forest w.made))) (sym named)
-            (told-steps moves w.made [] [] (opened_inside (root_text grown.forest w.made)) inner (record { whole = λ n k z. absurd (omega arith); parted = λ n k l. absurd (omega arith) })
-            (drawn-steps w sound range is moves [] [] grown [] came)),
-        subst (λ ns. InStep (TaggedAs w.forest grown.forest) ns (opened_inside (root_text grown.forest w.made))) (sym named) (drawn-tags w sound range is moves [] [] grown [] came),
-      )
+      in_order [] [] [] grown [] (drew-none w moves w.made [] [] grown w.made (begins w sound range is)) named refl
+      (record { whole = λ n k z. absurd (omega arith); parted = λ n k l. absurd (omega arith) })
 
   of_units : is_collapsed range ≡ false → is_in_one_data w range ≡ true → InOrder (units_into moves w.made range.start.node range.start.offset (range.end.offset - range.start.offset) grown)
   of_units wide one =
@@ -117,17 +84,10 @@ module _ (w : World) (sound : IsSound w) (range : Range) (is : IsRange w.forest 
       let drawn : opened_in (Open range.start.node ∷ (unit_tokens no_marks range.start.node 0 copied ++ (Close ∷ []))) ≡ range.start.node ∷ [] =
       ap (λ ns. range.start.node ∷ ns) (opened_in-append (unit_tokens no_marks range.start.node 0 copied) (Close ∷ []) ∙ ap (λ (ns : List ℕ). ns ++ []) (opened_in-units range.start.node 0 copied))
       in
-      let came = units-came w sound range is r root h rooted moves one in
-      let steps = drawn-steps w sound range is moves (range.start.node ∷ []) (range.start.node ∷ []) into _ came in
-      let tags = drawn-tags w sound range is moves (range.start.node ∷ []) (range.start.node ∷ []) into _ came in (
-        subst (λ ns. InStep (IsOf moves w.made inner) ns (opened_inside (root_text into.forest w.made))) (sym named)
-            (told-steps moves w.made (range.start.node ∷ []) (range.start.node ∷ []) (opened_inside (root_text into.forest w.made)) inner (record {
-              whole = λ x k z. absurd (omega arith);
-              parted = λ x k l. ap (λ ts. lies_in ts x) m ∙ (let o = has_open-none x (unit_tokens no_marks range.start.node 0 units) (opened-units x range.start.node 0 units) in rw o refl);
-            })
-            (subst (λ ns. InStep (IsFrom moves w.made (range.start.node ∷ [])) ns (opened_inside (root_text into.forest w.made))) drawn steps)),
-        subst (λ ns. InStep (TaggedAs w.forest into.forest) ns (opened_inside (root_text into.forest w.made))) (drawn ∙ sym named) tags,
-      )
+      in_order (n ∷ []) (n ∷ []) (n ∷ []) into _ (units-came w sound range is r root h rooted moves one) named drawn (record {
+        whole = λ x k z. absurd (omega arith);
+        parted = λ x k l. ap (λ ts. lies_in ts x) m ∙ (let o = has_open-none x (unit_tokens no_marks n 0 units) (opened-units x n 0 units) in rw o refl);
+      })
     where
       units : List ℕ
       units = take (range.end.offset - range.start.offset) (drop range.start.offset (data_of w range.start.node))
@@ -140,15 +100,8 @@ module _ (w : World) (sound : IsSound w) (range : Range) (is : IsRange w.forest 
 
   of_parts : is_collapsed range ≡ false → is_in_one_data w range ≡ false → check_draw w range ≡ None → InOrder (parts_into moves w.made range grown)
   of_parts wide two no_doctype =
-      let into = parts_into moves w.made range grown in
-      let came = parts-drew w sound range is no_doctype moves in
-      let steps = drawn-steps w sound range is moves _ _ into _ came in
-      let tags = drawn-tags w sound range is moves _ _ into _ came in (
-        subst (λ ns. InStep (IsOf moves w.made inner) ns (opened_inside (root_text into.forest w.made))) (sym named)
-            (told-steps moves w.made bad (start_path w range ++ opened_in (parts_tokens w range)) (opened_inside (root_text into.forest w.made)) inner told
-            (subst (λ ns. InStep (IsFrom moves w.made bad) ns (opened_inside (root_text into.forest w.made))) drawn steps)),
-        subst (λ ns. InStep (TaggedAs w.forest into.forest) ns (opened_inside (root_text into.forest w.made))) (drawn ∙ sym named) tags,
-      )
+      in_order bad _ (start_path w range ++ opened_in (parts_tokens w range)) (parts_into moves w.made range grown) _
+      (parts-drew w sound range is no_doctype moves) named drawn told
     where
       bad : List ℕ
       bad = start_path w range ++ (common_of w range ∷ end_path w range)
@@ -198,23 +151,13 @@ module _ (w : World) (sound : IsSound w) (range : Range) (is : IsRange w.forest 
             let no = has_open-none n (opens_left [] (parts_tokens w range)) (omega arith) in
             ap (λ ts. lies_in ts n) is_parts ∙ (rw (yes, no) refl);
         parted = λ n k l.
-            ap (λ ts. lies_in ts n) is_parts
-            ∙ ⊎_elim
-            (λ (lt : 0 < hits n (end_path w range)).
-            let e = ends n in
-            let yes = has_open-some n (opens_left [] (parts_tokens w range)) (omega arith) in
-            ap (λ v. has_open n (parts_tokens w range) && not v) yes ∙ both (has_open n (parts_tokens w range)))
-            (λ (le : hits n (end_path w range) ≤ 0).
             let a = hits-append n (start_path w range) (common_of w range ∷ end_path w range) in
-            let z = path-not_inside w sound range is r root h rooted two n (omega arith) in
-            let no = has_open-none n (parts_tokens w range) z in
-            rw no refl)
-            (cases_lt 0 (hits n (end_path w range)));
+            let e = ends n in
+            let yes = has_open-some n (opens_left [] (parts_tokens w range)) in
+            let z = path-not_inside w sound range is r root h rooted two n in
+            let no = has_open-none n (parts_tokens w range) in
+            rw is_parts (grind arith);
       }
-        where
-          both : (v : Bool) → (v && not true) ≡ false
-          both true = refl
-          both false = refl
 
   drawn-origins : check_draw w range ≡ None → InOrder (contents_drawn moves range w)
   drawn-origins no_doctype = go (is_collapsed range) (is_in_one_data w range) refl refl
@@ -236,16 +179,6 @@ module _ (w : World) (r root : ℕ) (range : Range) (sound : IsSound w) (h : ran
   drawn-in_order : (moves : Bool) → InOrder w sound range (sound-range w r range sound h) r root h rooted moves (contents_drawn moves range w)
   drawn-in_order moves = drawn-origins w sound range (sound-range w r range sound h) r root h rooted moves (check-range w r range h fits)
 
-  cloned-forest : (clone_contents r w).forest ≡ (contents_drawn false range w).forest
-  cloned-forest = ap (λ (o : Option Range). (for_range o w (λ x. contents_drawn false x w)).forest) h
-
-  extracted-forest : (extract r w).forest ≡ (contents_drawn true range w).forest
-  extracted-forest = ap (λ (o : Option Range). (for_range o w (λ x. extracted r x w)).forest) h ∙ go (is_collapsed range || is_in_one_data w range)
-    where
-      go : (v : Bool) → (if v then contents_drawn true range w else with_range r (collapsed_at (new_place w.forest range)) (contents_drawn true range w)).forest ≡ (contents_drawn true range w).forest
-      go true = refl
-      go false = refl
-
   labels-of : (f : Forest Content) → InStep (TaggedAs w.forest f) copied_nodes (opened_inside (root_text f w.made)) → InStep (λ n m. label_of f m ≡ label_of w.forest n) copied_nodes (opened_inside (root_text f w.made))
   labels-of f k = steps-among (TaggedAs w.forest f) (λ n m. label_of f m ≡ label_of w.forest n) copied_nodes (opened_inside (root_text f w.made)) (λ n m i e. ap (λ (t : (Option Label) × (List Attribute)). t.0) e) k
 
@@ -256,15 +189,11 @@ module _ (w : World) (r root : ℕ) (range : Range) (sound : IsSound w) (h : ran
 
   pub cloned-new : InStep (λ n m. w.made ≤ m) copied_nodes (opened_inside (root_text (clone_contents r w).forest w.made))
   cloned-new =
-      subst (λ (f : Forest Content). InStep (λ n m. w.made ≤ m) copied_nodes (opened_inside (root_text f w.made))) (sym cloned-forest)
-      (steps-among (IsOf false w.made (between r marked_text)) (λ n m. w.made ≤ m) copied_nodes (opened_inside (root_text (contents_drawn false range w).forest w.made)) each (drawn-in_order false).0)
-    where
-      each : (n m : ℕ) → 0 < hits n copied_nodes → IsOf false w.made (between r marked_text) n m → w.made ≤ m
-      each n m k (inl i) = absurd (false≢true i.0)
-      each n m k (inr i) = i.1
+      subst (λ (f : Forest Content). InStep (λ n m. w.made ≤ m) copied_nodes (opened_inside (root_text f w.made))) (sym (cloned-forest w r range h))
+      (steps-among (IsOf false w.made (between r marked_text)) (λ n m. w.made ≤ m) copied_nodes (opened_inside (root_text (contents_drawn false range w).forest w.made)) (λ n m k i. grind arith) (drawn-in_order false).0)
 
   cloned-tags : InStep (TaggedAs w.forest (clone_contents r w).forest) copied_nodes (opened_inside (root_text (clone_contents r w).forest w.made))
-  cloned-tags = subst (λ (f : Forest Content). InStep (TaggedAs w.forest f) copied_nodes (opened_inside (root_text f w.made))) (sym cloned-forest) (drawn-in_order false).1
+  cloned-tags = subst (λ (f : Forest Content). InStep (TaggedAs w.forest f) copied_nodes (opened_inside (root_text f w.made))) (sym (cloned-forest w r range h)) (drawn-in_order false).1
 
   pub cloned-labels : InStep (λ n m. label_of (clone_contents r w).forest m ≡ label_of w.forest n) copied_nodes (opened_inside (root_text (clone_contents r w).forest w.made))
   cloned-labels = labels-of (clone_contents r w).forest cloned-tags
@@ -275,24 +204,20 @@ module _ (w : World) (r root : ℕ) (range : Range) (sound : IsSound w) (h : ran
   -- Extracted contents: a node that lies wholly between the markers is itself, and each other is new.
 
   extracted-origins : InStep (IsOf true w.made (between r marked_text)) copied_nodes (opened_inside (root_text (extract r w).forest w.made))
-  extracted-origins = subst (λ (f : Forest Content). InStep (IsOf true w.made (between r marked_text)) copied_nodes (opened_inside (root_text f w.made))) (sym extracted-forest) (drawn-in_order true).0
+  extracted-origins = subst (λ (f : Forest Content). InStep (IsOf true w.made (between r marked_text)) copied_nodes (opened_inside (root_text f w.made))) (sym (extracted-forest w r range h)) (drawn-in_order true).0
 
   pub extracted-same : InStep (λ n m. lies_in (between r (text_among root (texts_of w))) n ≡ true → m ≡ n) copied_nodes (opened_inside (root_text (extract r w).forest w.made))
-  extracted-same = steps-among (IsOf true w.made (between r marked_text)) (λ n m. lies_in (between r marked_text) n ≡ true → m ≡ n) copied_nodes (opened_inside (root_text (extract r w).forest w.made)) each extracted-origins
-    where
-      each : (n m : ℕ) → 0 < hits n copied_nodes → IsOf true w.made (between r marked_text) n m → lies_in (between r marked_text) n ≡ true → m ≡ n
-      each n m k (inl i) e = i.2
-      each n m k (inr i) e = ⊎_elim (λ (t : true ≡ false). absurd (false≢true (sym t))) (λ (f : lies_in (between r marked_text) n ≡ false). absurd (false≢true (sym f ∙ e))) i.0
+  extracted-same =
+      steps-among (IsOf true w.made (between r marked_text)) (λ n m. lies_in (between r marked_text) n ≡ true → m ≡ n) copied_nodes
+      (opened_inside (root_text (extract r w).forest w.made)) (λ n m k i e. grind arith) extracted-origins
 
   pub extracted-new : InStep (λ n m. lies_in (between r (text_among root (texts_of w))) n ≡ false → w.made ≤ m) copied_nodes (opened_inside (root_text (extract r w).forest w.made))
-  extracted-new = steps-among (IsOf true w.made (between r marked_text)) (λ n m. lies_in (between r marked_text) n ≡ false → w.made ≤ m) copied_nodes (opened_inside (root_text (extract r w).forest w.made)) each extracted-origins
-    where
-      each : (n m : ℕ) → 0 < hits n copied_nodes → IsOf true w.made (between r marked_text) n m → lies_in (between r marked_text) n ≡ false → w.made ≤ m
-      each n m k (inl i) e = absurd (false≢true (sym e ∙ i.1))
-      each n m k (inr i) e = i.1
+  extracted-new =
+      steps-among (IsOf true w.made (between r marked_text)) (λ n m. lies_in (between r marked_text) n ≡ false → w.made ≤ m) copied_nodes
+      (opened_inside (root_text (extract r w).forest w.made)) (λ n m k i e. grind arith) extracted-origins
 
   extracted-tags : InStep (TaggedAs w.forest (extract r w).forest) copied_nodes (opened_inside (root_text (extract r w).forest w.made))
-  extracted-tags = subst (λ (f : Forest Content). InStep (TaggedAs w.forest f) copied_nodes (opened_inside (root_text f w.made))) (sym extracted-forest) (drawn-in_order true).1
+  extracted-tags = subst (λ (f : Forest Content). InStep (TaggedAs w.forest f) copied_nodes (opened_inside (root_text f w.made))) (sym (extracted-forest w r range h)) (drawn-in_order true).1
 
   pub extracted-labels : InStep (λ n m. label_of (extract r w).forest m ≡ label_of w.forest n) copied_nodes (opened_inside (root_text (extract r w).forest w.made))
   extracted-labels = labels-of (extract r w).forest extracted-tags

@@ -1,20 +1,12 @@
 -- Trees as they stand in a world, told by the kinds, the data and the children of their nodes: trees of the same tops have one shape, and
 -- trees stand on where none of their nodes is touched.
-use Rattle.std.proofs.Common.{◌≡◌, ℕ, ◌<◌, Bool, true, false, if◌then◌else◌, List, [], Option, Some, IsSome, refl, ap, sym, ◌∙◌, subst}
-use Rattle.dom_model.specs.Forests.Kinds.{Label, is_character_data}
-use Rattle.dom_model.specs.Forests.Attributes.{Attribute}
-use Rattle.dom_model.specs.Forests.Arena.{Entry, children_in}
-use Rattle.dom_model.specs.Forests.Forest.{Node, Forest, empty, node, occurs, tops, beside, entry_in, children_of}
-use Rattle.dom_model.specs.Forests.Lies.{Lies}
-use Rattle.dom_model.specs.Forests.EachNode.{EachNode}
-use Rattle.dom_model.specs.Worlds.World.{Content, World}
-use Rattle.dom_model.specs.Forests.Nodes.{entry_has, kind_passes}
-use Rattle.dom_model.specs.DataAndCopies.Data.{content_in, data_of}
+use Rattle.std.proofs.Common.{◌≡◌, ℕ, ◌<◌, if◌then◌else◌, List, [], Option, Some, IsSome, refl, ap, sym, ◌∙◌, subst}
+use Rattle.std.proofs.lemmas.Bool.{cond_both}
+use Rattle.dom_model.specs.Definitions.{Label, is_character_data, Attribute, Entry, children_in, Node, Forest, empty, node, occurs, tops, beside, entry_in, children_of, Lies, EachNode, Content, World, entry_has, kind_passes, content_in, data_of}
 use Rattle.dom_model.proofs.Forests.Entries.{occurs-HasNode}
 use Rattle.dom_model.proofs.MutationAlgorithms.Extending.{tag_in, tag_at}
 use Rattle.dom_model.proofs.RangesAndContents.Drawing.{Extends}
-use Rattle.dom_model.proofs.TokenText.Fragments.Shapes.{tree_shape}
-use Rattle.dom_model.proofs.TokenText.Fragments.OpensInStep.{EachOf, each-append, tree_nodes, tree_numbers}
+use Rattle.dom_model.proofs.TokenText.{Fragments.Shapes.tree_shape, Fragments.OpensInStep.EachOf, Fragments.OpensInStep.each-append, Fragments.OpensInStep.tree_nodes, Fragments.OpensInStep.tree_numbers}
 
 -- its label and attributes
 abbrev pub tag_of : Node Content → (Option Label) × (List Attribute)
@@ -55,42 +47,36 @@ stands-beside v (node x kids rest) g h k = (h.0, h.1, stands-beside v rest g h.2
 -- trees of the same tops have one shape
 pub stands-shape : (v : World) (f g : Forest Content) → Stands v f → Stands v g → tops f ≡ tops g → tree_shape f ≡ tree_shape g
 stands-shape v empty empty h k e = refl
-stands-shape v empty (node y ys others) h k e = absurd (cc e)
-stands-shape v (node x kids rest) empty h k e = absurd (cc e)
 stands-shape v (node x kids rest) (node y ys others) h k e =
-    let d : x.number ≡ y.number = cc e in
+    let i = h.0 in
+    let j = k.0 in
     let r : tops rest ≡ tops others = cc e in
-    let hx = h.0 in
-    let ky = k.0 in
-    let kinds : is_character_data x.label.kind ≡ is_character_data y.label.kind = sym hx.kind ∙ ap (kind_passes is_character_data v.forest) d ∙ ky.kind in
-    let texts : x.body.text ≡ y.body.text = sym hx.text ∙ ap (data_of v) d ∙ ky.text in
-    let below : tops kids ≡ tops ys = sym hx.children ∙ ap (children_of v.forest) d ∙ ky.children in
-    rw (kinds, texts, stands-shape v kids ys h.1 k.1 below, stands-shape v rest others h.2 k.2 r) refl
+    let kinds : is_character_data x.label.kind ≡ is_character_data y.label.kind = cc in
+    let texts : x.body.text ≡ y.body.text = cc in
+    rw (kinds, texts, stands-shape v kids ys h.1 k.1 (cc), stands-shape v rest others h.2 k.2 r) refl
+stands-shape v f g h k e = absurd (cc e)
 
 -- and the same nodes
 pub stands-numbers : (v : World) (f g : Forest Content) → Stands v f → Stands v g → tops f ≡ tops g → tree_numbers f ≡ tree_numbers g
 stands-numbers v empty empty h k e = refl
-stands-numbers v empty (node y ys others) h k e = absurd (cc e)
-stands-numbers v (node x kids rest) empty h k e = absurd (cc e)
 stands-numbers v (node x kids rest) (node y ys others) h k e =
+    let i = h.0 in
+    let j = k.0 in
     let d : x.number ≡ y.number = cc e in
-    let r : tops rest ≡ tops others = cc e in
-    let hx = h.0 in
-    let ky = k.0 in
-    let kinds : is_character_data x.label.kind ≡ is_character_data y.label.kind = sym hx.kind ∙ ap (kind_passes is_character_data v.forest) d ∙ ky.kind in
-    let below : tops kids ≡ tops ys = sym hx.children ∙ ap (children_of v.forest) d ∙ ky.children in
-    rw (d, kinds, stands-numbers v kids ys h.1 k.1 below, stands-numbers v rest others h.2 k.2 r) refl
+    let kinds : is_character_data x.label.kind ≡ is_character_data y.label.kind = cc in
+    rw (d, kinds, stands-numbers v kids ys h.1 k.1 (cc), stands-numbers v rest others h.2 k.2 (cc e)) refl
+stands-numbers v f g h k e = absurd (cc e)
 
 -- each of them has there the label and the attributes that it has
 pub stands-tags : (v : World) (f : Forest Content) → Stands v f → EachOf (λ (x : Node Content). tag_at v.forest x.number ≡ tag_of x) (tree_nodes f)
 stands-tags v empty h = tt
 stands-tags v (node x kids rest) h =
     let i = h.0 in
-    (i.tag, each-append (λ (y : Node Content). tag_at v.forest y.number ≡ tag_of y) (if is_character_data x.label.kind then [] else tree_nodes kids) (tree_nodes rest) (below (is_character_data x.label.kind) (stands-tags v kids h.1)) (stands-tags v rest h.2))
-  where
-    below : (b : Bool) → EachOf (λ (y : Node Content). tag_at v.forest y.number ≡ tag_of y) (tree_nodes kids) → EachOf (λ (y : Node Content). tag_at v.forest y.number ≡ tag_of y) (if b then [] else tree_nodes kids)
-    below true k = tt
-    below false k = k
+    let tagged = λ (ys : List (Node Content)). EachOf (λ (y : Node Content). tag_at v.forest y.number ≡ tag_of y) ys in (
+      i.tag,
+      each-append (λ (y : Node Content). tag_at v.forest y.number ≡ tag_of y) (if is_character_data x.label.kind then [] else tree_nodes kids) (tree_nodes rest)
+          (cond_both (is_character_data x.label.kind) [] (tree_nodes kids) tagged (λ t. tt) (λ t. stands-tags v kids h.1)) (stands-tags v rest h.2),
+    )
 
 -- a node's data and children are as they were
 pub record Keeps (v u : World) (x : ℕ) : Type 0 where

@@ -1,30 +1,16 @@
 -- What the steps of drawing contents leave of each node's data and children, and where the trees of a world stand then.
 -- DOM Standard, "Interface Range": extract, clone the contents.
-use Rattle.std.proofs.Common.{◌≡◌, ℕ, ◌<◌, ◌≤◌, ◌==◌, Bool, true, false, if◌then◌else◌, [], ◌∷◌, ◌++◌, length, Option, Some, None, refl, ap, sym, ◌∙◌, subst, arith, ◌⊎◌, inl, inr, ⊎_elim}
-use Rattle.std.proofs.lemmas.Bool.{cases_lt}
-use Rattle.dom_model.specs.PlainLists.Lists.{hits}
-use Rattle.dom_model.specs.Forests.Arena.{Entry, children_in}
-use Rattle.dom_model.specs.Forests.Forest.{Node, Forest, empty, node, occurs, beside, tree_at, entry_in, parent_of, children_of}
-use Rattle.dom_model.specs.Forests.Texts.{spliced}
-use Rattle.dom_model.specs.Worlds.World.{Content, World}
-use Rattle.dom_model.specs.Soundness.Sound.{IsSound}
-use Rattle.dom_model.specs.MutationAlgorithms.Editing.{is_fragment, nodes_of, append}
-use Rattle.dom_model.specs.DataAndCopies.Data.{content_in, data_of, with_data, cut_count, replace_data}
-use Rattle.dom_model.specs.DataAndCopies.Clones.{renumbered, with_copies}
-use Rattle.dom_model.specs.RangesAndContents.Contents.{cut_if}
-use Rattle.dom_model.specs.MutationAlgorithms.Insertable.{IsInsertable}
+use Rattle.std.proofs.Common.{◌≡◌, ℕ, ◌<◌, ◌==◌, Bool, true, false, if◌then◌else◌, [], ◌∷◌, ◌++◌, length, Option, Some, None, refl, ap, sym, ◌∙◌, subst, arith, eq-eqb}
+use Rattle.std.proofs.lemmas.{Bool.ne_eqb, Bool.Decides.nat_tests}
+use Rattle.dom_model.specs.Definitions.{hits, Entry, children_in, Node, Forest, empty, node, occurs, beside, tree_at, entry_in, parent_of, children_of, spliced, Content, World, IsSound, is_fragment, nodes_of, append, content_in, data_of, with_data, cut_count, replace_data, renumbered, with_copies, cut_if, IsInsertable}
 use Rattle.dom_model.proofs.PlainLists.Numbers.{same_or, same, apart}
-use Rattle.dom_model.proofs.Forests.Changes.{change_at}
-use Rattle.dom_model.proofs.Forests.Entries.{Lies-entry_in}
-use Rattle.dom_model.proofs.Forests.Indices.{child-parent}
-use Rattle.dom_model.proofs.Worlds.SameShape.{with_node-alike, children-alike}
-use Rattle.dom_model.proofs.Worlds.Measured.{entry-beside, parent-beside, entry-with_node}
+use Rattle.dom_model.proofs.Forests.{Changes.change_at, Entries.Lies-entry_in, Indices.child-parent}
+use Rattle.dom_model.proofs.Worlds.{SameShape.with_node-alike, SameShape.children-alike, Measured.entry-beside, Measured.parent-beside, Measured.entry-with_node}
 use Rattle.dom_model.proofs.Soundness.SoundWorlds.{child_there}
 use Rattle.dom_model.proofs.DataAndCopies.CopiesPlaced.{parent-copies}
 use Rattle.dom_model.proofs.RangesAndContents.DrawnPaths.{if_so, if_not}
 use Rattle.dom_model.proofs.MutationAlgorithms.Extending.{put_by_insert}
-use Rattle.dom_model.proofs.TokenText.Fragments.AppendedChildren.{all_left_out-absent, children-append}
-use Rattle.dom_model.proofs.TokenText.Fragments.StandingTrees.{Stands, stands-lies, stands-beside, Keeps}
+use Rattle.dom_model.proofs.TokenText.{Fragments.AppendedChildren.all_left_out-absent, Fragments.AppendedChildren.children-append, Fragments.StandingTrees.Stands, Fragments.StandingTrees.stands-lies, Fragments.StandingTrees.stands-beside, Fragments.StandingTrees.Keeps}
 
 -- New trees.
 
@@ -59,20 +45,16 @@ module _ (document : ℕ) (g : Forest Content) (v : World) where
     -- the first of the new nodes is nobody's child
     pub unlisted-copies : (x : ℕ) → hits v.made (children_of (with_copies document g v).forest x) ≡ 0
     unlisted-copies x =
-        ⊎_elim
-        (λ (lt : 0 < hits v.made (children_of (with_copies document g v).forest x)).
-        absurd (clash (parent-copies document v.made v.forest g v.made x (child-parent (with_copies document g v).forest t.forest.once v.made x lt))))
-        (λ (le : hits v.made (children_of (with_copies document g v).forest x) ≤ 0). omega arith)
-        (cases_lt 0 (hits v.made (children_of (with_copies document g v).forest x)))
-      where
-        clash : (parent_of v.forest v.made ≡ Some x) ⊎ ((v.made ≤ x) × (x < v.made)) → ⊥
-        clash (inl e) = let h = child_there v.forest v.made x e in let z = s.forest.small v.made (omega arith) in omega arith
-        clash (inr i) = let a = i.0 in let b = i.1 in omega arith
+        let c = child-parent (with_copies document g v).forest t.forest.once v.made x in
+        let p = parent-copies document v.made v.forest g v.made x in
+        let h = child_there v.forest v.made x in
+        let z = s.forest.small v.made in
+        grind arith
 
 -- What is appended.
 
 module _ (n into : ℕ) (v : World) (s : IsSound v) (k : IsInsertable v.forest n into None) where
-  data-kept : (x : ℕ) → 0 < occurs x v.forest → data_of (append n into v) x ≡ data_of v x
+  pub data-kept : (x : ℕ) → 0 < occurs x v.forest → data_of (append n into v) x ≡ data_of v x
   data-kept x h = let i = put_by_insert false n into None v s k in i.extends.texts x h
 
   -- where none of what comes in is a child of the node
@@ -88,25 +70,25 @@ module _ (n into : ℕ) (v : World) (s : IsSound v) (k : IsInsertable v.forest n
     far-alone : (x : ℕ) → hits n (children_of v.forest x) ≡ 0 → (m : ℕ) → 0 < hits m (nodes_of v n) → hits m (children_of v.forest x) ≡ 0
     far-alone x z m h =
         let j : 0 < hits m (n ∷ []) = subst (λ ns. 0 < hits m ns) itself_alone h in
-        elim (same_or n m) [ same e t ↦ subst (λ c. hits c (children_of v.forest x) ≡ 0) e z | apart ne t ↦ absurd (let i = rw t at j in omega arith) ]
+        grind (arith, nat_tests)
 
     pub keeps-alone : (x : ℕ) → 0 < occurs x v.forest → (x ≡ into → ⊥) → hits n (children_of v.forest x) ≡ 0 → Keeps v (append n into v) x
     keeps-alone x h ne z = record {
       text = data-kept x h;
-      children = children-far x h (far-alone x z) ∙ (elim (same_or x into) [ same e t ↦ absurd (ne e) | apart _ t ↦ rw t refl ]);
+      children = children-far x h (far-alone x z) ∙ rw (ne_eqb x into ne) refl;
     }
 
     pub added-alone : hits n (children_of v.forest into) ≡ 0 → children_of (append n into v).forest into ≡ children_of v.forest into ++ (n ∷ [])
     added-alone z =
         children-far into k.parent_there (far-alone into z)
-        ∙ (elim (same_or into into) [ same e t ↦ rw t refl | apart ne t ↦ absurd (ne refl) ])
+        ∙ (rw (eq-eqb into into refl) refl)
         ∙ ap (λ ns. children_of v.forest into ++ ns) itself_alone
 
     -- each other node has the parent that it had
     pub parent_kept-alone : (x : ℕ) → 0 < occurs x v.forest → (x ≡ n → ⊥) → parent_of (append n into v).forest x ≡ parent_of v.forest x
     parent_kept-alone x h ne =
         let i = put_by_insert false n into None v s k in
-        i.extends.parents x h (ap (hits x) itself_alone ∙ (elim (same_or n x) [ same e t ↦ absurd (ne (sym e)) | apart _ t ↦ rw t refl ]))
+        i.extends.parents x h (ap (hits x) itself_alone ∙ rw (ne_eqb n x (λ e. ne (sym e))) refl)
 
   module _ (fragment : is_fragment v n ≡ true) where
     abbrev its_children : nodes_of v n ≡ children_of v.forest n
@@ -115,26 +97,21 @@ module _ (n into : ℕ) (v : World) (s : IsSound v) (k : IsInsertable v.forest n
     far-children : (x : ℕ) → (x ≡ n → ⊥) → (m : ℕ) → 0 < hits m (nodes_of v n) → hits m (children_of v.forest x) ≡ 0
     far-children x ne m h =
         let j : 0 < hits m (children_of v.forest n) = subst (λ ns. 0 < hits m ns) its_children h in
-        ⊎_elim
-        (λ (lt : 0 < hits m (children_of v.forest x)).
-        absurd (ne (let e : Some x ≡ Some n = sym (child-parent v.forest s.forest.once m x lt) ∙ child-parent v.forest s.forest.once m n j in cc e)))
-        (λ (le : hits m (children_of v.forest x) ≤ 0). omega arith)
-        (cases_lt 0 (hits m (children_of v.forest x)))
+        let a = child-parent v.forest s.forest.once m x in
+        let b = child-parent v.forest s.forest.once m n j in
+        grind arith
 
     pub keeps-children : (x : ℕ) → 0 < occurs x v.forest → (x ≡ into → ⊥) → (x ≡ n → ⊥) → Keeps v (append n into v) x
     keeps-children x h ne far = record {
       text = data-kept x h;
-      children = children-far x h (far-children x far) ∙ (elim (same_or x into) [ same e t ↦ absurd (ne e) | apart _ t ↦ rw t refl ]);
+      children = children-far x h (far-children x far) ∙ rw (ne_eqb x into ne) refl;
     }
 
     pub added-children : (into ≡ n → ⊥) → children_of (append n into v).forest into ≡ children_of v.forest into ++ children_of v.forest n
     added-children far =
         children-far into k.parent_there (far-children into far)
-        ∙ (elim (same_or into into) [ same e t ↦ rw t refl | apart ne t ↦ absurd (ne refl) ])
+        ∙ (rw (eq-eqb into into refl) refl)
         ∙ ap (λ ns. children_of v.forest into ++ ns) its_children
-
-    pub text-children : (x : ℕ) → 0 < occurs x v.forest → data_of (append n into v) x ≡ data_of v x
-    text-children x h = data-kept x h
 
 -- Data that is cut.
 
@@ -148,12 +125,9 @@ module _ (n offset count : ℕ) (v : World) where
         children = children-alike (with_node-alike (with_data (spliced offset (cut_count (length (data_of v n)) offset count) [] (data_of v n))) (λ y. refl) n v.forest) x;
       }
     where
-      far : (x == n) ≡ false
-      far = elim (same_or x n) [ same e t ↦ absurd (ne e) | apart _ t ↦ t ]
-
       go : (o : Option (Entry (Node Content))) → (content_in (change_at (with_data (spliced offset (cut_count (length (data_of v n)) offset count) [] (data_of v n))) n x o)).text ≡ (content_in o).text
       go None = refl
-      go (Some e) = rw far refl
+      go (Some e) = rw (ne_eqb x n ne) refl
 
   pub keeps-cut_if : (moves : Bool) (x : ℕ) → (x ≡ n → ⊥) → Keeps v (cut_if moves n offset count v) x
   keeps-cut_if false x ne = record { text = refl; children = refl }

@@ -1,19 +1,10 @@
 -- Texts stay those of the world where a whole tree goes.
-use Rattle.std.proofs.Common.{◌≡◌, ℕ, ◌+◌, ◌<◌, ◌≤◌, nat_lt, Bool, true, false, if◌then◌else◌, List, Option, None, option_map, refl, ap, sym, ◌∙◌, arith, ⊎_elim}
-use Rattle.std.proofs.lemmas.Bool.{cases_lt, lt-ltb, le-ltb}
-use Rattle.dom_model.specs.Forests.Arena.{Entry, held}
-use Rattle.dom_model.specs.Forests.Forest.{Node, Forest, occurs, one_at, tree_at, without, entry_in, parent_of}
-use Rattle.dom_model.specs.Worlds.World.{Content, World}
-use Rattle.dom_model.specs.TokenText.Tokens.{Token, on_texts, Discard}
-use Rattle.dom_model.specs.TokenText.Edits.{on_world}
-use Rattle.dom_model.specs.TokenText.Fitting.{IsReady}
-use Rattle.dom_model.proofs.Forests.Totals.{total-tree_at}
-use Rattle.dom_model.proofs.Forests.Lying.{Lies-kept, Lies-without_root}
-use Rattle.dom_model.proofs.Forests.Entries.{Lies-entry_in, occurs-held, entry_in-Lies}
-use Rattle.dom_model.proofs.TokenText.AlikeTrees.TreesAlike.{Alike, bare_entry, Childless-without, alike-parent}
-use Rattle.dom_model.proofs.TokenText.AlikeTrees.TreesAlikeAfter.{alike-once, alike-inside}
-use Rattle.dom_model.proofs.TokenText.Pieces.RootTexts.{root-on_top, other-texts}
-use Rattle.dom_model.proofs.TokenText.Marked.MarkedTexts.{Marked}
+use Rattle.std.proofs.Common.{◌≡◌, ℕ, ◌+◌, ◌<◌, ◌≤◌, nat_lt, Bool, if◌then◌else◌, List, Option, None, option_map, refl, ap, sym, ◌∙◌, arith}
+use Rattle.std.proofs.lemmas.{Bool.le-ltb, Bool.Decides.nat_tests}
+use Rattle.dom_model.specs.Definitions.{Entry, held, Node, Forest, occurs, one_at, tree_at, without, entry_in, parent_of, Content, World, Token, on_texts, on_world, IsReady}
+use Rattle.dom_model.specs.TokenText.Tokens.{Discard}
+use Rattle.dom_model.proofs.Forests.{Totals.total-tree_at, Lying.Lies-kept, Lying.Lies-without_root, Entries.Lies-entry_in, Entries.occurs-held, Entries.entry_in-Lies}
+use Rattle.dom_model.proofs.TokenText.{AlikeTrees.TreesAlike.Alike, AlikeTrees.TreesAlike.bare_entry, AlikeTrees.TreesAlike.Childless-without, AlikeTrees.TreesAlike.alike-parent, AlikeTrees.TreesAlikeAfter.alike-once, AlikeTrees.TreesAlikeAfter.alike-inside, Pieces.RootTexts.root-on_top, Pieces.RootTexts.other-texts, Marked.MarkedTexts.Marked}
 
 module _ {X : Type 0} (f : Forest X) (once : (m : ℕ) → occurs m f ≤ 1) (n : ℕ) (root : parent_of f n ≡ None) where
   abbrev gone : ℕ → Bool
@@ -36,10 +27,8 @@ module _ {X : Type 0} (f : Forest X) (once : (m : ℕ) → occurs m f ≤ 1) (n 
       count i =
           let a = parted_count i in
           let b = once i in
-          ⊎_elim
-          (λ (lt : 0 < occurs i (tree_at n f)). rw (lt-ltb 0 (occurs i (tree_at n f)) lt) (omega arith))
-          (λ (le : occurs i (tree_at n f) ≤ 0). rw (le-ltb 0 (occurs i (tree_at n f)) le) (omega (arith, occurs-held f i (once i))))
-          (cases_lt 0 (occurs i (tree_at n f)))
+          let c = occurs-held f i (once i) in
+          grind (arith, nat_tests)
 
 -- a whole tree goes from both
 pub alike-without : (g f : Forest Content) → Alike g f → ((m : ℕ) → occurs m f ≤ 1) → (n : ℕ) → parent_of f n ≡ None → Alike (without n g) (without n f)
@@ -59,8 +48,7 @@ alike-without g f alike once n root = record {
 }
   where
     go : (v : Bool) (i : ℕ) → (if v then None else entry_in g i) ≡ option_map bare_entry (if v then None else entry_in f i)
-    go true i = refl
-    go false i = alike.entries i
+    go v i = let e = alike.entries i in grind arith
 
 -- the tree of a root goes
 pub marked-discard : (texts : List (List Token)) (w : World) → Marked texts w → IsReady w → (n : ℕ) → parent_of w.forest n ≡ None → Marked (on_texts (Discard n) texts) (on_world (Discard n) w)

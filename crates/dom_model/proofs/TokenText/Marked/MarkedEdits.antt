@@ -1,21 +1,7 @@
 -- Over a list of primitive edits each end of each live range stands where its marker stands.
-use Rattle.std.proofs.Common.{◌≡◌, ℕ, suc, ◌+◌, Bool, true, false, List, [], ◌∷◌, Option, Some, None, option_map, refl, ap, ◌∙◌, arith}
-use Rattle.std.specs.Prelude.{slice_index_or}
-use Rattle.dom_model.specs.Worlds.World.{Point, Range, World}
-use Rattle.dom_model.specs.RangesAndContents.Ranges.{end_of, range_at}
-use Rattle.dom_model.specs.TokenText.Tokens.{Token, Edit, texts_of, gap_among, range_between, marked_ranges, on_texts, all_on_texts}
-use Rattle.dom_model.specs.TokenText.Edits.{on_world, all_on_world}
-use Rattle.dom_model.specs.TokenText.Fitting.{Childless, end_at, IsReady, Fits, AllFit, fits_removal, fits_insertion, fits_splice, fits_parting, fits_merge, fits_end_set, fits_making, fits_range_making, fits_release, fits_discard}
-use Rattle.dom_model.proofs.TokenText.Marked.MarkedTexts.{Marked, marker-stands, no_gap}
-use Rattle.dom_model.proofs.TokenText.Marked.MarkedFirst.{marked-first}
-use Rattle.dom_model.proofs.TokenText.Marked.MarkedEnds.{point_of, marked-release, marked-end_set, marked-range_making}
-use Rattle.dom_model.proofs.TokenText.Pieces.RootTexts.{marked-making}
-use Rattle.dom_model.proofs.TokenText.Marked.MarkedInsertion.{marked-insertion}
-use Rattle.dom_model.proofs.TokenText.Marked.MarkedRemoval.{marked-removal}
-use Rattle.dom_model.proofs.TokenText.Marked.MarkedSplice.{marked-splice}
-use Rattle.dom_model.proofs.TokenText.Marked.MarkedParting.{marked-parting}
-use Rattle.dom_model.proofs.TokenText.Marked.MarkedMerge.{marked-merge}
-use Rattle.dom_model.proofs.TokenText.Marked.MarkedDiscard.{marked-discard}
+use Rattle.std.proofs.Common.{◌≡◌, ℕ, suc, ◌+◌, Bool, true, false, List, [], ◌∷◌, Option, Some, None, option_map, refl, ap, ◌∙◌, arith, slice_index_or}
+use Rattle.dom_model.specs.Definitions.{Point, Range, World, end_of, range_at, Token, Edit, texts_of, gap_among, range_between, marked_ranges, on_texts, all_on_texts, on_world, all_on_world, Childless, end_at, IsReady, Fits, AllFit, fits_removal, fits_insertion, fits_splice, fits_parting, fits_merge, fits_end_set, fits_making, fits_range_making, fits_release, fits_discard}
+use Rattle.dom_model.proofs.TokenText.{Marked.MarkedTexts.Marked, Marked.MarkedTexts.marker-stands, Marked.MarkedTexts.no_gap, Marked.MarkedFirst.marked-first, Marked.MarkedEnds.point_of, Marked.MarkedEnds.marked-release, Marked.MarkedEnds.marked-end_set, Marked.MarkedEnds.marked-range_making, Pieces.RootTexts.marked-making, Marked.MarkedInsertion.marked-insertion, Marked.MarkedRemoval.marked-removal, Marked.MarkedSplice.marked-splice, Marked.MarkedParting.marked-parting, Marked.MarkedMerge.marked-merge, Marked.MarkedDiscard.marked-discard}
 
 pub marked-edit : (texts : List (List Token)) (w : World) → Marked texts w → IsReady w → (e : Edit) → Fits w e → Marked (on_texts e texts) (on_world e w)
 marked-edit texts w m ready e (fits_removal n parent a) = marked-removal texts w m ready n parent a
@@ -50,8 +36,7 @@ module _ (texts : List (List Token)) (w : World) (m : Marked texts w) (ready : I
       rw (end-found r true, end-found r false, this, ranges_from (suc r) ranges (λ k. let d : suc r + k ≡ r + suc k = omega arith in ap (λ i. slice_index_or w.ranges i None) d ∙ h (suc k))) (ap (λ (o : Option Range). o ∷ ranges) (both range))
     where
       both : (o : Option Range) → range_between (option_map (end_of true) o) (option_map (end_of false) o) ≡ o
-      both None = refl
-      both (Some range) = refl
+      both o = grind arith
 
   -- the live ranges are as their markers stand
   pub ranges-found : marked_ranges 0 w.ranges texts ≡ w.ranges

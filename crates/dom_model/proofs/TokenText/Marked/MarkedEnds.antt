@@ -1,18 +1,8 @@
 -- Texts stay those of the world where a live range is made or released, and where an end of one is set.
-use Rattle.std.proofs.Common.{◌≡◌, ℕ, ◌<◌, ◌≤◌, Bool, true, false, if◌then◌else◌, List, [], ◌∷◌, ◌++◌, length, Option, Some, None, option_map, refl, ap, sym, ◌∙◌, subst, arith, length-append, ⊎_elim}
-use Rattle.std.specs.Prelude.{slice_set}
-use Rattle.std.proofs.lemmas.Bool.{cases_lt, false≢true}
-use Rattle.std.proofs.lemmas.List.{length-set, get_or-set_same, get_or-set_other, get_or_append_left, get_or_past, get_or_push}
-use Rattle.dom_model.specs.Worlds.World.{Point, Range, World}
-use Rattle.dom_model.specs.RangesAndContents.Ranges.{end_of, range_at}
-use Rattle.dom_model.specs.TokenText.Tokens.{Token, Mark, is_mark_of, same_side, mark_in, mark_out, EndSet, RangeMaking, Release, on_texts}
-use Rattle.dom_model.specs.TokenText.Edits.{set_side, on_world}
-use Rattle.dom_model.specs.TokenText.Fitting.{end_at, IsPoint, IsReady}
-use Rattle.dom_model.proofs.PlainLists.Numbers.{same_or, same, apart}
-use Rattle.dom_model.proofs.TokenText.Pieces.TokenLists.{AreMarks, AreMarks-filter}
-use Rattle.dom_model.proofs.TokenText.Marked.MarkedTexts.{Marked, HasPoint, trees_once}
-use Rattle.dom_model.proofs.TokenText.Marked.MarkedFirst.{has_point}
-use Rattle.dom_model.proofs.TokenText.Marked.MarkersMoved.{with_mark, without_mark, StandFor, mark_in-texts, mark_out-texts, AreMarks-with, standing-with, standing-without, end_itself}
+use Rattle.std.proofs.Common.{◌≡◌, ℕ, ◌<◌, ◌≤◌, Bool, true, false, if◌then◌else◌, List, [], ◌∷◌, ◌++◌, length, Option, Some, None, option_map, refl, ap, sym, ◌∙◌, arith, length-append, slice_set}
+use Rattle.std.proofs.lemmas.{List.length-set, List.get_or-set_same, List.get_or-set_other, List.get_or_append_left, List.get_or_past, List.get_or_push, Bool.Decides.nat_tests}
+use Rattle.dom_model.specs.Definitions.{Point, Range, World, end_of, range_at, Token, Mark, is_mark_of, mark_in, mark_out, EndSet, RangeMaking, Release, on_texts, set_side, on_world, end_at, IsPoint, IsReady}
+use Rattle.dom_model.proofs.TokenText.{Pieces.TokenLists.AreMarks, Pieces.TokenLists.AreMarks-filter, Marked.MarkedTexts.Marked, Marked.MarkedTexts.HasPoint, Marked.MarkedTexts.trees_once, Marked.MarkedFirst.has_point, Marked.MarkersMoved.with_mark, Marked.MarkersMoved.without_mark, Marked.MarkersMoved.StandFor, Marked.MarkersMoved.mark_in-texts, Marked.MarkersMoved.mark_out-texts, Marked.MarkersMoved.AreMarks-with, Marked.MarkersMoved.standing-with, Marked.MarkersMoved.standing-without, Marked.MarkersMoved.end_itself}
 
 pub point_of : (texts : List (List Token)) (w : World) (m : Marked texts w) → IsReady w → (p : Point) → IsPoint w p → HasPoint m.trees p
 point_of texts w m i p h = has_point m.trees w.forest m.alike i.once p h.there h.within
@@ -29,54 +19,20 @@ pub end_at-past : (ranges : List (Option Range)) (r : ℕ) (s : Bool) → length
 end_at-past ranges r s h = ap (option_map (end_of s)) (get_or_past ranges r None h)
 
 end_at-out : (ranges : List (Option Range)) (r : ℕ) (s : Bool) → end_at (slice_set ranges r None) r s ≡ None
-end_at-out ranges r s =
-    ⊎_elim
-    (λ (lt : r < length ranges). end_at-set ranges r s None lt)
-    (λ (le : length ranges ≤ r). end_at-past (slice_set ranges r None) r s (omega (arith, length-set ranges r None)))
-    (cases_lt r (length ranges))
+end_at-out ranges r s = grind (arith, end_at-set, end_at-past, length-set)
 
 end_at-more : (ranges : List (Option Range)) (range : Range) (q : ℕ) (s : Bool) → (length ranges ≡ q → ⊥) → end_at (ranges ++ Some range ∷ []) q s ≡ end_at ranges q s
-end_at-more ranges range q s h =
-    ⊎_elim
-    (λ (lt : q < length ranges). ap (option_map (end_of s)) (get_or_append_left ranges (Some range ∷ []) None q lt))
-    (λ (le : length ranges ≤ q).
-    end_at-past (ranges ++ Some range ∷ []) q s (⊎_elim (λ (lt : length ranges < q). omega (arith, length-append ranges (Some range ∷ []))) (λ (ge : q ≤ length ranges). absurd (h (omega arith))) (cases_lt (length ranges) q))
-    ∙ sym (end_at-past ranges q s le))
-    (cases_lt q (length ranges))
+end_at-more ranges range q s h = grind (arith, get_or_append_left, get_or_past, length-append)
 
 -- the ends but for one
 abbrev but : ℕ → Bool → Option Point → (ℕ → Bool → Option Point) → ℕ → Bool → Option Point
 but r side p ends q s = if is_mark_of q s (Mark r side) then p else ends q s
 
-but-here : (r : ℕ) (side : Bool) (p : Option Point) (ends : (ℕ → Bool → Option Point)) → but r side p ends r side ≡ p
-but-here r side p ends = rw (end_itself r side) refl
-
-but-other : (r : ℕ) (side : Bool) (p : Option Point) (ends : (ℕ → Bool → Option Point)) (q : ℕ) (s : Bool) → is_mark_of q s (Mark r side) ≡ false → but r side p ends q s ≡ ends q s
-but-other r side p ends q s h = rw h refl
-
--- the other side of a live range, or another live range
-pub data OtherEnd (r : ℕ) (side : Bool) (q : ℕ) (s : Bool) : Type 0 where
-  other_range : (r ≡ q → ⊥) → OtherEnd r side q s
-  other_side : r ≡ q → (side ≡ true → s ≡ false) → (side ≡ false → s ≡ true) → OtherEnd r side q s
-
-pub other_end : (r : ℕ) (side : Bool) (q : ℕ) (s : Bool) → is_mark_of q s (Mark r side) ≡ false → OtherEnd r side q s
-other_end r side q s h =
-    elim (same_or r q) [
-      | same d t ↦ other_side d (first side s (let k = rw t at h in k)) (second side s (let k = rw t at h in k))
-      | apart ne t ↦ other_range ne
-    ]
-  where
-    first : (a b : Bool) → same_side b a ≡ false → a ≡ true → b ≡ false
-    first true true k e = absurd (false≢true (sym k))
-    first true false k e = refl
-    first false b k e = absurd (false≢true e)
-
-    second : (a b : Bool) → same_side b a ≡ false → a ≡ false → b ≡ true
-    second false false k e = absurd (false≢true (sym k))
-    second false true k e = refl
-    second true b k e = absurd (false≢true (sym e))
-
 module _ (texts : List (List Token)) (w : World) (m : Marked texts w) where
+  -- an end's markers taken out
+  taken : (r : ℕ) (side : Bool) → StandFor (without_mark r side m.marks) (λ q s. but r side None (end_at w.ranges) q s)
+  taken r side = standing-without m.marks (end_at w.ranges) (λ q s. but r side None (end_at w.ranges) q s) m.standing r side (λ q s h. rw h refl) (rw (end_itself r side) refl)
+
   pub marked-release : (r : ℕ) → Marked (on_texts (Release r) texts) (on_world (Release r) w)
   marked-release r = record {
     trees = m.trees;
@@ -84,28 +40,17 @@ module _ (texts : List (List Token)) (w : World) (m : Marked texts w) where
     spelt = ap (λ (ts : List (List Token)). mark_out r true (mark_out r false ts)) m.spelt ∙ ap (mark_out r true) (mark_out-texts r false m.marks m.trees) ∙ mark_out-texts r true (without_mark r false m.marks) m.trees;
     alike = m.alike;
     only = λ p. AreMarks-filter _ (without_mark r false m.marks p) (AreMarks-filter _ (m.marks p) (m.only p));
-    standing = standing-without (without_mark r false m.marks) between (end_at (slice_set w.ranges r None)) first r true others (end_at-out w.ranges r true);
+    standing = standing-without (without_mark r false m.marks) between (end_at (slice_set w.ranges r None)) (taken r false) r true others (end_at-out w.ranges r true);
   }
     where
       between : ℕ → Bool → Option Point
       between q s = but r false None (end_at w.ranges) q s
 
-      first : StandFor (without_mark r false m.marks) between
-      first = standing-without m.marks (end_at w.ranges) between m.standing r false (λ q s h. but-other r false None (end_at w.ranges) q s h) (but-here r false None (end_at w.ranges))
-
       others : (q : ℕ) (s : Bool) → is_mark_of q s (Mark r true) ≡ false → end_at (slice_set w.ranges r None) q s ≡ between q s
-      others q s h = from (other_end r true q s h)
-        where
-          from : OtherEnd r true q s → end_at (slice_set w.ranges r None) q s ≡ between q s
-          from (other_range ne) = end_at-other w.ranges r q s None ne ∙ go (is_mark_of q s (Mark r false)) refl
-            where
-              go : (v : Bool) → is_mark_of q s (Mark r false) ≡ v → end_at w.ranges q s ≡ between q s
-              go true e = elim (same_or r q) [ same d t ↦ absurd (ne d) | apart ne2 t ↦ absurd (let k = rw t at e in false≢true k) ]
-              go false e = sym (but-other r false None (end_at w.ranges) q s e)
-          from (other_side d a b) =
-              let z : s ≡ false = a refl in
-              subst (λ n. end_at (slice_set w.ranges r None) n s ≡ between n s) d
-              (subst (λ v. end_at (slice_set w.ranges r None) r v ≡ between r v) (sym z) (end_at-out w.ranges r false ∙ sym (but-here r false None (end_at w.ranges))))
+      others q s h =
+          let a = end_at-out w.ranges r s in
+          let b = end_at-other w.ranges r q s None in
+          grind (arith, nat_tests)
 
   -- an end of a live range is set to a point
   pub marked-end_set : IsReady w → (r : ℕ) (side : Bool) (p : Point) (range : Range) → range_at w r ≡ Some range → IsPoint w p → Marked (on_texts (EndSet r side p) texts) (on_world (EndSet r side p) w)
@@ -117,7 +62,7 @@ module _ (texts : List (List Token)) (w : World) (m : Marked texts w) where
         ∙ mark_in-texts (without_mark r side m.marks) only m.trees (trees_once texts w m ready.once) m.alike.childless r side p (point_of texts w m ready p there);
     alike = m.alike;
     only = AreMarks-with r side p (without_mark r side m.marks) only;
-    standing = standing-with (without_mark r side m.marks) between ends first r side others p (but-here r side None (end_at w.ranges)) here;
+    standing = standing-with (without_mark r side m.marks) between ends (taken r side) r side others p (rw (end_itself r side) refl) here;
   }
     where
       new : Option Range
@@ -132,11 +77,8 @@ module _ (texts : List (List Token)) (w : World) (m : Marked texts w) where
       only : (q : Point) → AreMarks (without_mark r side m.marks q)
       only q = AreMarks-filter _ (m.marks q) (m.only q)
 
-      first : StandFor (without_mark r side m.marks) between
-      first = standing-without m.marks (end_at w.ranges) between m.standing r side (λ q s h. but-other r side None (end_at w.ranges) q s h) (but-here r side None (end_at w.ranges))
-
       given : r < length w.ranges
-      given = ⊎_elim (λ (lt : r < length w.ranges). lt) (λ (le : length w.ranges ≤ r). absurd (let e : None ≡ Some range = sym (get_or_past w.ranges r None le) ∙ live in cc e)) (cases_lt r (length w.ranges))
+      given = let past = get_or_past w.ranges r None in grind arith
 
       is : (s : Bool) → ends r s ≡ Some (end_of s (set_side side p range))
       is s = end_at-set w.ranges r s new given ∙ ap (λ (o : Option Range). option_map (end_of s) (option_map (set_side side p) o)) live
@@ -145,24 +87,17 @@ module _ (texts : List (List Token)) (w : World) (m : Marked texts w) where
       was s = ap (option_map (end_of s)) live
 
       set_here : (v : Bool) → end_of v (set_side v p range) ≡ p
-      set_here true = refl
-      set_here false = refl
+      set_here v = grind arith
 
       here : ends r side ≡ Some p
       here = is side ∙ ap (λ (q : Point). Some q) (set_here side)
 
       others : (q : ℕ) (s : Bool) → is_mark_of q s (Mark r side) ≡ false → ends q s ≡ between q s
-      others q s h = from (other_end r side q s h) ∙ sym (but-other r side None (end_at w.ranges) q s h)
-        where
-          kept : (v u : Bool) → (v ≡ true → u ≡ false) → (v ≡ false → u ≡ true) → end_of u (set_side v p range) ≡ end_of u range
-          kept true true a b = absurd (false≢true (sym (a refl)))
-          kept true false a b = refl
-          kept false true a b = refl
-          kept false false a b = absurd (false≢true (b refl))
-
-          from : OtherEnd r side q s → ends q s ≡ end_at w.ranges q s
-          from (other_range ne) = end_at-other w.ranges r q s new ne
-          from (other_side d a b) = subst (λ n. ends n s ≡ end_at w.ranges n s) d (is s ∙ ap (λ (o : Point). Some o) (kept side s a b) ∙ sym (was s))
+      others q s h =
+          let a = is s in
+          let b = was s in
+          let c = end_at-other w.ranges r q s new in
+          grind (arith, nat_tests)
 
   -- a new live range, whose number is the next
   pub marked-range_making : IsReady w → (r : ℕ) (range : Range) → r ≡ length w.ranges → IsPoint w range.start → IsPoint w range.end → Marked (on_texts (RangeMaking r range) texts) (on_world (RangeMaking r range) w)
@@ -174,7 +109,7 @@ module _ (texts : List (List Token)) (w : World) (m : Marked texts w) where
         ∙ mark_in-texts (with_mark r false range.end m.marks) only m.trees (trees_once texts w m ready.once) m.alike.childless r true range.start (point_of texts w m ready range.start start);
     alike = m.alike;
     only = AreMarks-with r true range.start (with_mark r false range.end m.marks) only;
-    standing = standing-with (with_mark r false range.end m.marks) between ends first r true others range.start (but-other r false (Some range.end) (end_at w.ranges) r true apart_sides ∙ none true) (is true);
+    standing = standing-with (with_mark r false range.end m.marks) between ends first r true others range.start (rw apart_sides (none true)) (is true);
   }
     where
       ends : ℕ → Bool → Option Point
@@ -193,16 +128,13 @@ module _ (texts : List (List Token)) (w : World) (m : Marked texts w) where
       is s = ap (option_map (end_of s)) (get_or_push w.ranges (Some range) None r (sym next))
 
       apart_sides : is_mark_of r true (Mark r false) ≡ false
-      apart_sides = elim (same_or r r) [ same d t ↦ rw t refl | apart ne t ↦ rw t refl ]
+      apart_sides = grind (arith, nat_tests)
 
       first : StandFor (with_mark r false range.end m.marks) between
-      first = standing-with m.marks (end_at w.ranges) between m.standing r false (λ q s h. but-other r false (Some range.end) (end_at w.ranges) q s h) range.end (none false) (but-here r false (Some range.end) (end_at w.ranges))
+      first = standing-with m.marks (end_at w.ranges) between m.standing r false (λ q s h. rw h refl) range.end (none false) (rw (end_itself r false) refl)
 
       others : (q : ℕ) (s : Bool) → is_mark_of q s (Mark r true) ≡ false → ends q s ≡ between q s
-      others q s h = from (other_end r true q s h)
-        where
-          from : OtherEnd r true q s → ends q s ≡ between q s
-          from (other_range ne) = end_at-more w.ranges range q s (λ e. ne (next ∙ e)) ∙ sym (but-other r false (Some range.end) (end_at w.ranges) q s (elim (same_or r q) [ same d t ↦ absurd (ne d) | apart ne2 t ↦ rw t refl ]))
-          from (other_side d a b) =
-              subst (λ n. ends n s ≡ between n s) d
-              (subst (λ v. ends r v ≡ between r v) (sym (a refl)) (is false ∙ sym (but-here r false (Some range.end) (end_at w.ranges))))
+      others q s h =
+          let a = is s in
+          let b = end_at-more w.ranges range q s in
+          grind (arith, nat_tests)

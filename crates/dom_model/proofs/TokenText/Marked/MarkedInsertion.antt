@@ -1,35 +1,11 @@
 -- Texts stay those of the world where a root comes into a gap.
-use Rattle.std.proofs.Common.{◌≡◌, ℕ, suc, ◌+◌, ◌<◌, ◌≤◌, ◌==◌, Bool, true, false, List, [], ◌∷◌, ◌++◌, length, Option, Some, None, option_map, refl, ap, sym, ◌∙◌, subst, arith, append_assoc}
-use Rattle.std.specs.Prelude.{slice_get}
-use Rattle.std.proofs.lemmas.Bool.{false≢true}
+use Rattle.std.proofs.Common.{◌≡◌, ℕ, suc, ◌+◌, ◌<◌, ◌≤◌, Bool, false, List, [], ◌∷◌, ◌++◌, length, Option, Some, None, option_map, refl, ap, sym, ◌∙◌, subst, arith, append_assoc, slice_get}
+use Rattle.std.proofs.lemmas.{Bool.false≢true, Bool.Decides.nat_tests}
+use Rattle.dom_model.specs.Definitions.{is_character_data, Entry, children_in, Node, Forest, empty, node, occurs, one_at, tops, beside, tree_at, without, placed_before, placed_under, put, entry_in, parent_of, children_of, Content, Point, World, after_gap, entry_has, kind_passes, node_document, content_in, Token, Open, Close, point, child_tokens, token_texts, in_gap, after_marks, other_texts, on_texts, Insertion, on_world, Childless, end_at, IsReady}
 use Rattle.dom_model.specs.declared.Kind.{Kind}
-use Rattle.dom_model.specs.Forests.Kinds.{is_character_data}
-use Rattle.dom_model.specs.Forests.Arena.{Entry, children_in}
-use Rattle.dom_model.specs.Forests.Forest.{Node, Forest, empty, node, occurs, one_at, tops, beside, tree_at, without, placed_before, placed_under, put, entry_in, parent_of, children_of}
-use Rattle.dom_model.specs.Worlds.World.{Content, Point, World}
-use Rattle.dom_model.specs.BoundaryPoints.Points.{after_gap}
-use Rattle.dom_model.specs.Forests.Nodes.{entry_has, kind_passes}
-use Rattle.dom_model.specs.MutationAlgorithms.Editing.{node_document}
-use Rattle.dom_model.specs.DataAndCopies.Data.{content_in}
-use Rattle.dom_model.specs.TokenText.Tokens.{Token, Open, Close, point, child_tokens, token_texts, in_gap, after_marks, other_texts, on_texts, Insertion}
-use Rattle.dom_model.specs.TokenText.Edits.{on_world}
-use Rattle.dom_model.specs.TokenText.Fitting.{Childless, end_at, IsReady}
 use Rattle.dom_model.proofs.PlainLists.Numbers.{same_or, same, apart}
-use Rattle.dom_model.proofs.Forests.Totals.{total-beside, total-tree_at}
-use Rattle.dom_model.proofs.Forests.Lying.{Lies-without_root}
-use Rattle.dom_model.proofs.Forests.Entries.{Lies-entry_in, entry_under-Lies}
-use Rattle.dom_model.proofs.TokenText.Pieces.TokenLists.{AreMarks, after_marks-marks}
-use Rattle.dom_model.proofs.TokenText.Pieces.TextParts.{breadth, inside, own, own-then, child_front, child_tokens-beside}
-use Rattle.dom_model.proofs.TokenText.Pieces.TextPieces.{child_front-same, inside-same}
-use Rattle.dom_model.proofs.TokenText.Pieces.TextContexts.{AgreeOff, Around, around_texts, with_root}
-use Rattle.dom_model.proofs.TokenText.Pieces.TextPoints.{child_back, child_tokens-back, child_back-same, TreesParted, trees_parted, Gap, gap_in_children}
-use Rattle.dom_model.proofs.TokenText.AlikeTrees.TreesAlike.{Alike, Top, top_of, bare_entry, Childless-tree_at, Childless-without, alike-parent}
-use Rattle.dom_model.proofs.TokenText.AlikeTrees.TreesAlikeAfter.{alike-once, alike-inside, alike-put, alike-adopted, entry_parts}
-use Rattle.dom_model.proofs.TokenText.AlikeTrees.TreesPlaced.{placed_between, with_root-placed}
-use Rattle.dom_model.proofs.TokenText.Pieces.RootTexts.{OnTop, root-on_top, other-texts, tokens_among-root}
-use Rattle.dom_model.proofs.TokenText.Marked.MarkedTexts.{stands, Marked, not_inside, not_twice}
-use Rattle.dom_model.proofs.TokenText.Marked.MarkersMoved.{in_gap-reaches}
-use Rattle.dom_model.proofs.TokenText.Marked.GapOpened.{end_at-moved, gap_opened, opened-earlier, opened-new, opened-later, standing-opened, AreMarks-opened, equal, different}
+use Rattle.dom_model.proofs.Forests.{Totals.total-beside, Totals.total-tree_at, Lying.Lies-without_root, Entries.Lies-entry_in, Entries.entry_under-Lies}
+use Rattle.dom_model.proofs.TokenText.{Pieces.TokenLists.AreMarks, Pieces.TokenLists.after_marks-marks, Pieces.TextParts.breadth, Pieces.TextParts.inside, Pieces.TextParts.own, Pieces.TextParts.own-then, Pieces.TextParts.child_front, Pieces.TextParts.child_tokens-beside, Pieces.TextPieces.child_front-same, Pieces.TextPieces.inside-same, Pieces.TextContexts.AgreeOff, Pieces.TextContexts.Around, Pieces.TextContexts.around_texts, Pieces.TextContexts.with_root, Pieces.TextPoints.child_back, Pieces.TextPoints.child_tokens-back, Pieces.TextPoints.child_back-same, Pieces.TextPoints.TreesParted, Pieces.TextPoints.trees_parted, Pieces.TextPoints.Gap, Pieces.TextPoints.gap_in_children, AlikeTrees.TreesAlike.Alike, AlikeTrees.TreesAlike.Top, AlikeTrees.TreesAlike.top_of, AlikeTrees.TreesAlike.bare_entry, AlikeTrees.TreesAlike.Childless-tree_at, AlikeTrees.TreesAlike.Childless-without, AlikeTrees.TreesAlike.alike-parent, AlikeTrees.TreesAlikeAfter.alike-once, AlikeTrees.TreesAlikeAfter.alike-inside, AlikeTrees.TreesAlikeAfter.alike-put, AlikeTrees.TreesAlikeAfter.alike-adopted, AlikeTrees.TreesAlikeAfter.entry_parts, AlikeTrees.TreesPlaced.placed_between, AlikeTrees.TreesPlaced.with_root-placed, Pieces.RootTexts.OnTop, Pieces.RootTexts.root-on_top, Pieces.RootTexts.other-texts, Pieces.RootTexts.tokens_among-root, Marked.MarkedTexts.stands, Marked.MarkedTexts.Marked, Marked.MarkedTexts.trees_once, Marked.MarkedTexts.not_inside, Marked.MarkedTexts.not_twice, Marked.MarkersMoved.in_gap-reaches, Marked.GapOpened.end_at-moved, Marked.GapOpened.gap_opened, Marked.GapOpened.opened-earlier, Marked.GapOpened.opened-new, Marked.GapOpened.opened-later, Marked.GapOpened.standing-opened, Marked.GapOpened.AreMarks-opened, Marked.GapOpened.equal, Marked.GapOpened.different}
 
 -- the node stands in the trees with its kind and its children of the world's forest
 pub record Stands (h f : Forest Content) (n : ℕ) : Type 0 where
@@ -41,29 +17,23 @@ pub record Stands (h f : Forest Content) (n : ℕ) : Type 0 where
   pub kind : (test : Kind → Bool) → test top.label.kind ≡ kind_passes test f n
   pub text : top.body.text ≡ (content_in (entry_in f n)).text
 
-kind-told : (test : (Kind → Bool)) (a : Option (Entry (Node Content))) (x : Node Content) (q : Option ℕ) (c : List ℕ) → option_map bare_entry a ≡ Some (record { value = x; parent = q; children = c }) → test x.label.kind ≡ entry_has test a
-kind-told test None x q c e = absurd (cc e)
-kind-told test (Some a) x q c e = let i = entry_parts (bare_entry a).value x a.parent q a.children c e in ap (λ (y : Node Content). test y.label.kind) (sym i.0)
-
-text-told : (a : Option (Entry (Node Content))) (x : Node Content) (q : Option ℕ) (c : List ℕ) → option_map bare_entry a ≡ Some (record { value = x; parent = q; children = c }) → x.body.text ≡ (content_in a).text
-text-told None x q c e = absurd (cc e)
-text-told (Some a) x q c e = let i = entry_parts (bare_entry a).value x a.parent q a.children c e in ap (λ (y : Node Content). y.body.text) (sym i.0)
-
-children-told : (a : Option (Entry (Node Content))) (x : Node Content) (q : Option ℕ) (c : List ℕ) → option_map bare_entry a ≡ Some (record { value = x; parent = q; children = c }) → c ≡ children_in a
-children-told None x q c e = absurd (cc e)
-children-told (Some a) x q c e = let i = entry_parts (bare_entry a).value x a.parent q a.children c e in sym i.1
+told : (a : Option (Entry (Node Content))) (x : Node Content) (q : Option ℕ) (c : List ℕ) → option_map bare_entry a ≡ Some (record { value = x; parent = q; children = c }) → (c ≡ children_in a) × ((test : Kind → Bool) → test x.label.kind ≡ entry_has test a) × (x.body.text ≡ (content_in a).text)
+told None x q c e = absurd (cc e)
+told (Some a) x q c e =
+    let i = entry_parts (bare_entry a).value x a.parent q a.children c e in
+    (sym i.1, (λ test. ap (λ (y : Node Content). test y.label.kind) (sym i.0)), ap (λ (y : Node Content). y.body.text) (sym i.0))
 
 stands_as : (h f : Forest Content) (n : ℕ) → (t : Top n h (entry_in h n)) → entry_in h n ≡ option_map bare_entry (entry_in f n) → Stands h f n
 stands_as h f n t e =
-    let d = sym e ∙ t.told in
+    let d = told (entry_in f n) t.top t.parent (tops t.kids) (sym e ∙ t.told) in
     record {
       top = t.top;
       kids = t.kids;
       named = t.named;
       at = t.at;
-      children = children-told (entry_in f n) t.top t.parent (tops t.kids) d;
-      kind = λ test. kind-told test (entry_in f n) t.top t.parent (tops t.kids) d;
-      text = text-told (entry_in f n) t.top t.parent (tops t.kids) d;
+      children = d.0;
+      kind = d.1;
+      text = d.2;
     }
 
 module _ (g f : Forest Content) (alike : Alike g f) (once : (n : ℕ) → occurs n f ≤ 1) where
@@ -133,13 +103,8 @@ module _ (marks : Point → List Token) (only : (p : Point) → AreMarks (marks 
       let f : child_front marks' y.number 0 fs ≡ child_front marks y.number 0 fs = child_front-same marks marks' y.number 0 0 fs (λ j j' d a b. at_parent j' j (omega arith) (omega (arith, long))) (away_from fs zf) in
       let c : child_tokens marks' y.number (suc k) bs ≡ child_back marks y.number k bs = child_tokens-back marks' y.number (suc k) bs ∙ ap (λ (ts : List Token). ts ++ child_back marks' y.number (suc k) bs) new_one
       ∙ child_back-same marks marks' y.number k (suc k) bs (λ j j' d a b. past j' j (omega arith) a) (away_from bs zb) in
-      s ∙ child_tokens-beside marks' y.number 0 fs (node z zs bs)
-      ∙ ap (λ i. child_front marks' y.number 0 fs ++ child_tokens marks' y.number i (node z zs bs)) e
-      ∙ ap (λ (ts : List Token). ts ++ child_tokens marks' y.number k (node z zs bs)) f
-      ∙ ap (λ (ts : List Token). child_front marks y.number 0 fs ++ (ts ++ (Open z.number ∷ (inside marks' z zs ++ (Close ∷ child_tokens marks' y.number (suc k) bs))))) (at_parent k k refl (omega arith))
-      ∙ ap (λ (ts : List Token). child_front marks y.number 0 fs ++ (marks (point y.number k) ++ (Open z.number ∷ (ts ++ (Close ∷ child_tokens marks' y.number (suc k) bs))))) (inside-same marks marks' z zs (away_from (node z zs empty) zz))
-      ∙ ap (λ (ts : List Token). child_front marks y.number 0 fs ++ (marks (point y.number k) ++ (Open z.number ∷ (inside marks z zs ++ (Close ∷ ts))))) c
-      ∙ ap (λ (ts : List Token). child_front marks y.number 0 fs ++ (marks (point y.number k) ++ ts)) (own-then marks z zs (child_back marks y.number k bs))
+      s ∙ (rw (child_tokens-beside marks' y.number 0 fs (node z zs bs), e, f, at_parent k k refl (omega arith), inside-same marks marks' z zs (away_from (node z zs empty) zz), c)
+      (ap (λ (ts : List Token). child_front marks y.number 0 fs ++ (marks (point y.number k) ++ ts)) (own-then marks z zs (child_back marks y.number k bs))))
 
 -- The texts after a root came into a gap.
 module _ (marks : Point → List Token) (only : (p : Point) → AreMarks (marks p)) (g : Forest Content) (og : (n : ℕ) → occurs n g ≤ 1) (cg : Childless g) (k : ℕ) (y z : Node Content) (ys zs : Forest Content)
@@ -159,7 +124,7 @@ module _ (marks : Point → List Token) (only : (p : Point) → AreMarks (marks 
       omega arith
 
   agree : AgreeOff (node y ys empty) marks (gap_opened y.number k marks)
-  agree q h = elim (same_or q.node y.number) [ same d t ↦ absurd (let s : (y.number == q.node) ≡ true = equal y.number q.node (sym d) in let j = rw s at h in omega arith) | apart ne t ↦ rw t refl ]
+  agree q h = grind (arith, nat_tests)
 
   abbrev placed : Forest Content
   placed = beside part.first (node z zs part.last)
@@ -213,11 +178,8 @@ module _ (marks : Point → List Token) (only : (p : Point) → AreMarks (marks 
 pub marked-insertion : (texts : List (List Token)) (w : World) → Marked texts w → IsReady w → (n : ℕ) (p : Point) → 0 < occurs n w.forest → parent_of w.forest n ≡ None → 0 < occurs p.node w.forest → occurs p.node (tree_at n w.forest) ≡ 0 → kind_passes is_character_data w.forest p.node ≡ false → p.offset ≤ length (children_of w.forest p.node) → Marked (on_texts (Insertion n p) texts) (on_world (Insertion n p) w)
 marked-insertion texts w m ready n p there root apart_from inside_of kind within = result (stands_in m.trees w.forest m.alike ready.once n there) (stands_without m.trees w.forest m.alike ready.once n p.node root apart_from inside_of)
   where
-    og : (i : ℕ) → occurs i m.trees ≤ 1
-    og i = alike-once m.trees w.forest m.alike ready.once i
-
     top : OnTop n m.trees
-    top = root-on_top n m.trees og (alike-parent m.trees w.forest m.alike n ∙ root)
+    top = root-on_top n m.trees (trees_once texts w m ready.once) (alike-parent m.trees w.forest m.alike n ∙ root)
 
     result : Stands m.trees w.forest n → Stands (without n m.trees) w.forest p.node → Marked (on_texts (Insertion n p) texts) (on_world (Insertion n p) w)
     result z y = record {
@@ -243,7 +205,7 @@ marked-insertion texts w m ready n p there root apart_from inside_of kind within
         no_data = y.kind is_character_data ∙ kind
 
         trees_at : put y.top.number z.top.number (slice_get (tops y.kids) p.offset) m.trees ≡ with_root y.top.number y.top (beside part.first (node z.top z.kids part.last)) (without z.top.number m.trees)
-        trees_at = inserted-trees m.marks m.only m.trees og m.alike.childless p.offset y.top z.top y.kids z.kids (subst (λ i. OnTop i m.trees) (sym z.named) top) new_root new_parent no_data part
+        trees_at = inserted-trees m.marks m.only m.trees (trees_once texts w m ready.once) m.alike.childless p.offset y.top z.top y.kids z.kids (subst (λ i. OnTop i m.trees) (sym z.named) top) new_root new_parent no_data part
 
         renamed : put y.top.number z.top.number (slice_get (tops y.kids) p.offset) m.trees ≡ put p.node n (slice_get (children_of w.forest p.node) p.offset) m.trees
         renamed =
@@ -254,7 +216,7 @@ marked-insertion texts w m ready n p there root apart_from inside_of kind within
         texts_at : on_texts (Insertion n p) (token_texts m.marks m.trees) ≡ token_texts (gap_opened p.node p.offset m.marks) (put p.node n (slice_get (children_of w.forest p.node) p.offset) m.trees)
         texts_at =
             sym (ap (λ i. on_texts (Insertion i (point y.top.number p.offset)) (token_texts m.marks m.trees)) z.named ∙ ap (λ i. on_texts (Insertion n (point i p.offset)) (token_texts m.marks m.trees)) y.named)
-            ∙ inserted-texts m.marks m.only m.trees og m.alike.childless p.offset y.top z.top y.kids z.kids (subst (λ i. OnTop i m.trees) (sym z.named) top) new_root new_parent no_data part
+            ∙ inserted-texts m.marks m.only m.trees (trees_once texts w m ready.once) m.alike.childless p.offset y.top z.top y.kids z.kids (subst (λ i. OnTop i m.trees) (sym z.named) top) new_root new_parent no_data part
             ∙ ap (token_texts (gap_opened y.top.number p.offset m.marks)) (sym trees_at ∙ renamed)
             ∙ ap (λ i. token_texts (gap_opened i p.offset m.marks) (put p.node n (slice_get (children_of w.forest p.node) p.offset) m.trees)) y.named
 

@@ -1,42 +1,10 @@
 -- Texts stay those of the world where a Text is joined with the next.
-use Rattle.std.proofs.Common.{◌≡◌, ℕ, suc, ◌+◌, ◌-◌, ◌<◌, ◌≤◌, nat_lt, Bool, true, false, List, [], ◌∷◌, ◌++◌, length, Option, Some, None, option_map, refl, ap, sym, ◌∙◌, subst, arith, append-nil, length-append, ⊎_elim}
-use Rattle.std.proofs.lemmas.Bool.{cases_lt, lt-ltb, le-ltb}
-use Rattle.dom_model.specs.PlainLists.Lists.{hits, among, place_in}
-use Rattle.dom_model.specs.Forests.Kinds.{is_character_data}
-use Rattle.dom_model.specs.Forests.Arena.{parent_in}
-use Rattle.dom_model.specs.Forests.Forest.{Node, Forest, empty, node, occurs, one_at, tops, beside, tree_at, without, with_node, parent_of, index_of, ancestors, inclusive_descendants}
-use Rattle.dom_model.specs.Worlds.World.{Content, Point, World}
-use Rattle.dom_model.specs.BoundaryPoints.Points.{after_removal, after_splice, after_merge, map_ranges}
-use Rattle.dom_model.specs.Forests.Texts.{spliced}
-use Rattle.dom_model.specs.Forests.Nodes.{kind_passes}
-use Rattle.dom_model.specs.DataAndCopies.Data.{data_of, with_data}
-use Rattle.dom_model.specs.TokenText.Tokens.{Token, point, token_texts, on_texts, Merge}
-use Rattle.dom_model.specs.TokenText.Edits.{on_world, merge_from}
-use Rattle.dom_model.specs.TokenText.Fitting.{Childless, end_at, IsReady}
-use Rattle.dom_model.proofs.Forests.Undone.{beside-assoc}
-use Rattle.dom_model.proofs.Forests.Tops.{tops-beside}
-use Rattle.dom_model.proofs.Forests.TreeOrder.Flattened.{hits-numbers}
-use Rattle.dom_model.proofs.Forests.Lying.{total-with_node}
-use Rattle.dom_model.proofs.Forests.Entries.{entry_under-absent}
-use Rattle.dom_model.proofs.Forests.Indices.{child-listed, index-child}
-use Rattle.dom_model.proofs.Forests.Paths.{parent-path}
-use Rattle.dom_model.proofs.TokenText.Pieces.TextParts.{breadth}
-use Rattle.dom_model.proofs.TokenText.Pieces.TextCounts.{measure_of}
-use Rattle.dom_model.proofs.TokenText.Pieces.TextContexts.{with_root}
-use Rattle.dom_model.proofs.TokenText.Pieces.TextSiblings.{Siblings, siblings, Childless-child}
-use Rattle.dom_model.proofs.TokenText.AlikeTrees.TreesAlike.{Alike, Childless-tree_at}
-use Rattle.dom_model.proofs.TokenText.AlikeTrees.TreesAlikeAfter.{alike-once, alike-inside, alike-cut, alike-node}
-use Rattle.dom_model.proofs.TokenText.AlikeTrees.TreesWithin.{Child, child_of}
-use Rattle.dom_model.proofs.TokenText.Pieces.RootTexts.{texts-beside}
-use Rattle.dom_model.proofs.TokenText.AlikeTrees.MergedTrees.{Behind, child_behind, changed-without, changed-next, index-with_node}
-use Rattle.dom_model.proofs.TokenText.Pieces.MergedTexts.{merged-texts}
-use Rattle.dom_model.proofs.TokenText.Marked.MarkedTexts.{stands, Marked, HasPoint}
-use Rattle.dom_model.proofs.TokenText.Marked.MarkedEnds.{point_of}
-use Rattle.dom_model.proofs.TokenText.Marked.MarkedInsertion.{Stands, stands_in, Childless-with_root}
-use Rattle.dom_model.proofs.TokenText.Marked.MarkedSplice.{spliced-parts, with_root-node}
-use Rattle.dom_model.proofs.TokenText.Marked.MarkedRemoval.{among-there}
-use Rattle.dom_model.proofs.TokenText.Marked.GapOpened.{end_at-moved, different, equal}
-use Rattle.dom_model.proofs.TokenText.Marked.GapMerged.{gap_merged, merged_at, merged_point, merged-steps, standing-merged, AreMarks-merged}
+use Rattle.std.proofs.Common.{◌≡◌, ℕ, suc, ◌+◌, ◌<◌, ◌≤◌, nat_lt, Bool, true, false, List, [], ◌∷◌, ◌++◌, length, Option, Some, option_map, refl, ap, sym, ◌∙◌, subst, arith, append-nil, length-append}
+use Rattle.std.proofs.lemmas.Bool.Decides.{nat_tests}
+use Rattle.dom_model.specs.Definitions.{hits, among, place_in, is_character_data, Node, Forest, empty, node, occurs, one_at, tops, beside, tree_at, without, with_node, parent_of, index_of, ancestors, inclusive_descendants, Content, Point, World, after_removal, after_splice, after_merge, spliced, kind_passes, data_of, with_data, Token, point, token_texts, on_texts, Merge, on_world, merge_from, Childless, end_at, IsReady}
+use Rattle.dom_model.proofs.Forests.{Undone.beside-assoc, Tops.tops-beside, TreeOrder.Flattened.hits-numbers, Lying.total-with_node, Indices.child-listed, Indices.index-child, Paths.parent-path}
+use Rattle.dom_model.proofs.Soundness.SoundWorlds.{child_there}
+use Rattle.dom_model.proofs.TokenText.{Pieces.TextParts.breadth, Pieces.TextCounts.measure_of, Pieces.TextContexts.with_root, Pieces.TextSiblings.Siblings, Pieces.TextSiblings.siblings, Pieces.TextSiblings.Childless-child, AlikeTrees.TreesAlike.Alike, AlikeTrees.TreesAlike.Childless-tree_at, AlikeTrees.TreesAlikeAfter.alike-inside, AlikeTrees.TreesAlikeAfter.alike-cut, AlikeTrees.TreesAlikeAfter.alike-node, AlikeTrees.TreesWithin.Child, AlikeTrees.TreesWithin.child_of, Pieces.RootTexts.texts-beside, AlikeTrees.MergedTrees.Behind, AlikeTrees.MergedTrees.child_behind, AlikeTrees.MergedTrees.changed-without, AlikeTrees.MergedTrees.changed-next, AlikeTrees.MergedTrees.index-with_node, Pieces.MergedTexts.merged-texts, Marked.MarkedTexts.stands, Marked.MarkedTexts.Marked, Marked.MarkedTexts.trees_once, Marked.MarkedTexts.HasPoint, Marked.MarkedEnds.point_of, Marked.MarkedInsertion.Stands, Marked.MarkedInsertion.stands_in, Marked.MarkedInsertion.Childless-with_root, Marked.MarkedSplice.spliced-parts, Marked.MarkedSplice.with_root-node, Marked.MarkedRemoval.among-there, Marked.GapOpened.end_at-moved_thrice, Marked.GapOpened.different, Marked.GapOpened.equal, Marked.GapMerged.gap_merged, Marked.GapMerged.merged_point, Marked.GapMerged.merged-steps, Marked.GapMerged.standing-merged, Marked.GapMerged.AreMarks-merged}
 
 -- The markers of each gap after two Texts are joined.
 module _ (marks : Point → List Token) (n base next parent k : ℕ) (apart_next : n ≡ next → ⊥) (apart_parent : n ≡ parent → ⊥) (parent_next : parent ≡ next → ⊥) where
@@ -44,35 +12,22 @@ module _ (marks : Point → List Token) (n base next parent k : ℕ) (apart_next
   marks' q = gap_merged n base next parent k marks q
 
   pub elsewhere : (q : Point) → (q.node ≡ parent → ⊥) → (q.node ≡ n → ⊥) → (q.node ≡ next → ⊥) → marks' q ≡ marks q
-  elsewhere q a b c = rw (different q.node next c, different q.node n b, different q.node parent a) refl
+  elsewhere q a b c = grind (arith, nat_tests)
 
   pub before : (j j' : ℕ) → j' ≡ j → j ≤ k → marks' (point parent j') ≡ marks (point parent j)
-  before j j' e h =
-      let s : marks' (point parent j') ≡ marks (point parent j') = rw (different parent next parent_next, different parent n (λ d. apart_parent (sym d)), equal parent parent refl, le-ltb k j' (omega arith)) refl in
-      s ∙ ap (λ i. marks (point parent i)) e
+  before j j' e h = grind (arith, nat_tests)
 
   pub behind : (j j' : ℕ) → suc j' ≡ j → k < j' → marks' (point parent j') ≡ marks (point parent j)
-  behind j j' e h =
-      let s : marks' (point parent j') ≡ marks (point parent (suc j')) = rw (different parent next parent_next, different parent n (λ d. apart_parent (sym d)), equal parent parent refl, lt-ltb k j' h) refl in
-      s ∙ ap (λ i. marks (point parent i)) e
-
-  at_first : (j : ℕ) → marks' (point n j) ≡ merged_at base (marks (point parent (suc k))) (λ o. marks (point n o)) (λ o. marks (point next o)) j
-  at_first j = rw (different n next apart_next, equal n n refl) refl
+  behind j j' e h = grind (arith, nat_tests)
 
   pub kept : (j j' : ℕ) → j' ≡ j → j < base → marks' (point n j') ≡ marks (point n j)
-  kept j j' e h =
-      let s : merged_at base (marks (point parent (suc k))) (λ o. marks (point n o)) (λ o. marks (point next o)) j' ≡ marks (point n j') = rw (lt-ltb j' base (omega arith)) refl in
-      at_first j' ∙ s ∙ ap (λ i. marks (point n i)) e
+  kept j j' e h = grind (arith, nat_tests)
 
   pub seam : (j : ℕ) → j ≡ base → marks' (point n j) ≡ marks (point n j) ++ (marks (point parent (suc k)) ++ marks (point next 0))
-  seam j e =
-      let s : merged_at base (marks (point parent (suc k))) (λ o. marks (point n o)) (λ o. marks (point next o)) j ≡ marks (point n base) ++ (marks (point parent (suc k)) ++ marks (point next 0)) = rw (le-ltb j base (omega arith), le-ltb base j (omega arith)) refl in
-      at_first j ∙ s ∙ ap (λ i. marks (point n i) ++ (marks (point parent (suc k)) ++ marks (point next 0))) (sym e)
+  seam j e = grind (arith, nat_tests)
 
   pub moved : (j j' : ℕ) → j' ≡ base + j → 0 < j → marks' (point n j') ≡ marks (point next j)
-  moved j j' e h =
-      let s : merged_at base (marks (point parent (suc k))) (λ o. marks (point n o)) (λ o. marks (point next o)) j' ≡ marks (point next (j' - base)) = rw (le-ltb j' base (omega arith), lt-ltb base j' (omega arith)) refl in
-      at_first j' ∙ s ∙ ap (λ i. marks (point next i)) (omega arith)
+  moved j j' e h = grind (arith, nat_tests)
 
   pub emptied : (q : Point) → q.node ≡ next → marks' q ≡ []
   emptied q d = rw (equal q.node next d) refl
@@ -84,18 +39,11 @@ marked-merge texts w m ready n next parent par par_next behind_it kind kind_next
     subst (λ o. Marked (on_texts (Merge n next) texts) (merge_from n next o w)) (sym par_next)
     (result (stands_in m.trees w.forest m.alike ready.once parent (above n there par).0) (stands_in m.trees w.forest m.alike ready.once n there) (stands_in m.trees w.forest m.alike ready.once next next_there))
   where
-    has_parent : (i : ℕ) → parent_of w.forest i ≡ Some parent → 0 < occurs i w.forest
-    has_parent i p =
-        ⊎_elim
-        (λ (lt : 0 < occurs i w.forest). lt)
-        (λ (le : occurs i w.forest ≤ 0). absurd (let e : None ≡ Some parent = sym (ap parent_in (entry_under-absent None i w.forest (omega arith))) ∙ p in cc e))
-        (cases_lt 0 (occurs i w.forest))
-
     there : 0 < occurs n w.forest
-    there = has_parent n par
+    there = child_there w.forest n parent par
 
     next_there : 0 < occurs next w.forest
-    next_there = has_parent next par_next
+    next_there = child_there w.forest next parent par_next
 
     above : (i : ℕ) → 0 < occurs i w.forest → parent_of w.forest i ≡ Some parent → (0 < occurs parent w.forest) × (ancestors i w.forest ≡ i ∷ ancestors parent w.forest)
     above i h p = parent-path w.forest ready.once i parent h p
@@ -114,9 +62,6 @@ marked-merge texts w m ready n next parent par par_next behind_it kind kind_next
 
     parent_next : parent ≡ next → ⊥
     parent_next e = apart_from next next_there par_next (sym e)
-
-    og : (i : ℕ) → occurs i m.trees ≤ 1
-    og i = alike-once m.trees w.forest m.alike ready.once i
 
     k : ℕ
     k = index_of w.forest n
@@ -176,10 +121,10 @@ marked-merge texts w m ready n next parent par par_next behind_it kind kind_next
                 long_next = ap length (tops-beside c.ahead (node c.top c.kids empty)) ∙ length-append (tops c.ahead) (c.top.number ∷ []) ∙ (omega (arith, place))
 
                 first : Siblings m.marks m.trees k y.top c.top y.kids c.kids c.ahead (node d.top d.kids d.rest)
-                first = siblings m.marks m.only m.trees og m.alike.childless k y.top c.top y.kids c.kids c.ahead (node d.top d.kids d.rest) at whole place
+                first = siblings m.marks m.only m.trees (trees_once texts w m ready.once) m.alike.childless k y.top c.top y.kids c.kids c.ahead (node d.top d.kids d.rest) at whole place
 
                 second : Siblings m.marks m.trees (suc k) y.top d.top y.kids d.kids (beside c.ahead (node c.top c.kids empty)) d.rest
-                second = siblings m.marks m.only m.trees og m.alike.childless (suc k) y.top d.top y.kids d.kids (beside c.ahead (node c.top c.kids empty)) d.rest at whole_next long_next
+                second = siblings m.marks m.only m.trees (trees_once texts w m ready.once) m.alike.childless (suc k) y.top d.top y.kids d.kids (beside c.ahead (node c.top c.kids empty)) d.rest at whole_next long_next
 
                 tree : tree_at n m.trees ≡ node c.top c.kids empty
                 tree = ap (λ i. tree_at i m.trees) (sym c.named) ∙ first.tree
@@ -217,19 +162,19 @@ marked-merge texts w m ready n next parent par par_next behind_it kind kind_next
                 left_here =
                     ap (λ i. without next (with_node i (with_data text) m.trees)) (sym c.named)
                     ∙ ap (λ i. without i (with_node c.top.number (with_data text) m.trees)) (sym d.named)
-                    ∙ changed-without (with_data text) (λ x. refl) y.top c.top d.top y.kids c.kids d.kids c.ahead d.rest m.trees og at whole first.below_parent first.parent_above
+                    ∙ changed-without (with_data text) (λ x. refl) y.top c.top d.top y.kids c.kids d.kids c.ahead d.rest m.trees (trees_once texts w m ready.once) at whole first.below_parent first.parent_above
                     ∙ ap (λ ts. with_root y.top.number y.top (beside c.ahead (node (with_data ts c.top) c.kids d.rest)) m.trees) joined_text
 
                 next_here : tree_at next changed_here ≡ node d.top d.kids empty
                 next_here =
                     ap (λ i. tree_at next (with_node i (with_data text) m.trees)) (sym c.named)
                     ∙ ap (λ i. tree_at i (with_node c.top.number (with_data text) m.trees)) (sym d.named)
-                    ∙ changed-next (with_data text) (λ x. refl) y.top c.top d.top y.kids c.kids d.kids c.ahead d.rest m.trees og at whole first.below_parent first.parent_above second.tree
+                    ∙ changed-next (with_data text) (λ x. refl) y.top c.top d.top y.kids c.kids d.kids c.ahead d.rest m.trees (trees_once texts w m ready.once) at whole first.below_parent first.parent_above second.tree
 
                 childless_changed : Childless changed_here
                 childless_changed =
                     let cn : Childless (node c.top c.kids empty) = subst Childless tree (Childless-tree_at n m.trees m.alike.childless) in
-                    subst Childless (sym (with_root-node n (with_data text) c.top c.kids m.trees og tree)) (Childless-with_root n (with_data text c.top) c.kids m.trees (cn.0, cn.1, tt) m.alike.childless)
+                    subst Childless (sym (with_root-node n (with_data text) c.top c.kids m.trees (trees_once texts w m ready.once) tree)) (Childless-with_root n (with_data text c.top) c.kids m.trees (cn.0, cn.1, tt) m.alike.childless)
 
                 alike_changed : Alike changed_here changed_there
                 alike_changed = alike-node m.trees w.forest m.alike ready.once n (with_data text) (with_data text) (λ x. refl) (λ x. refl) (λ x. refl) childless_changed
@@ -266,29 +211,19 @@ marked-merge texts w m ready n next parent par par_next behind_it kind kind_next
 
                 ends_after : (r : ℕ) (side : Bool) → end_at (merge_from n next (Some parent) w).ranges r side ≡ option_map (merged_point n base next parent k) (end_at w.ranges r side)
                 ends_after r side =
-                    end_at-moved (after_removal (inclusive_descendants changed_there next) parent (index_of changed_there next)) (map_ranges (after_merge next n base parent (index_of w.forest next)) (map_ranges (after_splice n base 0 (length (data_of w next))) w.ranges)) r side
-                    ∙ ap (option_map (after_removal (inclusive_descendants changed_there next) parent (index_of changed_there next)))
-                    (end_at-moved (after_merge next n base parent (index_of w.forest next)) (map_ranges (after_splice n base 0 (length (data_of w next))) w.ranges) r side
-                    ∙ ap (option_map (after_merge next n base parent (index_of w.forest next))) (end_at-moved (after_splice n base 0 (length (data_of w next))) w.ranges r side))
-                    ∙ go (end_at w.ranges r side) (λ p e. within r side p e)
-                  where
-                    go : (e : Option Point) → ((p : Point) → e ≡ Some p → p.node ≡ n → p.offset ≤ base) → option_map (after_removal (inclusive_descendants changed_there next) parent (index_of changed_there next)) (option_map (after_merge next n base parent (index_of w.forest next)) (option_map (after_splice n base 0 (length (data_of w next))) e)) ≡ option_map (merged_point n base next parent k) e
-                    go None h = refl
-                    go (Some p) h = ap (λ (q : Point). Some q) (steps p (h p refl))
+                    end_at-moved_thrice (after_splice n base 0 (length (data_of w next))) (after_merge next n base parent (index_of w.forest next)) (after_removal (inclusive_descendants changed_there next) parent (index_of changed_there next)) (merged_point n base next parent k)
+                    w.ranges r side (λ p e. steps p (within r side p e))
 
                 texts_at : on_texts (Merge n next) (token_texts m.marks m.trees) ≡ token_texts after (beside (without next changed_here) (tree_at next changed_here))
                 texts_at =
                     sym (ap (λ i. on_texts (Merge i d.top.number) (token_texts m.marks m.trees)) c.named ∙ ap (λ i. on_texts (Merge n i) (token_texts m.marks m.trees)) d.named)
                     ∙ merged-texts m.marks after m.only m.trees k y.top c.top d.top y.kids c.kids d.kids c.ahead d.rest first second place is_data next_data
                     (λ q a b e. elsewhere m.marks n base next parent k apart_next apart_parent parent_next q (λ i. a (i ∙ sym y.named)) (λ i. b (i ∙ sym c.named)) (λ i. e (i ∙ sym d.named)))
-                    (λ j j' e h. subst (λ i. after (point i j') ≡ m.marks (point i j)) (sym y.named) (before m.marks n base next parent k apart_next apart_parent parent_next j j' e h))
-                    (λ j j' e h. subst (λ i. after (point i j') ≡ m.marks (point i j)) (sym y.named) (behind m.marks n base next parent k apart_next apart_parent parent_next j j' e h))
-                    (λ j j' e h. subst (λ i. after (point i j') ≡ m.marks (point i j)) (sym c.named) (kept m.marks n base next parent k apart_next apart_parent parent_next j j' e (let l = ap length data_first in omega arith)))
-                    (subst (λ i. after (point i (length c.top.body.text)) ≡ m.marks (point i (length c.top.body.text)) ++ (m.marks (point y.top.number (suc k)) ++ m.marks (point d.top.number 0))) (sym c.named)
-                    (subst (λ i. after (point n (length c.top.body.text)) ≡ m.marks (point n (length c.top.body.text)) ++ (m.marks (point i (suc k)) ++ m.marks (point d.top.number 0))) (sym y.named)
-                    (subst (λ i. after (point n (length c.top.body.text)) ≡ m.marks (point n (length c.top.body.text)) ++ (m.marks (point parent (suc k)) ++ m.marks (point i 0))) (sym d.named)
-                    (seam m.marks n base next parent k apart_next apart_parent parent_next (length c.top.body.text) (sym (ap length data_first))))))
-                    (λ j j' e h. subst (λ i. after (point i j') ≡ m.marks (point d.top.number j)) (sym c.named) (subst (λ i. after (point n j') ≡ m.marks (point i j)) (sym d.named) (moved m.marks n base next parent k apart_next apart_parent parent_next j j' (let l = ap length data_first in omega arith) h)))
+                    (λ j j' e h. rw y.named (before m.marks n base next parent k apart_next apart_parent parent_next j j' e h))
+                    (λ j j' e h. rw y.named (behind m.marks n base next parent k apart_next apart_parent parent_next j j' e h))
+                    (λ j j' e h. rw c.named (kept m.marks n base next parent k apart_next apart_parent parent_next j j' e (let l = ap length data_first in omega arith)))
+                    (rw (c.named, y.named, d.named) (seam m.marks n base next parent k apart_next apart_parent parent_next (length c.top.body.text) (sym (ap length data_first))))
+                    (λ j j' e h. rw (c.named, d.named) (moved m.marks n base next parent k apart_next apart_parent parent_next j j' (let l = ap length data_first in omega arith) h))
                     (λ q e. emptied m.marks n base next parent k apart_next apart_parent parent_next q (e ∙ d.named))
                     next_alone
                     ∙ ap (λ (f : Forest Content). token_texts after f ++ token_texts after (node d.top d.kids empty)) (sym left_here)

@@ -1,48 +1,15 @@
 -- Texts stay those of the world where a Text with a parent is split.
-use Rattle.std.proofs.Common.{◌≡◌, ℕ, suc, ◌+◌, ◌<◌, ◌≤◌, ◌==◌, Bool, true, false, if◌then◌else◌, List, [], ◌∷◌, ◌++◌, drop, length, Option, Some, None, option_map, refl, ap, sym, ◌∙◌, subst, arith, append-nil, ⊎_elim}
-use Rattle.std.specs.Prelude.{slice_get}
-use Rattle.std.proofs.lemmas.Bool.{cases_lt, false≢true}
+use Rattle.std.proofs.Common.{◌≡◌, ℕ, ◌+◌, ◌<◌, ◌≤◌, ◌==◌, Bool, true, false, List, [], ◌∷◌, ◌++◌, drop, length, Option, Some, None, option_map, refl, ap, sym, ◌∙◌, subst, arith, append-nil, slice_get}
+use Rattle.std.proofs.lemmas.Bool.{false≢true}
 use Rattle.std.proofs.Math.Seq.{drop-append_seam}
-use Rattle.dom_model.specs.PlainLists.Lists.{hits, place_in}
-use Rattle.dom_model.specs.Forests.Kinds.{Label, is_character_data}
-use Rattle.dom_model.specs.Forests.Arena.{parent_in, children_in}
-use Rattle.dom_model.specs.Forests.Forest.{Node, Forest, empty, node, occurs, tops, beside, tree_at, put, with_node, entry_in, parent_of, children_of, index_of, ancestors}
-use Rattle.dom_model.specs.Worlds.World.{Content, Point, World}
-use Rattle.dom_model.specs.BoundaryPoints.Points.{after_gap, after_splice, after_split, map_ranges}
-use Rattle.dom_model.specs.Forests.Texts.{spliced}
-use Rattle.dom_model.specs.Forests.Nodes.{kind_passes}
-use Rattle.dom_model.specs.MutationAlgorithms.Editing.{node_document}
-use Rattle.dom_model.specs.DataAndCopies.Data.{data_of, tail_of, with_data, content_in}
-use Rattle.dom_model.specs.TokenText.Tokens.{Token, point, token_texts, on_texts, Parting}
-use Rattle.dom_model.specs.TokenText.Edits.{on_world, parting_from, with_new_text}
-use Rattle.dom_model.specs.TokenText.Fitting.{Childless, end_at, IsReady}
-use Rattle.dom_model.proofs.Forests.Entries.{entry_under-absent}
-use Rattle.dom_model.proofs.Forests.Indices.{child-listed, index-child}
-use Rattle.dom_model.proofs.Forests.Paths.{parent-path}
-use Rattle.dom_model.proofs.TokenText.Pieces.TokenLists.{AreMarks}
-use Rattle.dom_model.proofs.TokenText.Pieces.TextParts.{breadth}
-use Rattle.dom_model.proofs.TokenText.Pieces.TextPieces.{texts-same}
-use Rattle.dom_model.proofs.TokenText.Pieces.TextContexts.{with_root}
-use Rattle.dom_model.proofs.TokenText.Pieces.TextPoints.{Parted, parted}
-use Rattle.dom_model.proofs.TokenText.Pieces.TextSiblings.{Siblings, siblings}
-use Rattle.dom_model.proofs.TokenText.AlikeTrees.TreesAlikeAfter.{alike-once, alike-node}
-use Rattle.dom_model.proofs.TokenText.AlikeTrees.TreesWithin.{Child, child_of}
-use Rattle.dom_model.proofs.TokenText.AlikeTrees.PartedTrees.{with_node-root, with_node-child, placed_behind, entry-beside}
-use Rattle.dom_model.proofs.TokenText.Pieces.PartedTexts.{parted-texts}
-use Rattle.dom_model.proofs.TokenText.Marked.MarkedTexts.{stands, Marked}
-use Rattle.dom_model.proofs.TokenText.Marked.MarkedInsertion.{Stands, stands_in, Childless-with_root}
-use Rattle.dom_model.proofs.TokenText.Marked.MarkedSplice.{spliced-parts}
-use Rattle.dom_model.proofs.TokenText.Marked.GapOpened.{end_at-moved, different, equal}
-use Rattle.dom_model.proofs.TokenText.Marked.GapParted.{gap_parted, parted_point, parted-steps, standing-parted, AreMarks-parted}
-use Rattle.dom_model.proofs.TokenText.AlikeTrees.PartedWorld.{base, base-old, elsewhere, earlier, later, between, kept, new_start, moved, new_text, more, placed, placed_trees, alike-placed, once-placed, same_text}
+use Rattle.dom_model.specs.Definitions.{hits, place_in, Label, is_character_data, children_in, Node, Forest, empty, node, occurs, tops, beside, tree_at, put, with_node, entry_in, parent_of, children_of, index_of, ancestors, Content, Point, World, after_gap, after_splice, after_split, map_ranges, spliced, kind_passes, node_document, data_of, tail_of, with_data, content_in, Token, point, token_texts, on_texts, Parting, on_world, parting_from, with_new_text, Childless, end_at, IsReady}
+use Rattle.dom_model.proofs.Forests.{Indices.child-listed, Indices.index-child, Paths.parent-path}
+use Rattle.dom_model.proofs.Soundness.SoundWorlds.{child_there}
+use Rattle.dom_model.proofs.TokenText.{Pieces.TokenLists.AreMarks, Pieces.TextParts.breadth, Pieces.TextPieces.texts-same, Pieces.TextContexts.with_root, Pieces.TextPoints.Parted, Pieces.TextPoints.parted, Pieces.TextSiblings.Siblings, Pieces.TextSiblings.siblings, AlikeTrees.TreesAlikeAfter.alike-node, AlikeTrees.TreesWithin.Child, AlikeTrees.TreesWithin.child_of, AlikeTrees.PartedTrees.with_node-root, AlikeTrees.PartedTrees.with_node-child, AlikeTrees.PartedTrees.placed_behind, AlikeTrees.PartedTrees.entry-beside, Pieces.PartedTexts.parted-texts, Marked.MarkedTexts.stands, Marked.MarkedTexts.Marked, Marked.MarkedTexts.trees_once, Marked.MarkersMoved.AreMarks_if, Marked.MarkedInsertion.Stands, Marked.MarkedInsertion.stands_in, Marked.MarkedInsertion.Childless-with_root, Marked.MarkedSplice.spliced-parts, Marked.GapOpened.end_at-moved_thrice, Marked.GapOpened.different, Marked.GapOpened.equal, Marked.GapParted.gap_parted, Marked.GapParted.parted_point, Marked.GapParted.parted-steps, Marked.GapParted.standing-parted, Marked.GapParted.AreMarks-parted, AlikeTrees.PartedWorld.base, AlikeTrees.PartedWorld.base-old, AlikeTrees.PartedWorld.elsewhere, AlikeTrees.PartedWorld.earlier, AlikeTrees.PartedWorld.later, AlikeTrees.PartedWorld.between, AlikeTrees.PartedWorld.kept, AlikeTrees.PartedWorld.new_start, AlikeTrees.PartedWorld.moved, AlikeTrees.PartedWorld.new_text, AlikeTrees.PartedWorld.more, AlikeTrees.PartedWorld.placed, AlikeTrees.PartedWorld.placed_trees, AlikeTrees.PartedWorld.alike-placed, AlikeTrees.PartedWorld.once-placed, AlikeTrees.PartedWorld.same_text}
 
 Childless-behind : (z' z x : Node Content) (zs fs bs : Forest Content) → z'.label ≡ z.label → Childless (beside fs (node z zs bs)) → Childless (beside fs (node z' zs (node x empty bs)))
 Childless-behind z' z x zs empty bs e c = ((λ v. c.0 (ap (λ (l : Label). is_character_data l.kind) (sym e) ∙ v)), c.1, ((λ v. refl), tt, c.2))
 Childless-behind z' z x zs (node a kids rest) bs e c = (c.0, c.1, Childless-behind z' z x zs rest bs e c.2)
-
-moved_thrice : (h i j l : Point → Point) → ((p : Point) → j (i (h p)) ≡ l p) → (e : Option Point) → option_map j (option_map i (option_map h e)) ≡ option_map l e
-moved_thrice h i j l s None = refl
-moved_thrice h i j l s (Some p) = ap (λ (q : Point). Some q) (s p)
 
 -- character data with a parent is split at a point; the new number stands nowhere yet
 pub marked-parting : (texts : List (List Token)) (w : World) → Marked texts w → IsReady w → (p : Point) (new parent : ℕ) → parent_of w.forest p.node ≡ Some parent → kind_passes is_character_data w.forest p.node ≡ true → p.offset ≤ length (data_of w p.node) → occurs new w.forest ≡ 0 → Marked (on_texts (Parting p new) texts) (on_world (Parting p new) w)
@@ -51,20 +18,13 @@ marked-parting texts w m ready p new parent par kind within fresh =
     (result (stands_in m.trees w.forest m.alike ready.once parent above.0) (stands_in m.trees w.forest m.alike ready.once p.node there))
   where
     there : 0 < occurs p.node w.forest
-    there =
-        ⊎_elim
-        (λ (lt : 0 < occurs p.node w.forest). lt)
-        (λ (le : occurs p.node w.forest ≤ 0). absurd (let e : None ≡ Some parent = sym (ap parent_in (entry_under-absent None p.node w.forest (omega arith))) ∙ par in cc e))
-        (cases_lt 0 (occurs p.node w.forest))
+    there = child_there w.forest p.node parent par
 
     above : (0 < occurs parent w.forest) × (ancestors p.node w.forest ≡ p.node ∷ ancestors parent w.forest)
     above = parent-path w.forest ready.once p.node parent there par
 
     not_fresh : (i : ℕ) → 0 < occurs i w.forest → i ≡ new → ⊥
     not_fresh i h e = let z : occurs i w.forest ≡ 0 = subst (λ j. occurs j w.forest ≡ 0) (sym e) fresh in absurd (omega arith)
-
-    og : (i : ℕ) → occurs i m.trees ≤ 1
-    og i = alike-once m.trees w.forest m.alike ready.once i
 
     k : ℕ
     k = index_of w.forest p.node
@@ -130,14 +90,12 @@ marked-parting texts w m ready p new parent par kind within fresh =
             before q = base m.marks p.node p.offset new parent k new_node new_parent apart_parent q
 
             only_base : (q : Point) → AreMarks (before q)
-            only_base q = go (q.node == new)
-              where
-                go : (v : Bool) → AreMarks (if v then gap_parted p.node p.offset new parent k m.marks q else m.marks q)
-                go true = AreMarks-parted p.node p.offset new parent k (length tail) new_node apart_parent m.marks m.only q
-                go false = m.only q
+            only_base q =
+                AreMarks_if (q.node == new) (gap_parted p.node p.offset new parent k m.marks q) (m.marks q)
+                (AreMarks-parted p.node p.offset new parent k (length tail) new_node apart_parent m.marks m.only q) (m.only q)
 
             around : Siblings before m.trees k y.top c.top y.kids c.kids c.ahead c.behind
-            around = siblings before only_base m.trees og m.alike.childless k y.top c.top y.kids c.kids c.ahead c.behind at c.whole place
+            around = siblings before only_base m.trees (trees_once texts w m ready.once) m.alike.childless k y.top c.top y.kids c.kids c.ahead c.behind at c.whole place
 
             added : Node Content
             added = new_text m.trees w.forest m.alike ready.once p.node new parent document adopter tail b fresh there above.0 0
@@ -170,7 +128,7 @@ marked-parting texts w m ready p new parent par kind within fresh =
             here_is : placed_here ≡ with_root parent y.top (kids c.top) m.trees
             here_is =
                 ap (λ ns. put parent new (slice_get ns (k + 1)) (beside m.trees (node added empty empty))) children
-                ∙ placed_behind parent k new added y.top c.top y.kids c.kids c.ahead c.behind m.trees og y.at c.whole place refl (m.alike.numbers new ∙ fresh) around.below_parent
+                ∙ placed_behind parent k new added y.top c.top y.kids c.kids c.ahead c.behind m.trees (trees_once texts w m ready.once) y.at c.whole place refl (m.alike.numbers new ∙ fresh) around.below_parent
 
             childless_root : (z : Node Content) → z.label ≡ c.top.label → Childless (with_root parent y.top (kids z) m.trees)
             childless_root z e =
@@ -198,7 +156,7 @@ marked-parting texts w m ready p new parent par kind within fresh =
             trees_are : with_node p.node (with_data left) placed_here ≡ with_root parent y.top (kids (with_data part.first c.top)) m.trees
             trees_are =
                 ap (with_node p.node (with_data left)) here_is
-                ∙ with_node-root parent p.node (with_data left) y.top (kids c.top) y.kids m.trees og y.at (subst (λ i. 0 < occurs i y.kids) c.named inside_parent) y.named (λ e. apart_parent (sym e))
+                ∙ with_node-root parent p.node (with_data left) y.top (kids c.top) y.kids m.trees (trees_once texts w m ready.once) y.at (subst (λ i. 0 < occurs i y.kids) c.named inside_parent) y.named (λ e. apart_parent (sym e))
                 ∙ ap (λ i. with_root parent y.top (with_node i (with_data left) (kids c.top)) m.trees) (sym c.named)
                 ∙ ap (λ (f : Forest Content). with_root parent y.top f m.trees) changed
                 ∙ ap (λ ts. with_root parent y.top (kids (with_data ts c.top)) m.trees) left_is
@@ -218,12 +176,8 @@ marked-parting texts w m ready p new parent par kind within fresh =
 
             ends_after : (r : ℕ) (side : Bool) → end_at (parting_from p new (Some parent) w).ranges r side ≡ option_map (parted_point p.node p.offset new parent k) (end_at w.ranges r side)
             ends_after r side =
-                end_at-moved (after_splice p.node p.offset (length tail) 0) (map_ranges (after_split p.node p.offset new parent k) (map_ranges (after_gap parent (k + 1) 1) w.ranges)) r side
-                ∙ ap (option_map (after_splice p.node p.offset (length tail) 0))
-                (end_at-moved (after_split p.node p.offset new parent k) (map_ranges (after_gap parent (k + 1) 1) w.ranges) r side
-                ∙ ap (option_map (after_split p.node p.offset new parent k)) (end_at-moved (after_gap parent (k + 1) 1) w.ranges r side))
-                ∙ moved_thrice (after_gap parent (k + 1) 1) (after_split p.node p.offset new parent k) (after_splice p.node p.offset (length tail) 0) (parted_point p.node p.offset new parent k)
-                (parted-steps p.node p.offset new parent k (length tail) new_node apart_parent) (end_at w.ranges r side)
+                end_at-moved_thrice (after_gap parent (k + 1) 1) (after_split p.node p.offset new parent k) (after_splice p.node p.offset (length tail) 0) (parted_point p.node p.offset new parent k)
+                w.ranges r side (λ q e. parted-steps p.node p.offset new parent k (length tail) new_node apart_parent q)
 
             after : Point → List Token
             after q = gap_parted p.node p.offset new parent k m.marks q
@@ -234,11 +188,11 @@ marked-parting texts w m ready p new parent par kind within fresh =
                 ∙ sym (ap (λ i. on_texts (Parting (point i (length part.first)) new) (token_texts before m.trees)) c.named ∙ ap (λ i. on_texts (Parting (point p.node i) new) (token_texts before m.trees)) part.long)
                 ∙ parted-texts before after only_base m.trees k y.top c.top added y.kids c.kids c.ahead c.behind part.first part.last around place is_data part.whole refl beyond
                 (λ q d e. elsewhere m.marks p.node p.offset new parent k new_node new_parent apart_parent q (λ i. d (i ∙ sym y.named)) (λ i. e (i ∙ sym c.named)))
-                (λ j j' e h. subst (λ i. after (point i j') ≡ before (point i j)) (sym y.named) (earlier m.marks p.node p.offset new parent k new_node new_parent apart_parent j j' e h))
-                (λ j j' e h. subst (λ i. after (point i j') ≡ before (point i j)) (sym y.named) (later m.marks p.node p.offset new parent k new_node new_parent apart_parent j j' e h))
-                (subst (λ i. after (point i (suc k)) ≡ []) (sym y.named) (between m.marks p.node p.offset new parent k new_node new_parent apart_parent))
-                (λ j j' e h. subst (λ i. after (point i j') ≡ before (point i j)) (sym c.named) (kept m.marks p.node p.offset new parent k new_node new_parent apart_parent j j' e (let l = part.long in omega arith)))
+                (λ j j' e h. rw y.named (earlier m.marks p.node p.offset new parent k new_node new_parent apart_parent j j' e h))
+                (λ j j' e h. rw y.named (later m.marks p.node p.offset new parent k new_node new_parent apart_parent j j' e h))
+                (rw y.named (between m.marks p.node p.offset new parent k new_node new_parent apart_parent))
+                (λ j j' e h. rw c.named (kept m.marks p.node p.offset new parent k new_node new_parent apart_parent j j' e (let l = part.long in omega arith)))
                 (new_start m.marks p.node p.offset new parent k new_node new_parent apart_parent)
-                (λ j j' e h. subst (λ i. after (point new j') ≡ before (point i j)) (sym c.named) (moved m.marks p.node p.offset new parent k new_node new_parent apart_parent j j' (let l = part.long in omega arith) h))
+                (λ j j' e h. rw c.named (moved m.marks p.node p.offset new parent k new_node new_parent apart_parent j j' (let l = part.long in omega arith) h))
                 ∙ ap (λ i. token_texts after (with_root i y.top (kids (with_data part.first c.top)) m.trees)) y.named
                 ∙ ap (token_texts after) (sym trees_are)

@@ -1,38 +1,10 @@
 -- Texts stay those of the world where a node leaves its parent.
-use Rattle.std.proofs.Common.{◌≡◌, ℕ, suc, ◌+◌, ◌<◌, ◌≤◌, ◌==◌, nat_lt, Bool, true, false, List, [], ◌∷◌, ◌++◌, Option, Some, None, refl, ap, sym, ◌∙◌, subst, arith, ⊎_elim}
-use Rattle.std.proofs.lemmas.Bool.{cases_lt, lt-ltb, le-ltb, false≢true}
-use Rattle.dom_model.specs.PlainLists.Lists.{hits, among, place_in}
-use Rattle.dom_model.specs.Forests.Arena.{parent_in}
-use Rattle.dom_model.specs.Forests.Forest.{Node, Forest, empty, node, occurs, one_at, beside, tree_at, without, parent_of, index_of, ancestors, inclusive_descendants}
-use Rattle.dom_model.specs.Worlds.World.{Content, Point, World}
-use Rattle.dom_model.specs.BoundaryPoints.Points.{after_removal}
-use Rattle.dom_model.specs.TokenText.Tokens.{Token, Open, Close, point, child_tokens, token_texts, no_marks, unmarked, marks_in, on_texts, Removal}
-use Rattle.dom_model.specs.TokenText.Edits.{on_world, removal_from}
-use Rattle.dom_model.specs.TokenText.Fitting.{Childless, end_at, IsReady}
-use Rattle.dom_model.proofs.Forests.Totals.{total-tree_at}
-use Rattle.dom_model.proofs.Forests.Climbing.{among-hits, not_among-hits}
-use Rattle.dom_model.proofs.Forests.TreeOrder.Flattened.{hits-numbers}
-use Rattle.dom_model.proofs.Forests.Entries.{entry_under-absent}
-use Rattle.dom_model.proofs.Forests.Indices.{child-listed, index-child}
-use Rattle.dom_model.proofs.Forests.Paths.{parent-path}
-use Rattle.dom_model.proofs.TokenText.Pieces.TokenLists.{marked, AreMarks, AreMarks-marks_in, marked-marks_in}
-use Rattle.dom_model.proofs.TokenText.Pieces.TextParts.{breadth, inside, own, child_front, child_tokens-beside}
-use Rattle.dom_model.proofs.TokenText.Pieces.TextPieces.{Closes-inside, unmarked-own, own-same, child_front-same}
-use Rattle.dom_model.proofs.TokenText.Pieces.TextCounts.{marked-own, gap_sum, gap_sum-none, gap_sum-same, marked_at}
-use Rattle.dom_model.proofs.TokenText.Pieces.TextContexts.{AgreeOff, with_root}
-use Rattle.dom_model.proofs.TokenText.Pieces.TextPoints.{child_back, child_tokens-back, child_back-same}
-use Rattle.dom_model.proofs.TokenText.AlikeTrees.TreesAlike.{Childless-tree_at}
-use Rattle.dom_model.proofs.TokenText.AlikeTrees.TreesAlikeAfter.{alike-once, alike-inside, alike-cut}
-use Rattle.dom_model.proofs.TokenText.AlikeTrees.TreesPlaced.{left_between, with_root-left}
-use Rattle.dom_model.proofs.TokenText.AlikeTrees.TreesWithin.{Child, child_of, tree_within}
-use Rattle.dom_model.proofs.TokenText.Pieces.RootTexts.{texts-beside}
-use Rattle.dom_model.proofs.TokenText.Marked.MarkedTexts.{stands, Marked, HasPoint, at_point, one_gap}
-use Rattle.dom_model.proofs.TokenText.Marked.MarkedEnds.{point_of}
-use Rattle.dom_model.proofs.TokenText.Marked.GapOpened.{end_at-moved, different, equal}
-use Rattle.dom_model.proofs.TokenText.Marked.GapClosed.{gap_closed, closed-earlier, closed-there, closed-later, Inner, standing-closed, AreMarks-closed}
-use Rattle.dom_model.proofs.TokenText.Marked.MarkedInsertion.{Stands, stands_in}
-use Rattle.dom_model.proofs.TokenText.Pieces.TextsClosedUp.{removed-there, joined_then}
-use Rattle.dom_model.proofs.TokenText.Pieces.TextSiblings.{Siblings, siblings}
+use Rattle.std.proofs.Common.{◌≡◌, ℕ, suc, ◌+◌, ◌<◌, ◌≤◌, nat_lt, Bool, true, false, List, [], ◌∷◌, ◌++◌, Option, Some, None, refl, ap, sym, ◌∙◌, subst, arith}
+use Rattle.std.proofs.lemmas.{Bool.lt-ltb, Bool.le-ltb, Bool.Decides.nat_tests}
+use Rattle.dom_model.specs.Definitions.{hits, among, place_in, Node, Forest, empty, node, occurs, one_at, beside, tree_at, without, parent_of, index_of, ancestors, inclusive_descendants, Content, Point, World, after_removal, Token, Open, Close, point, child_tokens, token_texts, no_marks, unmarked, marks_in, on_texts, Removal, on_world, removal_from, Childless, end_at, IsReady}
+use Rattle.dom_model.proofs.Forests.{Totals.total-tree_at, Climbing.among-hits, Climbing.not_among-hits, TreeOrder.Flattened.hits-numbers, Indices.child-listed, Indices.index-child, Paths.parent-path}
+use Rattle.dom_model.proofs.Soundness.SoundWorlds.{child_there}
+use Rattle.dom_model.proofs.TokenText.{Pieces.TokenLists.marked, Pieces.TokenLists.AreMarks, Pieces.TokenLists.AreMarks-marks_in, Pieces.TokenLists.marked-marks_in, Pieces.TextParts.breadth, Pieces.TextParts.inside, Pieces.TextParts.own, Pieces.TextParts.child_front, Pieces.TextParts.child_tokens-beside, Pieces.TextPieces.Closes-inside, Pieces.TextPieces.unmarked-own, Pieces.TextPieces.own-same, Pieces.TextPieces.child_front-same, Pieces.TextCounts.marked-own, Pieces.TextCounts.gap_sum, Pieces.TextCounts.gap_sum-none, Pieces.TextCounts.gap_sum-same, Pieces.TextCounts.marked_at, Pieces.TextContexts.AgreeOff, Pieces.TextContexts.with_root, Pieces.TextPoints.child_back, Pieces.TextPoints.child_tokens-back, Pieces.TextPoints.child_back-same, AlikeTrees.TreesAlike.Childless-tree_at, AlikeTrees.TreesAlikeAfter.alike-inside, AlikeTrees.TreesAlikeAfter.alike-cut, AlikeTrees.TreesPlaced.left_between, AlikeTrees.TreesPlaced.with_root-left, AlikeTrees.TreesWithin.Child, AlikeTrees.TreesWithin.child_of, AlikeTrees.TreesWithin.tree_within, Pieces.RootTexts.texts-beside, Marked.MarkedTexts.stands, Marked.MarkedTexts.Marked, Marked.MarkedTexts.trees_once, Marked.MarkedTexts.HasPoint, Marked.MarkedTexts.at_point, Marked.MarkedTexts.one_gap, Marked.MarkedEnds.point_of, Marked.GapOpened.end_at-moved, Marked.GapOpened.different, Marked.GapClosed.gap_closed, Marked.GapClosed.Inner, Marked.GapClosed.standing-closed, Marked.GapClosed.AreMarks-closed, Marked.MarkedInsertion.Stands, Marked.MarkedInsertion.stands_in, Pieces.TextsClosedUp.removed-there, Pieces.TextsClosedUp.joined_then, Pieces.TextSiblings.Siblings, Pieces.TextSiblings.siblings}
 
 -- The texts after a node left its parent.
 module _ (marks : Point → List Token) (only : (p : Point) → AreMarks (marks p)) (g : Forest Content) (og : (n : ℕ) → occurs n g ≤ 1) (cg : Childless g) (k : ℕ) (y z : Node Content) (ys zs fs bs : Forest Content)
@@ -57,13 +29,13 @@ module _ (marks : Point → List Token) (only : (p : Point) → AreMarks (marks 
   away_from f h e q o = away q (stays q.node (h q.node o)) (λ d. absurd (let b : occurs q.node f ≡ 0 = subst (λ n. occurs n f ≡ 0) (sym d) e in omega arith))
 
   at_first : (o o' : ℕ) → o ≡ o' → o < k → marks' (point y.number o) ≡ marks (point y.number o')
-  at_first o o' e h = rw (parent_stays, equal y.number y.number refl) (closed-earlier k (marks_in (own marks z zs)) (λ i. marks (point y.number i)) o h ∙ ap (λ i. marks (point y.number i)) e)
+  at_first o o' e h = let g = parent_stays in grind (arith, nat_tests)
 
   at_last : (o o' : ℕ) → suc o ≡ o' → k < o → marks' (point y.number o) ≡ marks (point y.number o')
-  at_last o o' e h = rw (parent_stays, equal y.number y.number refl) (closed-later k (marks_in (own marks z zs)) (λ i. marks (point y.number i)) o h ∙ ap (λ i. marks (point y.number i)) e)
+  at_last o o' e h = let g = parent_stays in grind (arith, nat_tests)
 
   at_seam : marks' (point y.number k) ≡ marks (point y.number k) ++ (marks_in (own marks z zs) ++ marks (point y.number (suc k)))
-  at_seam = rw (parent_stays, equal y.number y.number refl) (closed-there k (marks_in (own marks z zs)) (λ i. marks (point y.number i)) k refl)
+  at_seam = let g = parent_stays in grind (arith, nat_tests)
 
   abbrev front : List Token
   front = child_front marks y.number 0 fs
@@ -79,17 +51,13 @@ module _ (marks : Point → List Token) (only : (p : Point) → AreMarks (marks 
       let zb : occurs y.number bs ≡ 0 = let a = s.parts y.number in let b = s.parent_above in omega arith in
       let f : child_front marks' y.number 0 fs ≡ front = child_front-same marks marks' y.number 0 0 fs (λ j j' d a b. at_first j' j (omega arith) (omega (arith, long))) (away_from fs (λ m h. let a = s.parts m in let b = s.below_parent m in omega arith) zf) in
       let b : child_back marks' y.number k bs ≡ back = child_back-same marks marks' y.number (suc k) k bs (λ j j' d a c. at_last j' j (omega arith) (omega arith)) (away_from bs (λ m h. let a = s.parts m in let c = s.below_parent m in omega arith) zb) in
-      e2 ∙ child_tokens-beside marks' y.number 0 fs bs
-      ∙ ap (λ i. child_front marks' y.number 0 fs ++ child_tokens marks' y.number i bs) e
-      ∙ ap (λ (ts : List Token). ts ++ child_tokens marks' y.number k bs) f
-      ∙ ap (λ (ts : List Token). front ++ ts) (child_tokens-back marks' y.number k bs)
-      ∙ ap (λ (ts : List Token). front ++ (ts ++ child_back marks' y.number k bs)) at_seam
-      ∙ ap (λ (ts : List Token). front ++ ((marks (point y.number k) ++ (marks_in (own marks z zs) ++ marks (point y.number (suc k)))) ++ ts)) b
+      e2 ∙ (rw (child_tokens-beside marks' y.number 0 fs bs, e, f, child_tokens-back marks' y.number k bs, at_seam, b) refl)
 
   agree : AgreeOff (node y ys empty) marks marks'
   agree q h =
       let a = s.parts q.node in
-      away q (stays q.node (omega arith)) (λ d. absurd (let s : (y.number == q.node) ≡ true = equal y.number q.node (sym d) in let j = rw s at h in omega arith))
+      let b = stays q.node in
+      grind (arith, nat_tests)
 
   left : without z.number g ≡ with_root y.number y (beside fs bs) g
   left =
@@ -118,11 +86,8 @@ module _ (marks : Point → List Token) (only : (p : Point) → AreMarks (marks 
 
 -- The markers inside the tree that leaves.
 module _ (texts : List (List Token)) (w : World) (m : Marked texts w) (ready : IsReady w) (n : ℕ) (z : Node Content) (zs : Forest Content) (at : tree_at n m.trees ≡ node z zs empty) where
-  trees-once : (i : ℕ) → occurs i m.trees ≤ 1
-  trees-once i = alike-once m.trees w.forest m.alike ready.once i
-
   tree-once : (i : ℕ) → occurs i (node z zs empty) ≤ 1
-  tree-once i = let a = total-tree_at (one_at i) n m.trees in let b = ap (occurs i) at in let c = trees-once i in omega arith
+  tree-once i = let a = total-tree_at (one_at i) n m.trees in let b = ap (occurs i) at in let c = trees_once texts w m ready.once i in omega arith
 
   inner-count : (r : ℕ) (side : Bool) → marked r side (marks_in (own m.marks z zs)) ≡ gap_sum (stands (end_at w.ranges r side)) (node z zs empty)
   inner-count r side =
@@ -133,7 +98,7 @@ module _ (texts : List (List Token)) (w : World) (m : Marked texts w) (ready : I
   inner_point : (p : Point) → HasPoint m.trees p → 0 < occurs p.node (node z zs empty) → gap_sum (stands (Some p)) (node z zs empty) ≡ 1
   inner_point p h i = at_point m.trees (λ q. 0 < occurs q.node (node z zs empty) → gap_sum (stands (Some q)) (node z zs empty) ≡ 1)
       (λ y ys o there within j.
-      let s : tree_at y.number (tree_at n m.trees) ≡ tree_at y.number m.trees = tree_within n y.number m.trees trees-once (subst (λ (t : Forest Content). 0 < occurs y.number t) (sym at) j) in
+      let s : tree_at y.number (tree_at n m.trees) ≡ tree_at y.number m.trees = tree_within n y.number m.trees (trees_once texts w m ready.once) (subst (λ (t : Forest Content). 0 < occurs y.number t) (sym at) j) in
       one_gap (node z zs empty) tree-once y ys o (sym (ap (tree_at y.number) at) ∙ s ∙ there) within)
       p h i
 
@@ -145,21 +110,13 @@ module _ (texts : List (List Token)) (w : World) (m : Marked texts w) (ready : I
   }
     where
       inside_tree : (p : Point) → among p.node descendants ≡ true → 0 < occurs p.node (node z zs empty)
-      inside_tree p g =
-          ⊎_elim
-          (λ (lt : 0 < occurs p.node (node z zs empty)). lt)
-          (λ (le : occurs p.node (node z zs empty) ≤ 0). absurd (false≢true (sym (same_as p.node ∙ le-ltb 0 (occurs p.node (node z zs empty)) le) ∙ g)))
-          (cases_lt 0 (occurs p.node (node z zs empty)))
+      inside_tree p g = let s = same_as p.node in grind (arith, nat_tests)
 
       apart_from : (p q : Point) → among p.node descendants ≡ false → 0 < occurs q.node (node z zs empty) → stands (Some p) q ≡ 0
-      apart_from p q g h = rw (different p.node q.node (λ d. false≢true (sym g ∙ ap (λ i. among i descendants) d ∙ same_as q.node ∙ lt-ltb 0 (occurs q.node (node z zs empty)) h))) refl
+      apart_from p q g h = let s = same_as p.node in let t = same_as q.node in grind (arith, nat_tests)
 
 pub among-there : (n : ℕ) (xs : List ℕ) → among n xs ≡ nat_lt 0 (hits n xs)
-among-there n xs = go (among n xs) refl
-  where
-    go : (v : Bool) → among n xs ≡ v → v ≡ nat_lt 0 (hits n xs)
-    go true e = sym (lt-ltb 0 (hits n xs) (among-hits n xs e))
-    go false e = sym (le-ltb 0 (hits n xs) (omega (arith, not_among-hits n xs e)))
+among-there n xs = let a = among-hits n xs in let b = not_among-hits n xs in grind (arith, nat_tests)
 
 -- a node leaves its parent
 pub marked-removal : (texts : List (List Token)) (w : World) → Marked texts w → IsReady w → (n parent : ℕ) → parent_of w.forest n ≡ Some parent → Marked (on_texts (Removal n) texts) (on_world (Removal n) w)
@@ -168,17 +125,10 @@ marked-removal texts w m ready n parent par =
     (result (stands_in m.trees w.forest m.alike ready.once parent above.0))
   where
     there : 0 < occurs n w.forest
-    there =
-        ⊎_elim
-        (λ (lt : 0 < occurs n w.forest). lt)
-        (λ (le : occurs n w.forest ≤ 0). absurd (let e : None ≡ Some parent = sym (ap parent_in (entry_under-absent None n w.forest (omega arith))) ∙ par in cc e))
-        (cases_lt 0 (occurs n w.forest))
+    there = child_there w.forest n parent par
 
     above : (0 < occurs parent w.forest) × (ancestors n w.forest ≡ n ∷ ancestors parent w.forest)
     above = parent-path w.forest ready.once n parent there par
-
-    og : (i : ℕ) → occurs i m.trees ≤ 1
-    og i = alike-once m.trees w.forest m.alike ready.once i
 
     result : Stands m.trees w.forest parent → Marked (on_texts (Removal n) texts) (removal_from n (Some parent) w)
     result y = with_child (child_of n y.kids (subst (λ c. 0 < hits n c) (sym y.children) (child-listed w.forest ready.once n parent there par)))
@@ -209,7 +159,7 @@ marked-removal texts w m ready n parent par =
             at = ap (λ i. tree_at i m.trees) y.named ∙ y.at
 
             around : Siblings m.marks m.trees k y.top c.top y.kids c.kids c.ahead c.behind
-            around = siblings m.marks m.only m.trees og m.alike.childless k y.top c.top y.kids c.kids c.ahead c.behind at c.whole place
+            around = siblings m.marks m.only m.trees (trees_once texts w m ready.once) m.alike.childless k y.top c.top y.kids c.kids c.ahead c.behind at c.whole place
 
             tree : tree_at n m.trees ≡ node c.top c.kids empty
             tree = ap (λ i. tree_at i m.trees) (sym c.named) ∙ around.tree
@@ -220,11 +170,11 @@ marked-removal texts w m ready n parent par =
                 ∙ ap (λ j. nat_lt 0 j) (hits-numbers i (tree_at n w.forest) ∙ sym (alike-inside m.trees w.forest m.alike ready.once n i) ∙ ap (occurs i) tree)
 
             outside : gone parent ≡ false
-            outside = ap gone (sym y.named) ∙ parent_stays m.marks m.only m.trees og m.alike.childless k y.top c.top y.kids c.kids c.ahead c.behind at around c.whole place gone same_as
+            outside = ap gone (sym y.named) ∙ parent_stays m.marks m.only m.trees (trees_once texts w m ready.once) m.alike.childless k y.top c.top y.kids c.kids c.ahead c.behind at around c.whole place gone same_as
 
             texts_at : on_texts (Removal n) (token_texts m.marks m.trees) ≡ token_texts (gap_closed gone parent k (marks_in (own m.marks c.top c.kids)) m.marks) (beside (without n m.trees) (tree_at n m.trees))
             texts_at =
                 ap (λ i. on_texts (Removal i) (token_texts m.marks m.trees)) (sym c.named)
-                ∙ removed-texts m.marks m.only m.trees og m.alike.childless k y.top c.top y.kids c.kids c.ahead c.behind at around c.whole place gone same_as
+                ∙ removed-texts m.marks m.only m.trees (trees_once texts w m ready.once) m.alike.childless k y.top c.top y.kids c.kids c.ahead c.behind at around c.whole place gone same_as
                 ∙ ap (λ i. token_texts (gap_closed gone y.top.number k (marks_in (own m.marks c.top c.kids)) m.marks) (beside (without i m.trees) (tree_at i m.trees))) c.named
                 ∙ ap (λ i. token_texts (gap_closed gone i k (marks_in (own m.marks c.top c.kids)) m.marks) (beside (without n m.trees) (tree_at n m.trees))) y.named

@@ -1,76 +1,24 @@
 -- Texts stay those of the world where units of a node give way to others.
-use Rattle.std.proofs.Common.{◌≡◌, ℕ, zero, suc, ◌+◌, ◌<◌, ◌≤◌, ◌==◌, true, List, [], ◌∷◌, ◌++◌, take, drop, length, Option, refl, ap, sym, ◌∙◌, subst, arith, append_assoc, length-append, ⊎_elim}
-use Rattle.std.proofs.lemmas.Bool.{cases_lt}
+use Rattle.std.proofs.Common.{◌≡◌, ℕ, zero, suc, ◌+◌, ◌<◌, ◌≤◌, true, List, [], ◌∷◌, ◌++◌, take, drop, length, Option, refl, ap, sym, ◌∙◌, subst, arith, append_assoc, length-append}
+use Rattle.std.proofs.lemmas.Bool.Decides.{nat_tests}
 use Rattle.std.proofs.Math.Seq.{take-append_seam, drop-append-add, drop-append_seam}
-use Rattle.dom_model.specs.Forests.Kinds.{is_character_data}
-use Rattle.dom_model.specs.Forests.Forest.{Node, Forest, empty, node, occurs, tree_at, with_node}
-use Rattle.dom_model.specs.Worlds.World.{Content, Point, World}
-use Rattle.dom_model.specs.BoundaryPoints.Points.{after_splice}
-use Rattle.dom_model.specs.Forests.Texts.{spliced}
-use Rattle.dom_model.specs.Forests.Nodes.{kind_passes}
-use Rattle.dom_model.specs.DataAndCopies.Data.{data_of, with_data}
-use Rattle.dom_model.specs.TokenText.Tokens.{Token, Open, Close, OneUnit, point, unit_tokens, token_texts, after_marks, units_out, unit_list, on_texts, Splice}
-use Rattle.dom_model.specs.TokenText.Edits.{on_world}
-use Rattle.dom_model.specs.TokenText.Fitting.{Childless, end_at, IsReady}
-use Rattle.dom_model.proofs.PlainLists.Numbers.{same_or, same, apart}
+use Rattle.dom_model.specs.Definitions.{is_character_data, Node, Forest, empty, node, occurs, tree_at, with_node, Content, Point, World, after_splice, spliced, kind_passes, data_of, with_data, Token, Open, Close, OneUnit, point, unit_tokens, token_texts, after_marks, units_out, unit_list, on_texts, Splice, on_world, Childless, end_at, IsReady}
 use Rattle.dom_model.proofs.Forests.Totals.{tree_at-absent, beside-empty}
-use Rattle.dom_model.proofs.TokenText.Pieces.TokenLists.{AreMarks, AreMarks-append, after_marks-marks, units_out-marks, units_out-none}
-use Rattle.dom_model.proofs.TokenText.Pieces.TextParts.{inside, unit_front, unit_tokens-append}
-use Rattle.dom_model.proofs.TokenText.Pieces.TextPieces.{unit_front-same}
-use Rattle.dom_model.proofs.TokenText.Pieces.TextContexts.{AgreeOff, Around, around_texts, with_root, with_root-absent}
-use Rattle.dom_model.proofs.TokenText.Pieces.TextPoints.{unit_back, unit_tokens-back, unit_back-same, Parted, parted, gap_in_units}
-use Rattle.dom_model.proofs.TokenText.AlikeTrees.TreesAlike.{Childless-tree_at}
-use Rattle.dom_model.proofs.TokenText.AlikeTrees.TreesAlikeAfter.{alike-once, alike-node}
-use Rattle.dom_model.proofs.TokenText.Marked.MarkedTexts.{stands, Marked, not_twice}
-use Rattle.dom_model.proofs.TokenText.Marked.MarkersMoved.{in_gap-reaches}
-use Rattle.dom_model.proofs.TokenText.Marked.GapOpened.{end_at-moved, different, equal}
-use Rattle.dom_model.proofs.TokenText.Marked.GapSpliced.{gathered, spliced_at, gap_spliced, spliced-earlier, spliced-there, spliced-new, spliced-later, standing-spliced, AreMarks-spliced}
-use Rattle.dom_model.proofs.TokenText.Marked.MarkedInsertion.{Stands, stands_in, Childless-with_root}
+use Rattle.dom_model.proofs.TokenText.{Pieces.TokenLists.AreMarks, Pieces.TokenLists.AreMarks-append, Pieces.TokenLists.after_marks-marks, Pieces.TokenLists.units_out-marks, Pieces.TokenLists.units_out-none, Pieces.TextParts.inside, Pieces.TextParts.unit_front, Pieces.TextParts.unit_tokens-append, Pieces.TextPieces.unit_front-same, Pieces.TextContexts.AgreeOff, Pieces.TextContexts.Around, Pieces.TextContexts.around_texts, Pieces.TextContexts.with_root, Pieces.TextContexts.with_root-absent, Pieces.TextPoints.unit_back, Pieces.TextPoints.unit_tokens-back, Pieces.TextPoints.unit_back-same, Pieces.TextPoints.Parted, Pieces.TextPoints.parted, Pieces.TextPoints.gap_in_units, AlikeTrees.TreesAlike.Childless-tree_at, AlikeTrees.TreesAlikeAfter.alike-node, Marked.MarkedTexts.stands, Marked.MarkedTexts.Marked, Marked.MarkedTexts.trees_once, Marked.MarkedTexts.not_twice, Marked.MarkersMoved.in_gap-reaches, Marked.GapOpened.end_at-moved, Marked.GapSpliced.gathered, Marked.GapSpliced.gap_spliced, Marked.GapSpliced.standing-spliced, Marked.GapSpliced.AreMarks-spliced, Marked.MarkedInsertion.Stands, Marked.MarkedInsertion.stands_in, Marked.MarkedInsertion.Childless-with_root}
 
 module _ {X : Type 0} where
   pub with_node-absent : (n : ℕ) (h : Node X → Node X) (f : Forest X) → occurs n f ≡ 0 → with_node n h f ≡ f
   with_node-absent n h empty z = refl
-  with_node-absent n h (node x kids rest) z =
-      elim (same_or x.number n) [
-        | same d t ↦ absurd (let k = rw t at z in omega arith)
-        | apart ne t ↦
-            let k = rw t at z in
-            let a : occurs n kids ≡ 0 = omega arith in
-            let b : occurs n rest ≡ 0 = omega arith in
-            rw (t, with_node-absent n h kids a, with_node-absent n h rest b) refl
-      ]
+  with_node-absent n h (node x kids rest) z = grind (arith, nat_tests, with_node-absent n h kids, with_node-absent n h rest)
 
   -- a node that changes is its tree giving way to another
   pub with_root-node : (n : ℕ) (h : Node X → Node X) (y : Node X) (ys f : Forest X) → ((m : ℕ) → occurs m f ≤ 1) → tree_at n f ≡ node y ys empty → with_node n h f ≡ with_root n (h y) ys f
   with_root-node n h y ys empty o e = refl
   with_root-node n h y ys (node x kids rest) o e =
-      elim (same_or x.number n) [
-        | same d t ↦
-            let c = o n in
-            let c2 = rw t at c in
-            let zk : occurs n kids ≡ 0 = omega arith in
-            let zr : occurs n rest ≡ 0 = omega arith in
-            let e2 = rw (t, tree_at-absent n rest zr) at e in
-            let ex : x ≡ y = cc e2 in
-            let ek : kids ≡ ys = cc e2 in
-            rw (t, with_node-absent n h kids zk, with_node-absent n h rest zr, with_root-absent n (h y) ys rest zr)
-            (ap (λ z. node (h z) kids rest) ex ∙ ap (λ g. node (h y) g rest) ek)
-        | apart ne t ↦
-            let e2 = rw t at e in
-            let c = o n in
-            ⊎_elim
-            (λ (lt : 0 < occurs n kids).
-            let zr : occurs n rest ≡ 0 = omega arith in
-            let e3 = rw (tree_at-absent n rest zr, beside-empty (tree_at n kids)) at e2 in
-            rw (t, with_node-absent n h rest zr, with_root-absent n (h y) ys rest zr)
-            (ap (λ g. node x g rest) (with_root-node n h y ys kids (λ m. let k = o m in omega arith) e3)))
-            (λ (le : occurs n kids ≤ 0).
-            let zk : occurs n kids ≡ 0 = omega arith in
-            let e3 = rw (tree_at-absent n kids zk) at e2 in
-            rw (t, with_node-absent n h kids zk, with_root-absent n (h y) ys kids zk)
-            (ap (node x kids) (with_root-node n h y ys rest (λ m. let k = o m in omega arith) e3)))
-            (cases_lt 0 (occurs n kids))
-      ]
+      let c = o n in
+      let below = with_root-node n h y ys kids (λ m. let k = o m in omega arith) in
+      let beside_it = with_root-node n h y ys rest (λ m. let k = o m in omega arith) in
+      grind (arith, nat_tests, with_node-absent, with_root-absent, tree_at-absent, beside-empty)
 
 pub spliced-parts : (us cs vs new : List ℕ) → spliced (length us) (length cs) new (us ++ (cs ++ vs)) ≡ us ++ (new ++ vs)
 spliced-parts us cs vs new =
@@ -129,14 +77,8 @@ module _ (marks : Point → List Token) (only : (p : Point) → AreMarks (marks 
   abbrev marks' : Point → List Token
   marks' q = gap_spliced y.number (length us) (length cs) (length new) marks q
 
-  away : (q : Point) → (q.node ≡ y.number → ⊥) → marks' q ≡ marks q
-  away q ne = rw (different q.node y.number ne) refl
-
-  at_node : (j : ℕ) (ms : List Token) → spliced_at (length us) (length cs) (length new) (λ i. marks (point y.number i)) j ≡ ms → marks' (point y.number j) ≡ ms
-  at_node j ms e = rw (equal y.number y.number refl) e
-
   agree : AgreeOff (node y ys empty) marks marks'
-  agree q h = away q (λ d. absurd (let s : (y.number == q.node) ≡ true = equal y.number q.node (sym d) in let j = rw s at h in omega arith))
+  agree q h = grind (arith, nat_tests)
 
   abbrev changed : Node Content
   changed = with_data (us ++ (new ++ vs)) y
@@ -149,17 +91,13 @@ module _ (marks : Point → List Token) (only : (p : Point) → AreMarks (marks 
       let s : inside marks' changed ys ≡ unit_tokens marks' y.number 0 (us ++ (new ++ vs)) = rw kind refl in
       let e : 0 + length us ≡ length us = omega arith in
       let f : unit_front marks' y.number 0 us ≡ unit_front marks y.number 0 us = unit_front-same marks marks' y.number 0 0 us
-      (λ j j' d a b. at_node j' (marks (point y.number j)) (spliced-earlier (length us) (length cs) (length new) (λ i. marks (point y.number i)) j' (omega arith) ∙ ap (λ i. marks (point y.number i)) (omega arith))) in
+      (λ j j' d a b. grind (arith, nat_tests)) in
       let c : unit_back marks' y.number (length us + length new) vs ≡ back = unit_back-same marks marks' y.number y.number (length us + length cs) (length us + length new) vs
-      (λ j j' d a b. at_node j' (marks (point y.number j)) (spliced-later (length us) (length cs) (length new) (λ i. marks (point y.number i)) j' j (omega arith) (omega arith))) in
+      (λ j j' d a b. grind (arith, nat_tests)) in
       let b : unit_back marks' y.number (length us) (new ++ vs) ≡ unit_list new ++ back = new_units marks' y.number (length us) new vs back
-      (λ j a d. at_node j [] (spliced-new (length us) (length cs) (length new) (λ i. marks (point y.number i)) j a d)) c in
-      s ∙ unit_tokens-append marks' y.number 0 us (new ++ vs)
-      ∙ ap (λ i. unit_front marks' y.number 0 us ++ unit_tokens marks' y.number i (new ++ vs)) e
-      ∙ ap (λ (ts : List Token). ts ++ unit_tokens marks' y.number (length us) (new ++ vs)) f
-      ∙ ap (λ (ts : List Token). unit_front marks y.number 0 us ++ ts) (unit_tokens-back marks' y.number (length us) (new ++ vs))
-      ∙ ap (λ (ts : List Token). unit_front marks y.number 0 us ++ (ts ++ unit_back marks' y.number (length us) (new ++ vs))) (at_node (length us) (gathered (λ i. marks (point y.number i)) (length us) (length cs)) (spliced-there (length us) (length cs) (length new) (λ i. marks (point y.number i)) (length us) refl))
-      ∙ ap (λ (ts : List Token). unit_front marks y.number 0 us ++ (gathered (λ i. marks (point y.number i)) (length us) (length cs) ++ ts)) b
+      (λ j a d. grind (arith, nat_tests)) c in
+      let here : marks' (point y.number (length us)) ≡ gathered (λ i. marks (point y.number i)) (length us) (length cs) = grind (arith, nat_tests) in
+      s ∙ (rw (unit_tokens-append marks' y.number 0 us (new ++ vs), e, f, unit_tokens-back marks' y.number (length us) (new ++ vs), here, b) refl)
 
   a : Around marks y.number (node y ys empty) g
   a = around_texts marks y.number (node y ys empty) g og cg (not_twice g og y ys at) at
@@ -182,9 +120,6 @@ module _ (marks : Point → List Token) (only : (p : Point) → AreMarks (marks 
 pub marked-splice : (texts : List (List Token)) (w : World) → Marked texts w → IsReady w → (n offset count : ℕ) (units : List ℕ) → 0 < occurs n w.forest → kind_passes is_character_data w.forest n ≡ true → offset + count ≤ length (data_of w n) → Marked (on_texts (Splice n offset count units) texts) (on_world (Splice n offset count units) w)
 marked-splice texts w m ready n offset count units there kind within = result (stands_in m.trees w.forest m.alike ready.once n there)
   where
-    og : (i : ℕ) → occurs i m.trees ≤ 1
-    og i = alike-once m.trees w.forest m.alike ready.once i
-
     text : List ℕ
     text = spliced offset count units (data_of w n)
 
@@ -223,7 +158,7 @@ marked-splice texts w m ready n offset count units there kind within = result (s
         trees_at : with_node n (with_data text) m.trees ≡ with_root y.top.number (with_data (first.first ++ (units ++ second.last)) y.top) y.kids m.trees
         trees_at =
             ap (λ i. with_node i (with_data text) m.trees) (sym y.named)
-            ∙ with_root-node y.top.number (with_data text) y.top y.kids m.trees og at
+            ∙ with_root-node y.top.number (with_data text) y.top y.kids m.trees (trees_once texts w m ready.once) at
             ∙ ap (λ ts. with_root y.top.number (with_data ts y.top) y.kids m.trees) spelling
 
         childless : Childless (with_root y.top.number (with_data (first.first ++ (units ++ second.last)) y.top) y.kids m.trees)
@@ -236,7 +171,7 @@ marked-splice texts w m ready n offset count units there kind within = result (s
             sym (ap (λ i. on_texts (Splice y.top.number i (length second.first) units) (token_texts m.marks m.trees)) first.long
             ∙ ap (λ i. on_texts (Splice y.top.number offset i units) (token_texts m.marks m.trees)) second.long
             ∙ ap (λ i. on_texts (Splice i offset count units) (token_texts m.marks m.trees)) y.named)
-            ∙ spliced-texts m.marks m.only m.trees og m.alike.childless y.top y.kids first.first second.first second.last units at is_data whole
+            ∙ spliced-texts m.marks m.only m.trees (trees_once texts w m ready.once) m.alike.childless y.top y.kids first.first second.first second.last units at is_data whole
             ∙ ap (λ i. token_texts (gap_spliced y.top.number i (length second.first) (length units) m.marks) (with_root y.top.number (with_data (first.first ++ (units ++ second.last)) y.top) y.kids m.trees)) first.long
             ∙ ap (λ i. token_texts (gap_spliced y.top.number offset i (length units) m.marks) (with_root y.top.number (with_data (first.first ++ (units ++ second.last)) y.top) y.kids m.trees)) second.long
             ∙ ap (token_texts (gap_spliced y.top.number offset count (length units) m.marks)) (sym trees_at)

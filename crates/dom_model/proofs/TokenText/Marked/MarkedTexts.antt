@@ -1,20 +1,9 @@
 -- Texts that stand for a world: without markers the token texts of its forest, and each marker in the gap of its end.
-use Rattle.std.proofs.Common.{◌≡◌, ℕ, ◌<◌, ◌≤◌, ◌==◌, Bool, true, false, ◌&&◌, if◌then◌else◌, List, [], ◌∷◌, ◌++◌, map, Option, Some, None, refl, ap, sym, ◌∙◌, subst, arith, append_assoc}
-use Rattle.dom_model.specs.Forests.Forest.{Node, Forest, empty, node, occurs, one_at, tree_at}
-use Rattle.dom_model.specs.Worlds.World.{Content, Point, World}
-use Rattle.dom_model.specs.TokenText.Tokens.{Token, Close, is_mark_of, point, same_point, no_marks, token_texts, unmarked, gap_of, gap_among}
-use Rattle.dom_model.specs.TokenText.Fitting.{end_at}
-use Rattle.dom_model.proofs.PlainLists.Numbers.{same_or, same, apart}
+use Rattle.std.proofs.Common.{◌≡◌, ℕ, ◌<◌, ◌≤◌, Bool, true, if◌then◌else◌, List, [], ◌∷◌, ◌++◌, map, Option, Some, None, refl, ap, sym, ◌∙◌, subst, arith, append_assoc, eq-eqb}
+use Rattle.std.proofs.lemmas.Bool.Decides.{nat_tests}
+use Rattle.dom_model.specs.Definitions.{Node, Forest, empty, node, occurs, one_at, tree_at, Content, Point, World, Token, Close, is_mark_of, point, same_point, no_marks, token_texts, unmarked, gap_of, gap_among, end_at}
 use Rattle.dom_model.proofs.Forests.Totals.{total-tree_at}
-use Rattle.dom_model.proofs.TokenText.Pieces.TokenLists.{tallies, marked, tally-append, AreMarks}
-use Rattle.dom_model.proofs.TokenText.Pieces.TextWalks.{walk, gap_of-skips, gap_of-marks}
-use Rattle.dom_model.proofs.TokenText.Pieces.TextParts.{inside}
-use Rattle.dom_model.proofs.TokenText.Pieces.TextPieces.{unmarked-texts}
-use Rattle.dom_model.proofs.TokenText.Pieces.TextCounts.{measure_of, gap_sum, spread-one, gap_sum-one, gap_sum-none, gap_sum-same, marked_at, marked-texts}
-use Rattle.dom_model.proofs.TokenText.Pieces.TextContexts.{around_texts}
-use Rattle.dom_model.proofs.TokenText.Pieces.TextPoints.{Gap, gap_inside}
-use Rattle.dom_model.proofs.TokenText.Pieces.TextGaps.{counted, gap_among-around, gap_among-none, around-spells}
-use Rattle.dom_model.proofs.TokenText.AlikeTrees.TreesAlike.{Alike}
+use Rattle.dom_model.proofs.TokenText.{Pieces.TokenLists.tallies, Pieces.TokenLists.marked, Pieces.TokenLists.tally-append, Pieces.TokenLists.AreMarks, Pieces.TextWalks.walk, Pieces.TextWalks.gap_of-skips, Pieces.TextWalks.gap_of-marks, Pieces.TextParts.inside, Pieces.TextPieces.unmarked-texts, Pieces.TextCounts.measure_of, Pieces.TextCounts.gap_sum, Pieces.TextCounts.spread-one, Pieces.TextCounts.gap_sum-one, Pieces.TextCounts.gap_sum-none, Pieces.TextCounts.gap_sum-same, Pieces.TextCounts.marked_at, Pieces.TextCounts.marked-texts, Pieces.TextContexts.around_texts, Pieces.TextPoints.Gap, Pieces.TextPoints.gap_inside, Pieces.TextGaps.counted, Pieces.TextGaps.gap_among-around, Pieces.TextGaps.gap_among-none, Pieces.TextGaps.around-spells, AlikeTrees.TreesAlike.Alike}
 
 -- how many markers an end has in a gap
 abbrev pub stands : Option Point → Point → ℕ
@@ -46,34 +35,24 @@ at_point f P h p i = subst (λ n. P (point n p.offset)) i.named (h i.top i.kids 
 pub not_inside : (f : Forest Content) → ((m : ℕ) → occurs m f ≤ 1) → (y : Node Content) (ys : Forest Content) → tree_at y.number f ≡ node y ys empty → occurs y.number ys ≡ 0
 not_inside f o y ys e =
     let a = total-tree_at (one_at y.number) y.number f in
-    let b = ap (occurs y.number) e in
+    let b = rw (eq-eqb y.number y.number refl) at (ap (occurs y.number) e) in
     let c = o y.number in
-    elim (same_or y.number y.number) [ same d t ↦ (let b2 = rw t at b in omega arith) | apart ne t ↦ absurd (ne refl) ]
+    omega arith
 
 pub not_twice : (f : Forest Content) → ((m : ℕ) → occurs m f ≤ 1) → (y : Node Content) (ys : Forest Content) → tree_at y.number f ≡ node y ys empty → 0 < occurs y.number f
 not_twice f o y ys e =
     let a = total-tree_at (one_at y.number) y.number f in
-    let b = ap (occurs y.number) e in
-    elim (same_or y.number y.number) [ same d t ↦ (let b2 = rw t at b in omega arith) | apart ne t ↦ absurd (ne refl) ]
+    let b = rw (eq-eqb y.number y.number refl) at (ap (occurs y.number) e) in
+    omega arith
 
 pub same_itself : (p : Point) → same_point p p ≡ true
-same_itself p = elim (same_or p.node p.node) [ same d t ↦ elim (same_or p.offset p.offset) [ same e u ↦ rw (t, u) refl | apart ne u ↦ absurd (ne refl) ] | apart ne t ↦ absurd (ne refl) ]
-
-other_node : (p q : Point) → (q.node ≡ p.node → ⊥) → stands (Some p) q ≡ 0
-other_node p q h = elim (same_or p.node q.node) [ same d t ↦ absurd (h (sym d)) | apart ne t ↦ rw t refl ]
-
-other_offset : (n o j : ℕ) → (j ≡ o → ⊥) → stands (Some (point n o)) (point n j) ≡ 0
-other_offset n o j h = elim (same_or o j) [ same e t ↦ absurd (h (sym e)) | apart ne t ↦ rw t (go (n == n)) ]
-  where
-    go : (v : Bool) → ◌≡◌ {A = ℕ} (if v && false then 1 else 0) 0
-    go true = refl
-    go false = refl
+same_itself p = grind (arith, nat_tests)
 
 -- a point of a forest has one gap there
 pub one_gap : (f : Forest Content) → ((m : ℕ) → occurs m f ≤ 1) → (y : Node Content) (ys : Forest Content) (o : ℕ) → tree_at y.number f ≡ node y ys empty → o ≤ measure_of y ys → gap_sum (stands (Some (point y.number o))) f ≡ 1
 one_gap f once y ys o e h =
-    gap_sum-one (stands (Some (point y.number o))) y.number y ys f once e (other_node (point y.number o))
-    ∙ spread-one (stands (Some (point y.number o))) y.number 0 (measure_of y ys) o (omega arith) (omega (arith, h)) (rw (same_itself (point y.number o)) refl) (other_offset y.number o)
+    gap_sum-one (stands (Some (point y.number o))) y.number y ys f once e (λ q ne. grind (arith, nat_tests))
+    ∙ spread-one (stands (Some (point y.number o))) y.number 0 (measure_of y ys) o (omega arith) (omega (arith, h)) (rw (same_itself (point y.number o)) refl) (λ j ne. grind (arith, nat_tests))
 
 module _ (texts : List (List Token)) (w : World) (m : Marked texts w) (once : (n : ℕ) → occurs n w.forest ≤ 1) where
   pub trees_once : (n : ℕ) → occurs n m.trees ≤ 1

@@ -1,23 +1,8 @@
 -- The token texts where a Text is joined with the next.
 use Rattle.std.proofs.Common.{◌≡◌, ℕ, suc, ◌+◌, ◌<◌, ◌≤◌, ◌==◌, true, List, [], ◌∷◌, ◌++◌, length, refl, ap, sym, ◌∙◌, subst, arith, append_assoc}
-use Rattle.dom_model.specs.Forests.Kinds.{is_character_data}
-use Rattle.dom_model.specs.Forests.Forest.{Node, Forest, empty, node, occurs, beside}
-use Rattle.dom_model.specs.Worlds.World.{Content, Point}
-use Rattle.dom_model.specs.DataAndCopies.Data.{with_data}
-use Rattle.dom_model.specs.TokenText.Tokens.{Token, Open, Close, OneUnit, point, unit_tokens, child_tokens, token_texts, at_gap, in_gap, seam_out, open_out, tokens_among, unmarked, no_marks, on_texts, Merge}
+use Rattle.dom_model.specs.Definitions.{is_character_data, Node, Forest, empty, node, occurs, beside, Content, Point, with_data, Token, Open, Close, OneUnit, point, unit_tokens, child_tokens, token_texts, at_gap, in_gap, seam_out, open_out, tokens_among, unmarked, no_marks, on_texts, Merge}
 use Rattle.dom_model.proofs.PlainLists.Numbers.{same_or, same, apart}
-use Rattle.dom_model.proofs.TokenText.Pieces.TokenLists.{AreMarks, seam_out-marks, open_out-marks}
-use Rattle.dom_model.proofs.TokenText.Pieces.TextWalks.{walk}
-use Rattle.dom_model.proofs.TokenText.Pieces.TextParts.{breadth, inside, own, child_front, unit_front, child_tokens-beside, unit_tokens-append, unit_tokens-front}
-use Rattle.dom_model.proofs.TokenText.Pieces.TextPieces.{Closes-inside, unmarked-own, own-same, child_front-same, unit_front-same, children-same}
-use Rattle.dom_model.proofs.TokenText.Pieces.TextContexts.{AgreeOff, with_root}
-use Rattle.dom_model.proofs.TokenText.Pieces.TextPoints.{unit_back, unit_tokens-back, unit_back-same}
-use Rattle.dom_model.proofs.TokenText.Pieces.TextGaps.{in_gap-around}
-use Rattle.dom_model.proofs.TokenText.Pieces.TextSiblings.{Siblings}
-use Rattle.dom_model.proofs.TokenText.Pieces.TextsClosedUp.{tokens_among-there}
-use Rattle.dom_model.proofs.TokenText.Marked.MarkedTexts.{same_itself}
-use Rattle.dom_model.proofs.TokenText.Marked.MarkersMoved.{at_gap-here}
-use Rattle.dom_model.proofs.TokenText.Marked.GapOpened.{equal}
+use Rattle.dom_model.proofs.TokenText.{Pieces.TokenLists.AreMarks, Pieces.TokenLists.seam_out-marks, Pieces.TokenLists.open_out-marks, Pieces.TextWalks.walk, Pieces.TextParts.breadth, Pieces.TextParts.inside, Pieces.TextParts.own, Pieces.TextParts.child_front, Pieces.TextParts.unit_front, Pieces.TextParts.child_tokens-beside, Pieces.TextParts.unit_tokens-append, Pieces.TextParts.unit_tokens-front, Pieces.TextPieces.Closes-inside, Pieces.TextPieces.unmarked-own, Pieces.TextPieces.own-same, Pieces.TextPieces.child_front-same, Pieces.TextPieces.unit_front-same, Pieces.TextPieces.children-same, Pieces.TextContexts.AgreeOff, Pieces.TextContexts.with_root, Pieces.TextPoints.unit_back, Pieces.TextPoints.unit_tokens-back, Pieces.TextPoints.unit_back-same, Pieces.TextGaps.in_gap-around, Pieces.TextSiblings.Siblings, Pieces.TextsClosedUp.tokens_among-there, Marked.MarkedTexts.same_itself, Marked.MarkersMoved.at_gap-here, Marked.GapOpened.equal, Pieces.TextParts.inside-data}
 
 -- the close behind units and the open after it go
 seam_out-units : (marks : (Point → List Token)) → ((p : Point) → AreMarks (marks p)) → (n i : ℕ) (us : List ℕ) (ts : List Token) → seam_out (unit_tokens marks n i us ++ ts) ≡ unit_tokens marks n i us ++ seam_out ts
@@ -76,9 +61,6 @@ module _ (marks marks' : Point → List Token) (only : (p : Point) → AreMarks 
   abbrev joined : Node Content
   joined = with_data (z.body.text ++ x.body.text) z
 
-  inside-data : (marks : (Point → List Token)) (n : Node Content) (ns : Forest Content) → is_character_data n.label.kind ≡ true → inside marks n ns ≡ unit_tokens marks n.number 0 n.body.text
-  inside-data marks n ns h = rw h refl
-
   after : inside marks' y (beside fs (node joined zs bs)) ≡ front ++ (marks (point y.number k) ++ (Open z.number ∷ ((first ++ ((marks (point z.number (length z.body.text)) ++ (marks (point y.number (suc k)) ++ marks (point x.number 0))) ++ second)) ++ (Close ∷ rest))))
   after =
       let e1 : inside marks' y (beside fs (node joined zs bs)) ≡ child_tokens marks' y.number 0 (beside fs (node joined zs bs)) = rw s.kind refl in
@@ -102,17 +84,8 @@ module _ (marks marks' : Point → List Token) (only : (p : Point) → AreMarks 
       let e3 : 0 + length z.body.text ≡ length z.body.text = omega arith in
       let i : inside marks' joined zs ≡ first ++ ((marks (point z.number (length z.body.text)) ++ (marks (point y.number (suc k)) ++ marks (point x.number 0))) ++ second) =
       inside-data marks' joined zs is_data ∙ unit_tokens-append marks' z.number 0 z.body.text x.body.text
-      ∙ ap (λ l. unit_front marks' z.number 0 z.body.text ++ unit_tokens marks' z.number l x.body.text) e3
-      ∙ ap (λ (ts : List Token). ts ++ unit_tokens marks' z.number (length z.body.text) x.body.text) u
-      ∙ ap (λ (ts : List Token). first ++ ts) (unit_tokens-back marks' z.number (length z.body.text) x.body.text)
-      ∙ ap (λ (ts : List Token). first ++ (ts ++ unit_back marks' z.number (length z.body.text) x.body.text)) seam
-      ∙ ap (λ (ts : List Token). first ++ ((marks (point z.number (length z.body.text)) ++ (marks (point y.number (suc k)) ++ marks (point x.number 0))) ++ ts)) v in
-      e1 ∙ child_tokens-beside marks' y.number 0 fs (node joined zs bs)
-      ∙ ap (λ l. child_front marks' y.number 0 fs ++ child_tokens marks' y.number l (node joined zs bs)) e2
-      ∙ ap (λ (ts : List Token). ts ++ child_tokens marks' y.number k (node joined zs bs)) f
-      ∙ ap (λ (ts : List Token). front ++ (ts ++ (Open z.number ∷ (inside marks' joined zs ++ (Close ∷ child_tokens marks' y.number (suc k) bs))))) (earlier k k refl (omega arith))
-      ∙ ap (λ (ts : List Token). front ++ (marks (point y.number k) ++ (Open z.number ∷ (ts ++ (Close ∷ child_tokens marks' y.number (suc k) bs))))) i
-      ∙ ap (λ (ts : List Token). front ++ (marks (point y.number k) ++ (Open z.number ∷ ((first ++ ((marks (point z.number (length z.body.text)) ++ (marks (point y.number (suc k)) ++ marks (point x.number 0))) ++ second)) ++ (Close ∷ ts))))) r
+      ∙ (rw (e3, u, unit_tokens-back marks' z.number (length z.body.text) x.body.text, seam, v) refl) in
+      e1 ∙ child_tokens-beside marks' y.number 0 fs (node joined zs bs) ∙ (rw (e2, f, earlier k k refl (omega arith), i, r) refl)
 
   -- what the seam leaves
   seamless : (ts : List Token) → seam_out (inside marks z zs ++ (Close ∷ (child_tokens marks y.number (suc k) (node x xs bs) ++ ts))) ≡ (first ++ marks (point z.number (length z.body.text))) ++ (marks (point y.number (suc k)) ++ ((marks (point x.number 0) ++ second) ++ (Close ∷ (rest ++ ts))))

@@ -1,22 +1,10 @@
 -- Each node's own tokens, from its open to its close, are the same in all texts that stand for a world, but for the markers.
-use Rattle.std.proofs.Common.{◌≡◌, ℕ, ◌<◌, ◌≤◌, List, [], None, refl, ap, sym, ◌∙◌, subst, arith, ⊎_elim}
+use Rattle.std.proofs.Common.{◌≡◌, ℕ, ◌<◌, ◌≤◌, List, [], None, refl, ap, sym, ◌∙◌, subst, arith, inl, inr}
 use Rattle.std.proofs.lemmas.Bool.{cases_lt}
-use Rattle.dom_model.specs.Forests.Forest.{Node, Forest, empty, node, occurs, tree_at, entry_in}
-use Rattle.dom_model.specs.Worlds.World.{Content, Point, World}
-use Rattle.dom_model.specs.TokenText.Tokens.{Token, is_open, no_marks, token_texts, unmarked, tokens_among}
-use Rattle.dom_model.specs.TokenText.Fitting.{Childless}
+use Rattle.dom_model.specs.Definitions.{Node, Forest, empty, node, occurs, tree_at, entry_in, Content, Point, World, Token, is_open, no_marks, token_texts, unmarked, tokens_among, Childless}
 use Rattle.dom_model.proofs.PlainLists.Numbers.{same_or, same, apart}
 use Rattle.dom_model.proofs.Forests.Totals.{tree_at-absent}
-use Rattle.dom_model.proofs.TokenText.Pieces.TokenLists.{tallies, AreMarks}
-use Rattle.dom_model.proofs.TokenText.Pieces.TextParts.{own, inside}
-use Rattle.dom_model.proofs.TokenText.Pieces.TextPieces.{Closes-inside, unmarked-own}
-use Rattle.dom_model.proofs.TokenText.Pieces.TextCounts.{opened-texts}
-use Rattle.dom_model.proofs.TokenText.Pieces.TextContexts.{around_texts}
-use Rattle.dom_model.proofs.TokenText.Pieces.TextGaps.{around-spells, around-free}
-use Rattle.dom_model.proofs.TokenText.Pieces.TextsClosedUp.{tokens_among-free, tokens_among-there}
-use Rattle.dom_model.proofs.TokenText.AlikeTrees.TreesAlike.{Top, top_of, Childless-tree_at}
-use Rattle.dom_model.proofs.TokenText.AlikeTrees.TreesAlikeAfter.{alike-tree}
-use Rattle.dom_model.proofs.TokenText.Marked.MarkedTexts.{Marked, not_twice, trees_once}
+use Rattle.dom_model.proofs.TokenText.{Pieces.TokenLists.tallies, Pieces.TokenLists.AreMarks, Pieces.TextParts.own, Pieces.TextParts.inside, Pieces.TextPieces.Closes-inside, Pieces.TextPieces.unmarked-own, Pieces.TextCounts.opened-texts, Pieces.TextContexts.around_texts, Pieces.TextGaps.around-spells, Pieces.TextGaps.around-free, Pieces.TextsClosedUp.tokens_among-free, Pieces.TextsClosedUp.tokens_among-there, AlikeTrees.TreesAlike.Top, AlikeTrees.TreesAlike.top_of, AlikeTrees.TreesAlike.Childless-tree_at, AlikeTrees.TreesAlikeAfter.alike-tree, Marked.MarkedTexts.Marked, Marked.MarkedTexts.not_twice, Marked.MarkedTexts.trees_once}
 
 -- the tokens of a node of a forest
 pub node-tokens : (marks : (Point → List Token)) → ((p : Point) → AreMarks (marks p)) → (y : Node Content) (ys f : Forest Content) → ((m : ℕ) → occurs m f ≤ 1) → Childless f → tree_at y.number f ≡ node y ys empty → tokens_among y.number (token_texts marks f) ≡ own marks y ys
@@ -37,14 +25,13 @@ own_of (node y ys rest) = own no_marks y ys
 module _ (texts : List (List Token)) (w : World) (m : Marked texts w) (once : (n : ℕ) → occurs n w.forest ≤ 1) where
   -- a node's tokens in the texts, without their markers
   tokens-of : (n : ℕ) → unmarked (tokens_among n texts) ≡ own_of (tree_at n m.trees)
-  tokens-of n =
-      ⊎_elim
-      (λ (lt : 0 < occurs n m.trees). there (top_of None n m.trees (trees_once texts w m once) lt))
-      (λ (le : occurs n m.trees ≤ 0).
-      let z : occurs n m.trees ≡ 0 = omega arith in
-      let none : tallies (is_open n) texts ≡ 0 = ap (tallies (is_open n)) m.spelt ∙ opened-texts m.marks m.only n m.trees m.alike.childless ∙ z in
-      ap unmarked (tokens_among-free n texts none) ∙ ap own_of (sym (tree_at-absent n m.trees z)))
-      (cases_lt 0 (occurs n m.trees))
+  tokens-of n = elim (cases_lt 0 (occurs n m.trees)) [
+    | inl lt ↦ there (top_of None n m.trees (trees_once texts w m once) lt)
+    | inr le ↦
+        let z : occurs n m.trees ≡ 0 = omega arith in
+        let none : tallies (is_open n) texts ≡ 0 = ap (tallies (is_open n)) m.spelt ∙ opened-texts m.marks m.only n m.trees m.alike.childless ∙ z in
+        rw (tokens_among-free n texts none, tree_at-absent n m.trees z) refl
+  ]
     where
       there : Top n m.trees (entry_in m.trees n) → unmarked (tokens_among n texts) ≡ own_of (tree_at n m.trees)
       there t =

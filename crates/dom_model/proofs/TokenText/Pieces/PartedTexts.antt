@@ -1,20 +1,7 @@
 -- The token texts where a Text is split.
 use Rattle.std.proofs.Common.{◌≡◌, ℕ, suc, ◌+◌, ◌<◌, ◌≤◌, ◌==◌, true, List, [], ◌∷◌, ◌++◌, length, refl, ap, sym, ◌∙◌, subst, arith, append_assoc}
-use Rattle.dom_model.specs.Forests.Kinds.{is_character_data}
-use Rattle.dom_model.specs.Forests.Forest.{Node, Forest, empty, node, occurs, beside}
-use Rattle.dom_model.specs.Worlds.World.{Content, Point}
-use Rattle.dom_model.specs.DataAndCopies.Data.{with_data}
-use Rattle.dom_model.specs.TokenText.Tokens.{Token, Open, Close, point, unit_tokens, child_tokens, token_texts, after_marks, at_gap, in_gap, on_texts, Parting}
-use Rattle.dom_model.proofs.TokenText.Pieces.TokenLists.{AreMarks, after_marks-marks}
-use Rattle.dom_model.proofs.TokenText.Pieces.TextWalks.{walk}
-use Rattle.dom_model.proofs.TokenText.Pieces.TextParts.{breadth, inside, child_front, unit_front, child_tokens-beside, unit_tokens-front}
-use Rattle.dom_model.proofs.TokenText.Pieces.TextPieces.{child_front-same, unit_front-same, children-same}
-use Rattle.dom_model.proofs.TokenText.Pieces.TextContexts.{AgreeOff, with_root}
-use Rattle.dom_model.proofs.TokenText.Pieces.TextPoints.{unit_back, unit_tokens-back, unit_back-same, Gap, gap_in_units}
-use Rattle.dom_model.proofs.TokenText.Pieces.TextGaps.{in_gap-around}
-use Rattle.dom_model.proofs.TokenText.Pieces.TextSiblings.{Siblings}
-use Rattle.dom_model.proofs.TokenText.Marked.MarkersMoved.{gap-reached}
-use Rattle.dom_model.proofs.TokenText.Marked.GapOpened.{equal}
+use Rattle.dom_model.specs.Definitions.{is_character_data, Node, Forest, empty, node, occurs, beside, Content, Point, with_data, Token, Open, Close, point, unit_tokens, child_tokens, token_texts, after_marks, at_gap, in_gap, on_texts, Parting}
+use Rattle.dom_model.proofs.TokenText.{Pieces.TokenLists.AreMarks, Pieces.TokenLists.after_marks-marks, Pieces.TextWalks.walk, Pieces.TextParts.breadth, Pieces.TextParts.inside, Pieces.TextParts.child_front, Pieces.TextParts.unit_front, Pieces.TextParts.child_tokens-beside, Pieces.TextParts.unit_tokens-front, Pieces.TextPieces.child_front-same, Pieces.TextPieces.unit_front-same, Pieces.TextPieces.children-same, Pieces.TextContexts.AgreeOff, Pieces.TextContexts.with_root, Pieces.TextPoints.unit_back, Pieces.TextPoints.unit_tokens-back, Pieces.TextPoints.unit_back-same, Pieces.TextPoints.Gap, Pieces.TextPoints.gap_in_units, Pieces.TextGaps.in_gap-around, Pieces.TextSiblings.Siblings, Marked.MarkersMoved.gap-reached, Marked.GapOpened.equal, Pieces.TextParts.inside-data}
 
 seam_in : (new : ℕ) (marks : (Point → List Token)) (n i : ℕ) (ms : List Token) (vs : List ℕ) (ts : List Token) → AreMarks ms → after_marks (Close ∷ Open new ∷ []) ((ms ++ unit_back marks n i vs) ++ (Close ∷ ts)) ≡ ms ++ (Close ∷ (Open new ∷ (unit_back marks n i vs ++ (Close ∷ ts))))
 seam_in new marks n i ms vs ts h =
@@ -73,26 +60,15 @@ module _ (marks marks' : Point → List Token) (only : (p : Point) → AreMarks 
       let e2 : 0 + breadth fs ≡ k = omega (arith, long) in
       let f : child_front marks' y.number 0 fs ≡ front = child_front-same marks marks' y.number 0 0 fs (λ j j' d a b. earlier j j' (omega arith) (omega (arith, long))) (away_from fs zf wf) in
       let old : inside marks' (with_data us z) zs ≡ unit_front marks z.number 0 us ++ marks (point z.number (length us)) =
-      inside-data (with_data us z) zs is_data ∙ unit_tokens-front marks' z.number 0 us
-      ∙ ap (λ (ts : List Token). ts ++ marks' (point z.number (0 + length us))) (unit_front-same marks marks' z.number 0 0 us (λ j j' d a b. kept j j' (omega arith) (omega arith)))
-      ∙ ap (λ (ts : List Token). unit_front marks z.number 0 us ++ ts) (kept (length us) (0 + length us) (omega arith) (omega arith)) in
+      inside-data marks' (with_data us z) zs is_data ∙ unit_tokens-front marks' z.number 0 us
+      ∙ (rw (unit_front-same marks marks' z.number 0 0 us (λ j j' d a b. kept j j' (omega arith) (omega arith)), kept (length us) (0 + length us) (omega arith) (omega arith)) refl) in
       let new : inside marks' x empty ≡ unit_back marks z.number (length us) vs =
-      inside-data x empty new_data ∙ ap (unit_tokens marks' x.number 0) new_text ∙ unit_tokens-back marks' x.number 0 vs
+      inside-data marks' x empty new_data ∙ ap (unit_tokens marks' x.number 0) new_text ∙ unit_tokens-back marks' x.number 0 vs
       ∙ ap (λ (ts : List Token). ts ++ unit_back marks' x.number 0 vs) new_start
       ∙ unit_back-same marks marks' z.number x.number (length us) 0 vs (λ j j' d a b. moved j j' (omega arith) (omega arith)) in
       let rest : child_tokens marks' y.number (suc (suc k)) bs ≡ child_tokens marks y.number (suc k) bs =
       children-same marks marks' y.number (suc k) (suc (suc k)) bs (λ j j' d a b. later j j' (omega arith) (omega arith)) (away_from bs zb wb) in
-      e1 ∙ child_tokens-beside marks' y.number 0 fs (node (with_data us z) zs (node x empty bs))
-      ∙ ap (λ i. child_front marks' y.number 0 fs ++ child_tokens marks' y.number i (node (with_data us z) zs (node x empty bs))) e2
-      ∙ ap (λ (ts : List Token). ts ++ child_tokens marks' y.number k (node (with_data us z) zs (node x empty bs))) f
-      ∙ ap (λ (ts : List Token). front ++ (ts ++ (Open z.number ∷ (inside marks' (with_data us z) zs ++ (Close ∷ child_tokens marks' y.number (suc k) (node x empty bs)))))) (earlier k k refl (omega arith))
-      ∙ ap (λ (ts : List Token). front ++ (marks (point y.number k) ++ (Open z.number ∷ (ts ++ (Close ∷ child_tokens marks' y.number (suc k) (node x empty bs)))))) old
-      ∙ ap (λ (ts : List Token). front ++ (marks (point y.number k) ++ (Open z.number ∷ ((unit_front marks z.number 0 us ++ marks (point z.number (length us))) ++ (Close ∷ (ts ++ (Open x.number ∷ (inside marks' x empty ++ (Close ∷ child_tokens marks' y.number (suc (suc k)) bs))))))))) between
-      ∙ ap (λ (ts : List Token). front ++ (marks (point y.number k) ++ (Open z.number ∷ ((unit_front marks z.number 0 us ++ marks (point z.number (length us))) ++ (Close ∷ (Open x.number ∷ (ts ++ (Close ∷ child_tokens marks' y.number (suc (suc k)) bs)))))))) new
-      ∙ ap (λ (ts : List Token). front ++ (marks (point y.number k) ++ (Open z.number ∷ ((unit_front marks z.number 0 us ++ marks (point z.number (length us))) ++ (Close ∷ (Open x.number ∷ (unit_back marks z.number (length us) vs ++ (Close ∷ ts)))))))) rest
-    where
-      inside-data : (n : Node Content) (ns : Forest Content) → is_character_data n.label.kind ≡ true → inside marks' n ns ≡ unit_tokens marks' n.number 0 n.body.text
-      inside-data n ns h = rw h refl
+      e1 ∙ child_tokens-beside marks' y.number 0 fs (node (with_data us z) zs (node x empty bs)) ∙ (rw (e2, f, earlier k k refl (omega arith), old, between, new, rest) refl)
 
   abbrev cut : Gap marks z zs (length us)
   cut = gap_in_units marks only z zs (length us) is_data (record { first = us; last = vs; whole = text; long = refl })

@@ -1,24 +1,10 @@
 -- The texts of whole trees: of a root, without a root, and beside others.
 use Rattle.std.proofs.Common.{◌≡◌, ℕ, ◌+◌, ◌<◌, ◌≤◌, Bool, List, [], ◌∷◌, ◌++◌, Option, Some, None, refl, ap, sym, ◌∙◌, subst, arith, append-nil}
-use Rattle.dom_model.specs.Forests.Forest.{Node, Forest, empty, node, occurs, beside, tree_at, without, entry_in, parent_of}
-use Rattle.dom_model.specs.Worlds.World.{Content, Point, World}
-use Rattle.dom_model.specs.TokenText.Tokens.{Token, Open, Close, OneUnit, Mark, token_texts, no_marks, tokens_at, tokens_among, other_texts, through_close, on_texts, Making}
-use Rattle.dom_model.specs.TokenText.Edits.{on_world}
+use Rattle.std.proofs.lemmas.Bool.{eq-eqb}
+use Rattle.dom_model.specs.Definitions.{Node, Forest, empty, node, occurs, beside, tree_at, without, entry_in, parent_of, Content, Point, World, Token, Mark, token_texts, no_marks, tokens_at, tokens_among, other_texts, through_close, on_texts, Making, on_world, Lies, Childless, end_at, IsReady}
 use Rattle.dom_model.proofs.PlainLists.Numbers.{same_or, same, apart}
-use Rattle.dom_model.specs.Forests.Lies.{Lies}
-use Rattle.dom_model.specs.TokenText.Fitting.{Childless, end_at, IsReady}
-use Rattle.dom_model.proofs.Forests.Lying.{absent_under}
-use Rattle.dom_model.proofs.Forests.Totals.{without-absent, tree_at-absent}
-use Rattle.dom_model.proofs.Forests.Entries.{Lies-entry_in}
-use Rattle.dom_model.proofs.TokenText.Pieces.TokenLists.{opened, marked, AreMarks, from_open-none}
-use Rattle.dom_model.proofs.TokenText.Pieces.TextParts.{inside, own}
-use Rattle.dom_model.proofs.TokenText.Pieces.TextPieces.{Closes-inside, through-node, texts-same}
-use Rattle.dom_model.proofs.TokenText.Pieces.TextCounts.{opened-own}
-use Rattle.dom_model.proofs.TokenText.AlikeTrees.TreesAlike.{bared, bared-alike}
-use Rattle.dom_model.proofs.TokenText.AlikeTrees.TreesAlikeAfter.{alike-beside}
-use Rattle.dom_model.proofs.TokenText.Marked.MarkedTexts.{stands, Marked}
-use Rattle.dom_model.proofs.TokenText.Marked.MarkedFirst.{bared-texts}
-use Rattle.dom_model.proofs.TokenText.Marked.MarkersMoved.{end_itself}
+use Rattle.dom_model.proofs.Forests.{Lying.absent_under, Totals.without-absent, Entries.Lies-entry_in}
+use Rattle.dom_model.proofs.TokenText.{Pieces.TokenLists.opened, Pieces.TokenLists.marked, Pieces.TokenLists.AreMarks, Pieces.TokenLists.from_open-none, Pieces.TextParts.inside, Pieces.TextParts.own, Pieces.TextPieces.Closes-inside, Pieces.TextPieces.through-node, Pieces.TextPieces.texts-same, Pieces.TextCounts.opened-own, AlikeTrees.TreesAlike.bared, AlikeTrees.TreesAlike.bared-alike, AlikeTrees.TreesAlikeAfter.alike-beside, Marked.MarkedTexts.stands, Marked.MarkedTexts.Marked, Marked.MarkedFirst.bared-texts, Marked.MarkersMoved.end_itself, AlikeTrees.WaysToTrees.to_tree}
 
 -- the number stands under no root
 abbrev pub OnTop : ℕ → Forest Content → Type 0
@@ -49,46 +35,28 @@ module _ (marks : Point → List Token) (only : (p : Point) → AreMarks (marks 
   pub tokens_among-none : (n : ℕ) (f : Forest Content) → Childless f → occurs n f ≡ 0 → tokens_among n (token_texts marks f) ≡ []
   tokens_among-none n empty c h = refl
   tokens_among-none n (node x kids rest) c h =
-      let a : opened n (own marks x kids) ≡ 0 = opened-own marks only n x kids (c.0, c.1, tt) ∙ (omega arith) in
-      let b : occurs n rest ≡ 0 = omega arith in
-      let e : tokens_at n (own marks x kids) ≡ [] = ap (through_close 0) (from_open-none n (own marks x kids) a) in
-      ap (λ (ts : List Token). ts ++ tokens_among n (token_texts marks rest)) e ∙ tokens_among-none n rest c.2 b
+      rw (from_open-none n (own marks x kids) (opened-own marks only n x kids (c.0, c.1, tt) ∙ (omega arith))) (tokens_among-none n rest c.2 (omega arith))
 
   pub tokens_at-root : (x : Node Content) (kids : Forest Content) → tokens_at x.number (own marks x kids) ≡ own marks x kids
-  tokens_at-root x kids = elim (same_or x.number x.number) [ same d t ↦ rw t (through-node x.number (inside marks x kids) [] (Closes-inside marks only x kids)) | apart ne t ↦ absurd (ne refl) ]
+  tokens_at-root x kids = rw (eq-eqb x.number x.number refl) (through-node x.number (inside marks x kids) [] (Closes-inside marks only x kids))
 
   -- the tokens of a root
   pub tokens_among-root : (n : ℕ) (z : Node Content) (zs : Forest Content) (f : Forest Content) → ((m : ℕ) → occurs m f ≤ 1) → Childless f → OnTop n f → tree_at n f ≡ node z zs empty → tokens_among n (token_texts marks f) ≡ own marks z zs
-  tokens_among-root n z zs empty o c h e = absurd (cc e)
-  tokens_among-root n z zs (node x kids rest) o c h e =
-      elim (same_or x.number n) [
-        | same d t ↦
-            let k = o n in
-            let k2 = rw t at k in
-            let zr : occurs n rest ≡ 0 = omega arith in
-            let e2 = rw (t, tree_at-absent n rest zr) at e in
-            let sx : x ≡ z = cc e2 in
-            let sk : kids ≡ zs = cc e2 in
-            ap (λ m. tokens_at m (own marks x kids) ++ tokens_among m (token_texts marks rest)) (sym d)
-            ∙ ap (λ (ts : List Token). ts ++ tokens_among x.number (token_texts marks rest)) (tokens_at-root x kids)
-            ∙ ap (λ (ts : List Token). own marks x kids ++ ts) (tokens_among-none x.number rest c.2 (subst (λ m. occurs m rest ≡ 0) (sym d) zr))
-            ∙ append-nil (own marks x kids)
-            ∙ ap (λ (y : Node Content). own marks y kids) sx ∙ ap (λ (g : Forest Content). own marks z g) sk
-        | apart ne t ↦
-            let e2 = rw (t, tree_at-absent n kids h.0) at e in
-            let z0 = h.0 in
-            let k : opened n (own marks x kids) ≡ 0 = opened-own marks only n x kids (c.0, c.1, tt) ∙ (rw t (omega arith)) in
-            let s : tokens_at n (own marks x kids) ≡ [] = ap (through_close 0) (from_open-none n (own marks x kids) k) in
-            ap (λ (ts : List Token). ts ++ tokens_among n (token_texts marks rest)) s ∙ tokens_among-root n z zs rest (λ m. let k2 = o m in omega arith) c.2 h.1 e2
-      ]
+  tokens_among-root n z zs f o c h e =
+      to_tree n z zs (λ g. Childless g → OnTop n g → tokens_among n (token_texts marks g) ≡ own marks z zs)
+      (λ rest o d t k r c h.
+      ap (λ m. tokens_at m (own marks z zs) ++ tokens_among n (token_texts marks rest)) (sym d)
+      ∙ (rw (tokens_at-root z zs, tokens_among-none n rest c.2 r) (append-nil (own marks z zs))))
+      (λ x kids rest o t l r e i c h. absurd (let k = h.0 in omega arith))
+      (λ x kids rest o t k e i c h.
+      let none : opened n (own marks x kids) ≡ 0 = opened-own marks only n x kids (c.0, c.1, tt) ∙ (rw t (omega arith)) in
+      ap (λ (ts : List Token). through_close 0 ts ++ tokens_among n (token_texts marks rest)) (from_open-none n (own marks x kids) none) ∙ i c.2 h.1) f o e c h
 
 -- markers of no end are none
 pub unmarked_gap : (ms : List Token) → AreMarks ms → ((r : ℕ) (side : Bool) → marked r side ms ≡ 0) → ms ≡ []
 unmarked_gap [] h k = refl
-unmarked_gap (Open n ∷ ms) h k = absurd h
-unmarked_gap (Close ∷ ms) h k = absurd h
-unmarked_gap (OneUnit u ∷ ms) h k = absurd h
 unmarked_gap (Mark r side ∷ ms) h k = absurd (let i = k r side in let j = rw (end_itself r side) at i in omega arith)
+unmarked_gap (m ∷ ms) h k = absurd h
 
 -- a gap at no end of a live range has no markers
 pub no_marks-at : (texts : List (List Token)) (w : World) (m : Marked texts w) (q : Point) → ((r : ℕ) (side : Bool) (p : Point) → end_at w.ranges r side ≡ Some p → p.node ≡ q.node → ⊥) → m.marks q ≡ []

@@ -1,16 +1,8 @@
 -- How many open tokens and how many markers stand in the token texts of a forest.
-use Rattle.std.proofs.Common.{◌≡◌, ℕ, zero, suc, ◌+◌, ◌<◌, ◌≤◌, Bool, true, false, if◌then◌else◌, List, [], ◌∷◌, ◌++◌, length, refl, ap, sym, ◌∙◌, subst, arith, ⊎_elim}
-use Rattle.std.proofs.lemmas.Bool.{cases_lt}
-use Rattle.std.proofs.lemmas.Bool.Decides.{nat_tests}
-use Rattle.dom_model.specs.Forests.Kinds.{is_character_data}
-use Rattle.dom_model.specs.Forests.Forest.{Node, Forest, empty, node, occurs, one_at, tree_at}
-use Rattle.dom_model.specs.Worlds.World.{Content, Point}
-use Rattle.dom_model.specs.TokenText.Tokens.{Token, Open, Close, OneUnit, is_open, is_mark_of, point, unit_tokens, child_tokens, token_texts}
-use Rattle.dom_model.specs.TokenText.Fitting.{Childless}
-use Rattle.dom_model.proofs.PlainLists.Numbers.{same_or, same, apart}
-use Rattle.dom_model.proofs.Forests.Totals.{tree_at-absent, beside-empty}
-use Rattle.dom_model.proofs.TokenText.Pieces.TokenLists.{tallies, marked, opened, tally-append, AreMarks, opened-marks}
-use Rattle.dom_model.proofs.TokenText.Pieces.TextParts.{breadth, inside, own}
+use Rattle.std.proofs.Common.{◌≡◌, ℕ, zero, suc, ◌+◌, ◌<◌, ◌≤◌, ◌==◌, Bool, true, false, if◌then◌else◌, List, [], ◌∷◌, ◌++◌, length, refl, ap, ◌∙◌, subst, arith, inl, inr}
+use Rattle.std.proofs.lemmas.{Bool.cases_lt, Bool.cases_Bool, Bool.eqb-false, Bool.Decides.nat_tests}
+use Rattle.dom_model.specs.Definitions.{is_character_data, Node, Forest, empty, node, occurs, one_at, tree_at, Content, Point, Token, Open, Close, OneUnit, is_open, is_mark_of, point, unit_tokens, child_tokens, token_texts, Childless}
+use Rattle.dom_model.proofs.TokenText.{Pieces.TokenLists.tallies, Pieces.TokenLists.marked, Pieces.TokenLists.opened, Pieces.TokenLists.tally-append, Pieces.TokenLists.AreMarks, Pieces.TokenLists.opened-marks, Pieces.TextParts.breadth, Pieces.TextParts.inside, Pieces.TextParts.own, AlikeTrees.WaysToTrees.to_tree}
 
 -- how many units or children a node has
 abbrev pub measure_of : Node Content → Forest Content → ℕ
@@ -33,17 +25,12 @@ spread-none weight n i (suc l) h = rw (h i (omega arith) (omega arith), spread-n
 pub spread-one : (weight : (Point → ℕ)) (n i l o : ℕ) → i ≤ o → o ≤ i + l → weight (point n o) ≡ 1 → ((j : ℕ) → (j ≡ o → ⊥) → weight (point n j) ≡ 0) → spread weight n i l ≡ 1
 spread-one weight n i zero o a b h k = let e : o ≡ i = omega arith in subst (λ m. weight (point n m) ≡ 1) e h
 spread-one weight n i (suc l) o a b h k =
-    ⊎_elim
-    (λ (lt : i < o).
-    let z : weight (point n i) ≡ 0 = k i (λ e. absurd (omega arith)) in
-    let s : spread weight n (suc i) l ≡ 1 = spread-one weight n (suc i) l o (omega arith) (omega arith) h k in
-    rw (z, s) refl)
-    (λ (le : o ≤ i).
-    let e : o ≡ i = omega arith in
-    let s : weight (point n i) ≡ 1 = subst (λ m. weight (point n m) ≡ 1) e h in
-    let z : spread weight n (suc i) l ≡ 0 = spread-none weight n (suc i) l (λ j c d. k j (λ f. absurd (omega arith))) in
-    rw (s, z) refl)
-    (cases_lt i o)
+    elim (cases_lt i o) [
+      | inl lt ↦ rw (k i (λ e. absurd (omega arith)), spread-one weight n (suc i) l o (omega arith) (omega arith) h k) refl
+      | inr le ↦
+          let e : o ≡ i = omega arith in
+          rw (← e) (rw (h, spread-none weight n (suc o) l (λ j c d. k j (λ f. absurd (omega arith)))) refl)
+    ]
 
 pub gap_sum-none : (weight : (Point → ℕ)) (f : Forest Content) → ((p : Point) → 0 < occurs p.node f → weight p ≡ 0) → gap_sum weight f ≡ 0
 gap_sum-none weight empty h = refl
@@ -55,40 +42,17 @@ gap_sum-none weight (node x kids rest) h =
 
 -- a weight of the gaps of one node
 pub gap_sum-one : (weight : (Point → ℕ)) (n : ℕ) (y : Node Content) (ys : Forest Content) (f : Forest Content) → ((m : ℕ) → occurs m f ≤ 1) → tree_at n f ≡ node y ys empty → ((p : Point) → (p.node ≡ n → ⊥) → weight p ≡ 0) → gap_sum weight f ≡ spread weight n 0 (measure_of y ys)
-gap_sum-one weight n y ys empty o e h = absurd (cc e)
-gap_sum-one weight n y ys (node x kids rest) o e h =
-    elim (same_or x.number n) [
-      | same d t ↦
-          let c = o n in
-          let c2 = rw t at c in
-          let zk : occurs n kids ≡ 0 = omega arith in
-          let zr : occurs n rest ≡ 0 = omega arith in
-          let e2 = rw (t, tree_at-absent n rest zr) at e in
-          let k : gap_sum weight kids ≡ 0 = gap_sum-none weight kids (λ p a. h p (λ q. absurd (let b : 0 < occurs n kids = subst (λ m. 0 < occurs m kids) q a in omega arith))) in
-          let r : gap_sum weight rest ≡ 0 = gap_sum-none weight rest (λ p a. h p (λ q. absurd (let b : 0 < occurs n rest = subst (λ m. 0 < occurs m rest) q a in omega arith))) in
-          let ex : x ≡ y = cc e2 in
-          let ek : kids ≡ ys = cc e2 in
-          let s : spread weight x.number 0 (measure_of x kids) ≡ spread weight n 0 (measure_of y ys) = ap (λ m. spread weight m 0 (measure_of x kids)) d ∙ ap (λ (z : Node Content). spread weight n 0 (measure_of z kids)) ex ∙ ap (λ (g : Forest Content). spread weight n 0 (measure_of y g)) ek in
-          rw (k, r, s) (omega arith)
-      | apart ne t ↦
-          let z : spread weight x.number 0 (measure_of x kids) ≡ 0 = spread-none weight x.number 0 (measure_of x kids) (λ j a b. h (point x.number j) ne) in
-          let e2 = rw t at e in
-          ⊎_elim
-          (λ (lt : 0 < occurs n kids).
-          let c = o n in
-          let zr : occurs n rest ≡ 0 = omega arith in
-          let e3 = rw (tree_at-absent n rest zr, beside-empty (tree_at n kids)) at e2 in
-          let i : gap_sum weight kids ≡ spread weight n 0 (measure_of y ys) = gap_sum-one weight n y ys kids (λ m. let c2 = o m in omega arith) e3 h in
-          let r : gap_sum weight rest ≡ 0 = gap_sum-none weight rest (λ p a. h p (λ q. absurd (let b : 0 < occurs n rest = subst (λ m. 0 < occurs m rest) q a in omega arith))) in
-          rw (z, i, r) (omega arith))
-          (λ (le : occurs n kids ≤ 0).
-          let zk : occurs n kids ≡ 0 = omega arith in
-          let e3 = rw (tree_at-absent n kids zk) at e2 in
-          let i : gap_sum weight rest ≡ spread weight n 0 (measure_of y ys) = gap_sum-one weight n y ys rest (λ m. let c2 = o m in omega arith) e3 h in
-          let k : gap_sum weight kids ≡ 0 = gap_sum-none weight kids (λ p a. h p (λ q. absurd (let b : 0 < occurs n kids = subst (λ m. 0 < occurs m kids) q a in omega arith))) in
-          rw (z, i, k) (omega arith))
-          (cases_lt 0 (occurs n kids))
-    ]
+gap_sum-one weight n y ys f o e h =
+    to_tree n y ys (λ g. gap_sum weight g ≡ spread weight n 0 (measure_of y ys))
+    (λ rest o d t k z. rw (d, off ys k, off rest z) (omega arith))
+    (λ x kids rest o t l z e i. rw (far x kids t, i, off rest z) (omega arith))
+    (λ x kids rest o t k e i. rw (far x kids t, off kids k, i) (omega arith)) f o e
+  where
+    off : (g : Forest Content) → occurs n g ≡ 0 → gap_sum weight g ≡ 0
+    off g z = gap_sum-none weight g (λ p a. h p (λ q. absurd (let b : 0 < occurs n g = subst (λ m. 0 < occurs m g) q a in omega arith)))
+
+    far : (x : Node Content) (kids : Forest Content) → (x.number == n) ≡ false → spread weight x.number 0 (measure_of x kids) ≡ 0
+    far x kids t = spread-none weight x.number 0 (measure_of x kids) (λ j a b. h (point x.number j) (eqb-false x.number n t))
 
 pub spread-same : (weight weight' : (Point → ℕ)) (n i l : ℕ) → ((p : Point) → weight p ≡ weight' p) → spread weight n i l ≡ spread weight' n i l
 spread-same weight weight' n i zero h = h (point n i)
@@ -107,11 +71,11 @@ module _ (marks : Point → List Token) (r : ℕ) (side : Bool) where
   marked-units n i (u ∷ us) = tally-append (is_mark_of r side) (marks (point n i)) (OneUnit u ∷ unit_tokens marks n (suc i) us) ∙ (omega (arith, marked-units n (suc i) us))
 
   marked_inside : (x : Node Content) (kids : Forest Content) → (is_character_data x.label.kind ≡ true → kids ≡ empty) → marked r side (child_tokens marks x.number 0 kids) ≡ spread marked_at x.number 0 (breadth kids) + gap_sum marked_at kids → marked r side (inside marks x kids) ≡ spread marked_at x.number 0 (measure_of x kids) + gap_sum marked_at kids
-  marked_inside x kids c h = go (is_character_data x.label.kind) c
-    where
-      go : (v : Bool) → (v ≡ true → kids ≡ empty) → marked r side (if v then unit_tokens marks x.number 0 x.body.text else child_tokens marks x.number 0 kids) ≡ spread marked_at x.number 0 (if v then length x.body.text else breadth kids) + gap_sum marked_at kids
-      go true d = let e : gap_sum marked_at kids ≡ 0 = ap (gap_sum marked_at) (d refl) in omega (arith, marked-units x.number 0 x.body.text, e)
-      go false d = h
+  marked_inside x kids c h =
+      elim (cases_Bool (is_character_data x.label.kind)) [
+        | inl e ↦ rw e (omega (arith, marked-units x.number 0 x.body.text, ap (gap_sum marked_at) (c e)))
+        | inr e ↦ rw e h
+      ]
 
   marked_around : (x : Node Content) (kids : Forest Content) (ts : List Token) (k : ℕ) → marked r side (inside marks x kids) ≡ k → marked r side (Open x.number ∷ (inside marks x kids ++ (Close ∷ ts))) ≡ k + marked r side ts
   marked_around x kids ts k h = omega (arith, tally-append (is_mark_of r side) (inside marks x kids) (Close ∷ ts), h)
@@ -137,11 +101,11 @@ module _ (marks : Point → List Token) (only : (p : Point) → AreMarks (marks 
   opened-units n i (u ∷ us) = tally-append (is_open m) (marks (point n i)) (OneUnit u ∷ unit_tokens marks n (suc i) us) ∙ (omega (arith, opened-marks m (marks (point n i)) (only (point n i)), opened-units n (suc i) us))
 
   opened_inside : (x : Node Content) (kids : Forest Content) → (is_character_data x.label.kind ≡ true → kids ≡ empty) → opened m (child_tokens marks x.number 0 kids) ≡ occurs m kids → opened m (inside marks x kids) ≡ occurs m kids
-  opened_inside x kids c h = go (is_character_data x.label.kind) c
-    where
-      go : (v : Bool) → (v ≡ true → kids ≡ empty) → opened m (if v then unit_tokens marks x.number 0 x.body.text else child_tokens marks x.number 0 kids) ≡ occurs m kids
-      go true d = opened-units x.number 0 x.body.text ∙ sym (ap (occurs m) (d refl))
-      go false d = h
+  opened_inside x kids c h =
+      elim (cases_Bool (is_character_data x.label.kind)) [
+        | inl e ↦ rw (e, c e) (opened-units x.number 0 x.body.text)
+        | inr e ↦ rw e h
+      ]
 
   opened_around : (x : Node Content) (kids : Forest Content) (ts : List Token) → opened m (inside marks x kids) ≡ occurs m kids → opened m (Open x.number ∷ (inside marks x kids ++ (Close ∷ ts))) ≡ one_at m x.number + (occurs m kids + opened m ts)
   opened_around x kids ts h = omega (arith, tally-append (is_open m) (inside marks x kids) (Close ∷ ts), h)

@@ -1,15 +1,8 @@
 -- A change in a gap of a tree is one among the node's own tokens, and the marker of an end is found there.
-use Rattle.std.proofs.Common.{◌≡◌, ℕ, ◌+◌, ◌<◌, ◌≤◌, Bool, false, if◌then◌else◌, List, [], ◌∷◌, ◌++◌, Some, None, refl, ap, sym, ◌∙◌, arith}
+use Rattle.std.proofs.Common.{◌≡◌, ℕ, ◌+◌, ◌<◌, ◌≤◌, Bool, if◌then◌else◌, List, [], ◌∷◌, ◌++◌, Some, None, refl, ap, sym, ◌∙◌, arith}
 use Rattle.std.proofs.lemmas.List.{map-append}
-use Rattle.dom_model.specs.Forests.Forest.{Node, Forest, empty, node, occurs, one_at, tree_at}
-use Rattle.dom_model.specs.Worlds.World.{Content, Point}
-use Rattle.dom_model.specs.TokenText.Tokens.{Token, Open, Close, is_open, is_mark_of, point, stands_at, token_texts, at_gap, in_gap, gap_of, gap_among}
-use Rattle.dom_model.specs.TokenText.Fitting.{Childless}
-use Rattle.dom_model.proofs.TokenText.Pieces.TokenLists.{tally, tallies, marked, opened, tally-append, tallies-append, AreMarks}
-use Rattle.dom_model.proofs.TokenText.Pieces.TextWalks.{walk, Away-walk, stands-away, Misses-away, at_gap-skips, in_gap-away, gap_of-skips, gap_of-none}
-use Rattle.dom_model.proofs.TokenText.Pieces.TextParts.{inside}
-use Rattle.dom_model.proofs.TokenText.Pieces.TextCounts.{opened-inside, opened-texts}
-use Rattle.dom_model.proofs.TokenText.Pieces.TextContexts.{Around, with_root-itself}
+use Rattle.dom_model.specs.Definitions.{Node, Forest, empty, node, occurs, one_at, tree_at, Content, Point, Token, Open, Close, is_open, is_mark_of, point, token_texts, at_gap, in_gap, gap_of, gap_among, Childless}
+use Rattle.dom_model.proofs.TokenText.{Pieces.TokenLists.tally, Pieces.TokenLists.tallies, Pieces.TokenLists.marked, Pieces.TokenLists.opened, Pieces.TokenLists.tally-append, Pieces.TokenLists.tallies-append, Pieces.TokenLists.AreMarks, Pieces.TextWalks.walk, Pieces.TextWalks.Away-walk, Pieces.TextWalks.stands-away, Pieces.TextWalks.Misses-away, Pieces.TextWalks.at_gap-skips, Pieces.TextWalks.in_gap-away, Pieces.TextWalks.gap_of-skips, Pieces.TextWalks.gap_of-none, Pieces.TextParts.inside, Pieces.TextCounts.opened-inside, Pieces.TextCounts.opened-texts, Pieces.TextContexts.Around, Pieces.TextContexts.with_root-itself}
 
 -- none of the tokens around pass the test
 pub record Free (test : Token → Bool) (above : List (List Token)) (ahead behind : List Token) (below : List (List Token)) : Type 0 where
@@ -27,32 +20,23 @@ module _ (above : List (List Token)) (ahead : List Token) (n : ℕ) (rest : List
   -- a change in a gap that no token around opens
   pub in_gap-around : (p : Point) (change : (List Token → List Token)) → tallies (is_open p.node) above ≡ 0 → opened p.node ahead ≡ 0 → tallies (is_open p.node) below ≡ 0 → in_gap p change (above ++ ((ahead ++ (Open n ∷ rest)) ∷ below)) ≡ above ++ ((ahead ++ (Open n ∷ at_gap p change (point n 0 ∷ walk ahead []) rest)) ∷ below)
   in_gap-around p change a b c =
-      let s : stands_at p (walk ahead []) ≡ false = stands-away p (walk ahead []) (Away-walk p.node ahead [] b tt) in
-      let k : at_gap p change (walk ahead []) (Open n ∷ rest) ≡ Open n ∷ at_gap p change (point n 0 ∷ walk ahead []) rest = rw s refl in
+      let away = Misses-away p ahead [] b tt in
       map-append (at_gap p change []) above ((ahead ++ (Open n ∷ rest)) ∷ below)
-      ∙ ap (λ (ts : List (List Token)). ts ++ in_gap p change ((ahead ++ (Open n ∷ rest)) ∷ below)) (in_gap-away p change above a)
-      ∙ ap (λ (ts : List (List Token)). above ++ (at_gap p change [] (ahead ++ (Open n ∷ rest)) ∷ ts)) (in_gap-away p change below c)
-      ∙ ap (λ (ts : List Token). above ++ (ts ∷ below)) (at_gap-skips p change ahead (Open n ∷ rest) [] (Misses-away p ahead [] b tt) ∙ ap (λ (ts : List Token). ahead ++ ts) k)
+      ∙ (rw (in_gap-away p change above a, in_gap-away p change below c, at_gap-skips p change ahead (Open n ∷ rest) [] away)
+      (rw (stands-away p (walk ahead []) (Away-walk p.node ahead [] b tt)) refl))
 
   gap_among-above : (r : ℕ) (side : Bool) (texts : List (List Token)) (others : List (List Token)) → tallies (is_mark_of r side) texts ≡ 0 → gap_among r side (texts ++ others) ≡ gap_among r side others
   gap_among-above r side [] others h = refl
-  gap_among-above r side (text ∷ texts) others h =
-      let a : marked r side text ≡ 0 = omega arith in
-      let b : tallies (is_mark_of r side) texts ≡ 0 = omega arith in
-      rw (gap_of-none r side text [] a) (gap_among-above r side texts others b)
+  gap_among-above r side (text ∷ texts) others h = rw (gap_of-none r side text [] (omega arith)) (gap_among-above r side texts others (omega arith))
 
   -- the marker of an end that stands in no token around
   pub gap_among-around : (r : ℕ) (side : Bool) (p : Point) → tallies (is_mark_of r side) above ≡ 0 → marked r side ahead ≡ 0 → gap_of r side (point n 0 ∷ walk ahead []) rest ≡ Some p → gap_among r side (above ++ ((ahead ++ (Open n ∷ rest)) ∷ below)) ≡ Some p
   gap_among-around r side p a b c =
-      let s : gap_of r side [] (ahead ++ (Open n ∷ rest)) ≡ Some p = gap_of-skips r side ahead (Open n ∷ rest) [] b ∙ c in
-      gap_among-above r side above ((ahead ++ (Open n ∷ rest)) ∷ below) a ∙ (rw s refl)
+      gap_among-above r side above ((ahead ++ (Open n ∷ rest)) ∷ below) a ∙ (rw (gap_of-skips r side ahead (Open n ∷ rest) [] b, c) refl)
 
 pub gap_among-none : (r : ℕ) (side : Bool) (texts : List (List Token)) → tallies (is_mark_of r side) texts ≡ 0 → gap_among r side texts ≡ None
 gap_among-none r side [] h = refl
-gap_among-none r side (text ∷ texts) h =
-    let a : marked r side text ≡ 0 = omega arith in
-    let b : tallies (is_mark_of r side) texts ≡ 0 = omega arith in
-    rw (gap_of-none r side text [] a) (gap_among-none r side texts b)
+gap_among-none r side (text ∷ texts) h = rw (gap_of-none r side text [] (omega arith)) (gap_among-none r side texts (omega arith))
 
 -- A node with its children in a forest: the token texts around it, and that they open nothing that the node's tree opens.
 module _ (marks : Point → List Token) (only : (p : Point) → AreMarks (marks p)) (n : ℕ) (y : Node Content) (ys : Forest Content) (named : y.number ≡ n) (f : Forest Content) (o : (m : ℕ) → occurs m f ≤ 1) (c : Childless f) (e : tree_at n f ≡ node y ys empty) (w : Around marks n (node y ys empty) f) where

@@ -1,23 +1,13 @@
 -- Pieces of the token text of a tree: points that they miss, that they close what they open, and that they stay where their markers do.
-use Rattle.std.proofs.Common.{◌≡◌, ℕ, suc, ◌+◌, ◌<◌, ◌≤◌, ◌==◌, Bool, true, false, if◌then◌else◌, List, [], ◌∷◌, ◌++◌, length, refl, ap, sym, ◌∙◌, subst, arith, append_assoc, append-nil, map, not}
-use Rattle.std.proofs.lemmas.List.Elements.{filter-append}
-use Rattle.std.proofs.lemmas.Bool.Decides.{nat_tests}
-use Rattle.dom_model.specs.Forests.Kinds.{is_character_data}
-use Rattle.dom_model.specs.Forests.Forest.{Node, Forest, empty, node, occurs}
-use Rattle.dom_model.specs.Worlds.World.{Content, Point}
-use Rattle.dom_model.specs.TokenText.Tokens.{Token, Open, Close, OneUnit, point, same_point, stands_at, unit_tokens, child_tokens, token_texts, through_close, past_close, unmarked, no_marks, is_mark}
-use Rattle.dom_model.proofs.PlainLists.Numbers.{same_or, same, apart}
-use Rattle.dom_model.proofs.TokenText.Pieces.TokenLists.{AreMarks, through_close-marks, past_close-marks, unmarked-marks}
-use Rattle.dom_model.proofs.TokenText.Pieces.TextWalks.{walk-marks, Misses, Misses-append, Misses-marks}
-use Rattle.dom_model.proofs.TokenText.Pieces.TextParts.{breadth, inside, own, child_front, unit_front, own-then, child_tokens-front, unit_tokens-front, walk-units, walk-inside, walk-own, walk-children, walk-all_children}
+use Rattle.std.proofs.Common.{◌≡◌, ℕ, suc, ◌+◌, ◌<◌, ◌≤◌, ◌==◌, false, List, [], ◌∷◌, ◌++◌, length, refl, ap, sym, ◌∙◌, subst, arith, append_assoc, append-nil, map, not, inl, inr}
+use Rattle.std.proofs.lemmas.{List.Elements.filter-append, Bool.Decides.nat_tests, Bool.cases_Bool, Bool.cond_both, Bool.ne_eqb, Bool.eq-eqb}
+use Rattle.dom_model.specs.Definitions.{is_character_data, Node, Forest, empty, node, occurs, Content, Point, Token, Open, Close, OneUnit, point, same_point, stands_at, unit_tokens, child_tokens, token_texts, through_close, past_close, unmarked, no_marks, is_mark}
+use Rattle.dom_model.proofs.TokenText.{Pieces.TextWalks.walk, Pieces.TokenLists.AreMarks, Pieces.TokenLists.through_close-marks, Pieces.TokenLists.past_close-marks, Pieces.TokenLists.unmarked-marks, Pieces.TextWalks.walk-marks, Pieces.TextWalks.Misses, Pieces.TextWalks.Misses-append, Pieces.TextWalks.Misses-marks, Pieces.TextParts.breadth, Pieces.TextParts.inside, Pieces.TextParts.own, Pieces.TextParts.child_front, Pieces.TextParts.unit_front, Pieces.TextParts.own-then, Pieces.TextParts.child_tokens-front, Pieces.TextParts.unit_tokens-front, Pieces.TextParts.walk-units, Pieces.TextParts.walk-inside, Pieces.TextParts.walk-own, Pieces.TextParts.walk-children, Pieces.TextParts.walk-all_children}
 
 -- The tokens open and close alike: a search for a close ahead of which something is open passes over them.
 pub record Closes (ts : List Token) : Type 0 where
   pub through : (depth : ℕ) (us : List Token) → through_close (suc depth) (ts ++ us) ≡ ts ++ through_close (suc depth) us
   pub past : (depth : ℕ) (us : List Token) → past_close (suc depth) (ts ++ us) ≡ past_close (suc depth) us
-
-Closes-none : Closes []
-Closes-none = record { through = λ depth us. refl; past = λ depth us. refl }
 
 pub Closes-append : (xs ys : List Token) → Closes xs → Closes ys → Closes (xs ++ ys)
 Closes-append xs ys h k = record {
@@ -53,11 +43,9 @@ module _ (marks : Point → List Token) (only : (p : Point) → AreMarks (marks 
   Closes-units n i (u ∷ us) = Closes-append (marks (point n i)) (OneUnit u ∷ unit_tokens marks n (suc i) us) (Closes-marks (marks (point n i)) (only (point n i))) (Closes-unit u (unit_tokens marks n (suc i) us) (Closes-units n (suc i) us))
 
   inside-closes : (x : Node Content) (kids : Forest Content) → Closes (child_tokens marks x.number 0 kids) → Closes (inside marks x kids)
-  inside-closes x kids h = go (is_character_data x.label.kind)
-    where
-      go : (v : Bool) → Closes (if v then unit_tokens marks x.number 0 x.body.text else child_tokens marks x.number 0 kids)
-      go true = Closes-units x.number 0 x.body.text
-      go false = h
+  inside-closes x kids h =
+      cond_both (is_character_data x.label.kind) (unit_tokens marks x.number 0 x.body.text) (child_tokens marks x.number 0 kids) Closes
+      (λ e. Closes-units x.number 0 x.body.text) (λ e. h)
 
   pub Closes-children : (n i : ℕ) (f : Forest Content) → Closes (child_tokens marks n i f)
   Closes-children n i empty = Closes-marks (marks (point n i)) (only (point n i))
@@ -76,33 +64,33 @@ module _ (marks : Point → List Token) (only : (p : Point) → AreMarks (marks 
   pub Misses-units : (p : Point) (n i : ℕ) (us : List ℕ) (around : List Point) → ((j : ℕ) → i ≤ j → j < i + length us → same_point p (point n j) ≡ false) → Misses p (unit_front marks n i us) (point n i ∷ around)
   Misses-units p n i [] around h = tt
   Misses-units p n i (u ∷ us) around h =
+      let here = point n i ∷ around in
       let e : suc i ≡ i + 1 = omega arith in
       let s : same_point p (point n i) ≡ false = h i (omega arith) (omega arith) in
-      Misses-append p (marks (point n i)) (OneUnit u ∷ unit_front marks n (suc i) us) (point n i ∷ around) (Misses-marks p (marks (point n i)) (point n i ∷ around) (only (point n i)) s)
-      (subst (λ here. Misses p (OneUnit u ∷ unit_front marks n (suc i) us) here) (sym (walk-marks (marks (point n i)) (point n i ∷ around) (only (point n i))))
+      Misses-append p (marks (point n i)) (OneUnit u ∷ unit_front marks n (suc i) us) here (Misses-marks p (marks (point n i)) here (only (point n i)) s)
+      (rw (walk-marks (marks (point n i)) here (only (point n i)))
       (s, subst (λ k. Misses p (unit_front marks n (suc i) us) (point n k ∷ around)) e (Misses-units p n (suc i) us around (λ j a b. h j (omega arith) (omega arith)))))
+
+  -- and the markers behind a piece are missed where the walk has come to
+  then-marks : (p q : Point) (front : List Token) (here there : List Point) → walk front here ≡ there → stands_at p there ≡ false → Misses p front here → Misses p (front ++ marks q) here
+  then-marks p q front here there e h m = Misses-append p front (marks q) here m (rw e (Misses-marks p (marks q) there (only q) h))
 
   Misses-all_units : (p : Point) (n : ℕ) (us : List ℕ) (around : List Point) → (p.node == n) ≡ false → Misses p (unit_tokens marks n 0 us) (point n 0 ∷ around)
   Misses-all_units p n us around h =
-      subst (λ (ts : List Token). Misses p ts (point n 0 ∷ around)) (sym (unit_tokens-front marks n 0 us))
-      (Misses-append p (unit_front marks n 0 us) (marks (point n (0 + length us))) (point n 0 ∷ around)
-      (Misses-units p n 0 us around (λ j a b. rw h refl))
-      (subst (λ here. Misses p (marks (point n (0 + length us))) here) (sym (walk-units marks only n 0 us around))
-      (Misses-marks p (marks (point n (0 + length us))) (point n (0 + length us) ∷ around) (only (point n (0 + length us))) (rw h refl))))
+      let end = point n (0 + length us) in
+      rw (unit_tokens-front marks n 0 us)
+      (then-marks p end (unit_front marks n 0 us) (point n 0 ∷ around) (end ∷ around) (walk-units marks only n 0 us around) (rw h refl) (Misses-units p n 0 us around (λ j a b. rw h refl)))
 
   missed_inside : (p : Point) (x : Node Content) (kids : Forest Content) (here : List Point) → (p.node == x.number) ≡ false → Misses p (child_tokens marks x.number 0 kids) (point x.number 0 ∷ here) → Misses p (inside marks x kids) (point x.number 0 ∷ here)
-  missed_inside p x kids here h m = go (is_character_data x.label.kind)
-    where
-      go : (v : Bool) → Misses p (if v then unit_tokens marks x.number 0 x.body.text else child_tokens marks x.number 0 kids) (point x.number 0 ∷ here)
-      go true = Misses-all_units p x.number x.body.text here h
-      go false = m
+  missed_inside p x kids here h m =
+      let missed = Misses-all_units p x.number x.body.text here h in
+      cond_both (is_character_data x.label.kind) (unit_tokens marks x.number 0 x.body.text) (child_tokens marks x.number 0 kids)
+      (λ ts. Misses p ts (point x.number 0 ∷ here)) (λ e. missed) (λ e. m)
 
   front_then-missed : (p : Point) (n : ℕ) (f : Forest Content) (around : List Point) → (p.node == n) ≡ false → Misses p (child_front marks n 0 f) (point n 0 ∷ around) → Misses p (child_tokens marks n 0 f) (point n 0 ∷ around)
   front_then-missed p n f around h m =
-      subst (λ (ts : List Token). Misses p ts (point n 0 ∷ around)) (sym (child_tokens-front marks n 0 f))
-      (Misses-append p (child_front marks n 0 f) (marks (point n (0 + breadth f))) (point n 0 ∷ around) m
-      (subst (λ here. Misses p (marks (point n (0 + breadth f))) here) (sym (walk-children marks only n 0 f around))
-      (Misses-marks p (marks (point n (0 + breadth f))) (point n (0 + breadth f) ∷ around) (only (point n (0 + breadth f))) (rw h refl))))
+      let end = point n (0 + breadth f) in
+      rw (child_tokens-front marks n 0 f) (then-marks p end (child_front marks n 0 f) (point n 0 ∷ around) (end ∷ around) (walk-children marks only n 0 f around) (rw h refl) m)
 
   missed_own : (p : Point) (x : Node Content) (kids : Forest Content) (here : List Point) → (p.node == x.number) ≡ false → stands_at p here ≡ false → Misses p (child_tokens marks x.number 0 kids) (point x.number 0 ∷ here) → Misses p (own marks x kids) here
   missed_own p x kids here h s m =
@@ -116,21 +104,16 @@ module _ (marks : Point → List Token) (only : (p : Point) → AreMarks (marks 
   pub Misses-children : (p : Point) (n i : ℕ) (f : Forest Content) (around : List Point) → occurs p.node f ≡ 0 → ((j : ℕ) → i ≤ j → j < i + breadth f → same_point p (point n j) ≡ false) → Misses p (child_front marks n i f) (point n i ∷ around)
   Misses-children p n i empty around o h = tt
   Misses-children p n i (node x kids rest) around o h =
+      let here = point n i ∷ around in
       let e : suc i ≡ i + 1 = omega arith in
       let s : same_point p (point n i) ≡ false = h i (omega arith) (omega arith) in
-      elim (same_or p.node x.number) [
-        | same d t ↦ absurd (let t2 : (x.number == p.node) ≡ true = elim (same_or x.number p.node) [ same d2 u ↦ u | apart ne u ↦ absurd (ne (sym d)) ] in let k = rw t2 at o in omega arith)
-        | apart ne t ↦
-            let zk : occurs p.node kids ≡ 0 = omega arith in
-            let zr : occurs p.node rest ≡ 0 = omega arith in
-            Misses-append p (marks (point n i)) (own marks x kids ++ child_front marks n (suc i) rest) (point n i ∷ around) (Misses-marks p (marks (point n i)) (point n i ∷ around) (only (point n i)) s)
-            (subst (λ here. Misses p (own marks x kids ++ child_front marks n (suc i) rest) here) (sym (walk-marks (marks (point n i)) (point n i ∷ around) (only (point n i))))
-            (Misses-append p (own marks x kids) (child_front marks n (suc i) rest) (point n i ∷ around)
-            (missed_own p x kids (point n i ∷ around) t s
-            (front_then-missed p x.number kids (point n i ∷ around) t (Misses-children p x.number 0 kids (point n i ∷ around) zk (λ j a b. rw t refl))))
-            (subst (λ here. Misses p (child_front marks n (suc i) rest) here) (sym (walk-own marks only x kids (point n i ∷ around)))
-            (subst (λ k. Misses p (child_front marks n (suc i) rest) (point n k ∷ around)) e (Misses-children p n (suc i) rest around zr (λ j a b. h j (omega arith) (omega arith)))))))
-      ]
+      let t : (p.node == x.number) ≡ false = ne_eqb p.node x.number (λ d. absurd (let t2 = rw (eq-eqb x.number p.node (sym d)) at o in omega arith)) in
+      let kids_missed = front_then-missed p x.number kids here t (Misses-children p x.number 0 kids here (omega arith) (λ j a b. rw t refl)) in
+      Misses-append p (marks (point n i)) (own marks x kids ++ child_front marks n (suc i) rest) here (Misses-marks p (marks (point n i)) here (only (point n i)) s)
+      (rw (walk-marks (marks (point n i)) here (only (point n i)))
+      (Misses-append p (own marks x kids) (child_front marks n (suc i) rest) here (missed_own p x kids here t s kids_missed)
+      (rw (walk-own marks only x kids here)
+      (subst (λ k. Misses p (child_front marks n (suc i) rest) (point n k ∷ around)) e (Misses-children p n (suc i) rest around (omega arith) (λ j a b. h j (omega arith) (omega arith)))))))
 
   -- Without its markers a text is the one that has none.
 
@@ -145,18 +128,16 @@ module _ (marks : Point → List Token) (only : (p : Point) → AreMarks (marks 
   unmarked-units n i (u ∷ us) = unmarked-then (point n i) (OneUnit u ∷ unit_tokens marks n (suc i) us) ∙ ap (λ (ts : List Token). OneUnit u ∷ ts) (unmarked-units n (suc i) us)
 
   unmarked_inside : (x : Node Content) (kids : Forest Content) → unmarked (child_tokens marks x.number 0 kids) ≡ child_tokens no_marks x.number 0 kids → unmarked (inside marks x kids) ≡ inside no_marks x kids
-  unmarked_inside x kids h = go (is_character_data x.label.kind)
-    where
-      go : (v : Bool) → unmarked (if v then unit_tokens marks x.number 0 x.body.text else child_tokens marks x.number 0 kids) ≡ (if v then unit_tokens no_marks x.number 0 x.body.text else child_tokens no_marks x.number 0 kids)
-      go true = unmarked-units x.number 0 x.body.text
-      go false = h
+  unmarked_inside x kids h =
+      elim (cases_Bool (is_character_data x.label.kind)) [
+        | inl e ↦ rw e (unmarked-units x.number 0 x.body.text)
+        | inr e ↦ rw e h
+      ]
 
   unmarked_around : (x : Node Content) (kids : Forest Content) (ts us : List Token) → unmarked (child_tokens marks x.number 0 kids) ≡ child_tokens no_marks x.number 0 kids → unmarked ts ≡ us → unmarked (Open x.number ∷ (inside marks x kids ++ (Close ∷ ts))) ≡ Open x.number ∷ (inside no_marks x kids ++ (Close ∷ us))
   unmarked_around x kids ts us h k =
       ap (λ (vs : List Token). Open x.number ∷ vs)
-      (filter-append (λ t. not (is_mark t)) (inside marks x kids) (Close ∷ ts)
-      ∙ ap (λ (vs : List Token). vs ++ unmarked (Close ∷ ts)) (unmarked_inside x kids h)
-      ∙ ap (λ (vs : List Token). inside no_marks x kids ++ (Close ∷ vs)) k)
+      (filter-append (λ t. not (is_mark t)) (inside marks x kids) (Close ∷ ts) ∙ (rw (unmarked_inside x kids h, k) refl))
 
   pub unmarked-children : (n i : ℕ) (f : Forest Content) → unmarked (child_tokens marks n i f) ≡ child_tokens no_marks n i f
   unmarked-children n i empty = unmarked-one (point n i)
@@ -183,15 +164,15 @@ module _ (marks marks' : Point → List Token) where
   units-same n n' i i' (u ∷ us) h =
       rw (h i i' (omega arith) (omega arith) (omega arith), units-same n n' (suc i) (suc i') us (λ j j' e a b. h j j' (omega arith) (omega arith) (omega arith))) refl
 
-  same_inside : (x : Node Content) (kids : Forest Content) → ((j : ℕ) → marks' (point x.number j) ≡ marks (point x.number j)) → child_tokens marks' x.number 0 kids ≡ child_tokens marks x.number 0 kids → inside marks' x kids ≡ inside marks x kids
-  same_inside x kids h k = go (is_character_data x.label.kind)
-    where
-      go : (v : Bool) → (if v then unit_tokens marks' x.number 0 x.body.text else child_tokens marks' x.number 0 kids) ≡ (if v then unit_tokens marks x.number 0 x.body.text else child_tokens marks x.number 0 kids)
-      go true = units-same x.number x.number 0 0 x.body.text (λ j j' e a b. let d : j ≡ j' = omega arith in subst (λ l. marks' (point x.number l) ≡ marks (point x.number j)) d (h j))
-      go false = k
-
   within_same : (x : Node Content) → ((j : ℕ) → marks' (point x.number j) ≡ marks (point x.number j)) → (l : ℕ) (j j' : ℕ) → j' + 0 ≡ j + 0 → 0 ≤ j → j ≤ l → marks' (point x.number j') ≡ marks (point x.number j)
   within_same x h l j j' e a b = let d : j ≡ j' = omega arith in subst (λ m. marks' (point x.number m) ≡ marks (point x.number j)) d (h j)
+
+  same_inside : (x : Node Content) (kids : Forest Content) → ((j : ℕ) → marks' (point x.number j) ≡ marks (point x.number j)) → child_tokens marks' x.number 0 kids ≡ child_tokens marks x.number 0 kids → inside marks' x kids ≡ inside marks x kids
+  same_inside x kids h k =
+      elim (cases_Bool (is_character_data x.label.kind)) [
+        | inl e ↦ rw e (units-same x.number x.number 0 0 x.body.text (within_same x h (0 + length x.body.text)))
+        | inr e ↦ rw e k
+      ]
 
   at_top : (x : Node Content) (kids rest : Forest Content) → ((q : Point) → 0 < occurs q.node (node x kids rest) → marks' q ≡ marks q) → (j : ℕ) → marks' (point x.number j) ≡ marks (point x.number j)
   at_top x kids rest k j = k (point x.number j) (grind (arith, nat_tests))

@@ -1,16 +1,9 @@
 -- The gap of a point among a node's own tokens: what stands ahead of it, its markers, and what stands behind them.
-use Rattle.std.proofs.Common.{◌≡◌, ℕ, zero, suc, ◌+◌, ◌<◌, ◌≤◌, ◌==◌, Bool, true, false, ◌&&◌, if◌then◌else◌, List, [], ◌∷◌, ◌++◌, length, refl, ap, sym, ◌∙◌, subst, arith, append-nil}
-use Rattle.dom_model.specs.Forests.Kinds.{is_character_data}
-use Rattle.dom_model.specs.Forests.Forest.{Node, Forest, empty, node, occurs, one_at, beside}
-use Rattle.dom_model.specs.Worlds.World.{Content, Point}
-use Rattle.dom_model.specs.TokenText.Tokens.{Token, Open, Close, OneUnit, point, same_point, unit_tokens, child_tokens}
-use Rattle.dom_model.proofs.PlainLists.Numbers.{same_or, same, apart}
+use Rattle.std.proofs.Common.{◌≡◌, ℕ, zero, suc, ◌+◌, ◌<◌, ◌≤◌, ◌==◌, true, false, List, [], ◌∷◌, ◌++◌, length, refl, ap, sym, ◌∙◌, subst, arith, append-nil, inl, inr}
+use Rattle.std.proofs.lemmas.Bool.{and_right, and_left, ne_eqb, cases_Bool}
+use Rattle.dom_model.specs.Definitions.{is_character_data, Node, Forest, empty, node, occurs, one_at, beside, Content, Point, Token, Open, Close, OneUnit, point, same_point, unit_tokens, child_tokens}
 use Rattle.dom_model.proofs.Forests.Totals.{total-beside}
-use Rattle.dom_model.proofs.TokenText.Pieces.TokenLists.{AreMarks}
-use Rattle.dom_model.proofs.TokenText.Pieces.TextWalks.{walk, Misses}
-use Rattle.dom_model.proofs.TokenText.Pieces.TextParts.{breadth, inside, child_front, unit_front, child_tokens-beside, unit_tokens-append, walk-units, walk-children}
-use Rattle.dom_model.proofs.TokenText.Pieces.TextPieces.{Misses-units, Misses-children, unit_front-same, units-same, child_front-same, children-same, inside-same}
-use Rattle.dom_model.proofs.TokenText.Pieces.TextCounts.{measure_of}
+use Rattle.dom_model.proofs.TokenText.{Pieces.TokenLists.AreMarks, Pieces.TextWalks.walk, Pieces.TextWalks.Misses, Pieces.TextParts.breadth, Pieces.TextParts.inside, Pieces.TextParts.child_front, Pieces.TextParts.unit_front, Pieces.TextParts.child_tokens-beside, Pieces.TextParts.unit_tokens-append, Pieces.TextParts.walk-units, Pieces.TextParts.walk-children, Pieces.TextPieces.Misses-units, Pieces.TextPieces.Misses-children, Pieces.TextPieces.unit_front-same, Pieces.TextPieces.units-same, Pieces.TextPieces.child_front-same, Pieces.TextPieces.children-same, Pieces.TextPieces.inside-same, Pieces.TextCounts.measure_of}
 
 -- the units of a node from offset i on, without the markers in the gap ahead of them
 abbrev pub unit_back : (Point → List Token) → ℕ → ℕ → List ℕ → List Token
@@ -78,11 +71,7 @@ pub record Gap (marks : Point → List Token) (y : Node Content) (ys : Forest Co
   pub misses : (around : List Point) → Misses (point y.number o) front (point y.number 0 ∷ around)
 
 pub apart_offset : (n o j : ℕ) → (o ≡ j → ⊥) → same_point (point n o) (point n j) ≡ false
-apart_offset n o j h = elim (same_or o j) [ same e t ↦ absurd (h e) | apart ne t ↦ rw t (go (n == n)) ]
-  where
-    go : (v : Bool) → (v && false) ≡ false
-    go true = refl
-    go false = refl
+apart_offset n o j h = and_right (n == n) (o == j) (ne_eqb o j h)
 
 none_in_parts : (n o : ℕ) (f : Forest Content) (p : TreesParted o f) → occurs n f ≡ 0 → occurs n p.first + occurs n p.last ≡ 0
 none_in_parts n o f p z = sym (total-beside (one_at n) p.first p.last) ∙ sym (ap (occurs n) p.whole) ∙ z
@@ -94,7 +83,7 @@ pub last_none : (n o : ℕ) (f : Forest Content) (p : TreesParted o f) → occur
 last_none n o f p z = let b = none_in_parts n o f p z in omega arith
 
 pub apart_node : (n o : ℕ) (f : Forest Content) → occurs n f ≡ 0 → (q : Point) → 0 < occurs q.node f → same_point (point n o) q ≡ false
-apart_node n o f e q h = elim (same_or n q.node) [ same d t ↦ absurd (let k : occurs q.node f ≡ 0 = subst (λ m. occurs m f ≡ 0) d e in omega arith) | apart ne t ↦ rw t refl ]
+apart_node n o f e q h = and_left (n == q.node) (o == q.offset) (ne_eqb n q.node (λ d. absurd (let k : occurs q.node f ≡ 0 = subst (λ m. occurs m f ≡ 0) d e in omega arith)))
 
 module _ (marks : Point → List Token) (only : (p : Point) → AreMarks (marks p)) where
   abbrev pub gap_in_units : (y : Node Content) (ys : Forest Content) (o : ℕ) → is_character_data y.label.kind ≡ true → Parted o y.body.text → Gap marks y ys o
@@ -135,8 +124,8 @@ module _ (marks : Point → List Token) (only : (p : Point) → AreMarks (marks 
 
   -- each offset up to the measure has its gap
   pub gap_inside : (y : Node Content) (ys : Forest Content) (o : ℕ) → occurs y.number ys ≡ 0 → o ≤ measure_of y ys → Gap marks y ys o
-  gap_inside y ys o z h = go (is_character_data y.label.kind) refl h
-    where
-      go : (v : Bool) → is_character_data y.label.kind ≡ v → o ≤ (if v then length y.body.text else breadth ys) → Gap marks y ys o
-      go true e k = gap_in_units y ys o e (parted o y.body.text k)
-      go false e k = gap_in_children y ys o e z (trees_parted o ys k)
+  gap_inside y ys o z h =
+      elim (cases_Bool (is_character_data y.label.kind)) [
+        | inl e ↦ gap_in_units y ys o e (parted o y.body.text (rw e at h))
+        | inr e ↦ gap_in_children y ys o e z (trees_parted o ys (rw e at h))
+      ]

@@ -1,20 +1,8 @@
 -- A child of a node in the token texts: what stands around it.
 use Rattle.std.proofs.Common.{◌≡◌, ℕ, suc, ◌+◌, ◌<◌, ◌≤◌, ◌==◌, false, List, ◌∷◌, ◌++◌, refl, ap, sym, ◌∙◌, subst, arith, append_assoc}
-use Rattle.dom_model.specs.Forests.Kinds.{is_character_data}
-use Rattle.dom_model.specs.Forests.Forest.{Node, Forest, empty, node, occurs, one_at, beside, tree_at}
-use Rattle.dom_model.specs.Worlds.World.{Content, Point}
-use Rattle.dom_model.specs.TokenText.Tokens.{Token, Open, Close, is_open, point, child_tokens, token_texts}
-use Rattle.dom_model.specs.TokenText.Fitting.{Childless}
+use Rattle.dom_model.specs.Definitions.{is_character_data, Node, Forest, empty, node, occurs, one_at, beside, tree_at, Content, Point, Token, Open, Close, is_open, point, child_tokens, token_texts, Childless}
 use Rattle.dom_model.proofs.Forests.Totals.{total-beside, total-tree_at, beside-empty}
-use Rattle.dom_model.proofs.TokenText.Pieces.TokenLists.{opened, tally-append, AreMarks, opened-marks}
-use Rattle.dom_model.proofs.TokenText.Pieces.TextParts.{breadth, inside, child_front, child_tokens-front, child_tokens-beside}
-use Rattle.dom_model.proofs.TokenText.Pieces.TextCounts.{opened-children}
-use Rattle.dom_model.proofs.TokenText.Pieces.TextContexts.{Around, around_texts, no_data}
-use Rattle.dom_model.proofs.TokenText.Pieces.TextGaps.{Free, around-spells, around-free}
-use Rattle.dom_model.proofs.TokenText.AlikeTrees.TreesAlike.{Childless-tree_at}
-use Rattle.dom_model.proofs.TokenText.AlikeTrees.TreesWithin.{tree_within, tree_at-between}
-use Rattle.dom_model.proofs.TokenText.Marked.MarkedTexts.{not_inside, not_twice}
-use Rattle.dom_model.proofs.TokenText.Marked.GapOpened.{different, equal}
+use Rattle.dom_model.proofs.TokenText.{Pieces.TokenLists.opened, Pieces.TokenLists.tally-append, Pieces.TokenLists.AreMarks, Pieces.TokenLists.opened-marks, Pieces.TextParts.breadth, Pieces.TextParts.inside, Pieces.TextParts.child_front, Pieces.TextParts.child_tokens-front, Pieces.TextParts.child_tokens-beside, Pieces.TextCounts.opened-children, Pieces.TextContexts.Around, Pieces.TextContexts.around_texts, Pieces.TextContexts.no_data, Pieces.TextGaps.Free, Pieces.TextGaps.around-spells, Pieces.TextGaps.around-free, AlikeTrees.TreesAlike.Childless-tree_at, AlikeTrees.TreesWithin.tree_within, AlikeTrees.TreesWithin.tree_at-between, Marked.MarkedTexts.not_inside, Marked.MarkedTexts.not_twice, Marked.GapOpened.different, Marked.GapOpened.equal}
 
 Childless-first : (f g : Forest Content) → Childless (beside f g) → Childless f
 Childless-first empty g c = tt

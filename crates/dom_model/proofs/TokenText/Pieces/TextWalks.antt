@@ -1,8 +1,7 @@
 -- Walks over texts: what a walk comes to, where a point is missed, and how the edits of a gap and the search for a marker pass on.
-use Rattle.std.proofs.Common.{◌≡◌, ℕ, ◌+◌, ◌<◌, ◌==◌, Bool, true, false, if◌then◌else◌, List, [], ◌∷◌, ◌++◌, None, refl, ap, sym, ◌∙◌, arith}
-use Rattle.dom_model.specs.Worlds.World.{Point}
-use Rattle.dom_model.specs.TokenText.Tokens.{Token, Open, Close, OneUnit, Mark, is_mark_of, is_open, passed, stepped, stands_at, first_point, gap_of, at_gap, in_gap}
-use Rattle.dom_model.proofs.PlainLists.Numbers.{same_or, same, apart}
+use Rattle.std.proofs.Common.{◌≡◌, ℕ, ◌<◌, ◌==◌, Bool, true, false, List, [], ◌∷◌, ◌++◌, None, refl, ap, sym, arith, inl, inr}
+use Rattle.std.proofs.lemmas.Bool.{cases_Bool, ne_eqb, eqb-false}
+use Rattle.dom_model.specs.Definitions.{Point, Token, Open, Close, OneUnit, Mark, is_mark_of, is_open, passed, stepped, stands_at, first_point, gap_of, at_gap, in_gap}
 use Rattle.dom_model.proofs.TokenText.Pieces.TokenLists.{tallies, marked, opened, AreMarks, not-first, not-later, not-marked}
 
 -- the points that a walk over the tokens comes to
@@ -26,10 +25,8 @@ walk-append (x ∷ xs) ys here = walk-append xs ys (passed x here)
 
 pub walk-marks : (ms : List Token) (here : List Point) → AreMarks ms → walk ms here ≡ here
 walk-marks [] here h = refl
-walk-marks (Open n ∷ ms) here h = absurd h
-walk-marks (Close ∷ ms) here h = absurd h
-walk-marks (OneUnit u ∷ ms) here h = absurd h
 walk-marks (Mark r side ∷ ms) here h = walk-marks ms here h
+walk-marks (m ∷ ms) here h = absurd h
 
 pub Misses-append : (p : Point) (xs ys : List Token) (here : List Point) → Misses p xs here → Misses p ys (walk xs here) → Misses p (xs ++ ys) here
 Misses-append p [] ys here h k = k
@@ -37,10 +34,8 @@ Misses-append p (x ∷ xs) ys here h k = (h.0, Misses-append p xs ys (passed x h
 
 pub Misses-marks : (p : Point) (ms : List Token) (here : List Point) → AreMarks ms → stands_at p here ≡ false → Misses p ms here
 Misses-marks p [] here h k = tt
-Misses-marks p (Open n ∷ ms) here h k = absurd h
-Misses-marks p (Close ∷ ms) here h k = absurd h
-Misses-marks p (OneUnit u ∷ ms) here h k = absurd h
 Misses-marks p (Mark r side ∷ ms) here h k = (k, Misses-marks p ms here h k)
+Misses-marks p (m ∷ ms) here h k = absurd h
 
 pub at_gap-skips : (p : Point) (change : List Token → List Token) (xs ys : List Token) (here : List Point) → Misses p xs here → at_gap p change here (xs ++ ys) ≡ xs ++ at_gap p change (walk xs here) ys
 at_gap-skips p change [] ys here h = refl
@@ -59,19 +54,17 @@ gap_of-none r side (t ∷ ts) here h = rw (not-marked r side t ts h) (gap_of-non
 
 pub gap_of-marks : (r : ℕ) (side : Bool) (ms ts : List Token) (here : List Point) → AreMarks ms → 0 < marked r side ms → gap_of r side here (ms ++ ts) ≡ first_point here
 gap_of-marks r side [] ts here h k = absurd (omega arith)
-gap_of-marks r side (Open n ∷ ms) ts here h k = absurd h
-gap_of-marks r side (Close ∷ ms) ts here h k = absurd h
-gap_of-marks r side (OneUnit u ∷ ms) ts here h k = absurd h
-gap_of-marks r side (Mark q other ∷ ms) ts here h k = go (is_mark_of r side (Mark q other)) (λ l. gap_of-marks r side ms ts here h l) k
-  where
-    go : (v : Bool) → (0 < marked r side ms → gap_of r side here (ms ++ ts) ≡ first_point here) → 0 < (if v then 1 else 0) + marked r side ms → (if v then first_point here else gap_of r side here (ms ++ ts)) ≡ first_point here
-    go true i l = refl
-    go false i l = i (omega arith)
+gap_of-marks r side (Mark q other ∷ ms) ts here h k =
+    elim (cases_Bool (is_mark_of r side (Mark q other))) [
+      | inl e ↦ rw e refl
+      | inr e ↦ rw e (gap_of-marks r side ms ts here h (let l = rw e at k in omega arith))
+    ]
+gap_of-marks r side (m ∷ ms) ts here h k = absurd h
 
 -- Points of other nodes.
 
 pub turned : (m n : ℕ) → (m == n) ≡ false → (n == m) ≡ false
-turned m n h = elim (same_or n m) [ same e t ↦ absurd (let k : (m == n) ≡ true = elim (same_or m n) [ same d u ↦ u | apart ne u ↦ absurd (ne (sym e)) ] in let l : true ≡ false = sym k ∙ h in cc l) | apart ne t ↦ t ]
+turned m n h = ne_eqb n m (λ e. eqb-false m n h (sym e))
 
 Away-stepped : (n : ℕ) (here : List Point) → Away n here → Away n (stepped here)
 Away-stepped n [] h = tt
@@ -103,7 +96,4 @@ at_gap-all p change (t ∷ ts) here h = rw h.0 (ap (λ (us : List Token). t ∷ 
 -- texts that do not open the node stay
 pub in_gap-away : (p : Point) (change : List Token → List Token) (texts : List (List Token)) → tallies (is_open p.node) texts ≡ 0 → in_gap p change texts ≡ texts
 in_gap-away p change [] o = refl
-in_gap-away p change (text ∷ texts) o =
-    let a : opened p.node text ≡ 0 = omega arith in
-    let b : tallies (is_open p.node) texts ≡ 0 = omega arith in
-    rw (at_gap-all p change text [] (Misses-away p text [] a tt), in_gap-away p change texts b) refl
+in_gap-away p change (text ∷ texts) o = rw (at_gap-all p change text [] (Misses-away p text [] (omega arith) tt), in_gap-away p change texts (omega arith)) refl

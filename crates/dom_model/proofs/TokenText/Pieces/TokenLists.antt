@@ -1,8 +1,7 @@
 -- Lists of tokens: how many pass a test, lists of markers alone, and what the edits of a text do to markers ahead of other tokens.
-use Rattle.std.proofs.Common.{◌≡◌, ℕ, suc, ◌+◌, Bool, true, false, ◌||◌, if◌then◌else◌, List, [], ◌∷◌, ◌++◌, refl, ap, arith}
-use Rattle.std.specs.Prelude.{filter}
-use Rattle.dom_model.specs.TokenText.Tokens.{Token, Open, Close, OneUnit, Mark, is_mark_of, is_open, has_open, unmarked, marks_in, after_marks, units_out, through_close, past_close, open_out, seam_out, before_open, from_open}
-use Rattle.dom_model.proofs.PlainLists.Numbers.{same_or, same, apart}
+use Rattle.std.proofs.Common.{◌≡◌, ℕ, suc, ◌+◌, Bool, true, false, if◌then◌else◌, List, [], ◌∷◌, ◌++◌, refl, ap, ◌∙◌, arith, filter}
+use Rattle.std.proofs.lemmas.Bool.{cond_both, eq-eqb, or_right}
+use Rattle.dom_model.specs.Definitions.{Token, Open, Mark, is_mark_of, is_open, has_open, unmarked, marks_in, after_marks, units_out, through_close, past_close, open_out, seam_out, before_open, from_open}
 
 -- how many tokens pass the test
 abbrev pub tally : (Token → Bool) → List Token → ℕ
@@ -25,10 +24,8 @@ tallies test (text ∷ texts) = tally test text + tallies test texts
 -- the list has markers alone
 abbrev pub AreMarks : List Token → Type 0
 AreMarks [] = Unit {0}
-AreMarks (Open n ∷ ts) = ⊥
-AreMarks (Close ∷ ts) = ⊥
-AreMarks (OneUnit u ∷ ts) = ⊥
 AreMarks (Mark r side ∷ ts) = AreMarks ts
+AreMarks (t ∷ ts) = ⊥
 
 pub tally-append : (test : Token → Bool) (xs ys : List Token) → tally test (xs ++ ys) ≡ tally test xs + tally test ys
 tally-append test [] ys = omega arith
@@ -40,106 +37,74 @@ tallies-append test (x ∷ xs) ys = omega (arith, tallies-append test xs ys)
 
 pub AreMarks-append : (xs ys : List Token) → AreMarks xs → AreMarks ys → AreMarks (xs ++ ys)
 AreMarks-append [] ys h k = k
-AreMarks-append (Open n ∷ xs) ys h k = absurd h
-AreMarks-append (Close ∷ xs) ys h k = absurd h
-AreMarks-append (OneUnit u ∷ xs) ys h k = absurd h
 AreMarks-append (Mark r side ∷ xs) ys h k = AreMarks-append xs ys h k
+AreMarks-append (x ∷ xs) ys h k = absurd h
 
 pub AreMarks-marks_in : (ts : List Token) → AreMarks (marks_in ts)
 AreMarks-marks_in [] = tt
-AreMarks-marks_in (Open n ∷ ts) = AreMarks-marks_in ts
-AreMarks-marks_in (Close ∷ ts) = AreMarks-marks_in ts
-AreMarks-marks_in (OneUnit u ∷ ts) = AreMarks-marks_in ts
 AreMarks-marks_in (Mark r side ∷ ts) = AreMarks-marks_in ts
+AreMarks-marks_in (t ∷ ts) = AreMarks-marks_in ts
 
 pub AreMarks-filter : (test : Token → Bool) (ms : List Token) → AreMarks ms → AreMarks (filter test ms)
 AreMarks-filter test [] h = tt
-AreMarks-filter test (Open n ∷ ms) h = absurd h
-AreMarks-filter test (Close ∷ ms) h = absurd h
-AreMarks-filter test (OneUnit u ∷ ms) h = absurd h
-AreMarks-filter test (Mark r side ∷ ms) h = go (test (Mark r side)) (AreMarks-filter test ms h)
-  where
-    go : (v : Bool) → AreMarks (filter test ms) → AreMarks (if v then Mark r side ∷ filter test ms else filter test ms)
-    go true k = k
-    go false k = k
+AreMarks-filter test (Mark r side ∷ ms) h =
+    let k = AreMarks-filter test ms h in cond_both (test (Mark r side)) (Mark r side ∷ filter test ms) (filter test ms) AreMarks (λ e. k) (λ e. k)
+AreMarks-filter test (m ∷ ms) h = absurd h
 
 -- markers open nothing
 pub opened-marks : (n : ℕ) (ms : List Token) → AreMarks ms → opened n ms ≡ 0
 opened-marks n [] h = refl
-opened-marks n (Open m ∷ ms) h = absurd h
-opened-marks n (Close ∷ ms) h = absurd h
-opened-marks n (OneUnit u ∷ ms) h = absurd h
 opened-marks n (Mark r side ∷ ms) h = omega (arith, opened-marks n ms h)
+opened-marks n (m ∷ ms) h = absurd h
+
+-- what passes over each marker passes over markers alone, and what keeps each keeps all
+past-marks : {A : Type 0} (f : List Token → A) → ((r : ℕ) (side : Bool) (ts : List Token) → f (Mark r side ∷ ts) ≡ f ts) → (ms ts : List Token) → AreMarks ms → f (ms ++ ts) ≡ f ts
+past-marks f passes [] ts h = refl
+past-marks f passes (Mark r side ∷ ms) ts h = passes r side (ms ++ ts) ∙ past-marks f passes ms ts h
+past-marks f passes (m ∷ ms) ts h = absurd h
+
+kept-marks : (f : (List Token → List Token)) → ((r : ℕ) (side : Bool) (ts : List Token) → f (Mark r side ∷ ts) ≡ Mark r side ∷ f ts) → (ms ts : List Token) → AreMarks ms → f (ms ++ ts) ≡ ms ++ f ts
+kept-marks f keeps [] ts h = refl
+kept-marks f keeps (Mark r side ∷ ms) ts h = keeps r side (ms ++ ts) ∙ ap (λ (us : List Token). Mark r side ∷ us) (kept-marks f keeps ms ts h)
+kept-marks f keeps (m ∷ ms) ts h = absurd h
 
 pub unmarked-marks : (ms ts : List Token) → AreMarks ms → unmarked (ms ++ ts) ≡ unmarked ts
-unmarked-marks [] ts h = refl
-unmarked-marks (Open m ∷ ms) ts h = absurd h
-unmarked-marks (Close ∷ ms) ts h = absurd h
-unmarked-marks (OneUnit u ∷ ms) ts h = absurd h
-unmarked-marks (Mark r side ∷ ms) ts h = unmarked-marks ms ts h
+unmarked-marks ms ts h = past-marks unmarked (λ r side us. refl) ms ts h
 
 pub marks_in-marks : (ms : List Token) → AreMarks ms → marks_in ms ≡ ms
 marks_in-marks [] h = refl
-marks_in-marks (Open m ∷ ms) h = absurd h
-marks_in-marks (Close ∷ ms) h = absurd h
-marks_in-marks (OneUnit u ∷ ms) h = absurd h
 marks_in-marks (Mark r side ∷ ms) h = ap (λ (ts : List Token). Mark r side ∷ ts) (marks_in-marks ms h)
+marks_in-marks (m ∷ ms) h = absurd h
 
 -- the markers of a text are all that a count of them sees
 pub marked-marks_in : (r : ℕ) (side : Bool) (ts : List Token) → marked r side (marks_in ts) ≡ marked r side ts
 marked-marks_in r side [] = refl
-marked-marks_in r side (Open n ∷ ts) = omega (arith, marked-marks_in r side ts)
-marked-marks_in r side (Close ∷ ts) = omega (arith, marked-marks_in r side ts)
-marked-marks_in r side (OneUnit u ∷ ts) = omega (arith, marked-marks_in r side ts)
 marked-marks_in r side (Mark q other ∷ ts) = omega (arith, marked-marks_in r side ts)
+marked-marks_in r side (t ∷ ts) = omega (arith, marked-marks_in r side ts)
 
 -- What the edits of a text do to markers ahead of other tokens.
 
 pub after_marks-marks : (new ms ts : List Token) → AreMarks ms → after_marks new (ms ++ ts) ≡ ms ++ after_marks new ts
-after_marks-marks new [] ts h = refl
-after_marks-marks new (Open m ∷ ms) ts h = absurd h
-after_marks-marks new (Close ∷ ms) ts h = absurd h
-after_marks-marks new (OneUnit u ∷ ms) ts h = absurd h
-after_marks-marks new (Mark r side ∷ ms) ts h = ap (λ (us : List Token). Mark r side ∷ us) (after_marks-marks new ms ts h)
+after_marks-marks new ms ts h = kept-marks (after_marks new) (λ r side us. refl) ms ts h
 
 pub units_out-marks : (count : ℕ) (ms ts : List Token) → AreMarks ms → units_out (suc count) (ms ++ ts) ≡ ms ++ units_out (suc count) ts
-units_out-marks count [] ts h = refl
-units_out-marks count (Open m ∷ ms) ts h = absurd h
-units_out-marks count (Close ∷ ms) ts h = absurd h
-units_out-marks count (OneUnit u ∷ ms) ts h = absurd h
-units_out-marks count (Mark r side ∷ ms) ts h = ap (λ (us : List Token). Mark r side ∷ us) (units_out-marks count ms ts h)
+units_out-marks count ms ts h = kept-marks (units_out (suc count)) (λ r side us. refl) ms ts h
 
 pub units_out-none : (ts : List Token) → units_out 0 ts ≡ ts
 units_out-none [] = refl
 units_out-none (t ∷ ts) = refl
 
 pub through_close-marks : (depth : ℕ) (ms ts : List Token) → AreMarks ms → through_close depth (ms ++ ts) ≡ ms ++ through_close depth ts
-through_close-marks depth [] ts h = refl
-through_close-marks depth (Open m ∷ ms) ts h = absurd h
-through_close-marks depth (Close ∷ ms) ts h = absurd h
-through_close-marks depth (OneUnit u ∷ ms) ts h = absurd h
-through_close-marks depth (Mark r side ∷ ms) ts h = ap (λ (us : List Token). Mark r side ∷ us) (through_close-marks depth ms ts h)
+through_close-marks depth ms ts h = kept-marks (through_close depth) (λ r side us. refl) ms ts h
 
 pub past_close-marks : (depth : ℕ) (ms ts : List Token) → AreMarks ms → past_close depth (ms ++ ts) ≡ past_close depth ts
-past_close-marks depth [] ts h = refl
-past_close-marks depth (Open m ∷ ms) ts h = absurd h
-past_close-marks depth (Close ∷ ms) ts h = absurd h
-past_close-marks depth (OneUnit u ∷ ms) ts h = absurd h
-past_close-marks depth (Mark r side ∷ ms) ts h = past_close-marks depth ms ts h
+past_close-marks depth ms ts h = past-marks (past_close depth) (λ r side us. refl) ms ts h
 
 pub open_out-marks : (ms ts : List Token) → AreMarks ms → open_out (ms ++ ts) ≡ ms ++ open_out ts
-open_out-marks [] ts h = refl
-open_out-marks (Open m ∷ ms) ts h = absurd h
-open_out-marks (Close ∷ ms) ts h = absurd h
-open_out-marks (OneUnit u ∷ ms) ts h = absurd h
-open_out-marks (Mark r side ∷ ms) ts h = ap (λ (us : List Token). Mark r side ∷ us) (open_out-marks ms ts h)
+open_out-marks ms ts h = kept-marks open_out (λ r side us. refl) ms ts h
 
 pub seam_out-marks : (ms ts : List Token) → AreMarks ms → seam_out (ms ++ ts) ≡ ms ++ seam_out ts
-seam_out-marks [] ts h = refl
-seam_out-marks (Open m ∷ ms) ts h = absurd h
-seam_out-marks (Close ∷ ms) ts h = absurd h
-seam_out-marks (OneUnit u ∷ ms) ts h = absurd h
-seam_out-marks (Mark r side ∷ ms) ts h = ap (λ (us : List Token). Mark r side ∷ us) (seam_out-marks ms ts h)
+seam_out-marks ms ts h = kept-marks seam_out (λ r side us. refl) ms ts h
 
 -- Texts in which a number is not opened.
 
@@ -173,9 +138,5 @@ from_open-none n [] h = refl
 from_open-none n (t ∷ ts) h = rw (not-first n t ts h) (from_open-none n ts (not-later (is_open n) t ts h))
 
 pub has_open-there : (n : ℕ) (xs ys : List Token) → has_open n (xs ++ (Open n ∷ ys)) ≡ true
-has_open-there n [] ys = elim (same_or n n) [ same e t ↦ rw t refl | apart ne t ↦ absurd (ne refl) ]
-has_open-there n (x ∷ xs) ys = go (is_open n x) (has_open-there n xs ys)
-  where
-    go : (v : Bool) → has_open n (xs ++ (Open n ∷ ys)) ≡ true → (v || has_open n (xs ++ (Open n ∷ ys))) ≡ true
-    go true h = refl
-    go false h = h
+has_open-there n [] ys = rw (eq-eqb n n refl) refl
+has_open-there n (x ∷ xs) ys = or_right (is_open n x) (has_open n (xs ++ (Open n ∷ ys))) (has_open-there n xs ys)

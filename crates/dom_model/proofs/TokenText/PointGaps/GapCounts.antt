@@ -1,10 +1,7 @@
 -- A point has at most one gap in a tree whose numbers stand once, and what is ahead of the gap that it has.
-use Rattle.std.proofs.Common.{◌≡◌, ℕ, suc, ◌+◌, ◌<◌, ◌≤◌, ◌==◌, nat_le, Bool, true, false, if◌then◌else◌, List, [], ◌∷◌, ◌++◌, length, Option, Some, refl, ap, sym, ◌∙◌, subst, arith, append_assoc, length-append}
-use Rattle.std.proofs.lemmas.Bool.Decides.{nat_tests}
-use Rattle.dom_model.specs.Forests.Kinds.{is_character_data}
-use Rattle.dom_model.specs.Forests.Forest.{Node, Forest, empty, node, occurs, one_at}
-use Rattle.dom_model.specs.Worlds.World.{Content, Point}
-use Rattle.dom_model.specs.TokenText.Tokens.{point, same_point}
+use Rattle.std.proofs.Common.{◌≡◌, ℕ, suc, ◌+◌, ◌<◌, ◌≤◌, ◌==◌, nat_le, Bool, true, if◌then◌else◌, List, [], ◌∷◌, ◌++◌, length, Option, Some, refl, ap, sym, ◌∙◌, arith, append_assoc, length-append, inl, inr}
+use Rattle.std.proofs.lemmas.{Bool.Decides.nat_tests, Bool.cases_Bool, Bool.eq-eqb, Bool.ne_eqb, Bool.cond_both}
+use Rattle.dom_model.specs.Definitions.{is_character_data, Node, Forest, empty, node, occurs, one_at, Content, Point, point, same_point}
 use Rattle.dom_model.proofs.PlainLists.Numbers.{same_or, same, apart}
 use Rattle.dom_model.proofs.TokenText.PointGaps.GapWalk.{unit_gaps, child_gaps, tree_gaps, is_at, gaps_ahead, times}
 
@@ -38,15 +35,7 @@ pub at-within : (p : Point) (k : ℕ) (gs : List (Option Point)) → IsAt p k gs
 at-within p k gs i = omega (arith, ap (λ (xs : List (Option Point)). length xs) i.holds, length-append i.ahead (Some p ∷ i.behind), i.many)
 
 is_at-self : (p : Point) → is_at p (Some p) ≡ true
-is_at-self p =
-    elim (same_or p.node p.node) [
-      | same e t ↦
-          elim (same_or p.offset p.offset) [
-            | same d u ↦ rw (t, u) refl
-            | apart ne u ↦ absurd (ne refl)
-          ]
-      | apart ne t ↦ absurd (ne refl)
-    ]
+is_at-self p = rw (eq-eqb p.node p.node refl, eq-eqb p.offset p.offset refl) refl
 
 pub times-append : (p : Point) (xs ys : List (Option Point)) → times p (xs ++ ys) ≡ times p xs + times p ys
 times-append p [] ys = omega arith
@@ -54,11 +43,11 @@ times-append p (x ∷ xs) ys = omega (arith, times-append p xs ys)
 
 ahead-past : (p : Point) (ahead behind : List (Option Point)) → times p ahead ≡ 0 → gaps_ahead p (ahead ++ Some p ∷ behind) ≡ Some (length ahead)
 ahead-past p [] behind z = rw (is_at-self p) refl
-ahead-past p (g ∷ ahead) behind z = go (is_at p g) refl (λ h. ahead-past p ahead behind h)
-  where
-    go : (v : Bool) → is_at p g ≡ v → (times p ahead ≡ 0 → gaps_ahead p (ahead ++ Some p ∷ behind) ≡ Some (length ahead)) → gaps_ahead p (g ∷ (ahead ++ Some p ∷ behind)) ≡ Some (suc (length ahead))
-    go true e later = absurd (let k = rw e at z in omega arith)
-    go false e later = (let k = rw e at z in let h : times p ahead ≡ 0 = omega arith in rw (e, later h) refl)
+ahead-past p (g ∷ ahead) behind z =
+    elim (cases_Bool (is_at p g)) [
+      | inl e ↦ absurd (let k = rw e at z in omega arith)
+      | inr e ↦ (let k = rw e at z in rw (e, ahead-past p ahead behind (omega arith)) refl)
+    ]
 
 times-held : (p : Point) (k : ℕ) (gs : List (Option Point)) (i : IsAt p k gs) → times p gs ≡ times p i.ahead + (1 + times p i.behind)
 times-held p k gs i =
@@ -80,32 +69,19 @@ reach p n i = if n == p.node then (if nat_le i p.offset then 1 else 0) else 0
 reach-on : (p : Point) (n i : ℕ) → (if same_point p (point n i) then 1 else 0) + reach p n (i + 1) ≤ reach p n i
 reach-on p n i =
     elim (same_or n p.node) [
-      | same e t ↦
-          let u : (p.node == n) ≡ true = subst (λ m. (p.node == m) ≡ true) (sym e) (self p.node) in
-          elim (same_or p.offset i) [
-            | same d v ↦ rw (t, u, v) (grind (arith, nat_tests))
-            | apart ne v ↦ rw (t, u, v) (grind (arith, nat_tests))
-          ]
-      | apart ne t ↦
-          elim (same_or p.node n) [
-            | same d v ↦ absurd (ne (sym d))
-            | apart ne2 v ↦ rw (t, v) (omega arith)
-          ]
+      | same e t ↦ rw (t, eq-eqb p.node n (sym e)) (grind (arith, nat_tests))
+      | apart ne t ↦ rw (t, ne_eqb p.node n (λ d. ne (sym d))) (omega arith)
     ]
-  where
-    self : (m : ℕ) → (m == m) ≡ true
-    self m = elim (same_or m m) [ same e t ↦ t | apart ne t ↦ absurd (ne refl) ]
 
 times-units : (p : Point) (n i : ℕ) (units : List ℕ) → times p (unit_gaps n i units) ≤ reach p n i
 times-units p n i [] = omega (arith, reach-on p n i)
 times-units p n i (u ∷ units) = omega (arith, reach-on p n i, times-units p n (i + 1) units)
 
 times-inside : (p : Point) (x : Node Content) (kids : Forest Content) → times p (child_gaps x.number 0 kids) ≤ reach p x.number 0 + occurs p.node kids → times p (tree_gaps x kids) ≤ one_at p.node x.number + occurs p.node kids
-times-inside p x kids below = go (is_character_data x.label.kind)
-  where
-    go : (v : Bool) → times p (if v then unit_gaps x.number 0 x.body.text else child_gaps x.number 0 kids) ≤ one_at p.node x.number + occurs p.node kids
-    go true = let u = times-units p x.number 0 x.body.text in grind (arith, nat_tests)
-    go false = grind (arith, nat_tests)
+times-inside p x kids below =
+    let u = times-units p x.number 0 x.body.text in
+    cond_both (is_character_data x.label.kind) (unit_gaps x.number 0 x.body.text) (child_gaps x.number 0 kids)
+    (λ gs. times p gs ≤ one_at p.node x.number + occurs p.node kids) (λ e. grind (arith, nat_tests)) (λ e. grind (arith, nat_tests))
 
 times-children : (p : Point) (n i : ℕ) (f : Forest Content) → times p (child_gaps n i f) ≤ reach p n i + occurs p.node f
 times-children p n i empty = omega (arith, reach-on p n i)

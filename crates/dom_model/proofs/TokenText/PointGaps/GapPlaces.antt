@@ -1,15 +1,10 @@
 -- Where a point stands among the gaps of a tree: its place from there on, and how many gaps are ahead of its own.
 use Rattle.std.proofs.Common.{◌≡◌, ℕ, zero, suc, ◌+◌, ◌*◌, ◌<◌, ◌≤◌, true, false, List, [], ◌∷◌, ◌++◌, length, Some, refl, sym, ◌∙◌, subst, arith, ◌⊎◌, inl, inr}
-use Rattle.std.specs.Ordering.{nat_cmp}
-use Rattle.std.specs.Cmp.Lexicographic.{slice_cmp}
+use Rattle.std.specs.{Ordering.nat_cmp, Cmp.Lexicographic.slice_cmp}
 use Rattle.std.proofs.lemmas.Bool.{false≢true}
-use Rattle.dom_model.specs.Forests.Kinds.{is_character_data}
-use Rattle.dom_model.specs.Forests.Forest.{Node, Forest, empty, node}
-use Rattle.dom_model.specs.Worlds.World.{Content, Point}
-use Rattle.dom_model.specs.TokenText.Tokens.{point}
+use Rattle.dom_model.specs.Definitions.{is_character_data, Node, Forest, empty, node, Content, Point, point}
 use Rattle.dom_model.proofs.BoundaryPoints.PointOrder.{nat_cmp-same, nat_cmp-less, nat_cmp-greater, nat_cmp-kept, slice_cmp-one}
-use Rattle.dom_model.proofs.TokenText.PointGaps.GapWalk.{unit_gaps, child_gaps, tree_gaps}
-use Rattle.dom_model.proofs.TokenText.PointGaps.GapCounts.{IsAt, at-first, at-later, at-left, at-right, at-within}
+use Rattle.dom_model.proofs.TokenText.{PointGaps.GapWalk.unit_gaps, PointGaps.GapWalk.child_gaps, PointGaps.GapWalk.tree_gaps, PointGaps.GapCounts.IsAt, PointGaps.GapCounts.at-first, PointGaps.GapCounts.at-later, PointGaps.GapCounts.at-left, PointGaps.GapCounts.at-right, PointGaps.GapCounts.at-within}
 
 -- the point is the first one of a node from offset i on
 abbrev pub StartsAt : ℕ → ℕ → Point → List ℕ → ℕ → Type 0

@@ -1,54 +1,18 @@
 -- Each boundary point of a tree stands among the tree's gaps, at the place that it has in the tree.
-use Rattle.std.proofs.Common.{◌≡◌, ℕ, suc, ◌+◌, ◌*◌, ◌<◌, ◌≤◌, Bool, true, false, List, [], ◌∷◌, reverse, drop, length, Option, Some, refl, ap, sym, ◌∙◌, subst, arith, inl, inr, ⊎_elim}
-use Rattle.std.proofs.lemmas.Bool.{cases_lt, false≢true}
-use Rattle.dom_model.specs.declared.Kind.{Kind}
-use Rattle.dom_model.specs.declared.Kind.TheVariants.{Element, Text, ProcessingInstruction, Comment, Document, DocumentType, DocumentFragment}
-use Rattle.dom_model.specs.Forests.Kinds.{is_kind, is_character_data, may_be_parent, may_stand_in}
-use Rattle.dom_model.specs.Forests.Forest.{Node, Forest, empty, node, occurs, tops, entry_under, ancestors, KindsFit}
-use Rattle.dom_model.specs.Worlds.World.{Content}
-use Rattle.dom_model.specs.Worlds.Lengths.{length_of, length_in, unit_count}
-use Rattle.dom_model.specs.TokenText.Tokens.{point}
-use Rattle.dom_model.proofs.Forests.Chains.{way_to}
+use Rattle.std.proofs.Common.{◌≡◌, ℕ, suc, ◌+◌, ◌*◌, ◌<◌, ◌≤◌, Bool, true, false, List, [], ◌∷◌, reverse, drop, length, Option, Some, refl, ap, sym, ◌∙◌, subst, arith, inl, inr}
+use Rattle.std.proofs.lemmas.Bool.{cases_lt}
+use Rattle.dom_model.specs.Definitions.{is_kind, is_character_data, Node, Forest, empty, node, occurs, tops, entry_under, ancestors, KindsFit, Content, length_of, length_in, unit_count, point}
+use Rattle.dom_model.specs.declared.{Kind.Kind, Kind.TheVariants.DocumentType}
+use Rattle.dom_model.proofs.Soundness.SoundForests.{parent_no_data, parent_kind}
+use Rattle.dom_model.proofs.Forests.{Chains.way_to, Totals.occurs-kids, Climbing.ancestors-rest, Lots.lot, Lots.on_top, Lots.beneath, Lots.elsewhere, Lots.InTree, Lots.at_top, Lots.under_top, Lots.entry-top, Lots.entry-beneath, Lots.entry-elsewhere, Lots.ancestors-top, Lots.reverse-beneath, Lots.way-beneath, IndexedTrees.IsIndexed}
 use Rattle.dom_model.proofs.BoundaryPoints.WaysKept.{place_by}
-use Rattle.dom_model.proofs.Forests.Totals.{occurs-kids}
-use Rattle.dom_model.proofs.Forests.Climbing.{ancestors-rest}
-use Rattle.dom_model.proofs.Forests.Lots.{lot, on_top, beneath, elsewhere, InTree, at_top, under_top, entry-top, entry-beneath, entry-elsewhere, ancestors-top, reverse-beneath, way-beneath}
-use Rattle.dom_model.proofs.Forests.IndexedTrees.{IsIndexed}
-use Rattle.dom_model.proofs.TokenText.PointGaps.GapWalk.{tree_gaps}
-use Rattle.dom_model.proofs.TokenText.PointGaps.GapPlaces.{Stands, StandsInTree}
+use Rattle.dom_model.proofs.TokenText.{PointGaps.GapWalk.tree_gaps, PointGaps.GapPlaces.Stands, PointGaps.GapPlaces.StandsInTree}
 
 -- Only a node without data has children.
 
-is_document-parent : (k : Kind) → is_kind k Document ≡ true → may_be_parent k ≡ true
-is_document-parent Element h = refl
-is_document-parent Text h = absurd (false≢true h)
-is_document-parent ProcessingInstruction h = absurd (false≢true h)
-is_document-parent Comment h = absurd (false≢true h)
-is_document-parent Document h = refl
-is_document-parent DocumentType h = absurd (false≢true h)
-is_document-parent DocumentFragment h = refl
-
-parent-may : (k kind : Kind) → may_stand_in k kind ≡ true → may_be_parent k ≡ true
-parent-may k Element h = h
-parent-may k Text h = h
-parent-may k ProcessingInstruction h = h
-parent-may k Comment h = h
-parent-may k Document h = absurd (false≢true h)
-parent-may k DocumentType h = is_document-parent k h
-parent-may k DocumentFragment h = absurd (false≢true h)
-
-parent-no_data : (k : Kind) → may_be_parent k ≡ true → is_character_data k ≡ false
-parent-no_data Element h = refl
-parent-no_data Text h = absurd (false≢true h)
-parent-no_data ProcessingInstruction h = absurd (false≢true h)
-parent-no_data Comment h = absurd (false≢true h)
-parent-no_data Document h = refl
-parent-no_data DocumentType h = absurd (false≢true h)
-parent-no_data DocumentFragment h = refl
-
 above-no_data : (k : Kind) (n : ℕ) (kids : Forest Content) → KindsFit (Some k) kids → 0 < occurs n kids → is_character_data k ≡ false
 above-no_data k n empty fit h = absurd (omega arith)
-above-no_data k n (node y below rest) fit h = parent-no_data k (parent-may k y.label.kind fit.0)
+above-no_data k n (node y below rest) fit h = parent_no_data k (parent_kind k y.label.kind fit.0)
 
 -- A point of the node itself, from offset i on.
 own-points : (n i a : ℕ) (f : Forest Content) → i ≤ a → a ≤ i + length (tops f) → (k : ℕ) × Stands n i f (point n a) ((2 * a) ∷ []) k
@@ -56,14 +20,12 @@ own-points n i a empty low high =
     let e : a ≡ i = omega arith in
     (0, (ap (point n) e, ap (λ m. (2 * m) ∷ []) e, refl))
 own-points n i a (node x kids rest) low high =
-    ⊎_elim
-    (λ (lt : i < a).
-    let later = own-points n (i + 1) a rest (omega arith) (omega arith) in
-    (suc (length (tree_gaps x kids) + later.0), inr (inr (record { past = later.0; later = later.1; count_is = refl }))))
-    (λ (le : a ≤ i).
-    let e : a ≡ i = omega arith in
-    (0, inl (ap (point n) e, ap (λ m. (2 * m) ∷ []) e, refl)))
-    (cases_lt i a)
+    elim (cases_lt i a) [
+      | inl lt ↦
+          let later = own-points n (i + 1) a rest (omega arith) (omega arith) in
+          (suc (length (tree_gaps x kids) + later.0), inr (inr (record { past = later.0; later = later.1; count_is = refl })))
+      | inr le ↦ (let e : a ≡ i = omega arith in (0, inl (ap (point n) e, ap (λ m. (2 * m) ∷ []) e, refl)))
+    ]
 
 top-point : (q : Option ℕ) (x : Node Content) (kids : Forest Content) (a : ℕ) → a ≤ length_of unit_count (record { value = x; parent = q; children = tops kids }) → (k : ℕ) × StandsInTree x kids (point x.number a) ((2 * a) ∷ []) k
 top-point q x kids a h = go (is_character_data x.label.kind) refl (is_kind x.label.kind DocumentType) refl

@@ -1,10 +1,7 @@
 -- The gaps of a token text, as a walk comes to them: those of a tree, in the order of its children and units.
-use Rattle.std.proofs.Common.{◌≡◌, ℕ, suc, ◌+◌, Bool, true, false, if◌then◌else◌, List, [], ◌∷◌, ◌++◌, Option, Some, None, option_map, refl, ap, sym, ◌∙◌, append_assoc, append-nil}
-use Rattle.dom_model.specs.Forests.Kinds.{is_character_data}
-use Rattle.dom_model.specs.Forests.Forest.{Node, Forest, empty, node}
-use Rattle.dom_model.specs.Worlds.World.{Content, Point}
-use Rattle.dom_model.specs.TokenText.Tokens.{Token, Open, Close, point, same_point, no_marks, unit_tokens, inner_tokens, child_tokens, stepped, passed, first_point}
-use Rattle.dom_model.specs.TokenText.Gaps.{tokens_ahead, gap_count}
+use Rattle.std.proofs.Common.{◌≡◌, ℕ, suc, ◌+◌, Bool, false, if◌then◌else◌, List, [], ◌∷◌, ◌++◌, Option, Some, None, option_map, refl, ap, sym, ◌∙◌, append_assoc, append-nil, inl, inr}
+use Rattle.std.proofs.lemmas.Bool.{cases_Bool}
+use Rattle.dom_model.specs.Definitions.{is_character_data, Node, Forest, empty, node, Content, Point, Token, Open, Close, point, same_point, no_marks, unit_tokens, inner_tokens, child_tokens, stepped, passed, first_point, tokens_ahead, gap_count}
 
 -- the gaps ahead of each token of a text, as points; ahead of the open of a root there is none
 abbrev pub gaps : List Point → List Token → List (Option Point)
@@ -38,11 +35,11 @@ walk-units n i j [] around ts = refl
 walk-units n i j (u ∷ units) around ts = ap (λ gs. Some (point n i) ∷ gs) (walk-units n (i + 1) (suc j) units around ts)
 
 walk-tree : (x : Node Content) (kids : Forest Content) (around : List Point) (ts : List Token) → gaps (point x.number 0 ∷ around) (child_tokens no_marks x.number 0 kids ++ Close ∷ ts) ≡ child_gaps x.number 0 kids ++ gaps (stepped around) ts → gaps (point x.number 0 ∷ around) (tree_tokens x kids ++ Close ∷ ts) ≡ tree_gaps x kids ++ gaps (stepped around) ts
-walk-tree x kids around ts below = go (is_character_data x.label.kind)
-  where
-    go : (v : Bool) → gaps (point x.number 0 ∷ around) ((if v then unit_tokens no_marks x.number 0 x.body.text else child_tokens no_marks x.number 0 kids) ++ Close ∷ ts) ≡ (if v then unit_gaps x.number 0 x.body.text else child_gaps x.number 0 kids) ++ gaps (stepped around) ts
-    go true = walk-units x.number 0 0 x.body.text around ts
-    go false = below
+walk-tree x kids around ts below =
+    elim (cases_Bool (is_character_data x.label.kind)) [
+      | inl e ↦ rw e (walk-units x.number 0 0 x.body.text around ts)
+      | inr e ↦ rw e below
+    ]
 
 walk-children : (n i j : ℕ) (f : Forest Content) (around : List Point) (ts : List Token) → gaps (point n i ∷ around) (child_tokens no_marks n j f ++ Close ∷ ts) ≡ child_gaps n i f ++ gaps (stepped around) ts
 walk-children n i j empty around ts = refl

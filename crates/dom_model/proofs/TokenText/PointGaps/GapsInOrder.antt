@@ -1,24 +1,10 @@
 -- Each boundary point of a tree has one gap in the token text of its root, and points of one root stand as their gaps do.
 use Rattle.std.proofs.Common.{◌≡◌, ℕ, suc, ◌+◌, ◌<◌, ◌≤◌, ◌==◌, true, false, List, [], ◌∷◌, ◌++◌, reverse, drop, Some, None, option_map, refl, ap, sym, ◌∙◌, subst, arith}
-use Rattle.dom_model.specs.PlainLists.Lists.{hits}
-use Rattle.dom_model.specs.Forests.Forest.{Node, Forest, empty, node, occurs, one_at, tops, entry_under, root_of, index_of, KindsFit}
-use Rattle.dom_model.specs.Worlds.World.{Content, Point}
-use Rattle.dom_model.specs.BoundaryPoints.Points.{place_of, order_of}
-use Rattle.dom_model.specs.Worlds.Lengths.{length_in, node_length, unit_count}
-use Rattle.dom_model.specs.TokenText.Tokens.{Open, Close, point, no_marks, token_texts}
-use Rattle.dom_model.specs.TokenText.Gaps.{text_among, root_text, tokens_ahead, gap_count, gap_order}
+use Rattle.dom_model.specs.Definitions.{hits, Node, Forest, empty, node, occurs, one_at, tops, entry_under, root_of, index_of, KindsFit, Content, Point, place_of, order_of, length_in, node_length, unit_count, Open, Close, point, no_marks, token_texts, text_among, root_text, tokens_ahead, gap_count, gap_order}
 use Rattle.dom_model.proofs.PlainLists.Numbers.{same_or, same, apart}
-use Rattle.dom_model.proofs.Forests.Tops.{hits-tops}
-use Rattle.dom_model.proofs.Forests.Climbing.{ancestors-rest}
-use Rattle.dom_model.proofs.Forests.Chains.{way_to}
-use Rattle.dom_model.proofs.BoundaryPoints.WaysKept.{place_by}
-use Rattle.dom_model.proofs.BoundaryPoints.PointOrder.{nat_cmp-kept}
-use Rattle.dom_model.proofs.Forests.Lots.{lot, on_top, beneath, elsewhere, at_top, under_top, entry-elsewhere, root-top, root-elsewhere, root-listed}
-use Rattle.dom_model.proofs.Forests.IndexedTrees.{AreIndexed, indices}
-use Rattle.dom_model.proofs.TokenText.PointGaps.GapWalk.{tree_gaps, tree_tokens, gaps, gaps_ahead, times, walk-root, ahead-gaps, count-gaps}
-use Rattle.dom_model.proofs.TokenText.PointGaps.GapCounts.{at-once, times-tree}
-use Rattle.dom_model.proofs.TokenText.PointGaps.GapPlaces.{StandsInTree, at-tree, ordered-tree}
-use Rattle.dom_model.proofs.TokenText.PointGaps.GapPoints.{tree-points}
+use Rattle.dom_model.proofs.Forests.{Tops.hits-tops, Climbing.ancestors-rest, Chains.way_to, Lots.lot, Lots.on_top, Lots.beneath, Lots.elsewhere, Lots.at_top, Lots.under_top, Lots.entry-elsewhere, Lots.root-top, Lots.root-elsewhere, Lots.root-listed, IndexedTrees.AreIndexed, IndexedTrees.indices}
+use Rattle.dom_model.proofs.BoundaryPoints.{WaysKept.place_by, PointOrder.nat_cmp-kept}
+use Rattle.dom_model.proofs.TokenText.{PointGaps.GapWalk.tree_gaps, PointGaps.GapWalk.tree_tokens, PointGaps.GapWalk.gaps, PointGaps.GapWalk.gaps_ahead, PointGaps.GapWalk.times, PointGaps.GapWalk.walk-root, PointGaps.GapWalk.ahead-gaps, PointGaps.GapWalk.count-gaps, PointGaps.GapCounts.at-once, PointGaps.GapCounts.times-tree, PointGaps.GapPlaces.StandsInTree, PointGaps.GapPlaces.at-tree, PointGaps.GapPlaces.ordered-tree, PointGaps.GapPoints.tree-points}
 
 -- the tree of a root, its text, and where its points stand in it
 record RootTree (index : ℕ → ℕ) (root : ℕ) (f : Forest Content) : Type 0 where

@@ -1,11 +1,8 @@
 -- What comes in has a turn behind those of its node; a refusal leaves the turns.
-use Rattle.std.proofs.Common.{◌≡◌, ◌<◌, None, refl, ap, sym, ◌∙◌, subst}
-use Rattle.std.specs.Prelude.{slice_index_or, option_map}
+use Rattle.std.proofs.Common.{◌≡◌, ◌<◌, None, refl, ap, sym, ◌∙◌, subst, slice_index_or, option_map}
 use Rattle.std.specs.Option.{option_map_or}
-use Rattle.dom_observe.specs.Watchers.{on}
-use Rattle.dom_observe.specs.Registrations.{plain, at, listed}
-use Rattle.dom_observe.specs.Turns.{turn_at, Rises}
-use Rattle.dom_model.specs.PlainLists.Lists.{among}
+use Rattle.dom_observe.specs.{Watchers.on, Registrations.plain, Registrations.at, Registrations.listed, Turns.turn_at, Turns.Rises}
+use Rattle.dom_model.specs.Definitions.{among}
 use Rattle.dom_observe.proofs.Turns.{turns-slots, rising-added, rising-same}
 use Rattle.dom_observe.proofs.adding.add.Goals as goal
 

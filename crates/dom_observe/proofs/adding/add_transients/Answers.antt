@@ -1,27 +1,10 @@
 -- Each key gives the node one more transient registration, or none.
-use Rattle.std.proofs.Common.{◌≡◌, refl, List, if◌then◌else◌, ◌==◌, Bool, true, false, Some, None, option_map, take, ap, sym, ◌∙◌, subst}
-use Rattle.std.specs.Prelude.{slice_index_or, slice_set, filter_map}
+use Rattle.std.proofs.Common.{◌≡◌, refl, List, if◌then◌else◌, ◌==◌, Bool, true, false, Some, None, option_map, take, ap, sym, ◌∙◌, subst, slice_index_or, slice_set, filter_map}
 use Rattle.std.specs.List.{AllByRecursion}
-use Rattle.dom_observe.specs.Watchers.{on}
-use Rattle.dom_observe.specs.Registrations.{plain, at, found, listed, AllStand, HaveSources, Agree, transient_under, ByOrigin, IsPast}
-use Rattle.dom_observe.proofs.Agreeing.{agree-made, alone-made, agree-transient}
-use Rattle.dom_observe.specs.Naming.{NamesNone}
-use Rattle.dom_observe.proofs.Holding.{none-added, none-made}
-use Rattle.dom_observe.specs.Refused.{IsFront}
-use Rattle.dom_observe.specs.Kept.{has_queue, IsIndexed}
-use Rattle.dom_observe.specs.Roster.{passing_by, queues_by}
-use Rattle.dom_observe.proofs.Hearing.{last-there}
-use Rattle.dom_observe.proofs.Indexing.{indexed-pended, indexed-transient, made-transient}
-use Rattle.dom_observe.proofs.Rosters.{has-kept, within-passing, passing-there, passing-set, passing-same, lasting-same, queues-same}
-use Rattle.dom_model.specs.PlainLists.LastOnce.{with_last}
-use Rattle.dom_observe.specs.Origins.{NotesIfAny, AlsoNotes}
-use Rattle.dom_observe.proofs.Noting.{noted-added}
-use Rattle.dom_observe.proofs.Owning.{placed-added}
-use Rattle.dom_observe.proofs.Refusing.{front-same, front-added, elsewhere-same}
-use Rattle.dom_observe.proofs.Sources.{sources-added, source-made}
-use Rattle.dom_observe.proofs.Tables.{alike_self, turn-none, turn-added, turn-alike, turn-stands, all_live-added}
+use Rattle.dom_observe.specs.{Watchers.on, Registrations.plain, Registrations.at, Registrations.found, Registrations.listed, Registrations.AllStand, Registrations.HaveSources, Registrations.Agree, Registrations.transient_under, Registrations.ByOrigin, Registrations.IsPast, Naming.NamesNone, Refused.IsFront, Kept.has_queue, Kept.IsIndexed, Roster.passing_by, Roster.queues_by, Origins.NotesIfAny, Origins.AlsoNotes}
+use Rattle.dom_observe.proofs.{Agreeing.agree-made, Agreeing.alone-made, Agreeing.agree-transient, Holding.none-added, Holding.none-made, Hearing.last-there, Indexing.indexed-pended, Indexing.indexed-transient, Indexing.made-transient, Rosters.has-kept, Rosters.within-passing, Rosters.passing-there, Rosters.passing-set, Rosters.passing-same, Rosters.lasting-same, Rosters.queues-same, Noting.noted-added, Owning.placed-added, Refusing.front-same, Refusing.front-added, Refusing.elsewhere-same, Sources.sources-added, Sources.source-made, Tables.alike_self, Tables.turn-none, Tables.turn-added, Tables.turn-alike, Tables.turn-stands, Tables.all_live-added, adding.add_transients.Goals.in-Some+in_ok-note+in_ok-pend+in_ok-add, adding.add_transients.Goals.in_default}
+use Rattle.dom_model.specs.Definitions.{with_last}
 use Rattle.dom_observe.proofs.adding.add_transients.Goals as goal
-use Rattle.dom_observe.proofs.adding.add_transients.Goals.{in-Some+in_ok-note+in_ok-pend+in_ok-add, in_default}
 
 nothing_yet : {A : Type 0} (b : Bool) (rs : List A) → rs ≡ (if b then rs else rs)
 nothing_yet true rs = refl

@@ -2,13 +2,7 @@
 use Rattle.std.proofs.Common.{◌≡◌, ℕ, Bool, List, nat_eq, take, false}
 use Rattle.std.specs.List.{AllByRecursion}
 use Rattle.indexmap.specs.IndexMap.{IsUnique}
-use Rattle.dom_observe.specs.Watchers.{on}
-use Rattle.dom_observe.specs.Kept.{IsIndexed}
-use Rattle.dom_observe.specs.Roster.{lasting_by, passing_by, queues_by}
-use Rattle.dom_observe.specs.Naming.{names_one, NamesNone}
-use Rattle.dom_observe.specs.Origins.{NotesIfAny}
-use Rattle.dom_observe.specs.Registrations.{at, found, listed, AllLive, Stands, AllStand, HaveKeys, Placed, HaveSources, Agree, with_added_transients}
-use Rattle.dom_observe.specs.Turns.{Rising}
+use Rattle.dom_observe.specs.{Watchers.on, Kept.IsIndexed, Roster.lasting_by, Roster.passing_by, Roster.queues_by, Naming.names_one, Naming.NamesNone, Origins.NotesIfAny, Registrations.at, Registrations.found, Registrations.listed, Registrations.AllLive, Registrations.Stands, Registrations.AllStand, Registrations.HaveKeys, Registrations.Placed, Registrations.HaveSources, Registrations.Agree, Registrations.with_added_transients, Turns.Rising}
 use Rattle.dom_observe.proofs.adding.add_transients.Given as goal
 
 abbrev pub invariant-loop-key : goal.invariant-loop-key

@@ -1,16 +1,10 @@
 -- Each step goes to the parent, which has fewer ancestors.
-use Rattle.std.proofs.Common.{sym, ◌∙◌, ap, subst, append-nil, ◌++◌, []}
-use Rattle.std.specs.Prelude.{flat_map}
-use Rattle.dom_model.specs.Forests.Forest.{HasNode, ancestors}
-use Rattle.dom_model.proofs.Forests.Entries.{occurs-HasNode}
-use Rattle.dom_model.proofs.Forests.Paths.{root-path}
-use Rattle.dom_model.proofs.Forests.Above.{above}
-use Rattle.dom_model.proofs.Forests.ToTheRoot.{shorter}
+use Rattle.std.proofs.Common.{sym, ◌∙◌, ap, subst, append-nil, ◌++◌, [], flat_map}
+use Rattle.dom_model.specs.Definitions.{HasNode, ancestors}
+use Rattle.dom_model.proofs.Forests.{Entries.occurs-HasNode, Paths.root-path, Above.above, ToTheRoot.shorter}
 use Rattle.dom_tree.specs.Spots.{node_at}
-use Rattle.dom_observe.specs.Watchers.{on}
-use Rattle.dom_observe.specs.Registrations.{listed}
-use Rattle.dom_observe.proofs.Climbing.{parent-told}
-use Rattle.dom_observe.proofs.Tables.{climbed}
+use Rattle.dom_observe.specs.{Watchers.on, Registrations.listed}
+use Rattle.dom_observe.proofs.{Climbing.parent-told, Tables.climbed}
 use Rattle.dom_observe.proofs.adding.find_standing.Goals as goal
 
 pub at-here-requires : goal.at-here-requires

@@ -1,9 +1,7 @@
 -- The keys so far and those of the nodes from here on are those of all the ancestors.
-use Rattle.std.proofs.Common.{◌≡◌, ◌++◌, length}
-use Rattle.std.specs.Prelude.{flat_map}
-use Rattle.dom_model.specs.Forests.Forest.{HasNode, ancestors}
-use Rattle.dom_observe.specs.Watchers.{on}
-use Rattle.dom_observe.specs.Registrations.{listed}
+use Rattle.std.proofs.Common.{◌≡◌, ◌++◌, length, flat_map}
+use Rattle.dom_model.specs.Definitions.{HasNode, ancestors}
+use Rattle.dom_observe.specs.{Watchers.on, Registrations.listed}
 use Rattle.dom_observe.proofs.adding.find_standing.Given as goal
 
 abbrev pub invariant-loop-here : goal.invariant-loop-here

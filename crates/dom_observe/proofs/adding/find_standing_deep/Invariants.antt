@@ -1,9 +1,7 @@
 -- The keys so far and the keys with subtree of the nodes from here on are those of all the ancestors.
-use Rattle.std.proofs.Common.{◌≡◌, ◌++◌, filter, length}
-use Rattle.std.specs.Prelude.{flat_map}
-use Rattle.dom_model.specs.Forests.Forest.{HasNode, ancestors}
-use Rattle.dom_observe.specs.Watchers.{on}
-use Rattle.dom_observe.specs.Registrations.{at, listed, deep_at}
+use Rattle.std.proofs.Common.{◌≡◌, ◌++◌, filter, length, flat_map}
+use Rattle.dom_model.specs.Definitions.{HasNode, ancestors}
+use Rattle.dom_observe.specs.{Watchers.on, Registrations.at, Registrations.listed, Registrations.deep_at}
 use Rattle.dom_observe.proofs.adding.find_standing_deep.Given as goal
 
 abbrev pub invariant-loop-here : goal.invariant-loop-here

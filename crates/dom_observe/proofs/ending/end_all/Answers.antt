@@ -1,13 +1,8 @@
 -- Both lists are gone through, and nothing is left of either.
-use Rattle.std.proofs.Common.{if◌then◌else◌, ap, sym, ◌∙◌}
-use Rattle.std.specs.Prelude.{is_none, is_some}
-use Rattle.dom_model.specs.Worlds.World.{Registration}
-use Rattle.dom_observe.specs.declared.registration.Ended.TheVariants.{Of}
-use Rattle.dom_observe.specs.Watchers.{on}
-use Rattle.dom_observe.specs.Registrations.{at, listed, is_live, left_by}
-use Rattle.dom_observe.proofs.EndedOnes.{filter_none, stays_by, swept-two}
-use Rattle.dom_observe.proofs.Owning.{left-of, none-left_of, passing-left_of}
-use Rattle.dom_observe.proofs.Turns.{fewer-two, rising-swept}
+use Rattle.std.proofs.Common.{if◌then◌else◌, ap, sym, ◌∙◌, is_none, is_some}
+use Rattle.dom_model.specs.Definitions.{Registration}
+use Rattle.dom_observe.specs.{declared.registration.Ended.TheVariants.Of, Watchers.on, Registrations.at, Registrations.listed, Registrations.is_live, Registrations.left_by}
+use Rattle.dom_observe.proofs.{EndedOnes.filter_none, EndedOnes.stays_by, EndedOnes.swept-two, Owning.left-of, Owning.none-left_of, Owning.passing-left_of, Turns.fewer-two, Turns.rising-swept}
 use Rattle.dom_observe.proofs.ending.end_all.Goals as goal
 
 pub end_own-requires-2-clause-owned : goal.end_own-requires-2-clause-owned

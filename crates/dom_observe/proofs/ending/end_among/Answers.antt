@@ -1,14 +1,9 @@
 -- One more key is gone through, with all that end on its node.
-use Rattle.std.proofs.Common.{◌≡◌, None, Some, refl, ap, sym, ◌∙◌, inl, arith}
-use Rattle.std.specs.Prelude.{slice_index_or}
-use Rattle.dom_model.specs.PlainLists.Lists.{among}
-use Rattle.dom_observe.specs.Watchers.{on}
-use Rattle.dom_observe.specs.Registrations.{at, listed, ending_node}
-use Rattle.dom_observe.proofs.EndedOnes.{swept-none, swept-two, placed-left}
-use Rattle.dom_observe.proofs.NodeByNode.{between-two, done-now, ends-none, done-next, on-between, on-or_gone, on-done, on-swept, take-whole}
-use Rattle.dom_observe.proofs.Turns.{fewer-two}
+use Rattle.std.proofs.Common.{◌≡◌, None, Some, refl, ap, sym, ◌∙◌, inl, arith, slice_index_or}
+use Rattle.dom_model.specs.Definitions.{among}
+use Rattle.dom_observe.specs.{Watchers.on, Registrations.at, Registrations.listed, Registrations.ending_node}
+use Rattle.dom_observe.proofs.{EndedOnes.swept-none, EndedOnes.swept-two, EndedOnes.placed-left, NodeByNode.between-two, NodeByNode.done-now, NodeByNode.ends-none, NodeByNode.done-next, NodeByNode.on-between, NodeByNode.on-or_gone, NodeByNode.on-done, NodeByNode.on-swept, NodeByNode.take-whole, Turns.fewer-two, ending.end_among.Goals.in-Some, ending.end_among.Goals.in_default}
 use Rattle.dom_observe.proofs.ending.end_among.Goals as goal
-use Rattle.dom_observe.proofs.ending.end_among.Goals.{in-Some, in_default}
 
 pub loop-key-init : goal.loop-key-init
 loop-key-init c = record {

@@ -1,14 +1,9 @@
 -- One more key is gone through.
-use Rattle.std.proofs.Common.{◌≡◌, None, Some, refl, ap, sym, ◌∙◌, inl, arith}
-use Rattle.std.specs.Prelude.{slice_index_or}
-use Rattle.dom_model.specs.PlainLists.Lists.{among}
-use Rattle.dom_observe.specs.Watchers.{on}
-use Rattle.dom_observe.specs.Registrations.{at, listed, ending_node}
-use Rattle.dom_observe.proofs.EndedOnes.{swept-none, swept-two, placed-left}
-use Rattle.dom_observe.proofs.NodeByNode.{between-two, done-now, ends-none, ends-here, done-next, one-ends, one-between, one-or_gone, take-whole}
-use Rattle.dom_observe.proofs.Turns.{fewer-two, rising-swept}
+use Rattle.std.proofs.Common.{◌≡◌, None, Some, refl, ap, sym, ◌∙◌, inl, arith, slice_index_or}
+use Rattle.dom_model.specs.Definitions.{among}
+use Rattle.dom_observe.specs.{Watchers.on, Registrations.at, Registrations.listed, Registrations.ending_node}
+use Rattle.dom_observe.proofs.{EndedOnes.swept-none, EndedOnes.swept-two, EndedOnes.placed-left, NodeByNode.between-two, NodeByNode.done-now, NodeByNode.ends-none, NodeByNode.ends-here, NodeByNode.done-next, NodeByNode.one-ends, NodeByNode.one-between, NodeByNode.one-or_gone, NodeByNode.take-whole, Turns.fewer-two, Turns.rising-swept, ending.end_each.Goals.in-Some, ending.end_each.Goals.in_default}
 use Rattle.dom_observe.proofs.ending.end_each.Goals as goal
-use Rattle.dom_observe.proofs.ending.end_each.Goals.{in-Some, in_default}
 
 pub loop-key-init : goal.loop-key-init
 loop-key-init c = record {

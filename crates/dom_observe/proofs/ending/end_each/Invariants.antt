@@ -1,10 +1,8 @@
 -- What stands under the first keys is gone through.
 use Rattle.std.proofs.Common.{◌≡◌, ℕ, true, filter, take, nat_eq}
 use Rattle.indexmap.specs.IndexMap.{IsUnique}
-use Rattle.dom_model.specs.PlainLists.Lists.{among}
-use Rattle.dom_observe.specs.Watchers.{on}
-use Rattle.dom_observe.specs.Registrations.{at, listed, is_live, left_after, Between, Placed, HaveKeys}
-use Rattle.dom_observe.specs.Turns.{Rising, Fewer}
+use Rattle.dom_model.specs.Definitions.{among}
+use Rattle.dom_observe.specs.{Watchers.on, Registrations.at, Registrations.listed, Registrations.is_live, Registrations.left_after, Registrations.Between, Registrations.Placed, Registrations.HaveKeys, Turns.Rising, Turns.Fewer}
 use Rattle.dom_observe.proofs.ending.end_each.Given as goal
 
 abbrev pub invariant-loop-key : goal.invariant-loop-key

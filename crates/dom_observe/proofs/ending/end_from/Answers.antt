@@ -1,10 +1,8 @@
 -- Only the keys between two places are gone through, and those are all that end.
 use Rattle.std.proofs.Common.{◌≡◌, ◌++◌, take, drop, ap, sym, ◌∙◌, subst}
-use Rattle.dom_model.specs.PlainLists.Lists.{among}
+use Rattle.dom_model.specs.Definitions.{among}
 use Rattle.dom_observe.specs.Registrations.{at, ByOrigin, IsFirstFrom, IsPast}
-use Rattle.dom_observe.proofs.EndedFrom.{all_from, drop-two, whole-rest, whole-part, from-done, from-keys}
-use Rattle.dom_observe.proofs.NodeByNode.{all-done}
-use Rattle.dom_observe.proofs.Ordered.{ordered-drop}
+use Rattle.dom_observe.proofs.{EndedFrom.all_from, EndedFrom.drop-two, EndedFrom.whole-rest, EndedFrom.whole-part, EndedFrom.from-done, EndedFrom.from-keys, NodeByNode.all-done, Ordered.ordered-drop}
 use Rattle.dom_observe.proofs.ending.end_from.Goals as goal
 
 pub returns-clause-left : goal.returns-clause-left

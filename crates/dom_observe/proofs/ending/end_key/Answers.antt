@@ -1,9 +1,7 @@
 -- The key goes from its place, and what stood under it.
-use Rattle.std.proofs.Common.{◌==◌, not, filter, ap, sym, ◌∙◌}
-use Rattle.std.specs.Prelude.{remove}
+use Rattle.std.proofs.Common.{◌==◌, not, filter, ap, sym, ◌∙◌, remove}
 use Rattle.dom_observe.specs.Registrations.{at}
-use Rattle.dom_observe.proofs.NodeByNode.{one-kept}
-use Rattle.dom_observe.proofs.Turns.{fewer-one, one-left}
+use Rattle.dom_observe.proofs.{NodeByNode.one-kept, Turns.fewer-one, Turns.one-left}
 use Rattle.dom_observe.proofs.ending.end_key.Goals as goal
 
 pub returns-clause-fewer : goal.returns-clause-fewer

@@ -2,10 +2,8 @@
 use Rattle.std.proofs.Common.{◌≡◌, ◌==◌, [], option_map, if◌then◌else◌, Some, None, filter, ap, sym, ◌∙◌, subst, nat_eq}
 use Rattle.std.specs.Map.{lookup}
 use Rattle.std.proofs.lemmas.Bool.{true≢false}
-use Rattle.dom_model.specs.PlainLists.Lists.{among}
-use Rattle.dom_observe.specs.Watchers.{on}
-use Rattle.dom_observe.specs.Registrations.{at, listed, is_live, AllLive}
-use Rattle.dom_observe.specs.Turns.{turn_at, Rises}
+use Rattle.dom_model.specs.Definitions.{among}
+use Rattle.dom_observe.specs.{Watchers.on, Registrations.at, Registrations.listed, Registrations.is_live, Registrations.AllLive, Turns.turn_at, Turns.Rises}
 use Rattle.dom_observe.proofs.Keys.{items_in, on-lookup, looked-listed, taken-on, taken-others, taken-bare, taken-some, taken-absent}
 use Rattle.dom_observe.proofs.ending.end_key_on.Goals as goal
 

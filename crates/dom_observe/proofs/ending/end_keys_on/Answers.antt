@@ -1,9 +1,8 @@
 -- The node has the keys under which something is left.
 use Rattle.std.proofs.Common.{◌≡◌, ◌==◌, [], option_map, if◌then◌else◌, Some, None, filter, ap, sym, ◌∙◌, nat_eq}
 use Rattle.std.specs.Map.{lookup}
-use Rattle.dom_model.specs.PlainLists.Lists.{among}
-use Rattle.dom_observe.specs.Watchers.{on}
-use Rattle.dom_observe.specs.Registrations.{at, listed, is_live, left_after}
+use Rattle.dom_model.specs.Definitions.{among}
+use Rattle.dom_observe.specs.{Watchers.on, Registrations.at, Registrations.listed, Registrations.is_live, Registrations.left_after}
 use Rattle.dom_observe.proofs.Keys.{items_in, on-lookup, looked-listed, taken-on, taken-others, taken-bare, taken-some, taken-absent}
 use Rattle.dom_observe.proofs.ending.end_keys_on.Goals as goal
 

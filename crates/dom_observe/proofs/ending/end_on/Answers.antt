@@ -1,7 +1,6 @@
 -- A node without keys goes.
 use Rattle.std.proofs.Common.{ap, sym, ◌∙◌}
-use Rattle.dom_observe.specs.Watchers.{on}
-use Rattle.dom_observe.specs.Registrations.{listed}
+use Rattle.dom_observe.specs.{Watchers.on, Registrations.listed}
 use Rattle.dom_observe.proofs.Keys.{gone-on, gone-full, still-full}
 use Rattle.dom_observe.proofs.ending.end_on.Goals as goal
 

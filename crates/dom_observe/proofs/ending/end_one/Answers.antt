@@ -1,9 +1,7 @@
 -- A node without keys goes.
 use Rattle.std.proofs.Common.{ap, sym, ◌∙◌}
-use Rattle.dom_observe.specs.Watchers.{on}
-use Rattle.dom_observe.specs.Registrations.{at, listed}
-use Rattle.dom_observe.proofs.Keys.{gone-on, gone-full, still-full}
-use Rattle.dom_observe.proofs.NodeByNode.{one-swept, all_live-placed}
+use Rattle.dom_observe.specs.{Watchers.on, Registrations.at, Registrations.listed}
+use Rattle.dom_observe.proofs.{Keys.gone-on, Keys.gone-full, Keys.still-full, NodeByNode.one-swept, NodeByNode.all_live-placed}
 use Rattle.dom_observe.proofs.ending.end_one.Goals as goal
 
 pub returns-then-end_key_on-clause-swept : goal.returns-then-end_key_on-clause-swept

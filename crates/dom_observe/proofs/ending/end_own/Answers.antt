@@ -1,6 +1,6 @@
 -- Of what ends, the observer's own is all.
 use Rattle.std.proofs.Common.{ap, ◌∙◌}
-use Rattle.dom_model.specs.PlainLists.Lists.{among}
+use Rattle.dom_model.specs.Definitions.{among}
 use Rattle.dom_observe.specs.Registrations.{at}
 use Rattle.dom_observe.proofs.NodeByNode.{all-done}
 use Rattle.dom_observe.proofs.ending.end_own.Goals as goal

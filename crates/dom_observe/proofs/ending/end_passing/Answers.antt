@@ -1,19 +1,9 @@
 -- The keys of the next observer are gone through.
-use Rattle.std.proofs.Common.{◌≡◌, ℕ, suc, ◌+◌, true, [], Some, None, take, refl, ap, sym, ◌∙◌, inl, option_copied, arith}
-use Rattle.std.specs.Prelude.{slice_get, slice_index_or}
-use Rattle.dom_model.specs.PlainLists.Lists.{among}
-use Rattle.dom_observe.specs.Watchers.{on}
-use Rattle.dom_observe.specs.Registrations.{at, listed}
-use Rattle.dom_observe.specs.Kept.{has_queue}
-use Rattle.dom_observe.specs.Roster.{passing_by, queues_by}
-use Rattle.dom_observe.proofs.EndedOnes.{swept-none, swept-two, at-get, among-last}
-use Rattle.dom_observe.proofs.Gathered.{take-next}
-use Rattle.dom_observe.proofs.Hearing.{take-none}
-use Rattle.dom_observe.proofs.NodeByNode.{every_transient, between-two, between-gone, done-more, take-whole, transients-gone}
-use Rattle.dom_observe.proofs.Rosters.{has-kept, passing-there}
-use Rattle.dom_observe.proofs.Turns.{fewer-two}
+use Rattle.std.proofs.Common.{◌≡◌, ℕ, suc, ◌+◌, true, [], Some, None, take, refl, ap, sym, ◌∙◌, inl, option_copied, arith, slice_get, slice_index_or}
+use Rattle.dom_model.specs.Definitions.{among}
+use Rattle.dom_observe.specs.{Watchers.on, Registrations.at, Registrations.listed, Kept.has_queue, Roster.passing_by, Roster.queues_by}
+use Rattle.dom_observe.proofs.{EndedOnes.swept-none, EndedOnes.swept-two, EndedOnes.at-get, EndedOnes.among-last, Gathered.take-next, Hearing.take-none, NodeByNode.every_transient, NodeByNode.between-two, NodeByNode.between-gone, NodeByNode.done-more, NodeByNode.take-whole, NodeByNode.transients-gone, Rosters.has-kept, Rosters.passing-there, Turns.fewer-two, ending.end_passing.Goals.in-Some, ending.end_passing.Goals.in_default}
 use Rattle.dom_observe.proofs.ending.end_passing.Goals as goal
-use Rattle.dom_observe.proofs.ending.end_passing.Goals.{in-Some, in_default}
 
 pub get-kept-requires : goal.get-kept-requires
 get-kept-requires c =

@@ -1,12 +1,8 @@
 -- What the first observers have keys of is gone through, and of the other transient registrations some.
-use Rattle.std.proofs.Common.{◌≡◌, ℕ, [], true, filter, take, nat_eq}
-use Rattle.std.specs.Prelude.{slice_index_or}
+use Rattle.std.proofs.Common.{◌≡◌, ℕ, [], true, filter, take, nat_eq, slice_index_or}
 use Rattle.indexmap.specs.IndexMap.{IsUnique}
-use Rattle.dom_model.specs.PlainLists.Lists.{among}
-use Rattle.dom_observe.specs.Watchers.{on}
-use Rattle.dom_observe.specs.Registrations.{at, listed, is_live, left_after, Between, Placed, HaveKeys}
-use Rattle.dom_observe.specs.Roster.{passing_by}
-use Rattle.dom_observe.specs.Turns.{Fewer}
+use Rattle.dom_model.specs.Definitions.{among}
+use Rattle.dom_observe.specs.{Watchers.on, Registrations.at, Registrations.listed, Registrations.is_live, Registrations.left_after, Registrations.Between, Registrations.Placed, Registrations.HaveKeys, Roster.passing_by, Turns.Fewer}
 use Rattle.dom_observe.proofs.ending.end_passing.Given as goal
 
 abbrev pub invariant-loop-index : goal.invariant-loop-index

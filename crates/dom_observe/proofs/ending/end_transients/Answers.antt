@@ -1,6 +1,6 @@
 -- Nothing transient stands, and no observer has a key of it.
 use Rattle.std.proofs.Common.{ap, sym, ◌∙◌}
-use Rattle.dom_model.specs.PlainLists.Lists.{among}
+use Rattle.dom_model.specs.Definitions.{among}
 use Rattle.dom_observe.specs.Registrations.{at, passes_for}
 use Rattle.dom_observe.proofs.EndedOnes.{none-passing}
 use Rattle.dom_observe.proofs.ending.end_transients.Goals as goal

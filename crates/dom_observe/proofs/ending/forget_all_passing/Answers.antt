@@ -1,18 +1,11 @@
 -- The next observer has no keys of transient registrations any more.
-use Rattle.std.proofs.Common.{◌≡◌, ℕ, suc, ◌+◌, ◌<◌, ◌==◌, Bool, true, false, List, [], Some, None, length, take, refl, ap, sym, ◌∙◌, option_copied, arith, if◌then◌else◌}
-use Rattle.std.specs.Prelude.{slice_get, slice_index_or, slice_set}
+use Rattle.std.proofs.Common.{◌≡◌, ℕ, suc, ◌+◌, ◌<◌, ◌==◌, Bool, true, false, List, [], Some, None, length, take, refl, ap, sym, ◌∙◌, option_copied, arith, if◌then◌else◌, slice_get, slice_index_or, slice_set}
 use Rattle.std.proofs.lemmas.List.{get_or-set_same, get_or-set_other}
-use Rattle.dom_model.specs.PlainLists.Lists.{among}
+use Rattle.dom_model.specs.Definitions.{among}
 use Rattle.dom_model.proofs.PlainLists.Numbers.{same_or, same, apart}
-use Rattle.dom_observe.specs.Kept.{has_queue}
-use Rattle.dom_observe.specs.Roster.{passing_by, queues_by}
-use Rattle.dom_observe.proofs.EndedOnes.{at-get, among-last}
-use Rattle.dom_observe.proofs.Gathered.{take-next}
-use Rattle.dom_observe.proofs.Hearing.{take-none}
-use Rattle.dom_observe.proofs.NodeByNode.{take-whole}
-use Rattle.dom_observe.proofs.Rosters.{within-passing}
+use Rattle.dom_observe.specs.{Kept.has_queue, Roster.passing_by, Roster.queues_by}
+use Rattle.dom_observe.proofs.{EndedOnes.at-get, EndedOnes.among-last, Gathered.take-next, Hearing.take-none, NodeByNode.take-whole, Rosters.within-passing, ending.forget_all_passing.Goals.in-Some, ending.forget_all_passing.Goals.in_default}
 use Rattle.dom_observe.proofs.ending.forget_all_passing.Goals as goal
-use Rattle.dom_observe.proofs.ending.forget_all_passing.Goals.{in-Some, in_default}
 
 pub forget_passing-requires : goal.forget_passing-requires
 forget_passing-requires c =

@@ -1,7 +1,6 @@
 -- The first observers have no keys of transient registrations any more.
-use Rattle.std.proofs.Common.{◌≡◌, ℕ, [], true, take}
-use Rattle.std.specs.Prelude.{slice_index_or}
-use Rattle.dom_model.specs.PlainLists.Lists.{among}
+use Rattle.std.proofs.Common.{◌≡◌, ℕ, [], true, take, slice_index_or}
+use Rattle.dom_model.specs.Definitions.{among}
 use Rattle.dom_observe.specs.Roster.{lasting_by, passing_by, queues_by}
 use Rattle.dom_observe.proofs.ending.forget_all_passing.Given as goal
 

@@ -1,6 +1,5 @@
 -- Its keys of transient registrations are none; the others, and its queue, stay.
-use Rattle.std.proofs.Common.{refl, ap, sym, ◌∙◌}
-use Rattle.std.specs.Prelude.{slice_set}
+use Rattle.std.proofs.Common.{refl, ap, sym, ◌∙◌, slice_set}
 use Rattle.dom_observe.specs.Roster.{passing_by}
 use Rattle.dom_observe.proofs.Rosters.{has-kept, passing-set, lasting-same, queues-same}
 use Rattle.dom_observe.proofs.ending.forget_passing.Goals as goal

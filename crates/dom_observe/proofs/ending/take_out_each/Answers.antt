@@ -1,8 +1,7 @@
 -- One more key is gone through.
 use Rattle.std.proofs.Common.{refl, inl}
 use Rattle.dom_observe.specs.Registrations.{at}
-use Rattle.dom_observe.proofs.NodeByNode.{out-next}
-use Rattle.dom_observe.proofs.Turns.{fewer-two}
+use Rattle.dom_observe.proofs.{NodeByNode.out-next, Turns.fewer-two}
 use Rattle.dom_observe.proofs.ending.take_out_each.Goals as goal
 
 pub loop-key-init : goal.loop-key-init

@@ -1,8 +1,7 @@
 -- What stands under the first keys is gone through.
 use Rattle.std.proofs.Common.{◌≡◌, ℕ, if◌then◌else◌, take}
-use Rattle.dom_model.specs.PlainLists.Lists.{among}
-use Rattle.dom_observe.specs.Registrations.{at, left_after}
-use Rattle.dom_observe.specs.Turns.{Fewer}
+use Rattle.dom_model.specs.Definitions.{among}
+use Rattle.dom_observe.specs.{Registrations.at, Registrations.left_after, Turns.Fewer}
 use Rattle.dom_observe.proofs.ending.take_out_each.Given as goal
 
 abbrev pub invariant-loop-key : goal.invariant-loop-key

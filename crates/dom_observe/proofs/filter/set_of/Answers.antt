@@ -1,6 +1,5 @@
 -- One more name comes into the set.
-use Rattle.std.proofs.Common.{◌≡◌, ◌||◌, map, string_bytes, ap, sym, ◌∙◌, arith}
-use Rattle.std.specs.Prelude.{slice_index_or, bytes_eq}
+use Rattle.std.proofs.Common.{◌≡◌, ◌||◌, map, string_bytes, ap, sym, ◌∙◌, arith, slice_index_or, bytes_eq}
 use Rattle.std.specs.List.{list_any}
 use Rattle.std.proofs.lemmas.List.{take_all}
 use Rattle.dom_observe.proofs.Sifting.{named_so, sift-inserted, sift-next}

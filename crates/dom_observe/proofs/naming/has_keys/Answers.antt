@@ -1,6 +1,6 @@
 use Rattle.std.proofs.Common.{ap, ◌∙◌}
 use Rattle.std.specs.Map.{keys_of}
-use Rattle.dom_model.specs.PlainLists.Lists.{among}
+use Rattle.dom_model.specs.Definitions.{among}
 use Rattle.dom_observe.proofs.Keys.{some-lookup}
 use Rattle.dom_observe.proofs.naming.has_keys.Goals as goal
 

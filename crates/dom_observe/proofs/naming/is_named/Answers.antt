@@ -1,7 +1,7 @@
 -- The walk tells, or each node with keys.
 use Rattle.std.proofs.Common.{rules, of_calls}
 use Rattle.std.specs.Map.{keys_of}
-use Rattle.dom_model.specs.PlainLists.Lists.{among}
+use Rattle.dom_model.specs.Definitions.{among}
 use Rattle.dom_tree.proofs.Asking.{asked-found}
 use Rattle.dom_observe.proofs.Outcomes.{by_either}
 use Rattle.dom_observe.proofs.naming.is_named.Goals as goal

@@ -1,12 +1,8 @@
 -- What is inside waits for an observer that is left.
-use Rattle.std.proofs.Common.{◌≡◌, ℕ, drop}
-use Rattle.std.specs.Prelude.{flat_map}
+use Rattle.std.proofs.Common.{◌≡◌, ℕ, drop, flat_map}
 use Rattle.std.specs.List.{list_any}
-use Rattle.dom_model.specs.PlainLists.Lists.{among}
-use Rattle.dom_model.specs.Forests.Forest.{inclusive_descendants}
-use Rattle.dom_model.specs.MutationAlgorithms.Discarding.{nodes_of_record}
-use Rattle.dom_observe.specs.Roster.{queues_by}
-use Rattle.dom_observe.specs.Watchers.{records_at}
+use Rattle.dom_model.specs.Definitions.{among, inclusive_descendants, nodes_of_record}
+use Rattle.dom_observe.specs.{Roster.queues_by, Watchers.records_at}
 use Rattle.dom_observe.proofs.naming.is_told_by.Given as goal
 
 abbrev pub invariant-loop-observer : goal.invariant-loop-observer

@@ -1,11 +1,9 @@
 -- A node that has keys gets one more, and another its first.
-use Rattle.std.proofs.Common.{◌≡◌, ◌==◌, ◌++◌, [], ◌∷◌, if◌then◌else◌, ap, sym, ◌∙◌, subst}
+use Rattle.std.proofs.Common.{◌≡◌, ◌==◌, ◌++◌, [], ◌∷◌, if◌then◌else◌, ap, sym, ◌∙◌, subst, nat_eq}
 use Rattle.std.proofs.lemmas.Result.{err_from_is_err_and}
-use Rattle.std.proofs.Common.{nat_eq}
 use Rattle.std.specs.Map.{lookup}
 use Rattle.indexmap.specs.IndexMap.{insert_entry}
-use Rattle.dom_observe.specs.Watchers.{on}
-use Rattle.dom_observe.specs.Registrations.{listed, HaveKeys}
+use Rattle.dom_observe.specs.{Watchers.on, Registrations.listed, Registrations.HaveKeys}
 use Rattle.dom_observe.proofs.Keys.{listed-set_value, on-set_value, on-insert_entry, looked-set, looked-insert, full-changed, some_key}
 use Rattle.dom_observe.proofs.node_keys.put_key.Goals as goal
 

@@ -1,23 +1,11 @@
 -- The next pending observer is told what waits for it.
-use Rattle.std.proofs.Common.{◌≡◌, ℕ, suc, ◌+◌, ◌==◌, ◌++◌, [], ◌∷◌, Bool, true, false, if◌then◌else◌, List, Some, None, length, filter, map, take, refl, ap, sym, ◌∙◌, arith, option_copied, nat_eq, tests, rules}
+use Rattle.std.proofs.Common.{◌≡◌, ℕ, suc, ◌+◌, ◌==◌, ◌++◌, [], ◌∷◌, Bool, true, false, if◌then◌else◌, List, Some, None, length, filter, map, take, refl, ap, sym, ◌∙◌, arith, option_copied, nat_eq, tests, rules, slice_get, Vec}
 use Rattle.std.proofs.lemmas.List.{take_all}
-use Rattle.std.specs.Prelude.{slice_get, Vec}
 use Rattle.std.specs.List.{IsDistinct, list_any}
-use Rattle.dom_model.specs.PlainLists.Lists.{among}
-use Rattle.dom_model.specs.MutationObservers.Record.{Record}
-use Rattle.dom_model.specs.MutationObservers.Records.{has_records}
-use Rattle.dom_observe.specs.Kept.{has_queue}
-use Rattle.dom_model.specs.MutationAlgorithms.Discarding.{nodes_of_record}
-use Rattle.dom_observe.specs.Notifying.{told_of, waiting_for}
-use Rattle.dom_observe.specs.Roster.{queues_by}
-use Rattle.dom_observe.specs.Watchers.{records_at}
-use Rattle.dom_observe.proofs.EndedOnes.{at-get}
-use Rattle.dom_observe.proofs.Rosters.{has-same}
-use Rattle.dom_observe.proofs.Gathered.{told-some, told-none, left-next}
-use Rattle.dom_observe.proofs.Hearing.{take-none}
-use Rattle.dom_observe.proofs.Holding.{tells-left}
+use Rattle.dom_model.specs.Definitions.{among, Record, has_records, nodes_of_record}
+use Rattle.dom_observe.specs.{Kept.has_queue, Notifying.told_of, Notifying.waiting_for, Roster.queues_by, Watchers.records_at}
+use Rattle.dom_observe.proofs.{EndedOnes.at-get, Rosters.has-same, Gathered.told-some, Gathered.told-none, Gathered.left-next, Hearing.take-none, Holding.tells-left, notifying.gather.Goals.in-Some+then-not-is_empty, notifying.gather.Goals.in-Some+else-not-is_empty, notifying.gather.Goals.in_default}
 use Rattle.dom_observe.proofs.notifying.gather.Goals as goal
-use Rattle.dom_observe.proofs.notifying.gather.Goals.{in-Some+then-not-is_empty, in-Some+else-not-is_empty, in_default}
 
 told_of-push : {A : Type 0} (xs : List (ℕ × Vec Record A)) (x : ℕ × Vec Record A) → told_of (xs ++ x ∷ []) ≡ told_of xs ++ record { observer = x.0; records = x.1.items } ∷ []
 told_of-push [] x = refl

@@ -1,10 +1,7 @@
 -- The first pending observers are told, and their queues are empty; there is room for the others.
 use Rattle.std.proofs.Common.{◌≡◌, ℕ, ◌≤◌, [], if◌then◌else◌, length, filter, map, take, vec_len, vec_capacity}
-use Rattle.dom_model.specs.PlainLists.Lists.{among}
-use Rattle.dom_model.specs.MutationObservers.Records.{has_records}
-use Rattle.dom_observe.specs.Notifying.{told_of, waiting_for}
-use Rattle.dom_observe.specs.Roster.{keys_by, queues_by}
-use Rattle.dom_observe.specs.Watchers.{records_at}
+use Rattle.dom_model.specs.Definitions.{among, has_records}
+use Rattle.dom_observe.specs.{Notifying.told_of, Notifying.waiting_for, Roster.keys_by, Roster.queues_by, Watchers.records_at}
 use Rattle.dom_observe.proofs.notifying.gather.Given as goal
 
 abbrev pub invariant-loop-index : goal.invariant-loop-index

@@ -1,7 +1,6 @@
 -- Noted are the origins under the first keys.
 use Rattle.std.proofs.Common.{take}
-use Rattle.dom_observe.specs.Registrations.{at}
-use Rattle.dom_observe.specs.Origins.{Notes}
+use Rattle.dom_observe.specs.{Registrations.at, Origins.Notes}
 use Rattle.dom_observe.proofs.origins.note_all.Given as goal
 
 abbrev pub invariant-loop-key : goal.invariant-loop-key

@@ -1,7 +1,7 @@
 -- The nodes that were passed are named.
 use Rattle.std.proofs.Common.{◌≡◌, ℕ, ◌+◌, ◌≤◌, ◌||◌, drop, nat_eq}
 use Rattle.indexmap.specs.IndexSet.{contains, spare}
-use Rattle.dom_model.specs.PlainLists.Lists.{among}
+use Rattle.dom_model.specs.Definitions.{among}
 use Rattle.dom_observe.proofs.queue.name_all.Given as goal
 
 abbrev pub invariant-loop-node : goal.invariant-loop-node

@@ -1,9 +1,7 @@
 -- The nodes of the records that were passed are named, and there is room for those of the others.
-use Rattle.std.proofs.Common.{◌≡◌, ℕ, ◌≤◌, ◌||◌, drop, length, nat_eq}
-use Rattle.std.specs.Prelude.{flat_map}
+use Rattle.std.proofs.Common.{◌≡◌, ℕ, ◌≤◌, ◌||◌, drop, length, nat_eq, flat_map}
 use Rattle.indexmap.specs.IndexSet.{contains, spare}
-use Rattle.dom_model.specs.PlainLists.Lists.{among}
-use Rattle.dom_model.specs.MutationAlgorithms.Discarding.{nodes_of_record}
+use Rattle.dom_model.specs.Definitions.{among, nodes_of_record}
 use Rattle.dom_observe.proofs.queue.name_each.Given as goal
 
 abbrev pub invariant-loop-told : goal.invariant-loop-told

@@ -1,9 +1,7 @@
 -- The parts of a record are named one after another.
 use Rattle.std.proofs.Common.{◌||◌, nat_eq, ap, ◌∙◌}
 use Rattle.indexmap.specs.IndexSet.{contains}
-use Rattle.dom_model.specs.PlainLists.Lists.{among}
-use Rattle.dom_model.specs.MutationObservers.Record.{Record}
-use Rattle.dom_model.specs.MutationAlgorithms.Discarding.{if_any, nodes_of_record}
+use Rattle.dom_model.specs.Definitions.{among, Record, if_any, nodes_of_record}
 use Rattle.dom_observe.proofs.NamedRecords.{name-parts}
 use Rattle.dom_observe.proofs.queue.name_nodes_of.Goals as goal
 

@@ -1,6 +1,5 @@
 -- One queue is emptied, and the keys stay.
-use Rattle.std.proofs.Common.{[], Some, refl, ap, sym, ◌∙◌}
-use Rattle.std.specs.Prelude.{slice_set, unwrap_or}
+use Rattle.std.proofs.Common.{[], Some, refl, ap, sym, ◌∙◌, slice_set, unwrap_or}
 use Rattle.dom_observe.specs.Roster.{queues_by}
 use Rattle.dom_observe.proofs.Rosters.{has-kept, queue-there, keys-same, queues-set}
 use Rattle.dom_observe.proofs.queues.take_from.Goals as goal

@@ -1,10 +1,7 @@
 -- A record comes last in the queue, and the keys stay.
 use Rattle.std.proofs.Common.{◌==◌, if◌then◌else◌, [], ◌∷◌, ◌++◌, is_some, refl, ap, sym, ◌∙◌}
-use Rattle.dom_observe.specs.Watchers.{queue_at, records_at}
-use Rattle.dom_observe.specs.Roster.{queues_by}
-use Rattle.dom_observe.proofs.Outcomes.{on_ok, on_err}
-use Rattle.dom_observe.proofs.QueueLists.{records-pushed}
-use Rattle.dom_observe.proofs.Rosters.{has-kept, queue-there, keys-same, queues-set, roster-same}
+use Rattle.dom_observe.specs.{Watchers.queue_at, Watchers.records_at, Roster.queues_by}
+use Rattle.dom_observe.proofs.{Outcomes.on_ok, Outcomes.on_err, QueueLists.records-pushed, Rosters.has-kept, Rosters.queue-there, Rosters.keys-same, Rosters.queues-set, Rosters.roster-same}
 use Rattle.dom_observe.proofs.telling.deliver.Goals as goal
 
 pub get_mut-kept-requires : goal.get_mut-kept-requires

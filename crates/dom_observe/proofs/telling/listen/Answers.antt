@@ -1,20 +1,11 @@
 -- Each key gives one more listener, or none.
-use Rattle.std.proofs.Common.{◌≡◌, ℕ, ◌==◌, ◌||◌, ◌++◌, Bool, true, false, if◌then◌else◌, Some, None, take, refl, nat_eq, ap, sym, ◌∙◌, subst, append-nil, arith}
+use Rattle.std.proofs.Common.{◌≡◌, ℕ, ◌==◌, ◌||◌, ◌++◌, Bool, true, false, if◌then◌else◌, Some, None, take, refl, nat_eq, ap, sym, ◌∙◌, subst, append-nil, arith, slice_index_or, unwrap_or, option_to_list}
 use Rattle.std.proofs.lemmas.Grind.{common_steps}
-use Rattle.std.specs.Prelude.{slice_index_or, unwrap_or, option_to_list}
 use Rattle.std.specs.Map.{keys_of, lookup}
-use Rattle.dom_model.specs.PlainLists.Lists.{among}
-use Rattle.dom_model.specs.PlainLists.LastOnce.{with_last, with_all_last}
-use Rattle.dom_observe.specs.Kept.{AllThere}
-use Rattle.dom_observe.specs.Names.{text_of}
-use Rattle.dom_observe.specs.Registrations.{at, Stands}
-use Rattle.dom_observe.specs.Refused.{IsFront}
-use Rattle.dom_observe.specs.Telling.{listener_under, listeners, flag_of}
-use Rattle.dom_observe.proofs.Tables.{all_at, found_more}
-use Rattle.dom_observe.proofs.Hearing.{stay-last, there-last, listener-there, flag-last, keys_of-append, all_last-append}
-use Rattle.dom_observe.proofs.Refusing.{front-trans, front-last, front-all_last}
+use Rattle.dom_model.specs.Definitions.{among, with_last, with_all_last}
+use Rattle.dom_observe.specs.{Kept.AllThere, Names.text_of, Registrations.at, Registrations.Stands, Refused.IsFront, Telling.listener_under, Telling.listeners, Telling.flag_of}
+use Rattle.dom_observe.proofs.{Tables.all_at, Tables.found_more, Hearing.stay-last, Hearing.there-last, Hearing.listener-there, Hearing.flag-last, Hearing.keys_of-append, Hearing.all_last-append, Refusing.front-trans, Refusing.front-last, Refusing.front-all_last, telling.listen.Goals.in-Some+in_ok-pend+in_ok-note, telling.listen.Goals.in_default}
 use Rattle.dom_observe.proofs.telling.listen.Goals as goal
-use Rattle.dom_observe.proofs.telling.listen.Goals.{in-Some+in_ok-pend+in_ok-note, in_default}
 
 pub returns-in_err-pend-clause-there : goal.returns-in_err-pend-clause-there
 returns-in_err-pend-clause-there c = λ there s b.

@@ -1,14 +1,9 @@
 -- The listeners of the first keys are noted, and pending.
 use Rattle.std.proofs.Common.{◌≡◌, ℕ, Bool, nat_eq, take, true}
-use Rattle.std.specs.List.{AllByRecursion}
-use Rattle.std.specs.Map.{keys_of}
+use Rattle.std.specs.{List.AllByRecursion, Map.keys_of}
 use Rattle.indexmap.specs.IndexMap.{get, IsUnique}
-use Rattle.dom_model.specs.PlainLists.Lists.{among}
-use Rattle.dom_model.specs.PlainLists.LastOnce.{with_all_last}
-use Rattle.dom_observe.specs.Kept.{AllThere}
-use Rattle.dom_observe.specs.Names.{text_of}
-use Rattle.dom_observe.specs.Registrations.{at, Stands}
-use Rattle.dom_observe.specs.Telling.{listeners, flag_of}
+use Rattle.dom_model.specs.Definitions.{among, with_all_last}
+use Rattle.dom_observe.specs.{Kept.AllThere, Names.text_of, Registrations.at, Registrations.Stands, Telling.listeners, Telling.flag_of}
 use Rattle.dom_observe.proofs.telling.listen.Given as goal
 
 abbrev pub invariant-loop-key : goal.invariant-loop-key

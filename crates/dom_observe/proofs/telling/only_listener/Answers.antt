@@ -1,15 +1,9 @@
 -- Each key gives one more listener, or none.
-use Rattle.std.proofs.Common.{◌≡◌, ℕ, ◌++◌, Bool, Some, None, take, refl, ap, sym, ◌∙◌, subst, append-nil, arith}
+use Rattle.std.proofs.Common.{◌≡◌, ℕ, ◌++◌, Bool, Some, None, take, refl, ap, sym, ◌∙◌, subst, append-nil, arith, slice_index_or, option_to_list}
 use Rattle.std.proofs.lemmas.List.{take_all}
-use Rattle.std.specs.Prelude.{slice_index_or, option_to_list}
-use Rattle.dom_observe.specs.Names.{text_of}
-use Rattle.dom_observe.specs.Registrations.{at, Stands}
-use Rattle.dom_observe.specs.Telling.{listener_under, listeners}
-use Rattle.dom_observe.proofs.Alone.{AreAlone, alone-joined, joined-known, only-of}
-use Rattle.dom_observe.proofs.Hearing.{listener-there}
-use Rattle.dom_observe.proofs.Tables.{all_at, found_more}
+use Rattle.dom_observe.specs.{Names.text_of, Registrations.at, Registrations.Stands, Telling.listener_under, Telling.listeners}
+use Rattle.dom_observe.proofs.{Alone.AreAlone, Alone.alone-joined, Alone.joined-known, Alone.only-of, Hearing.listener-there, Tables.all_at, Tables.found_more, telling.only_listener.Goals.in-Some+in_ok-joined, telling.only_listener.Goals.in_default}
 use Rattle.dom_observe.proofs.telling.only_listener.Goals as goal
-use Rattle.dom_observe.proofs.telling.only_listener.Goals.{in-Some+in_ok-joined, in_default}
 
 pub loop-key-init : goal.loop-key-init
 loop-key-init c = record { alone = refl; known = tt }

@@ -1,10 +1,7 @@
 -- The listeners of the first keys are one, or there is none.
-use Rattle.std.proofs.Common.{◌≡◌, ℕ, Bool, true, take}
-use Rattle.std.specs.Prelude.{IfSome}
+use Rattle.std.proofs.Common.{◌≡◌, ℕ, Bool, true, take, IfSome}
 use Rattle.std.specs.List.{AllByRecursion}
-use Rattle.dom_observe.specs.Names.{text_of}
-use Rattle.dom_observe.specs.Registrations.{at, Stands}
-use Rattle.dom_observe.specs.Telling.{listeners}
+use Rattle.dom_observe.specs.{Names.text_of, Registrations.at, Registrations.Stands, Telling.listeners}
 use Rattle.dom_observe.proofs.Alone.{AreAlone}
 use Rattle.dom_observe.proofs.telling.only_listener.Given as goal
 

@@ -1,16 +1,9 @@
 -- One listener alone, or each of them, gets a record and is pending.
 use Rattle.std.proofs.Common.{ℕ, ◌==◌, Bool, if◌then◌else◌, Some, None, refl, ap, ◌∙◌}
 use Rattle.std.specs.List.{list_any}
-use Rattle.dom_model.specs.MutationAlgorithms.Discarding.{nodes_of_record}
-use Rattle.dom_observe.specs.Names.{text_of}
-use Rattle.dom_observe.specs.Registrations.{at}
-use Rattle.dom_observe.specs.Roster.{queues_by, is_there, records_of}
-use Rattle.dom_observe.specs.Telling.{listeners}
-use Rattle.dom_observe.specs.Watchers.{records_at}
-use Rattle.dom_observe.proofs.Holding.{tells-delivered}
-use Rattle.dom_observe.proofs.Outcomes.{by_one}
-use Rattle.dom_observe.proofs.Queued.{unheard}
-use Rattle.dom_observe.proofs.Refusing.{gets-none}
+use Rattle.dom_model.specs.Definitions.{nodes_of_record}
+use Rattle.dom_observe.specs.{Names.text_of, Registrations.at, Roster.queues_by, Roster.is_there, Roster.records_of, Telling.listeners, Watchers.records_at}
+use Rattle.dom_observe.proofs.{Holding.tells-delivered, Outcomes.by_one, Queued.unheard, Refusing.gets-none}
 use Rattle.dom_observe.proofs.telling.tell.Goals as goal
 
 pub tell_one-requires : goal.tell_one-requires

@@ -1,22 +1,11 @@
 -- Each listener gets its record once.
-use Rattle.std.proofs.Common.{◌≡◌, ℕ, ◌==◌, ◌++◌, [], ◌∷◌, Bool, true, false, if◌then◌else◌, List, Option, Some, None, take, nat_eq, refl, ap, sym, ◌∙◌, append-nil, arith, suc, ◌+◌, option_map, Bor, tests, rules}
+use Rattle.std.proofs.Common.{◌≡◌, ℕ, ◌==◌, ◌++◌, [], ◌∷◌, Bool, true, false, if◌then◌else◌, List, Option, Some, None, take, nat_eq, refl, ap, sym, ◌∙◌, append-nil, arith, suc, ◌+◌, option_map, Bor, tests, rules, slice_get}
 use Rattle.std.proofs.lemmas.List.{take_all}
-use Rattle.std.specs.Prelude.{slice_get}
-use Rattle.std.specs.List.{list_any}
-use Rattle.std.specs.Map.{lookup}
-use Rattle.dom_model.specs.Worlds.World.{Mutation}
-use Rattle.dom_model.specs.MutationObservers.Record.{Record}
-use Rattle.dom_model.specs.MutationObservers.Records.{record_with}
-use Rattle.dom_model.specs.MutationAlgorithms.Discarding.{nodes_of_record}
-use Rattle.dom_observe.specs.Kept.{has_queue}
-use Rattle.dom_observe.specs.Roster.{queues_by}
-use Rattle.dom_observe.specs.Telling.{delivered}
-use Rattle.dom_observe.specs.Watchers.{records_at}
-use Rattle.dom_observe.proofs.Holding.{tells-delivered}
-use Rattle.dom_observe.proofs.Hearing.{lookup-take, key-at, lookup-next, take-none}
-use Rattle.dom_observe.proofs.Rosters.{has-same}
+use Rattle.std.specs.{List.list_any, Map.lookup}
+use Rattle.dom_model.specs.Definitions.{Mutation, Record, record_with, nodes_of_record}
+use Rattle.dom_observe.specs.{Kept.has_queue, Roster.queues_by, Telling.delivered, Watchers.records_at}
+use Rattle.dom_observe.proofs.{Holding.tells-delivered, Hearing.lookup-take, Hearing.key-at, Hearing.lookup-next, Hearing.take-none, Rosters.has-same, telling.tell_each.Goals.in-Some+in_ok-told+in_ok-deliver, telling.tell_each.Goals.in_default}
 use Rattle.dom_observe.proofs.telling.tell_each.Goals as goal
-use Rattle.dom_observe.proofs.telling.tell_each.Goals.{in-Some+in_ok-told+in_ok-deliver, in_default}
 
 -- one more record, or none
 one_more : (m : Mutation) (old here next : List Record) (r : Record) (asks b : Bool) (before after : Option Bool) → here ≡ old ++ delivered m before

@@ -1,9 +1,7 @@
 -- The first listeners have their records.
 use Rattle.std.proofs.Common.{◌≡◌, ℕ, ◌++◌, nat_eq, take}
 use Rattle.std.specs.Map.{lookup}
-use Rattle.dom_observe.specs.Roster.{keys_by, queues_by}
-use Rattle.dom_observe.specs.Telling.{delivered}
-use Rattle.dom_observe.specs.Watchers.{records_at}
+use Rattle.dom_observe.specs.{Roster.keys_by, Roster.queues_by, Telling.delivered, Watchers.records_at}
 use Rattle.dom_observe.proofs.telling.tell_each.Given as goal
 
 abbrev pub invariant-loop-index : goal.invariant-loop-index

@@ -1,13 +1,10 @@
 -- The listener gets its record, and is pending.
 use Rattle.std.proofs.Common.{◌≡◌, ◌==◌, ◌++◌, ◌∷◌, [], true, if◌then◌else◌, refl, ap, sym, ◌∙◌, subst}
 use Rattle.std.proofs.lemmas.Bool.{true≢false}
-use Rattle.dom_model.specs.PlainLists.Lists.{among}
+use Rattle.dom_model.specs.Definitions.{among}
 use Rattle.dom_model.proofs.PlainLists.Numbers.{same_or, same, apart}
-use Rattle.dom_observe.specs.Roster.{records_of}
-use Rattle.dom_observe.specs.Refused.{IsFront}
-use Rattle.dom_observe.proofs.Hearing.{stay-last, last-there}
-use Rattle.dom_observe.proofs.Outcomes.{by_one}
-use Rattle.dom_observe.proofs.Refusing.{front-same, front-last, gets-none, gets-one}
+use Rattle.dom_observe.specs.{Roster.records_of, Refused.IsFront}
+use Rattle.dom_observe.proofs.{Hearing.stay-last, Hearing.last-there, Outcomes.by_one, Refusing.front-same, Refusing.front-last, Refusing.gets-none, Refusing.gets-one}
 use Rattle.dom_observe.proofs.telling.tell_one.Goals as goal
 
 pub returns-clause-stay : goal.returns-clause-stay

@@ -1,10 +1,8 @@
-use Rattle.std.proofs.Common.{ap, ap₂, ◌≡◌, ◌∙◌, ℕ, codes}
+use Rattle.std.proofs.Common.{ap, ap₂, ◌≡◌, ◌∙◌, ℕ, codes, Result}
 use Rattle.clap.specs.Words.{Text, found_of, one_text}
-use Rattle.std.specs.Prelude.{Result}
-use Rattle.std.specs.declared.num.ParseIntError.{ParseIntError}
-use Rattle.std.specs.Str.Parse.{ParsesUnsigned, ExplainsUnsignedError, HasUnsignedDigitsIfOk}
+use Rattle.std.specs.{declared.num.ParseIntError.ParseIntError, Str.Parse.ParsesUnsigned, Str.Parse.ExplainsUnsignedError, Str.Parse.HasUnsignedDigitsIfOk}
 use Rattle.clap.proofs.WalkLemmas.{one_text-rows}
-use Rattle.dom_model.specs.Commands.Answer.{Bounds}
+use Rattle.dom_model.specs.Definitions.{Bounds}
 use Rattle.dom_options.specs.CommandLine.{limit_of}
 use Rattle.dom_options.proofs.Reading.{limit_read}
 use Rattle.dom_options.proofs.options.asked_of.Goals as goal

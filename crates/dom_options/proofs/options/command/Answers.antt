@@ -1,8 +1,7 @@
 use Rattle.std.proofs.Common.{rules, ap, ap₂, subst, ◌≡◌, ◌∙◌, ℕ, ℤ, pos, Option, Some}
 use Rattle.std.specs.Ordering.{nat_cmp, ord_min}
 use Rattle.std.proofs.lemmas.Result.{IfOk-weaker}
-use Rattle.clap.specs.Words.{NarrowsTo, rule_of, with_rule}
-use Rattle.clap.specs.declared.builder.value_parser.ValueParser.{ValueParser}
+use Rattle.clap.specs.{Words.NarrowsTo, Words.rule_of, Words.with_rule, declared.builder.value_parser.ValueParser.ValueParser}
 use Rattle.clap.specs.declared.builder.value_parser.ValueParser.TheVariants as parser
 use Rattle.dom_options.specs.CommandLine.{line_rule, numbers_rule}
 use Rattle.dom_options.proofs.options.command.Goals as goal

@@ -1,9 +1,7 @@
 use Rattle.std.proofs.Common.{arith}
-use Rattle.dom_model.specs.Forests.Forest.{children_of}
-use Rattle.dom_model.proofs.Forests.Entries.{occurs-HasNode}
-use Rattle.dom_model.proofs.Forests.Indices.{child-listed, index-child}
+use Rattle.dom_model.specs.Definitions.{children_of}
+use Rattle.dom_model.proofs.Forests.{Entries.occurs-HasNode, Indices.child-listed, Indices.index-child, Above.above}
 use Rattle.dom_model.proofs.PlainLists.Places.{place-there}
-use Rattle.dom_model.proofs.Forests.Above.{above}
 use Rattle.dom_point.proofs.questions.around_child.Goals as goal
 
 pub count-requires : goal.count-requires

@@ -1,9 +1,7 @@
 -- What is inside is among the ranges that are left.
 use Rattle.std.proofs.Common.{◌≡◌, ℕ, drop}
 use Rattle.std.specs.List.{list_any, flat_map}
-use Rattle.dom_model.specs.PlainLists.Lists.{among}
-use Rattle.dom_model.specs.Forests.Forest.{inclusive_descendants}
-use Rattle.dom_model.specs.MutationAlgorithms.Discarding.{nodes_of_range}
+use Rattle.dom_model.specs.Definitions.{among, inclusive_descendants, nodes_of_range}
 use Rattle.dom_ranges.proofs.statics.refer.Given as goal
 
 abbrev pub invariant-loop-range : goal.invariant-loop-range

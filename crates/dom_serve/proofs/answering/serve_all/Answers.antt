@@ -1,8 +1,6 @@
 use Rattle.std.proofs.Common.{◌≡◌, false, length, arith, refl, tests, rules}
-use Rattle.dom_serve.specs.ByLine.{PassesLine, CutsLine}
-use Rattle.dom_serve.specs.Tells.{is_write, is_write_fault}
-use Rattle.dom_serve.proofs.Calls.{IsCalled-none, IsCalled-more, HasAnswered-none, HasAnswered-more, HasAnswered-passed, HasAnswered-asked}
-use Rattle.dom_serve.proofs.Told.{so_far-none, so_far-more, told-read, told-too_long, told-concluded, told-fed, some-read, most-read, lines-more}
+use Rattle.dom_serve.specs.{ByLine.PassesLine, ByLine.CutsLine, Tells.is_write, Tells.is_write_fault}
+use Rattle.dom_serve.proofs.{Calls.IsCalled-none, Calls.IsCalled-more, Calls.HasAnswered-none, Calls.HasAnswered-more, Calls.HasAnswered-passed, Calls.HasAnswered-asked, Told.so_far-none, Told.so_far-more, Told.told-read, Told.told-too_long, Told.told-concluded, Told.told-fed, Told.some-read, Told.most-read, Told.lines-more}
 use Rattle.dom_serve.proofs.answering.serve_all.Goals as goal
 
 pub loop-turn-init : goal.loop-turn-init

@@ -1,8 +1,6 @@
 use Rattle.std.proofs.Common.{◌≡◌, ◌*◌, ◌≤◌, false, [], length}
-use Rattle.dom_model.specs.Commands.Answer.{Bounds}
-use Rattle.dom_serve.specs.Calls.{HasAnswered, IsWritten}
-use Rattle.dom_serve.specs.ByLine.{IsWrittenByLine}
-use Rattle.dom_serve.specs.Server.{Stands, IsSoFar}
+use Rattle.dom_model.specs.Definitions.{Bounds}
+use Rattle.dom_serve.specs.{Calls.HasAnswered, Calls.IsWritten, ByLine.IsWrittenByLine, Server.Stands, Server.IsSoFar}
 use Rattle.dom_serve.proofs.answering.serve_all.Given as goal
 
 abbrev pub invariant-loop-turn : goal.invariant-loop-turn

@@ -1,4 +1,4 @@
-use Rattle.dom_model.specs.Commands.Table.{whole_table}
+use Rattle.dom_model.specs.Definitions.{whole_table}
 use Rattle.dom_model.proofs.Commands.ReplyLines.{length-whole_lines-output_of, last_piece-output_of}
 use Rattle.dom_serve.proofs.laws.each_line_has_one_reply.Goals as goal
 

@@ -1,7 +1,6 @@
 use Rattle.std.proofs.Common.{true, false, tests, rules, arith}
 use Rattle.std.proofs.lemmas.Grind.{common_steps}
-use Rattle.dom_serve.proofs.Texts.{within, Appends-more, AppendsFront-kept}
-use Rattle.dom_serve.proofs.Calls.{IsCalled-one, IsCalled-failed, IsCalled-more}
+use Rattle.dom_serve.proofs.{Texts.within, Texts.Appends-more, Texts.AppendsFront-kept, Calls.IsCalled-one, Calls.IsCalled-failed, Calls.IsCalled-more}
 use Rattle.dom_serve.proofs.writing.write_whole.Goals as goal
 
 pub loop-at-preserved : goal.loop-at-preserved

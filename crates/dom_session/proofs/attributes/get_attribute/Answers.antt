@@ -1,17 +1,9 @@
 use Rattle.std.proofs.Common.{sym, refl, []}
-use Rattle.dom_model.specs.Commands.Command.{GetAttribute}
-use Rattle.dom_session.specs.declared.reply.Answer.TheVariants.{MaybeUnits}
-use Rattle.dom_session.specs.declared.reply.Reply.TheVariants.{Done}
-use Rattle.dom_session.proofs.Stepping.{step-stays}
-use Rattle.dom_session.proofs.NodeData.{answer-get_attribute}
+use Rattle.dom_model.specs.Definitions.{GetAttribute, is_kind, answers, content_in, entry_in, attribute_value}
 use Rattle.dom_model.specs.declared.Kind.TheVariants.{Element}
-use Rattle.dom_model.specs.Forests.Kinds.{is_kind}
-use Rattle.dom_model.specs.Commands.Guards.{answers}
-use Rattle.dom_model.specs.DataAndCopies.Data.{content_in}
-use Rattle.dom_model.specs.Forests.Forest.{entry_in}
-use Rattle.dom_model.specs.Forests.Attributes.{attribute_value}
+use Rattle.dom_session.specs.{declared.reply.Answer.TheVariants.MaybeUnits, declared.reply.Reply.TheVariants.Done}
+use Rattle.dom_session.proofs.{Stepping.step-stays, NodeData.answer-get_attribute, OtherKinds.step-other_kind}
 use Rattle.dom_model.specs.Commands.Reply as model_reply
-use Rattle.dom_session.proofs.OtherKinds.{step-other_kind}
 use Rattle.dom_session.proofs.attributes.get_attribute.Goals as goal
 
 pub returns : goal.returns

@@ -1,15 +1,9 @@
 use Rattle.std.proofs.Common.{sym, refl, []}
-use Rattle.dom_model.specs.Commands.Command.{HasAttribute}
-use Rattle.dom_session.specs.declared.reply.Answer.TheVariants.{Flag}
-use Rattle.dom_session.specs.declared.reply.Reply.TheVariants.{Done}
-use Rattle.dom_session.proofs.Stepping.{step-stays}
-use Rattle.dom_session.proofs.NodeData.{answer-has_attribute}
+use Rattle.dom_model.specs.Definitions.{HasAttribute, is_kind, answers, has_attribute}
 use Rattle.dom_model.specs.declared.Kind.TheVariants.{Element}
-use Rattle.dom_model.specs.Forests.Kinds.{is_kind}
-use Rattle.dom_model.specs.Commands.Guards.{answers}
-use Rattle.dom_model.specs.DataAndCopies.Data.{has_attribute}
+use Rattle.dom_session.specs.{declared.reply.Answer.TheVariants.Flag, declared.reply.Reply.TheVariants.Done}
+use Rattle.dom_session.proofs.{Stepping.step-stays, NodeData.answer-has_attribute, OtherKinds.step-other_kind}
 use Rattle.dom_model.specs.Commands.Reply as model_reply
-use Rattle.dom_session.proofs.OtherKinds.{step-other_kind}
 use Rattle.dom_session.proofs.attributes.has_attribute.Goals as goal
 
 pub returns : goal.returns

@@ -1,14 +1,8 @@
 use Rattle.std.proofs.Common.{refl, sym, []}
-use Rattle.dom_model.specs.DataAndCopies.Data.{remove_attribute}
-use Rattle.dom_model.specs.Commands.Command.{RemoveAttribute}
-use Rattle.dom_session.specs.declared.brief.Brief.TheVariants.{Nothing}
-use Rattle.dom_session.specs.declared.reply.Reply.TheVariants.{Brief}
-use Rattle.dom_session.proofs.Stepping.{step-follows}
-use Rattle.dom_session.proofs.NodeData.{answer-remove_attribute}
+use Rattle.dom_model.specs.Definitions.{remove_attribute, RemoveAttribute, is_kind, does}
 use Rattle.dom_model.specs.declared.Kind.TheVariants.{Element}
-use Rattle.dom_model.specs.Forests.Kinds.{is_kind}
-use Rattle.dom_model.specs.Commands.Guards.{does}
-use Rattle.dom_session.proofs.OtherKinds.{step-other_kind}
+use Rattle.dom_session.specs.{declared.brief.Brief.TheVariants.Nothing, declared.reply.Reply.TheVariants.Brief}
+use Rattle.dom_session.proofs.{Stepping.step-follows, NodeData.answer-remove_attribute, OtherKinds.step-other_kind}
 use Rattle.dom_session.proofs.attributes.remove_attribute.Goals as goal
 
 pub returns : goal.returns

@@ -1,16 +1,9 @@
 use Rattle.std.proofs.Common.{◌≡◌, true, refl, sym, string_bytes, [], ◌∷◌}
-use Rattle.dom_model.specs.Forests.Names.{is_attribute_name}
-use Rattle.dom_model.specs.DataAndCopies.Data.{toggle_attribute, has_attribute, is_toggled_on}
-use Rattle.dom_model.specs.Commands.Command.{ToggleAttribute}
-use Rattle.dom_session.specs.declared.reply.Answer.TheVariants.{Flag}
-use Rattle.dom_session.specs.declared.reply.Reply.TheVariants.{Done}
-use Rattle.dom_session.proofs.Stepping.{step-follows}
-use Rattle.dom_session.proofs.NodeData.{answer-toggle_attribute}
+use Rattle.dom_model.specs.Definitions.{is_attribute_name, toggle_attribute, has_attribute, is_toggled_on, ToggleAttribute, is_kind, bad_name}
 use Rattle.dom_model.specs.declared.Kind.TheVariants.{Element}
-use Rattle.dom_model.specs.Forests.Kinds.{is_kind}
-use Rattle.dom_model.specs.Commands.Guards.{bad_name}
+use Rattle.dom_session.specs.{declared.reply.Answer.TheVariants.Flag, declared.reply.Reply.TheVariants.Done}
+use Rattle.dom_session.proofs.{Stepping.step-follows, NodeData.answer-toggle_attribute, OtherKinds.step-other_kind}
 use Rattle.dom_model.specs.Commands.Reply as model_reply
-use Rattle.dom_session.proofs.OtherKinds.{step-other_kind}
 use Rattle.dom_session.proofs.attributes.toggle_attribute.Goals as goal
 
 pub returns : goal.returns

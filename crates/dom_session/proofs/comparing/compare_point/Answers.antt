@@ -1,18 +1,9 @@
-use Rattle.std.proofs.Common.{◌≡◌, true, refl, ap, sym, ◌∙◌, subst, arith}
+use Rattle.std.proofs.Common.{◌≡◌, true, refl, ap, sym, ◌∙◌, subst, arith, is_some}
 use Rattle.std.proofs.lemmas.Grind.{common_steps}
-use Rattle.std.specs.Prelude.{is_some}
-use Rattle.dom_model.specs.Forests.Forest.{entry_in}
-use Rattle.dom_model.specs.Worlds.Lengths.{unit_count}
-use Rattle.dom_model.specs.Worlds.World.{Point, Range}
-use Rattle.dom_model.specs.RangesAndContents.Ranges.{check_point, place_against}
-use Rattle.dom_model.specs.Forests.Nodes.{same_root}
-use Rattle.dom_model.specs.Commands.Command.{ComparePoint}
+use Rattle.dom_model.specs.Definitions.{entry_in, unit_count, Point, Range, check_point, place_against, same_root, ComparePoint}
 use Rattle.dom_ranges.specs.Tables.{range_in}
-use Rattle.dom_session.specs.declared.reply.Answer.TheVariants.{Order}
-use Rattle.dom_session.specs.declared.brief.Brief.TheVariants.{Dom}
-use Rattle.dom_session.specs.declared.reply.Reply.TheVariants.{Brief, Done}
-use Rattle.dom_session.proofs.Stepping.{step-stays}
-use Rattle.dom_session.proofs.RangeAnswers.{passed, told, answer-compare_point, refusal-compare_point}
+use Rattle.dom_session.specs.{declared.reply.Answer.TheVariants.Order, declared.brief.Brief.TheVariants.Dom, declared.reply.Reply.TheVariants.Brief, declared.reply.Reply.TheVariants.Done}
+use Rattle.dom_session.proofs.{Stepping.step-stays, RangeAnswers.passed, RangeAnswers.told, RangeAnswers.answer-compare_point, RangeAnswers.refusal-compare_point}
 use Rattle.dom_session.proofs.comparing.compare_point.Goals as goal
 
 pub returns-in-Ok : goal.returns-in-Ok

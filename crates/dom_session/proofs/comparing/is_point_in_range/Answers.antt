@@ -1,18 +1,9 @@
-use Rattle.std.proofs.Common.{◌≡◌, true, refl, ap, sym, ◌∙◌, subst, arith}
+use Rattle.std.proofs.Common.{◌≡◌, true, refl, ap, sym, ◌∙◌, subst, arith, is_some}
 use Rattle.std.proofs.lemmas.Grind.{common_steps}
-use Rattle.std.specs.Prelude.{is_some}
-use Rattle.dom_model.specs.Forests.Forest.{entry_in}
-use Rattle.dom_model.specs.Worlds.Lengths.{unit_count}
-use Rattle.dom_model.specs.Worlds.World.{Point, Range}
-use Rattle.dom_model.specs.RangesAndContents.Ranges.{check_point, is_point_in}
-use Rattle.dom_model.specs.Forests.Nodes.{same_root}
-use Rattle.dom_model.specs.Commands.Command.{IsPointInRange}
+use Rattle.dom_model.specs.Definitions.{entry_in, unit_count, Point, Range, check_point, is_point_in, same_root, IsPointInRange}
 use Rattle.dom_ranges.specs.Tables.{range_in}
-use Rattle.dom_session.specs.declared.reply.Answer.TheVariants.{Flag}
-use Rattle.dom_session.specs.declared.brief.Brief.TheVariants.{Dom}
-use Rattle.dom_session.specs.declared.reply.Reply.TheVariants.{Brief, Done}
-use Rattle.dom_session.proofs.Stepping.{step-stays}
-use Rattle.dom_session.proofs.RangeAnswers.{passed, told, answer-is_point_in_range, refusal-is_point_in_range}
+use Rattle.dom_session.specs.{declared.reply.Answer.TheVariants.Flag, declared.brief.Brief.TheVariants.Dom, declared.reply.Reply.TheVariants.Brief, declared.reply.Reply.TheVariants.Done}
+use Rattle.dom_session.proofs.{Stepping.step-stays, RangeAnswers.passed, RangeAnswers.told, RangeAnswers.answer-is_point_in_range, RangeAnswers.refusal-is_point_in_range}
 use Rattle.dom_session.proofs.comparing.is_point_in_range.Goals as goal
 
 pub returns-in-Ok : goal.returns-in-Ok

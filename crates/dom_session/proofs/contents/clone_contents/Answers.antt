@@ -1,17 +1,11 @@
-use Rattle.std.proofs.Common.{◌≡◌, ◌+◌, ◌*◌, nat_lt, true, false, Some, None, refl, ◌∙◌}
-use Rattle.std.specs.Prelude.{is_some}
-use Rattle.dom_model.specs.Forests.Forest.{size}
-use Rattle.dom_model.specs.RangesAndContents.Contents.{check_extract, clone_contents}
-use Rattle.dom_model.specs.Commands.Command.{CloneContents}
+use Rattle.std.proofs.Common.{◌≡◌, ◌+◌, ◌*◌, nat_lt, true, false, Some, None, refl, ◌∙◌, is_some}
+use Rattle.dom_model.specs.Definitions.{size, check_extract, clone_contents, CloneContents}
 use Rattle.dom_ranges.specs.Tables.{range_in}
 use Rattle.dom_edit.specs.Whole.{unwatched}
-use Rattle.dom_session.specs.declared.brief.Brief.TheVariants.{Number}
-use Rattle.dom_session.specs.declared.reply.Reply.TheVariants.{Brief}
-use Rattle.dom_session.specs.Limiting.{numbered}
-use Rattle.dom_session.proofs.Stepping.{step-follows, step-refused}
-use Rattle.dom_session.proofs.ContentsAnswers.{room-clone_contents, answer-clone_contents}
-use Rattle.dom_session.proofs.WorldsKept.{on_err, kept_labels}
+use Rattle.dom_session.specs.{declared.brief.Brief.TheVariants.Number, declared.reply.Reply.TheVariants.Brief, Limiting.numbered}
+use Rattle.dom_session.proofs.{Stepping.step-follows, Stepping.step-refused, ContentsAnswers.room-clone_contents, ContentsAnswers.answer-clone_contents, WorldsKept.kept_labels}
 use Rattle.dom_session.proofs.contents.clone_contents.Goals as goal
+use Rattle.dom_data.proofs.Outcomes.{on_err}
 
 pub clone_contents-requires-clause-room : goal.clone_contents-requires-clause-room
 clone_contents-requires-clause-room c =

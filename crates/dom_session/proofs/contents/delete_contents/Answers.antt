@@ -1,12 +1,8 @@
-use Rattle.std.proofs.Common.{◌≡◌, true, refl}
-use Rattle.std.specs.Prelude.{is_some}
-use Rattle.dom_model.specs.RangesAndContents.Contents.{delete_contents}
-use Rattle.dom_model.specs.Commands.Command.{DeleteContents}
+use Rattle.std.proofs.Common.{◌≡◌, true, refl, is_some}
+use Rattle.dom_model.specs.Definitions.{delete_contents, DeleteContents}
 use Rattle.dom_ranges.specs.Tables.{range_in}
-use Rattle.dom_session.specs.declared.brief.Brief.TheVariants.{Nothing}
-use Rattle.dom_session.specs.declared.reply.Reply.TheVariants.{Brief}
-use Rattle.dom_session.proofs.Stepping.{step-follows}
-use Rattle.dom_session.proofs.ContentsAnswers.{answer-delete_contents}
+use Rattle.dom_session.specs.{declared.brief.Brief.TheVariants.Nothing, declared.reply.Reply.TheVariants.Brief}
+use Rattle.dom_session.proofs.{Stepping.step-follows, ContentsAnswers.answer-delete_contents}
 use Rattle.dom_session.proofs.contents.delete_contents.Goals as goal
 
 pub returns : goal.returns

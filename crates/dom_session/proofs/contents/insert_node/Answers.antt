@@ -1,19 +1,13 @@
-use Rattle.std.proofs.Common.{◌≡◌, ◌+◌, ◌<◌, nat_lt, true, false, refl, arith}
+use Rattle.std.proofs.Common.{◌≡◌, ◌+◌, ◌<◌, nat_lt, true, false, refl, arith, is_some}
 use Rattle.std.proofs.lemmas.Bool.Decides.{nat_tests}
-use Rattle.std.specs.Prelude.{is_some}
-use Rattle.dom_model.specs.Forests.Forest.{entry_in}
-use Rattle.dom_model.specs.RangesAndContents.Wrapping.{insert_node, refusal_in}
-use Rattle.dom_model.specs.Commands.Command.{InsertNode}
+use Rattle.dom_model.specs.Definitions.{entry_in, insert_node, refusal_in, InsertNode}
 use Rattle.dom_ranges.specs.Tables.{range_in}
 use Rattle.dom_edit.specs.Whole.{unwatched}
 use Rattle.dom_wrap.specs.Outcomes.{left_by}
-use Rattle.dom_session.specs.declared.brief.Brief.TheVariants.{Nothing}
-use Rattle.dom_session.specs.declared.reply.Reply.TheVariants.{Brief}
-use Rattle.dom_session.specs.Limiting.{numbered}
-use Rattle.dom_session.proofs.Stepping.{step-follows, step-refused}
-use Rattle.dom_session.proofs.ContentsAnswers.{answer-insert_node, refused-insert_node}
-use Rattle.dom_session.proofs.WorldsKept.{on_err, kept_labels}
+use Rattle.dom_session.specs.{declared.brief.Brief.TheVariants.Nothing, declared.reply.Reply.TheVariants.Brief, Limiting.numbered}
+use Rattle.dom_session.proofs.{Stepping.step-follows, Stepping.step-refused, ContentsAnswers.answer-insert_node, ContentsAnswers.refused-insert_node, WorldsKept.kept_labels}
 use Rattle.dom_session.proofs.contents.insert_node.Goals as goal
+use Rattle.dom_data.proofs.Outcomes.{on_err}
 
 pub returns-in-Ok : goal.returns-in-Ok
 returns-in-Ok c =

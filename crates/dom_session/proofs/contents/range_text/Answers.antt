@@ -1,11 +1,8 @@
-use Rattle.std.proofs.Common.{◌≡◌, true}
-use Rattle.std.specs.Prelude.{is_some}
-use Rattle.dom_model.specs.Commands.Command.{RangeText}
+use Rattle.std.proofs.Common.{◌≡◌, true, is_some}
+use Rattle.dom_model.specs.Definitions.{RangeText}
 use Rattle.dom_ranges.specs.Tables.{range_in}
-use Rattle.dom_session.specs.declared.reply.Answer.TheVariants.{Units}
-use Rattle.dom_session.specs.declared.reply.Reply.TheVariants.{Done}
-use Rattle.dom_session.proofs.Stepping.{step-stays}
-use Rattle.dom_session.proofs.ContentsAnswers.{answer-range_text}
+use Rattle.dom_session.specs.{declared.reply.Answer.TheVariants.Units, declared.reply.Reply.TheVariants.Done}
+use Rattle.dom_session.proofs.{Stepping.step-stays, ContentsAnswers.answer-range_text}
 use Rattle.dom_session.proofs.contents.range_text.Goals as goal
 
 pub returns : goal.returns

@@ -1,18 +1,12 @@
-use Rattle.std.proofs.Common.{◌≡◌, ◌+◌, ◌*◌, nat_lt, true, false, refl}
-use Rattle.std.specs.Prelude.{is_some}
-use Rattle.dom_model.specs.Forests.Forest.{entry_in, size}
-use Rattle.dom_model.specs.RangesAndContents.Wrapping.{surround, check_whole_surround}
-use Rattle.dom_model.specs.Commands.Command.{SurroundContents}
+use Rattle.std.proofs.Common.{◌≡◌, ◌+◌, ◌*◌, nat_lt, true, false, refl, is_some}
+use Rattle.dom_model.specs.Definitions.{entry_in, size, surround, check_whole_surround, SurroundContents}
 use Rattle.dom_ranges.specs.Tables.{range_in}
 use Rattle.dom_edit.specs.Whole.{unwatched}
 use Rattle.dom_wrap.specs.Outcomes.{left_by}
-use Rattle.dom_session.specs.declared.brief.Brief.TheVariants.{Nothing}
-use Rattle.dom_session.specs.declared.reply.Reply.TheVariants.{Brief}
-use Rattle.dom_session.specs.Limiting.{numbered}
-use Rattle.dom_session.proofs.Stepping.{step-follows, step-refused}
-use Rattle.dom_session.proofs.ContentsAnswers.{room-surround, answer-surround, refused-surround}
-use Rattle.dom_session.proofs.WorldsKept.{on_err, kept_labels}
+use Rattle.dom_session.specs.{declared.brief.Brief.TheVariants.Nothing, declared.reply.Reply.TheVariants.Brief, Limiting.numbered}
+use Rattle.dom_session.proofs.{Stepping.step-follows, Stepping.step-refused, ContentsAnswers.room-surround, ContentsAnswers.answer-surround, ContentsAnswers.refused-surround, WorldsKept.kept_labels}
 use Rattle.dom_session.proofs.contents.surround_contents.Goals as goal
+use Rattle.dom_data.proofs.Outcomes.{on_err}
 
 pub surround-requires-clause-room : goal.surround-requires-clause-room
 surround-requires-clause-room c =

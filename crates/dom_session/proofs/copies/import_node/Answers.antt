@@ -1,19 +1,11 @@
-use Rattle.std.proofs.Common.{◌≡◌, ◌+◌, ◌*◌, nat_lt, true, false, refl, ◌∙◌}
-use Rattle.std.specs.Prelude.{is_some}
+use Rattle.std.proofs.Common.{◌≡◌, ◌+◌, ◌*◌, nat_lt, true, false, refl, ◌∙◌, is_some}
 use Rattle.dom_model.specs.declared.Kind.TheVariants.{Document}
-use Rattle.dom_model.specs.Forests.Kinds.{is_kind}
-use Rattle.dom_model.specs.Forests.Forest.{entry_in, size}
-use Rattle.dom_model.specs.Forests.Nodes.{kind_passes}
-use Rattle.dom_model.specs.DataAndCopies.Clones.{import_node}
-use Rattle.dom_model.specs.Commands.Command.{ImportNode}
+use Rattle.dom_model.specs.Definitions.{is_kind, entry_in, size, kind_passes, import_node, ImportNode}
 use Rattle.dom_edit.specs.Refusals.{check_adopt}
-use Rattle.dom_session.specs.declared.brief.Brief.TheVariants.{Number}
-use Rattle.dom_session.specs.declared.reply.Reply.TheVariants.{Brief}
-use Rattle.dom_session.specs.Limiting.{numbered}
-use Rattle.dom_session.proofs.Stepping.{step-follows, step-refused}
-use Rattle.dom_session.proofs.NodeCopies.{room-copy, answer-import_node, refused-import_node}
-use Rattle.dom_session.proofs.WorldsKept.{on_err, kept_all}
+use Rattle.dom_session.specs.{declared.brief.Brief.TheVariants.Number, declared.reply.Reply.TheVariants.Brief, Limiting.numbered}
+use Rattle.dom_session.proofs.{Stepping.step-follows, Stepping.step-refused, NodeCopies.room-copy, NodeCopies.answer-import_node, NodeCopies.refused-import_node, WorldsKept.kept_all}
 use Rattle.dom_session.proofs.copies.import_node.Goals as goal
+use Rattle.dom_data.proofs.Outcomes.{on_err}
 
 pub import-requires-clause-room : goal.import-requires-clause-room
 import-requires-clause-room c =

@@ -1,18 +1,11 @@
-use Rattle.std.proofs.Common.{◌≡◌, true, refl}
-use Rattle.std.specs.Prelude.{is_some}
-use Rattle.dom_model.specs.Forests.Forest.{entry_in}
-use Rattle.dom_session.specs.declared.brief.Brief.TheVariants.{Number}
-use Rattle.dom_session.specs.declared.reply.Reply.TheVariants.{Brief}
+use Rattle.std.proofs.Common.{◌≡◌, true, refl, is_some}
+use Rattle.dom_model.specs.Definitions.{entry_in, is_kind, AdoptNode, kind_passes, adopt}
 use Rattle.dom_model.specs.declared.Kind.TheVariants.{Document}
-use Rattle.dom_model.specs.Forests.Kinds.{is_kind}
-use Rattle.dom_model.specs.Commands.Command.{AdoptNode}
-use Rattle.dom_model.specs.Forests.Nodes.{kind_passes}
-use Rattle.dom_model.specs.MutationAlgorithms.Editing.{adopt}
+use Rattle.dom_session.specs.{declared.brief.Brief.TheVariants.Number, declared.reply.Reply.TheVariants.Brief}
 use Rattle.dom_edit.specs.Refusals.{check_adopt}
-use Rattle.dom_session.proofs.Stepping.{step-follows, steps-refused-briefly}
-use Rattle.dom_session.proofs.TreeEdits.{answer-adopt_node, refused-adopt_node}
-use Rattle.dom_session.proofs.WorldsKept.{on_err, kept_nodes}
+use Rattle.dom_session.proofs.{Stepping.step-follows, Stepping.steps-refused-briefly, TreeEdits.answer-adopt_node, TreeEdits.refused-adopt_node, WorldsKept.kept_nodes}
 use Rattle.dom_session.proofs.editing.adopt_node.Goals as goal
+use Rattle.dom_data.proofs.Outcomes.{on_err}
 
 pub returns-in-Ok : goal.returns-in-Ok
 returns-in-Ok c =

@@ -1,17 +1,8 @@
-use Rattle.std.specs.Prelude.{IfOk, OnErr}
-use Rattle.std.proofs.Common.{None, refl, sym, subst}
-use Rattle.dom_model.specs.Commands.Command.{AppendChild}
-use Rattle.dom_model.specs.Commands.Guards.{Bounds}
-use Rattle.dom_model.specs.MutationAlgorithms.Editing.{append}
-use Rattle.dom_edit.specs.declared.world.World.{World}
-use Rattle.dom_edit.specs.Whole.{IsShown}
-use Rattle.dom_session.specs.declared.brief.Brief.TheVariants.{Number}
-use Rattle.dom_session.specs.declared.reply.Reply.TheVariants.{Brief}
-use Rattle.dom_session.specs.Brief.{reply_of}
-use Rattle.dom_session.specs.Ending.{IsKept}
-use Rattle.dom_session.specs.Stands.{IsStep}
-use Rattle.dom_session.proofs.Stepping.{step-follows}
-use Rattle.dom_session.proofs.TreeEdits.{answer-append_child}
+use Rattle.std.proofs.Common.{IfOk, OnErr, None, refl, sym, subst}
+use Rattle.dom_model.specs.Definitions.{AppendChild, Bounds, append}
+use Rattle.dom_edit.specs.{declared.world.World.World, Whole.IsShown}
+use Rattle.dom_session.specs.{declared.brief.Brief.TheVariants.Number, declared.reply.Reply.TheVariants.Brief, Brief.reply_of, Ending.IsKept, Stands.IsStep}
+use Rattle.dom_session.proofs.{Stepping.step-follows, TreeEdits.answer-append_child}
 use Rattle.dom_session.proofs.editing.append_child.Goals as goal
 
 pub returns-then-append_leaf : goal.returns-then-append_leaf

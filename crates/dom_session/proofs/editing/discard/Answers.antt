@@ -1,42 +1,36 @@
-use Rattle.std.proofs.Common.{◌≡◌, true, refl, sym, subst, ◌∙◌}
-use Rattle.std.specs.Prelude.{is_some}
+use Rattle.std.proofs.Common.{◌≡◌, true, refl, sym, subst, ◌∙◌, is_some}
+use Rattle.std.proofs.lemmas.Bool.{not-false, not-true}
 use Rattle.dom_model.specs.declared.OwnError.TheVariants.{InUse}
-use Rattle.dom_model.specs.Forests.Forest.{entry_in}
-use Rattle.dom_model.specs.Commands.Command.{Discard}
-use Rattle.dom_model.specs.MutationAlgorithms.Discarding.{is_in_use, discarded}
-use Rattle.dom_edit.specs.declared.world.World.{World}
-use Rattle.dom_edit.specs.Used.{is_used}
-use Rattle.dom_session.specs.declared.brief.Brief.TheVariants.{Nothing, Own}
-use Rattle.dom_session.specs.declared.reply.Reply.TheVariants.{Brief}
-use Rattle.dom_session.specs.Stands.{IsStep}
-use Rattle.dom_session.proofs.Stepping.{step-follows, step-stays}
-use Rattle.dom_session.proofs.TreeEdits.{not-true, not-false, answer-discard, refused-discard}
+use Rattle.dom_model.specs.Definitions.{entry_in, Discard, is_in_use, discarded}
+use Rattle.dom_edit.specs.{declared.world.World.World, Used.is_used}
+use Rattle.dom_session.specs.{declared.brief.Brief.TheVariants.Nothing, declared.brief.Brief.TheVariants.Own, declared.reply.Reply.TheVariants.Brief, Stands.IsStep}
+use Rattle.dom_session.proofs.{Stepping.step-follows, Stepping.step-stays, TreeEdits.answer-discard, TreeEdits.refused-discard}
 use Rattle.dom_session.proofs.editing.discard.Goals as goal
 
 pub discard-requires-clause-unused : goal.discard-requires-clause-unused
-discard-requires-clause-unused c = not-true (is_used c.settle.new.self c.args.top) (sym c.can_discard.ensures.unused ∙ c.if-not-can_discard.false)
+discard-requires-clause-unused c = not-true (is_used c.catch_up.new.self c.args.top) (sym c.can_discard.ensures.unused ∙ c.if-not-can_discard.false)
 
 pub returns-then-not-can_discard : goal.returns-then-not-can_discard
 returns-then-not-can_discard c =
-    let u = c.settle.new.self in
+    let u = c.catch_up.new.self in
     let n = c.args.top in
-    let held : is_some (entry_in u.tree.forest n) ≡ true = rw c.settle.ensures (sym c.holds.ensures ∙ c.if-not-holds.false) in
+    let held : is_some (entry_in u.tree.forest n) ≡ true = rw c.catch_up.ensures (sym c.holds.ensures ∙ c.if-not-holds.false) in
     record {
       step = λ b.
           let P : World → Type 0 = λ old. IsStep old u b (Discard n) (Brief (Own InUse)) in
-          subst P c.settle.ensures (step-stays b (Discard n) (Brief (Own InUse)) u
+          subst P c.catch_up.ensures (step-stays b (Discard n) (Brief (Own InUse)) u
           (λ w shown. refused-discard u b n w shown held (not-false (is_in_use w n) (sym (c.can_discard.ensures.shown w shown) ∙ c.if-not-can_discard.true))));
     }
 
 pub returns : goal.returns
 returns c =
-    let u = c.settle.new.self in
+    let u = c.catch_up.new.self in
     let n = c.args.top in
-    let held : is_some (entry_in u.tree.forest n) ≡ true = rw c.settle.ensures (sym c.holds.ensures ∙ c.if-not-holds.false) in
+    let held : is_some (entry_in u.tree.forest n) ≡ true = rw c.catch_up.ensures (sym c.holds.ensures ∙ c.if-not-holds.false) in
     record {
       step = λ b.
           let P : World → Type 0 = λ old. IsStep old c.discard.new.self b (Discard n) (Brief Nothing) in
-          subst P c.settle.ensures (step-follows b (Discard n) (Brief Nothing) u c.discard.new.self (discarded n) refl
+          subst P c.catch_up.ensures (step-follows b (Discard n) (Brief Nothing) u c.discard.new.self (discarded n) refl
           (λ w shown. answer-discard u b n w shown held (not-true (is_in_use w n) (sym (c.can_discard.ensures.shown w shown) ∙ c.if-not-can_discard.false)))
           c.discard.ensures.discarded c.discard.ensures.whole);
     }

@@ -1,16 +1,10 @@
-use Rattle.std.proofs.Common.{◌≡◌, true, not, Some, None, refl}
-use Rattle.std.specs.Prelude.{is_some}
-use Rattle.dom_model.specs.Forests.Forest.{entry_in}
-use Rattle.dom_session.specs.declared.brief.Brief.TheVariants.{Number}
-use Rattle.dom_session.specs.declared.reply.Reply.TheVariants.{Brief}
-use Rattle.dom_session.specs.Refusing.{lacks_given}
-use Rattle.dom_model.specs.Commands.Command.{InsertBefore}
-use Rattle.dom_model.specs.MutationAlgorithms.Checks.{check_insert}
-use Rattle.dom_model.specs.MutationAlgorithms.Editing.{pre_insert}
-use Rattle.dom_session.proofs.Stepping.{step-follows, steps-refused-briefly}
-use Rattle.dom_session.proofs.TreeEdits.{not-true, answer-insert_before}
-use Rattle.dom_session.proofs.WorldsKept.{on_err, kept_nodes}
+use Rattle.std.proofs.Common.{◌≡◌, true, not, Some, None, refl, is_some}
+use Rattle.std.proofs.lemmas.Bool.{not-true}
+use Rattle.dom_model.specs.Definitions.{entry_in, InsertBefore, check_insert, pre_insert}
+use Rattle.dom_session.specs.{declared.brief.Brief.TheVariants.Number, declared.reply.Reply.TheVariants.Brief, Refusing.lacks_given}
+use Rattle.dom_session.proofs.{Stepping.step-follows, Stepping.steps-refused-briefly, TreeEdits.answer-insert_before, WorldsKept.kept_nodes}
 use Rattle.dom_session.proofs.editing.insert_before.Goals as goal
+use Rattle.dom_data.proofs.Outcomes.{on_err}
 
 pub returns-in-Ok : goal.returns-in-Ok
 returns-in-Ok c =

@@ -1,15 +1,8 @@
-use Rattle.std.proofs.Common.{◌≡◌, true, false, refl, ◌∙◌, arith}
+use Rattle.std.proofs.Common.{◌≡◌, true, false, refl, ◌∙◌, arith, is_some}
 use Rattle.std.proofs.lemmas.Grind.{common_steps}
-use Rattle.std.specs.Prelude.{is_some}
-use Rattle.dom_model.specs.Forests.Forest.{entry_in}
-use Rattle.dom_session.specs.declared.brief.Brief.TheVariants.{Nothing}
-use Rattle.dom_session.specs.declared.reply.Reply.TheVariants.{Brief}
-use Rattle.dom_model.specs.Commands.Command.{Remove}
-use Rattle.dom_model.specs.Commands.AnswerTree.{is_child_node}
-use Rattle.dom_model.specs.Forests.Nodes.{kind_passes}
-use Rattle.dom_model.specs.MutationAlgorithms.Editing.{remove}
-use Rattle.dom_session.proofs.Stepping.{step-follows}
-use Rattle.dom_session.proofs.TreeEdits.{kind_passes-label, answer-remove}
+use Rattle.dom_model.specs.Definitions.{entry_in, Remove, is_child_node, kind_passes, remove}
+use Rattle.dom_session.specs.{declared.brief.Brief.TheVariants.Nothing, declared.reply.Reply.TheVariants.Brief}
+use Rattle.dom_session.proofs.{Stepping.step-follows, TreeEdits.kind_passes-label, TreeEdits.answer-remove}
 use Rattle.dom_session.proofs.editing.remove.Goals as goal
 
 pub returns : goal.returns

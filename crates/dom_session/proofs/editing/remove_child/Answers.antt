@@ -1,15 +1,10 @@
-use Rattle.std.proofs.Common.{◌≡◌, true, false, refl}
-use Rattle.std.specs.Prelude.{is_some}
-use Rattle.dom_model.specs.Forests.Forest.{entry_in}
-use Rattle.dom_session.specs.declared.brief.Brief.TheVariants.{Number}
-use Rattle.dom_session.specs.declared.reply.Reply.TheVariants.{Brief}
-use Rattle.dom_model.specs.Commands.Command.{RemoveChild}
-use Rattle.dom_model.specs.MutationAlgorithms.Editing.{remove}
+use Rattle.std.proofs.Common.{◌≡◌, true, false, refl, is_some}
+use Rattle.dom_model.specs.Definitions.{entry_in, RemoveChild, remove}
+use Rattle.dom_session.specs.{declared.brief.Brief.TheVariants.Number, declared.reply.Reply.TheVariants.Brief}
 use Rattle.dom_edit.specs.Refusals.{check_remove_child}
-use Rattle.dom_session.proofs.Stepping.{step-follows, steps-refused-briefly}
-use Rattle.dom_session.proofs.TreeEdits.{answer-remove_child, refused-remove_child}
-use Rattle.dom_session.proofs.WorldsKept.{on_err, kept_nodes}
+use Rattle.dom_session.proofs.{Stepping.step-follows, Stepping.steps-refused-briefly, TreeEdits.answer-remove_child, TreeEdits.refused-remove_child, WorldsKept.kept_nodes}
 use Rattle.dom_session.proofs.editing.remove_child.Goals as goal
+use Rattle.dom_data.proofs.Outcomes.{on_err}
 
 pub returns-in-Ok : goal.returns-in-Ok
 returns-in-Ok c =

@@ -1,15 +1,9 @@
-use Rattle.std.proofs.Common.{◌≡◌, true, Some, None, refl, tests, rules}
-use Rattle.std.specs.Prelude.{is_some}
-use Rattle.dom_model.specs.Forests.Forest.{entry_in}
-use Rattle.dom_session.specs.declared.brief.Brief.TheVariants.{Number}
-use Rattle.dom_session.specs.declared.reply.Reply.TheVariants.{Brief}
-use Rattle.dom_model.specs.Commands.Command.{ReplaceChild}
-use Rattle.dom_model.specs.MutationAlgorithms.Checks.{check_replace}
-use Rattle.dom_model.specs.MutationAlgorithms.Editing.{replace}
-use Rattle.dom_session.proofs.Stepping.{step-follows, steps-refused-briefly}
-use Rattle.dom_session.proofs.TreeEdits.{answer-replace_child}
-use Rattle.dom_session.proofs.WorldsKept.{on_err, kept_nodes}
+use Rattle.std.proofs.Common.{◌≡◌, true, Some, None, refl, tests, rules, is_some}
+use Rattle.dom_model.specs.Definitions.{entry_in, ReplaceChild, check_replace, replace}
+use Rattle.dom_session.specs.{declared.brief.Brief.TheVariants.Number, declared.reply.Reply.TheVariants.Brief}
+use Rattle.dom_session.proofs.{Stepping.step-follows, Stepping.steps-refused-briefly, TreeEdits.answer-replace_child, WorldsKept.kept_nodes}
 use Rattle.dom_session.proofs.editing.replace_child.Goals as goal
+use Rattle.dom_data.proofs.Outcomes.{on_err}
 
 pub returns-in-Ok : goal.returns-in-Ok
 returns-in-Ok c =

@@ -1,18 +1,12 @@
-use Rattle.std.proofs.Common.{◌≡◌, true, false, not, refl, ap, sym, ◌∙◌}
-use Rattle.std.specs.Prelude.{is_some}
-use Rattle.dom_model.specs.Forests.Forest.{entry_in}
-use Rattle.dom_session.specs.declared.brief.Brief.TheVariants.{Nothing, Dom}
-use Rattle.dom_session.specs.declared.reply.Reply.TheVariants.{Brief}
-use Rattle.dom_session.specs.Refusing.{lacks_given}
+use Rattle.std.proofs.Common.{◌≡◌, true, false, not, refl, ap, sym, ◌∙◌, is_some}
+use Rattle.std.proofs.lemmas.Bool.{not-true}
+use Rattle.dom_model.specs.Definitions.{entry_in, Label, may_be_parent, ReplaceChildren, replace_all}
 use Rattle.dom_model.specs.declared.DomError.TheVariants.{TypeError}
-use Rattle.dom_model.specs.Forests.Kinds.{Label, may_be_parent}
-use Rattle.dom_model.specs.Commands.Command.{ReplaceChildren}
-use Rattle.dom_model.specs.MutationAlgorithms.Editing.{replace_all}
+use Rattle.dom_session.specs.{declared.brief.Brief.TheVariants.Nothing, declared.brief.Brief.TheVariants.Dom, declared.reply.Reply.TheVariants.Brief, Refusing.lacks_given}
 use Rattle.dom_edit.specs.Refusals.{check_only_child}
-use Rattle.dom_session.proofs.Stepping.{step-follows, step-stays, steps-refused-briefly}
-use Rattle.dom_session.proofs.TreeEdits.{not-true, kind_passes-label, answer-replace_children, refused-replace_children, refused-parent}
-use Rattle.dom_session.proofs.WorldsKept.{on_err, kept_nodes}
+use Rattle.dom_session.proofs.{Stepping.step-follows, Stepping.step-stays, Stepping.steps-refused-briefly, TreeEdits.kind_passes-label, TreeEdits.answer-replace_children, TreeEdits.refused-replace_children, TreeEdits.refused-parent, WorldsKept.kept_nodes}
 use Rattle.dom_session.proofs.editing.replace_children.Goals as goal
+use Rattle.dom_data.proofs.Outcomes.{on_err}
 
 pub returns-then-not-may_be_parent : goal.returns-then-not-may_be_parent
 returns-then-not-may_be_parent c =

@@ -1,6 +1,6 @@
 -- Each count is that of a part, which is the world's.
 use Rattle.std.proofs.Common.{is_some, count_by, ap, sym, ◌∙◌}
-use Rattle.dom_model.specs.Forests.Forest.{size}
+use Rattle.dom_model.specs.Definitions.{size}
 use Rattle.dom_session.proofs.in_use.in_use.Goals as goal
 
 pub returns-clause-shown : goal.returns-clause-shown

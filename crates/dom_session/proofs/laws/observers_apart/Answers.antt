@@ -1,5 +1,4 @@
-use Rattle.dom_model.proofs.Erasure.ErasedObservers.{observers-apart}
-use Rattle.dom_model.proofs.Erasure.ErasedDiscards.{observers-alike}
+use Rattle.dom_model.proofs.Erasure.{ErasedObservers.observers-apart, ErasedDiscards.observers-alike}
 use Rattle.dom_session.proofs.laws.observers_apart.Goals as goal
 
 pub returns : goal.returns

@@ -1,5 +1,4 @@
-use Rattle.dom_model.proofs.Commands.RefusalsDropped.{refused-dropped, refused_line-dropped}
-use Rattle.dom_model.proofs.Commands.LinesCut.{refused_bytes-dropped}
+use Rattle.dom_model.proofs.Commands.{RefusalsDropped.refused-dropped, RefusalsDropped.refused_line-dropped, LinesCut.refused_bytes-dropped}
 use Rattle.dom_session.proofs.laws.refused_commands_can_go.Goals as goal
 
 pub returns : goal.returns

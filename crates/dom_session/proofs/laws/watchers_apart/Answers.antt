@@ -1,5 +1,4 @@
-use Rattle.dom_model.proofs.Erasure.ErasedWatchers.{watchers-apart}
-use Rattle.dom_model.proofs.Erasure.ErasedDiscards.{watchers-alike}
+use Rattle.dom_model.proofs.Erasure.{ErasedWatchers.watchers-apart, ErasedDiscards.watchers-alike}
 use Rattle.dom_session.proofs.laws.watchers_apart.Goals as goal
 
 pub returns : goal.returns

@@ -1,6 +1,5 @@
-use Rattle.std.proofs.Common.{◌≡◌, ℕ, false, Option, Some, None, refl, ap}
-use Rattle.std.specs.Prelude.{is_some}
-use Rattle.dom_model.specs.MutationObservers.Records.{taken_up_to}
+use Rattle.std.proofs.Common.{◌≡◌, ℕ, false, Option, Some, None, refl, ap, is_some}
+use Rattle.dom_model.specs.Definitions.{taken_up_to}
 use Rattle.dom_model.proofs.Counting.NumbersStay.{node-stays_gone, node-is_new, range-stays_released, iterator-stays_released, walker-stays_released, static_range-stays_released, observer-stays_released}
 use Rattle.dom_session.proofs.laws.what_is_gone_stays_gone.Goals as goal
 

@@ -1,5 +1,5 @@
 use Rattle.std.proofs.Common.{sym, ◌∙◌, tests, rules}
-use Rattle.dom_model.specs.Forests.Forest.{entry_in}
+use Rattle.dom_model.specs.Definitions.{entry_in}
 use Rattle.dom_session.proofs.Laying.{laid_over-absent}
 use Rattle.dom_session.proofs.links.copy_children.Goals as goal
 

@@ -1,5 +1,5 @@
 use Rattle.std.proofs.Common.{◌≡◌, drop}
-use Rattle.dom_model.specs.Commands.AnswerMaking.{closes_instruction}
+use Rattle.dom_model.specs.Definitions.{closes_instruction}
 use Rattle.dom_session.proofs.Instructions.{closes_after}
 use Rattle.dom_session.proofs.making.closes_instruction.Given as goal
 

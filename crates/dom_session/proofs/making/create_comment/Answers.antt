@@ -1,12 +1,8 @@
 use Rattle.std.proofs.Common.{[], sym, ◌∙◌}
 use Rattle.dom_model.specs.declared.Kind.TheVariants.{Comment}
-use Rattle.dom_model.specs.Commands.Answer.{named, with_text}
-use Rattle.dom_model.specs.Commands.Command.{CreateComment}
-use Rattle.dom_session.specs.Limiting.{numbered}
-use Rattle.dom_session.specs.Brief.{reply_of}
-use Rattle.dom_session.specs.Views.{reply_view}
-use Rattle.dom_session.proofs.Stepping.{step-stays}
-use Rattle.dom_session.proofs.Steps.{step-makes, answer-create_comment, refused-create_comment}
+use Rattle.dom_model.specs.Definitions.{named, with_text, CreateComment}
+use Rattle.dom_session.specs.{Limiting.numbered, Brief.reply_of, Views.reply_view}
+use Rattle.dom_session.proofs.{Stepping.step-stays, Steps.step-makes, Steps.answer-create_comment, Steps.refused-create_comment}
 use Rattle.dom_session.proofs.making.create_comment.Goals as goal
 
 pub returns : goal.returns

@@ -1,13 +1,7 @@
 use Rattle.std.proofs.Common.{◌≡◌, true, sym, ◌∙◌, string_bytes}
-use Rattle.dom_model.specs.Forests.Names.{is_doctype_name}
-use Rattle.dom_model.specs.Worlds.World.{no_content}
-use Rattle.dom_model.specs.Commands.AnswerMaking.{doctype_label}
-use Rattle.dom_model.specs.Commands.Command.{CreateDoctype}
-use Rattle.dom_session.specs.Limiting.{numbered}
-use Rattle.dom_session.specs.Brief.{reply_of}
-use Rattle.dom_session.specs.Views.{reply_view}
-use Rattle.dom_session.proofs.Stepping.{step-stays}
-use Rattle.dom_session.proofs.Steps.{step-makes, answer-create_doctype, refused-create_doctype}
+use Rattle.dom_model.specs.Definitions.{is_doctype_name, no_content, doctype_label, CreateDoctype}
+use Rattle.dom_session.specs.{Limiting.numbered, Brief.reply_of, Views.reply_view}
+use Rattle.dom_session.proofs.{Stepping.step-stays, Steps.step-makes, Steps.answer-create_doctype, Steps.refused-create_doctype}
 use Rattle.dom_session.proofs.making.create_doctype.Goals as goal
 
 pub returns : goal.returns

@@ -1,14 +1,8 @@
 use Rattle.std.proofs.Common.{sym, true, ◌≡◌, ◌∙◌}
 use Rattle.dom_model.specs.declared.Kind.TheVariants.{Element}
-use Rattle.dom_model.specs.Forests.Names.{is_element_name}
-use Rattle.dom_model.specs.Worlds.World.{no_content}
-use Rattle.dom_model.specs.Commands.Answer.{named}
-use Rattle.dom_model.specs.Commands.Command.{CreateElement}
-use Rattle.dom_session.specs.Limiting.{numbered}
-use Rattle.dom_session.specs.Brief.{reply_of}
-use Rattle.dom_session.specs.Views.{reply_view}
-use Rattle.dom_session.proofs.Stepping.{step-stays}
-use Rattle.dom_session.proofs.Steps.{step-makes, answer-create_element, refused-create_element}
+use Rattle.dom_model.specs.Definitions.{is_element_name, no_content, named, CreateElement}
+use Rattle.dom_session.specs.{Limiting.numbered, Brief.reply_of, Views.reply_view}
+use Rattle.dom_session.proofs.{Stepping.step-stays, Steps.step-makes, Steps.answer-create_element, Steps.refused-create_element}
 use Rattle.dom_session.proofs.making.create_element.Goals as goal
 
 pub returns : goal.returns

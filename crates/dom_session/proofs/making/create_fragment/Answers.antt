@@ -1,13 +1,8 @@
 use Rattle.std.proofs.Common.{[], sym, ◌∙◌}
 use Rattle.dom_model.specs.declared.Kind.TheVariants.{DocumentFragment}
-use Rattle.dom_model.specs.Worlds.World.{no_content}
-use Rattle.dom_model.specs.Commands.Answer.{named}
-use Rattle.dom_model.specs.Commands.Command.{CreateFragment}
-use Rattle.dom_session.specs.Limiting.{numbered}
-use Rattle.dom_session.specs.Brief.{reply_of}
-use Rattle.dom_session.specs.Views.{reply_view}
-use Rattle.dom_session.proofs.Stepping.{step-stays}
-use Rattle.dom_session.proofs.Steps.{step-makes, answer-create_fragment, refused-create_fragment}
+use Rattle.dom_model.specs.Definitions.{no_content, named, CreateFragment}
+use Rattle.dom_session.specs.{Limiting.numbered, Brief.reply_of, Views.reply_view}
+use Rattle.dom_session.proofs.{Stepping.step-stays, Steps.step-makes, Steps.answer-create_fragment, Steps.refused-create_fragment}
 use Rattle.dom_session.proofs.making.create_fragment.Goals as goal
 
 pub returns : goal.returns

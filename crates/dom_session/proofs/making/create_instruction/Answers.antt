@@ -1,14 +1,8 @@
 use Rattle.std.proofs.Common.{◌≡◌, true, false, sym, ◌∙◌, string_bytes}
 use Rattle.dom_model.specs.declared.Kind.TheVariants.{ProcessingInstruction}
-use Rattle.dom_model.specs.Forests.Names.{is_element_name}
-use Rattle.dom_model.specs.Commands.Answer.{named, with_text}
-use Rattle.dom_model.specs.Commands.AnswerMaking.{closes_instruction}
-use Rattle.dom_model.specs.Commands.Command.{CreatePI}
-use Rattle.dom_session.specs.Limiting.{numbered}
-use Rattle.dom_session.specs.Brief.{reply_of}
-use Rattle.dom_session.specs.Views.{reply_view}
-use Rattle.dom_session.proofs.Stepping.{step-stays}
-use Rattle.dom_session.proofs.Steps.{step-makes, answer-create_instruction, refused-create_instruction}
+use Rattle.dom_model.specs.Definitions.{is_element_name, named, with_text, closes_instruction, CreatePI}
+use Rattle.dom_session.specs.{Limiting.numbered, Brief.reply_of, Views.reply_view}
+use Rattle.dom_session.proofs.{Stepping.step-stays, Steps.step-makes, Steps.answer-create_instruction, Steps.refused-create_instruction}
 use Rattle.dom_session.proofs.making.create_instruction.Goals as goal
 
 pub returns : goal.returns

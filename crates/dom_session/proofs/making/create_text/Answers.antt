@@ -1,12 +1,8 @@
 use Rattle.std.proofs.Common.{[], sym, ◌∙◌}
 use Rattle.dom_model.specs.declared.Kind.TheVariants.{Text}
-use Rattle.dom_model.specs.Commands.Answer.{named, with_text}
-use Rattle.dom_model.specs.Commands.Command.{CreateText}
-use Rattle.dom_session.specs.Limiting.{numbered}
-use Rattle.dom_session.specs.Brief.{reply_of}
-use Rattle.dom_session.specs.Views.{reply_view}
-use Rattle.dom_session.proofs.Stepping.{step-stays}
-use Rattle.dom_session.proofs.Steps.{step-makes, answer-create_text, refused-create_text}
+use Rattle.dom_model.specs.Definitions.{named, with_text, CreateText}
+use Rattle.dom_session.specs.{Limiting.numbered, Brief.reply_of, Views.reply_view}
+use Rattle.dom_session.proofs.{Stepping.step-stays, Steps.step-makes, Steps.answer-create_text, Steps.refused-create_text}
 use Rattle.dom_session.proofs.making.create_text.Goals as goal
 
 pub returns : goal.returns

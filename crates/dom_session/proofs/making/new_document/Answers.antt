@@ -1,7 +1,6 @@
 use Rattle.std.proofs.Common.{◌≡◌, ◌+◌, nat_lt, false, ◌∙◌, arith}
 use Rattle.std.proofs.lemmas.Bool.Decides.{nat_tests}
-use Rattle.dom_model.specs.Worlds.World.{no_content, document_label}
-use Rattle.dom_model.specs.Commands.Command.{NewDocument}
+use Rattle.dom_model.specs.Definitions.{no_content, document_label, NewDocument}
 use Rattle.dom_session.specs.Limiting.{numbered}
 use Rattle.dom_session.proofs.Steps.{step-makes, answer-new_document}
 use Rattle.dom_session.proofs.making.new_document.Goals as goal

@@ -1,6 +1,5 @@
 use Rattle.std.proofs.Common.{refl, ◌∙◌}
-use Rattle.dom_session.specs.declared.reply.Answer.TheVariants.{Notified}
-use Rattle.dom_session.specs.declared.reply.Reply.TheVariants.{Done}
+use Rattle.dom_session.specs.{declared.reply.Answer.TheVariants.Notified, declared.reply.Reply.TheVariants.Done}
 use Rattle.dom_session.proofs.ObserverSteps.{step-notify}
 use Rattle.dom_session.proofs.observing.notify.Goals as goal
 

@@ -1,6 +1,5 @@
 use Rattle.std.proofs.Common.{refl}
-use Rattle.dom_session.specs.declared.reply.Answer.TheVariants.{Numbers}
-use Rattle.dom_session.specs.declared.reply.Reply.TheVariants.{Done}
+use Rattle.dom_session.specs.{declared.reply.Answer.TheVariants.Numbers, declared.reply.Reply.TheVariants.Done}
 use Rattle.dom_session.proofs.ObserverSteps.{step-take_pending}
 use Rattle.dom_session.proofs.observing.take_pending.Goals as goal
 

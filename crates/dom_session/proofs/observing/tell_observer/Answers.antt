@@ -1,8 +1,6 @@
-use Rattle.std.proofs.Common.{◌≡◌, true, refl}
-use Rattle.std.specs.Prelude.{is_some}
+use Rattle.std.proofs.Common.{◌≡◌, true, refl, is_some}
 use Rattle.dom_observe.specs.Watchers.{queue_in}
-use Rattle.dom_session.specs.declared.reply.Answer.TheVariants.{Records}
-use Rattle.dom_session.specs.declared.reply.Reply.TheVariants.{Done}
+use Rattle.dom_session.specs.{declared.reply.Answer.TheVariants.Records, declared.reply.Reply.TheVariants.Done}
 use Rattle.dom_session.proofs.ObserverSteps.{step-tell_observer}
 use Rattle.dom_session.proofs.observing.tell_observer.Goals as goal
 

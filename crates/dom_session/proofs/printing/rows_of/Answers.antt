@@ -1,5 +1,5 @@
 use Rattle.std.proofs.Common.{arith}
-use Rattle.dom_model.specs.Commands.Answer.{tree_rows}
+use Rattle.dom_model.specs.Definitions.{tree_rows}
 use Rattle.dom_session.proofs.Waits.{IsPrinting-start, IsPrinting-step, HasNode-waiting, shallow_waiting, more_to_come}
 use Rattle.dom_session.proofs.printing.rows_of.Goals as goal
 

@@ -1,5 +1,5 @@
 use Rattle.std.proofs.Common.{◌-◌, length, vec_len}
-use Rattle.dom_model.specs.Commands.Answer.{tree_rows}
+use Rattle.dom_model.specs.Definitions.{tree_rows}
 use Rattle.dom_session.proofs.Waits.{IsPrinting}
 use Rattle.dom_session.proofs.printing.rows_of.Given as goal
 

@@ -1,6 +1,6 @@
 -- The numbers of the children that were passed are in the list, and the others are to come.
 use Rattle.std.proofs.Common.{◌≡◌, ◌++◌}
-use Rattle.dom_model.specs.Forests.Forest.{children_of}
+use Rattle.dom_model.specs.Definitions.{children_of}
 use Rattle.dom_session.proofs.questions.child_numbers.Given as goal
 
 abbrev pub invariant-loop-child : goal.invariant-loop-child

@@ -1,11 +1,7 @@
-use Rattle.std.proofs.Common.{◌≡◌, true, sym, subst}
-use Rattle.std.specs.Prelude.{is_some, IfSome}
-use Rattle.dom_model.specs.Forests.Forest.{entry_in}
-use Rattle.dom_model.specs.Commands.Command.{DescribeNode}
-use Rattle.dom_session.specs.declared.reply.Answer.TheVariants.{NodeAt}
-use Rattle.dom_session.specs.declared.reply.Reply.TheVariants.{Done}
-use Rattle.dom_session.proofs.Stepping.{step-stays}
-use Rattle.dom_session.proofs.Describing.{answer-node}
+use Rattle.std.proofs.Common.{◌≡◌, true, sym, subst, is_some, IfSome}
+use Rattle.dom_model.specs.Definitions.{entry_in, DescribeNode}
+use Rattle.dom_session.specs.{declared.reply.Answer.TheVariants.NodeAt, declared.reply.Reply.TheVariants.Done}
+use Rattle.dom_session.proofs.{Stepping.step-stays, Describing.answer-node}
 use Rattle.dom_session.proofs.questions.describe_node.Goals as goal
 
 pub returns : goal.returns

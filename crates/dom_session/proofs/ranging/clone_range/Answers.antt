@@ -1,13 +1,8 @@
 use Rattle.std.proofs.Common.{◌≡◌, ◌+◌, nat_lt, false, length, [], ◌∷◌, ◌++◌, Some, refl, arith, ◌∙◌}
-use Rattle.std.proofs.lemmas.Grind.{common_steps}
-use Rattle.std.proofs.lemmas.Bool.Decides.{nat_tests}
-use Rattle.dom_model.specs.Worlds.World.{Range}
-use Rattle.dom_model.specs.Commands.Command.{CloneRange}
-use Rattle.dom_session.specs.declared.brief.Brief.TheVariants.{Number}
-use Rattle.dom_session.specs.declared.reply.Reply.TheVariants.{Brief}
-use Rattle.dom_session.specs.Limiting.{numbered}
-use Rattle.dom_session.proofs.Parts.{step-ranges}
-use Rattle.dom_session.proofs.RangeAnswers.{answer-clone_range}
+use Rattle.std.proofs.lemmas.{Grind.common_steps, Bool.Decides.nat_tests}
+use Rattle.dom_model.specs.Definitions.{Range, CloneRange}
+use Rattle.dom_session.specs.{declared.brief.Brief.TheVariants.Number, declared.reply.Reply.TheVariants.Brief, Limiting.numbered}
+use Rattle.dom_session.proofs.{Parts.step-ranges, RangeAnswers.answer-clone_range}
 use Rattle.dom_session.proofs.ranging.clone_range.Goals as goal
 
 pub returns : goal.returns

@@ -1,18 +1,9 @@
-use Rattle.std.proofs.Common.{◌≡◌, ◌+◌, nat_lt, true, false, length, [], ◌∷◌, ◌++◌, Some, refl, arith, ◌∙◌, rules}
-use Rattle.std.proofs.lemmas.Grind.{common_steps}
-use Rattle.std.proofs.lemmas.Bool.Decides.{nat_tests}
-use Rattle.std.specs.Prelude.{is_some}
+use Rattle.std.proofs.Common.{◌≡◌, ◌+◌, nat_lt, true, false, length, [], ◌∷◌, ◌++◌, Some, refl, arith, ◌∙◌, rules, is_some}
+use Rattle.std.proofs.lemmas.{Grind.common_steps, Bool.Decides.nat_tests}
 use Rattle.dom_model.specs.declared.Kind.TheVariants.{Document}
-use Rattle.dom_model.specs.Forests.Forest.{entry_in}
-use Rattle.dom_model.specs.Commands.Command.{CreateRange}
-use Rattle.dom_model.specs.Forests.Nodes.{is_of_kind}
-use Rattle.dom_model.specs.RangesAndContents.Ranges.{collapsed_at}
-use Rattle.dom_session.specs.declared.brief.Brief.TheVariants.{Number}
-use Rattle.dom_session.specs.declared.reply.Reply.TheVariants.{Brief}
-use Rattle.dom_session.specs.Limiting.{numbered}
-use Rattle.dom_session.proofs.Parts.{step-ranges}
-use Rattle.dom_session.proofs.RangeFacts.{node-covered, range-in, range-of_document}
-use Rattle.dom_session.proofs.RangeAnswers.{answer-create_range}
+use Rattle.dom_model.specs.Definitions.{entry_in, CreateRange, is_of_kind, collapsed_at}
+use Rattle.dom_session.specs.{declared.brief.Brief.TheVariants.Number, declared.reply.Reply.TheVariants.Brief, Limiting.numbered}
+use Rattle.dom_session.proofs.{Parts.step-ranges, RangeFacts.node-covered, RangeFacts.range-in, RangeFacts.range-of_document, RangeAnswers.answer-create_range}
 use Rattle.dom_session.proofs.ranging.create_range.Goals as goal
 
 pub make-requires-clause-start_covered : goal.make-requires-clause-start_covered

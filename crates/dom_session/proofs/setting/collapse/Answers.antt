@@ -1,12 +1,8 @@
-use Rattle.std.proofs.Common.{◌≡◌, true, refl}
-use Rattle.std.specs.Prelude.{is_some}
-use Rattle.dom_model.specs.RangesAndContents.Ranges.{collapsed}
-use Rattle.dom_model.specs.Commands.Command.{Collapse}
+use Rattle.std.proofs.Common.{◌≡◌, true, refl, is_some}
+use Rattle.dom_model.specs.Definitions.{collapsed, Collapse}
 use Rattle.dom_ranges.specs.Tables.{range_in}
-use Rattle.dom_session.specs.declared.brief.Brief.TheVariants.{Nothing}
-use Rattle.dom_session.specs.declared.reply.Reply.TheVariants.{Brief}
-use Rattle.dom_session.proofs.Parts.{step-set}
-use Rattle.dom_session.proofs.RangeAnswers.{answer-collapse}
+use Rattle.dom_session.specs.{declared.brief.Brief.TheVariants.Nothing, declared.reply.Reply.TheVariants.Brief}
+use Rattle.dom_session.proofs.{Parts.step-set, RangeAnswers.answer-collapse}
 use Rattle.dom_session.proofs.setting.collapse.Goals as goal
 
 pub returns : goal.returns

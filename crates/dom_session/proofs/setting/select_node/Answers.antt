@@ -1,16 +1,10 @@
-use Rattle.std.proofs.Common.{◌≡◌, true, refl, sym, ◌∙◌}
-use Rattle.std.specs.Prelude.{is_some}
-use Rattle.dom_model.specs.Forests.Forest.{HasNode, entry_in}
-use Rattle.dom_model.specs.RangesAndContents.Ranges.{around, check_parent}
-use Rattle.dom_model.specs.Commands.Command.{SelectNode}
+use Rattle.std.proofs.Common.{◌≡◌, true, refl, sym, ◌∙◌, is_some}
+use Rattle.dom_model.specs.Definitions.{HasNode, entry_in, around, check_parent, SelectNode}
 use Rattle.dom_model.proofs.Forests.Above.{above}
 use Rattle.dom_edit.specs.Whole.{IsShown}
 use Rattle.dom_ranges.specs.Tables.{range_in}
-use Rattle.dom_session.specs.declared.brief.Brief.TheVariants.{Nothing}
-use Rattle.dom_session.specs.declared.reply.Reply.TheVariants.{Brief}
-use Rattle.dom_session.proofs.Parts.{step-set}
-use Rattle.dom_session.proofs.RangeFacts.{node-covered}
-use Rattle.dom_session.proofs.RangeAnswers.{passed, around-there, answer-select_node}
+use Rattle.dom_session.specs.{declared.brief.Brief.TheVariants.Nothing, declared.reply.Reply.TheVariants.Brief}
+use Rattle.dom_session.proofs.{Parts.step-set, RangeFacts.node-covered, RangeAnswers.passed, RangeAnswers.around-there, RangeAnswers.answer-select_node}
 use Rattle.dom_session.proofs.setting.select_node.Goals as goal
 
 pub select-requires-clause-covered : goal.select-requires-clause-covered

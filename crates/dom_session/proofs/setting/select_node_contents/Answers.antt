@@ -1,15 +1,8 @@
-use Rattle.std.proofs.Common.{◌≡◌, true, Some, refl, sym, ◌∙◌}
-use Rattle.std.specs.Prelude.{is_some, slice_set}
-use Rattle.dom_model.specs.Forests.Forest.{entry_in}
-use Rattle.dom_model.specs.Worlds.Lengths.{unit_count}
-use Rattle.dom_model.specs.RangesAndContents.Ranges.{contents_of, check_contents}
-use Rattle.dom_model.specs.Commands.Command.{SelectNodeContents}
+use Rattle.std.proofs.Common.{◌≡◌, true, Some, refl, sym, ◌∙◌, is_some, slice_set}
+use Rattle.dom_model.specs.Definitions.{entry_in, unit_count, contents_of, check_contents, SelectNodeContents}
 use Rattle.dom_ranges.specs.Tables.{range_in}
-use Rattle.dom_session.specs.declared.brief.Brief.TheVariants.{Nothing, Dom}
-use Rattle.dom_session.specs.declared.reply.Reply.TheVariants.{Brief}
-use Rattle.dom_session.proofs.Parts.{step-ranges, step-refused}
-use Rattle.dom_session.proofs.RangeFacts.{node-covered}
-use Rattle.dom_session.proofs.RangeAnswers.{passed, told, answer-select_node_contents, refusal-select_node_contents}
+use Rattle.dom_session.specs.{declared.brief.Brief.TheVariants.Nothing, declared.brief.Brief.TheVariants.Dom, declared.reply.Reply.TheVariants.Brief}
+use Rattle.dom_session.proofs.{Parts.step-ranges, Parts.step-refused, RangeFacts.node-covered, RangeAnswers.passed, RangeAnswers.told, RangeAnswers.answer-select_node_contents, RangeAnswers.refusal-select_node_contents}
 use Rattle.dom_session.proofs.setting.select_node_contents.Goals as goal
 
 pub select_contents-requires-clause-covered : goal.select_contents-requires-clause-covered

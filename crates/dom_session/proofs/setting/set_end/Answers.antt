@@ -1,17 +1,9 @@
-use Rattle.std.proofs.Common.{◌≡◌, true, refl, sym, ◌∙◌, arith}
+use Rattle.std.proofs.Common.{◌≡◌, true, refl, sym, ◌∙◌, arith, is_some}
 use Rattle.std.proofs.lemmas.Grind.{common_steps}
-use Rattle.std.specs.Prelude.{is_some}
-use Rattle.dom_model.specs.Forests.Forest.{entry_in}
-use Rattle.dom_model.specs.Worlds.Lengths.{unit_count}
-use Rattle.dom_model.specs.Worlds.World.{Point}
-use Rattle.dom_model.specs.RangesAndContents.Ranges.{end_set, check_point}
-use Rattle.dom_model.specs.Commands.Command.{SetEnd}
+use Rattle.dom_model.specs.Definitions.{entry_in, unit_count, Point, end_set, check_point, SetEnd}
 use Rattle.dom_ranges.specs.Tables.{range_in}
-use Rattle.dom_session.specs.declared.brief.Brief.TheVariants.{Nothing, Dom}
-use Rattle.dom_session.specs.declared.reply.Reply.TheVariants.{Brief}
-use Rattle.dom_session.proofs.Parts.{step-set, step-refused}
-use Rattle.dom_session.proofs.RangeFacts.{node-covered}
-use Rattle.dom_session.proofs.RangeAnswers.{passed, told, answer-set_end, refusal-set_end}
+use Rattle.dom_session.specs.{declared.brief.Brief.TheVariants.Nothing, declared.brief.Brief.TheVariants.Dom, declared.reply.Reply.TheVariants.Brief}
+use Rattle.dom_session.proofs.{Parts.step-set, Parts.step-refused, RangeFacts.node-covered, RangeAnswers.passed, RangeAnswers.told, RangeAnswers.answer-set_end, RangeAnswers.refusal-set_end}
 use Rattle.dom_session.proofs.setting.set_end.Goals as goal
 
 pub set_end-requires-clause-covered : goal.set_end-requires-clause-covered

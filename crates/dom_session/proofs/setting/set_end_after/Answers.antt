@@ -1,4 +1,4 @@
-use Rattle.dom_model.specs.Commands.Command.{SetEndAfter}
+use Rattle.dom_model.specs.Definitions.{SetEndAfter}
 use Rattle.dom_model.proofs.RangesAndContents.RangesSet.{boundary_after}
 use Rattle.dom_session.proofs.RangeAnswers.{answer-set_end_after}
 use Rattle.dom_session.proofs.setting.set_end_after.Goals as goal

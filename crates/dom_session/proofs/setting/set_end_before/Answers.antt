@@ -1,4 +1,4 @@
-use Rattle.dom_model.specs.Commands.Command.{SetEndBefore}
+use Rattle.dom_model.specs.Definitions.{SetEndBefore}
 use Rattle.dom_model.proofs.RangesAndContents.RangesSet.{boundary_before}
 use Rattle.dom_session.proofs.RangeAnswers.{answer-set_end_before}
 use Rattle.dom_session.proofs.setting.set_end_before.Goals as goal

@@ -1,15 +1,9 @@
-use Rattle.std.proofs.Common.{◌≡◌, true, refl, subst, ◌∙◌, arith}
+use Rattle.std.proofs.Common.{◌≡◌, true, refl, subst, ◌∙◌, arith, IfSome, is_some}
 use Rattle.std.proofs.lemmas.Grind.{common_steps}
-use Rattle.std.specs.Prelude.{IfSome, is_some}
-use Rattle.dom_model.specs.Forests.Forest.{entry_in}
-use Rattle.dom_model.specs.Soundness.Sound.{IsBoundary}
-use Rattle.dom_model.specs.RangesAndContents.Ranges.{end_set}
+use Rattle.dom_model.specs.Definitions.{entry_in, IsBoundary, end_set}
 use Rattle.dom_ranges.specs.Tables.{range_in}
-use Rattle.dom_session.specs.declared.brief.Brief.TheVariants.{Nothing}
-use Rattle.dom_session.specs.declared.reply.Reply.TheVariants.{Brief}
-use Rattle.dom_session.proofs.Parts.{step-set}
-use Rattle.dom_session.proofs.RangeFacts.{node-covered}
-use Rattle.dom_session.proofs.RangeAnswers.{answer-sets_end}
+use Rattle.dom_session.specs.{declared.brief.Brief.TheVariants.Nothing, declared.reply.Reply.TheVariants.Brief}
+use Rattle.dom_session.proofs.{Parts.step-set, RangeFacts.node-covered, RangeAnswers.answer-sets_end}
 use Rattle.dom_session.proofs.setting.set_end_beside.Goals as goal
 
 pub set_end-requires-clause-covered : goal.set_end-requires-clause-covered

@@ -1,4 +1,4 @@
-use Rattle.dom_model.specs.Commands.Command.{SetStartAfter}
+use Rattle.dom_model.specs.Definitions.{SetStartAfter}
 use Rattle.dom_model.proofs.RangesAndContents.RangesSet.{boundary_after}
 use Rattle.dom_session.proofs.RangeAnswers.{answer-set_start_after}
 use Rattle.dom_session.proofs.setting.set_start_after.Goals as goal

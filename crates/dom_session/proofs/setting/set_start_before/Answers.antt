@@ -1,4 +1,4 @@
-use Rattle.dom_model.specs.Commands.Command.{SetStartBefore}
+use Rattle.dom_model.specs.Definitions.{SetStartBefore}
 use Rattle.dom_model.proofs.RangesAndContents.RangesSet.{boundary_before}
 use Rattle.dom_session.proofs.RangeAnswers.{answer-set_start_before}
 use Rattle.dom_session.proofs.setting.set_start_before.Goals as goal

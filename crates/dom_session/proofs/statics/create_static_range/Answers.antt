@@ -1,19 +1,10 @@
-use Rattle.std.proofs.Common.{◌≡◌, ◌+◌, nat_lt, true, false, length, [], ◌∷◌, ◌++◌, Option, Some, refl, arith, sym, ap, ◌∙◌, subst}
-use Rattle.std.proofs.lemmas.Bool.Decides.{nat_tests}
-use Rattle.std.proofs.lemmas.List.Elements.{All-push}
-use Rattle.std.specs.Prelude.{is_some, IfSome}
-use Rattle.dom_model.specs.Forests.Forest.{entry_in}
-use Rattle.dom_model.specs.Worlds.World.{Point, Range}
-use Rattle.dom_model.specs.RangesAndContents.StaticRanges.{check_static}
-use Rattle.dom_model.specs.Commands.Command.{CreateStaticRange}
+use Rattle.std.proofs.Common.{◌≡◌, ◌+◌, nat_lt, true, false, length, [], ◌∷◌, ◌++◌, Option, Some, refl, arith, sym, ap, ◌∙◌, subst, is_some, IfSome}
+use Rattle.std.proofs.lemmas.{Bool.Decides.nat_tests, List.Elements.All-push}
+use Rattle.dom_model.specs.Definitions.{entry_in, Point, Range, check_static, CreateStaticRange}
 use Rattle.dom_ranges.specs.Tables.{refused}
 use Rattle.dom_edit.specs.Whole.{AreHeld}
-use Rattle.dom_session.specs.declared.brief.Brief.TheVariants.{Number, Dom}
-use Rattle.dom_session.specs.declared.reply.Reply.TheVariants.{Brief}
-use Rattle.dom_session.specs.Limiting.{numbered}
-use Rattle.dom_session.proofs.Stepping.{step-stays}
-use Rattle.dom_session.proofs.Parts.{step-statics}
-use Rattle.dom_session.proofs.RangeAnswers.{passed, told, answer-create_static_range, refusal-create_static_range}
+use Rattle.dom_session.specs.{declared.brief.Brief.TheVariants.Number, declared.brief.Brief.TheVariants.Dom, declared.reply.Reply.TheVariants.Brief, Limiting.numbered}
+use Rattle.dom_session.proofs.{Stepping.step-stays, Parts.step-statics, RangeAnswers.passed, RangeAnswers.told, RangeAnswers.answer-create_static_range, RangeAnswers.refusal-create_static_range}
 use Rattle.dom_session.proofs.statics.create_static_range.Goals as goal
 
 pub returns-in_ok-id-in-Ok : goal.returns-in_ok-id-in-Ok

@@ -1,10 +1,6 @@
-use Rattle.std.proofs.Common.{◌≡◌, true}
-use Rattle.std.specs.Prelude.{is_some}
-use Rattle.dom_model.specs.Forests.Forest.{entry_in}
-use Rattle.dom_model.specs.Commands.Command.{AppendData, ReplaceData}
-use Rattle.dom_model.specs.Commands.Guards.{Bounds}
-use Rattle.dom_session.specs.declared.reply.Reply.{Reply}
-use Rattle.dom_session.specs.Stands.{IsStep}
+use Rattle.std.proofs.Common.{◌≡◌, true, is_some}
+use Rattle.dom_model.specs.Definitions.{entry_in, AppendData, ReplaceData, Bounds}
+use Rattle.dom_session.specs.{declared.reply.Reply.Reply, Stands.IsStep}
 use Rattle.dom_session.proofs.NodeData.{ok-more, step-same, answer-append_data}
 use Rattle.dom_session.proofs.texts.append_data.Goals as goal
 

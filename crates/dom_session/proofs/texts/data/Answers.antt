@@ -1,9 +1,7 @@
 use Rattle.std.proofs.Common.{sym, ◌∙◌}
-use Rattle.dom_model.specs.Commands.Command.{GetData}
-use Rattle.dom_session.specs.declared.reply.Answer.TheVariants.{Units}
-use Rattle.dom_session.specs.declared.reply.Reply.TheVariants.{Done}
-use Rattle.dom_session.proofs.Stepping.{step-stays}
-use Rattle.dom_session.proofs.NodeData.{answer-data}
+use Rattle.dom_model.specs.Definitions.{GetData}
+use Rattle.dom_session.specs.{declared.reply.Answer.TheVariants.Units, declared.reply.Reply.TheVariants.Done}
+use Rattle.dom_session.proofs.{Stepping.step-stays, NodeData.answer-data}
 use Rattle.dom_session.proofs.texts.data.Goals as goal
 
 pub returns : goal.returns

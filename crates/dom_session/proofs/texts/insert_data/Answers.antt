@@ -1,8 +1,6 @@
 use Rattle.std.proofs.Common.{refl}
-use Rattle.dom_model.specs.Commands.Command.{InsertData, ReplaceData}
-use Rattle.dom_model.specs.Commands.Guards.{Bounds}
-use Rattle.dom_session.specs.declared.reply.Reply.{Reply}
-use Rattle.dom_session.specs.Stands.{IsStep}
+use Rattle.dom_model.specs.Definitions.{InsertData, ReplaceData, Bounds}
+use Rattle.dom_session.specs.{declared.reply.Reply.Reply, Stands.IsStep}
 use Rattle.dom_session.proofs.NodeData.{ok-more, step-same}
 use Rattle.dom_session.proofs.texts.insert_data.Goals as goal
 

@@ -1,12 +1,7 @@
-use Rattle.std.proofs.Common.{◌≡◌, true, refl}
-use Rattle.std.specs.Prelude.{is_some}
-use Rattle.dom_model.specs.Forests.Forest.{entry_in}
-use Rattle.dom_model.specs.DataAndCopies.Data.{normalize}
-use Rattle.dom_model.specs.Commands.Command.{Normalize}
-use Rattle.dom_session.specs.declared.brief.Brief.TheVariants.{Nothing}
-use Rattle.dom_session.specs.declared.reply.Reply.TheVariants.{Brief}
-use Rattle.dom_session.proofs.Stepping.{step-follows}
-use Rattle.dom_session.proofs.NodeData.{answer-normalize}
+use Rattle.std.proofs.Common.{◌≡◌, true, refl, is_some}
+use Rattle.dom_model.specs.Definitions.{entry_in, normalize, Normalize}
+use Rattle.dom_session.specs.{declared.brief.Brief.TheVariants.Nothing, declared.reply.Reply.TheVariants.Brief}
+use Rattle.dom_session.proofs.{Stepping.step-follows, NodeData.answer-normalize}
 use Rattle.dom_session.proofs.texts.normalize.Goals as goal
 
 pub returns : goal.returns

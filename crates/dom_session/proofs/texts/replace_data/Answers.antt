@@ -1,16 +1,10 @@
 use Rattle.std.proofs.Common.{refl, sym, Some, None, []}
-use Rattle.dom_model.specs.DataAndCopies.Data.{check_offset, replace_data}
+use Rattle.dom_model.specs.Definitions.{check_offset, replace_data, ReplaceData, is_character_data, does, checked}
 use Rattle.dom_edit.specs.Whole.{unwatched}
-use Rattle.dom_model.specs.Commands.Command.{ReplaceData}
-use Rattle.dom_session.specs.declared.brief.Brief.TheVariants.{Nothing}
-use Rattle.dom_session.specs.declared.reply.Reply.TheVariants.{Brief}
-use Rattle.dom_session.proofs.Stepping.{step-follows, steps-refused}
-use Rattle.dom_session.proofs.NodeData.{answer-replace_data}
-use Rattle.dom_session.proofs.WorldsKept.{on_err, kept_numbers}
-use Rattle.dom_model.specs.Forests.Kinds.{is_character_data}
-use Rattle.dom_model.specs.Commands.Guards.{does, checked}
-use Rattle.dom_session.proofs.OtherKinds.{step-other_kind}
+use Rattle.dom_session.specs.{declared.brief.Brief.TheVariants.Nothing, declared.reply.Reply.TheVariants.Brief}
+use Rattle.dom_session.proofs.{Stepping.step-follows, Stepping.steps-refused, NodeData.answer-replace_data, WorldsKept.kept_numbers, OtherKinds.step-other_kind}
 use Rattle.dom_session.proofs.texts.replace_data.Goals as goal
+use Rattle.dom_data.proofs.Outcomes.{on_err}
 
 pub returns-in-Ok : goal.returns-in-Ok
 returns-in-Ok c =

@@ -1,10 +1,7 @@
 use Rattle.std.proofs.Common.{refl, sym}
-use Rattle.dom_model.specs.DataAndCopies.Data.{set_data}
-use Rattle.dom_model.specs.Commands.Command.{SetData}
-use Rattle.dom_session.specs.declared.brief.Brief.TheVariants.{Nothing}
-use Rattle.dom_session.specs.declared.reply.Reply.TheVariants.{Brief}
-use Rattle.dom_session.proofs.Stepping.{step-follows}
-use Rattle.dom_session.proofs.NodeData.{answer-set_data}
+use Rattle.dom_model.specs.Definitions.{set_data, SetData}
+use Rattle.dom_session.specs.{declared.brief.Brief.TheVariants.Nothing, declared.reply.Reply.TheVariants.Brief}
+use Rattle.dom_session.proofs.{Stepping.step-follows, NodeData.answer-set_data}
 use Rattle.dom_session.proofs.texts.set_data.Goals as goal
 
 pub returns : goal.returns

@@ -1,14 +1,8 @@
-use Rattle.std.proofs.Common.{◌≡◌, ◌+◌, nat_lt, true, false, refl, arith}
+use Rattle.std.proofs.Common.{◌≡◌, ◌+◌, nat_lt, true, false, refl, arith, is_some}
 use Rattle.std.proofs.lemmas.Bool.Decides.{nat_tests}
-use Rattle.std.specs.Prelude.{is_some}
-use Rattle.dom_model.specs.Forests.Forest.{entry_in}
-use Rattle.dom_model.specs.DataAndCopies.Data.{set_text_content}
-use Rattle.dom_model.specs.Commands.Command.{SetTextContent}
-use Rattle.dom_session.specs.declared.brief.Brief.TheVariants.{Nothing}
-use Rattle.dom_session.specs.declared.reply.Reply.TheVariants.{Brief}
-use Rattle.dom_session.specs.Limiting.{numbered}
-use Rattle.dom_session.proofs.Stepping.{step-follows}
-use Rattle.dom_session.proofs.NodeData.{answer-set_text_content}
+use Rattle.dom_model.specs.Definitions.{entry_in, set_text_content, SetTextContent}
+use Rattle.dom_session.specs.{declared.brief.Brief.TheVariants.Nothing, declared.reply.Reply.TheVariants.Brief, Limiting.numbered}
+use Rattle.dom_session.proofs.{Stepping.step-follows, NodeData.answer-set_text_content}
 use Rattle.dom_session.proofs.texts.set_text_content.Goals as goal
 
 pub returns : goal.returns

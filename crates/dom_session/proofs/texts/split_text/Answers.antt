@@ -1,16 +1,11 @@
 use Rattle.std.proofs.Common.{◌≡◌, ◌+◌, nat_lt, false, Some, None, refl, sym, ◌∙◌, arith}
 use Rattle.std.proofs.lemmas.Bool.Decides.{nat_tests}
-use Rattle.dom_model.specs.DataAndCopies.Data.{check_offset, split}
-use Rattle.dom_model.specs.Commands.Command.{SplitText}
+use Rattle.dom_model.specs.Definitions.{check_offset, split, SplitText}
 use Rattle.dom_edit.specs.Whole.{unwatched}
-use Rattle.dom_session.specs.declared.brief.Brief.TheVariants.{Number}
-use Rattle.dom_session.specs.declared.reply.Reply.TheVariants.{Brief}
-use Rattle.dom_session.specs.Views.{reply_view}
-use Rattle.dom_session.specs.Limiting.{numbered}
-use Rattle.dom_session.proofs.Stepping.{step-follows, step-stays, step-refused}
-use Rattle.dom_session.proofs.NodeData.{answer-split_text, refused-split_text}
-use Rattle.dom_session.proofs.WorldsKept.{on_err, kept_labels}
+use Rattle.dom_session.specs.{declared.brief.Brief.TheVariants.Number, declared.reply.Reply.TheVariants.Brief, Views.reply_view, Limiting.numbered}
+use Rattle.dom_session.proofs.{Stepping.step-follows, Stepping.step-stays, Stepping.step-refused, NodeData.answer-split_text, NodeData.refused-split_text, WorldsKept.kept_labels}
 use Rattle.dom_session.proofs.texts.split_text.Goals as goal
+use Rattle.dom_data.proofs.Outcomes.{on_err}
 
 pub returns-in-Ok : goal.returns-in-Ok
 returns-in-Ok c =

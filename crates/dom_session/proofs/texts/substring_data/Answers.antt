@@ -1,18 +1,11 @@
 use Rattle.std.proofs.Common.{refl, sym, Option, Some, None}
 use Rattle.dom_model.specs.declared.DomError.{DomError}
-use Rattle.dom_model.specs.DataAndCopies.Data.{check_offset, substring_data}
-use Rattle.dom_edit.specs.Whole.{unwatched}
-use Rattle.dom_edit.specs.declared.world.World.{World}
-use Rattle.dom_edit.specs.declared.refusal.Refusal.{Refusal}
+use Rattle.dom_model.specs.Definitions.{check_offset, substring_data, SubstringData}
+use Rattle.dom_edit.specs.{Whole.unwatched, declared.world.World.World, declared.refusal.Refusal.Refusal, Refusals.IsRefused}
 use Rattle.dom_edit.specs.declared.refusal.Refusal.TheVariants as refusal
-use Rattle.dom_edit.specs.Refusals.{IsRefused}
 use Rattle.dom_data.specs.Reading.{IsNamed}
-use Rattle.dom_model.specs.Commands.Command.{SubstringData}
-use Rattle.dom_session.specs.declared.reply.Answer.TheVariants.{Units}
-use Rattle.dom_session.specs.declared.reply.Reply.TheVariants.{Done}
-use Rattle.dom_session.proofs.Stepping.{step-stays, steps-refused}
-use Rattle.dom_session.specs.Views.{reply_view}
-use Rattle.dom_session.proofs.NodeData.{answer-substring_data, refused-substring_data}
+use Rattle.dom_session.specs.{declared.reply.Answer.TheVariants.Units, declared.reply.Reply.TheVariants.Done, Views.reply_view}
+use Rattle.dom_session.proofs.{Stepping.step-stays, Stepping.steps-refused, NodeData.answer-substring_data, NodeData.refused-substring_data}
 use Rattle.dom_session.proofs.texts.substring_data.Goals as goal
 
 -- a question leaves the world

@@ -1,11 +1,7 @@
-use Rattle.std.proofs.Common.{◌≡◌, true}
-use Rattle.std.specs.Prelude.{is_some}
-use Rattle.dom_model.specs.Forests.Forest.{entry_in}
-use Rattle.dom_model.specs.Commands.Command.{TextContent}
-use Rattle.dom_session.specs.declared.reply.Answer.TheVariants.{MaybeUnits}
-use Rattle.dom_session.specs.declared.reply.Reply.TheVariants.{Done}
-use Rattle.dom_session.proofs.Stepping.{step-stays}
-use Rattle.dom_session.proofs.NodeData.{answer-text_content}
+use Rattle.std.proofs.Common.{◌≡◌, true, is_some}
+use Rattle.dom_model.specs.Definitions.{entry_in, TextContent}
+use Rattle.dom_session.specs.{declared.reply.Answer.TheVariants.MaybeUnits, declared.reply.Reply.TheVariants.Done}
+use Rattle.dom_session.proofs.{Stepping.step-stays, NodeData.answer-text_content}
 use Rattle.dom_session.proofs.texts.text_content.Goals as goal
 
 pub returns : goal.returns

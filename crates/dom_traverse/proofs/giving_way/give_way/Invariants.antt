@@ -1,8 +1,7 @@
 -- Those that gave way wait, and the others stay.
 use Rattle.std.specs.Option.{ForSome}
-use Rattle.dom_model.specs.MutationAlgorithms.PreRemoval.{pre_removed}
-use Rattle.dom_traverse.specs.Exits.{IsExit}
-use Rattle.dom_traverse.specs.GivingWay.{stepped_at}
+use Rattle.dom_model.specs.Definitions.{pre_removed}
+use Rattle.dom_traverse.specs.{Exits.IsExit, GivingWay.stepped_at}
 use Rattle.dom_traverse.proofs.Leaving.{standing, AreLeaving}
 use Rattle.dom_traverse.proofs.giving_way.give_way.Given as goal
 

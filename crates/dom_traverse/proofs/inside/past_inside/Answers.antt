@@ -1,9 +1,7 @@
 -- Each step goes on to the next sibling, or up.
 use Rattle.std.proofs.Common.{◌==◌, refl, sym, ◌∙◌}
 use Rattle.std.proofs.lemmas.Bool.{not-true, not-false, eqb-true, eqb-false}
-use Rattle.dom_model.proofs.Forests.Above.{above}
-use Rattle.dom_model.proofs.Forests.ToTheRoot.{shorter, inside}
-use Rattle.dom_model.proofs.Forests.TreeOrder.Stepping.{tree-next, tree-up, tree-top, tree-parent}
+use Rattle.dom_model.proofs.Forests.{Above.above, ToTheRoot.shorter, ToTheRoot.inside, TreeOrder.Stepping.tree-next, TreeOrder.Stepping.tree-up, TreeOrder.Stepping.tree-top, TreeOrder.Stepping.tree-parent}
 use Rattle.dom_traverse.proofs.PassedTrees.{following-past}
 use Rattle.dom_traverse.proofs.inside.past_inside.Goals as goal
 

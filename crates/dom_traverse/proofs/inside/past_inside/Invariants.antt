@@ -1,6 +1,6 @@
 -- What comes past the node's tree is what comes past the tree of where the walk stands.
 use Rattle.std.proofs.Common.{◌≡◌, ◌<◌, length, None}
-use Rattle.dom_model.specs.Forests.Forest.{HasNode, ancestors, occurs, tree_at}
+use Rattle.dom_model.specs.Definitions.{HasNode, ancestors, occurs, tree_at}
 use Rattle.dom_model.proofs.Forests.TreeOrder.Ordering.{past}
 use Rattle.dom_traverse.proofs.inside.past_inside.Given as goal
 

@@ -1,7 +1,6 @@
 -- Back to the end of the previous sibling, else up to the parent.
 use Rattle.std.proofs.Common.{◌≡◌, ◌==◌, true, false, if◌then◌else◌, Some, None, ap, sym, ◌∙◌}
-use Rattle.dom_model.specs.PlainLists.Lists.{last_of}
-use Rattle.dom_model.specs.Forests.Forest.{Grove, previous_of, parent_of, inclusive_descendants}
+use Rattle.dom_model.specs.Definitions.{last_of, Grove, previous_of, parent_of, inclusive_descendants}
 use Rattle.dom_model.proofs.Traversal.PreviousInOrder.{led_back, before-inside}
 use Rattle.dom_tree.specs.Spots.{Spot, node_at}
 use Rattle.dom_traverse.proofs.Spots.{for-one}

@@ -1,7 +1,6 @@
 -- What is still to be found follows where the walk stands.
 use Rattle.std.proofs.Common.{◌≡◌, length, true}
-use Rattle.dom_model.specs.PlainLists.Lists.{among, past}
-use Rattle.dom_model.specs.Forests.Forest.{ancestors, inclusive_descendants}
+use Rattle.dom_model.specs.Definitions.{among, past, ancestors, inclusive_descendants}
 use Rattle.dom_model.proofs.Traversal.IteratorSteps.{following_found}
 use Rattle.dom_traverse.proofs.iterator.next_accepted.Given as goal
 

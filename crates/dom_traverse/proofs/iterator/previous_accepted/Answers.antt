@@ -1,8 +1,6 @@
 -- One node before another.
-use Rattle.std.proofs.Common.{◌≡◌, true, if◌then◌else◌, Some, refl, ap, sym, ◌∙◌}
-use Rattle.dom_model.specs.PlainLists.Lists.{among, before}
-use Rattle.dom_model.specs.Forests.Forest.{Grove, ancestors, inclusive_descendants}
-use Rattle.dom_model.specs.Traversal.Filters.{accepts}
+use Rattle.std.proofs.Common.{◌≡◌, if◌then◌else◌, Some, ap, sym, ◌∙◌}
+use Rattle.dom_model.specs.Definitions.{among, before, Grove, ancestors, inclusive_descendants, accepts}
 use Rattle.dom_model.proofs.Traversal.IteratorSteps.{preceding_found, preceding-inside, preceding-fewer, preceding-end, preceding-on}
 use Rattle.dom_tree.specs.Spots.{node_at}
 use Rattle.dom_traverse.proofs.Spots.{told}

@@ -1,7 +1,6 @@
 -- What is still to be found precedes where the walk stands.
 use Rattle.std.proofs.Common.{◌≡◌, length, true}
-use Rattle.dom_model.specs.PlainLists.Lists.{among, up_to}
-use Rattle.dom_model.specs.Forests.Forest.{ancestors, inclusive_descendants}
+use Rattle.dom_model.specs.Definitions.{among, up_to, ancestors, inclusive_descendants}
 use Rattle.dom_model.proofs.Traversal.IteratorSteps.{preceding_found}
 use Rattle.dom_traverse.proofs.iterator.previous_accepted.Given as goal
 

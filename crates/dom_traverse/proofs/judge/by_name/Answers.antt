@@ -1,10 +1,8 @@
 -- One rule more is passed.
-use Rattle.std.proofs.Common.{◌≡◌, ℕ, ◌+◌, false, List, drop, sym, ap, ◌∙◌}
-use Rattle.std.specs.Prelude.{bytes_eq, codes}
+use Rattle.std.proofs.Common.{◌≡◌, ℕ, ◌+◌, false, List, drop, sym, ap, ◌∙◌, bytes_eq, codes}
 use Rattle.std.proofs.lemmas.List.{at_drop_all}
 use Rattle.dom_model.specs.declared.Verdict.{Verdict}
-use Rattle.dom_model.specs.Worlds.World.{FilterRule}
-use Rattle.dom_model.specs.Traversal.Filters.{ruled}
+use Rattle.dom_model.specs.Definitions.{FilterRule, ruled}
 use Rattle.dom_traverse.specs.Judging.{known_or}
 use Rattle.dom_traverse.proofs.JudgingRules.{rule-passed}
 use Rattle.dom_traverse.proofs.judge.by_name.Goals as goal

@@ -1,9 +1,8 @@
 -- A verdict that is known stays.
-use Rattle.std.proofs.Common.{ℕ, List, sym, ap, ◌∙◌, string_bytes}
-use Rattle.std.specs.Prelude.{is_some}
+use Rattle.std.proofs.Common.{ℕ, List, sym, ap, ◌∙◌, string_bytes, is_some}
 use Rattle.std.specs.BTreeMap.{get_by_text}
 use Rattle.std.proofs.lemmas.Map.Text.{btree_map_updates_text}
-use Rattle.dom_model.specs.Worlds.World.{FilterRule}
+use Rattle.dom_model.specs.Definitions.{FilterRule}
 use Rattle.dom_traverse.proofs.JudgingRules.{known-before, known-after}
 use Rattle.dom_traverse.proofs.judge.note.Goals as goal
 

@@ -1,8 +1,7 @@
 -- The item comes to the place of the last, which is taken out.
 use Rattle.std.proofs.Common.{◌-◌, length, refl}
 use Rattle.dom_traverse.specs.Seats.{seat_at}
-use Rattle.dom_traverse.proofs.SeatSteps.{place-there}
-use Rattle.dom_traverse.proofs.SeatsFreed.{last-stands, freed-places}
+use Rattle.dom_traverse.proofs.{SeatSteps.place-there, SeatsFreed.last-stands, SeatsFreed.freed-places}
 use Rattle.dom_traverse.proofs.seats.free_last.Goals as goal
 
 pub move_to-requires-clause-there : goal.move_to-requires-clause-there

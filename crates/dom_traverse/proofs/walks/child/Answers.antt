@@ -1,14 +1,10 @@
 -- The walk begins at the child.
 use Rattle.std.proofs.Common.{rules, ◌≡◌, ℕ, None, ap, sym, ◌∙◌, subst}
-use Rattle.dom_model.specs.Forests.Forest.{Grove}
-use Rattle.dom_model.specs.Traversal.WalkSteps.{at, ended}
+use Rattle.dom_model.specs.Definitions.{Grove, at, ended}
 use Rattle.dom_model.proofs.Forests.Entries.{occurs-HasNode}
 use Rattle.dom_tree.specs.Spots.{node_at}
-use Rattle.dom_traverse.specs.declared.course.Limit.TheVariants.{Current}
-use Rattle.dom_traverse.specs.declared.course.Course.{Course}
-use Rattle.dom_traverse.specs.Courses.{child_on, Ending, found_from}
-use Rattle.dom_traverse.proofs.Spots.{told_at}
-use Rattle.dom_traverse.proofs.WalkSteps.{child-walks, begin_none, begin_some}
+use Rattle.dom_traverse.specs.{declared.course.Limit.TheVariants.Current, declared.course.Course.Course, Courses.child_on, Courses.Ending, Courses.found_from}
+use Rattle.dom_traverse.proofs.{Spots.told_at, WalkSteps.child-walks, WalkSteps.begin_none, WalkSteps.begin_some}
 use Rattle.dom_traverse.proofs.walks.child.Goals as goal
 
 pub returns-in_err-child : goal.returns-in_err-child

@@ -1,8 +1,6 @@
 -- One last child further down.
-use Rattle.std.proofs.Common.{◌≡◌, true, false, refl, ap, ◌∙◌, inl, inr}
-use Rattle.dom_model.specs.PlainLists.Lists.{last_of}
-use Rattle.dom_model.specs.Forests.Forest.{Grove, children_of}
-use Rattle.dom_model.specs.Traversal.Filters.{rejects}
+use Rattle.std.proofs.Common.{◌≡◌, false, refl, ap, ◌∙◌, inl, inr}
+use Rattle.dom_model.specs.Definitions.{last_of, Grove, children_of, rejects}
 use Rattle.dom_model.proofs.Forests.TreeOrder.Ending.{last-down}
 use Rattle.dom_tree.specs.Spots.{node_at}
 use Rattle.dom_traverse.specs.Ends.{begun, down}

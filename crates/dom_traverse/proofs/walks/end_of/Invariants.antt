@@ -1,6 +1,6 @@
 -- The way down has led here.
 use Rattle.std.proofs.Common.{◌≡◌}
-use Rattle.dom_model.specs.Forests.Forest.{HasNode, size, tree_at}
+use Rattle.dom_model.specs.Definitions.{HasNode, size, tree_at}
 use Rattle.dom_traverse.specs.Ends.{Descends}
 use Rattle.dom_traverse.proofs.walks.end_of.Given as goal
 

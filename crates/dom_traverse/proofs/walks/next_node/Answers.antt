@@ -1,16 +1,10 @@
 -- The walk begins at the first child, or past the current node.
 use Rattle.std.proofs.Common.{rules, ◌≡◌, ℕ, None, ap, sym, ◌∙◌, subst}
-use Rattle.dom_model.specs.PlainLists.Lists.{head_of}
-use Rattle.dom_model.specs.Forests.Forest.{Grove, children_of}
-use Rattle.dom_model.specs.Traversal.WalkSteps.{at, leaving, ended, at_or}
+use Rattle.dom_model.specs.Definitions.{head_of, Grove, children_of, at, leaving, ended, at_or}
 use Rattle.dom_model.proofs.Forests.Entries.{occurs-HasNode}
 use Rattle.dom_tree.specs.Spots.{node_at}
-use Rattle.dom_traverse.specs.declared.course.Side.TheVariants.{First}
-use Rattle.dom_traverse.specs.declared.course.Limit.TheVariants.{Root}
-use Rattle.dom_traverse.specs.declared.course.Course.{Course}
-use Rattle.dom_traverse.specs.Courses.{past_in, Ending, LeadsTo, found_from}
-use Rattle.dom_traverse.proofs.Spots.{told_at, come_at, gone_at}
-use Rattle.dom_traverse.proofs.WalkSteps.{following-walks, following-leave, come_none, come_some, begin_some}
+use Rattle.dom_traverse.specs.{declared.course.Side.TheVariants.First, declared.course.Limit.TheVariants.Root, declared.course.Course.Course, Courses.past_in, Courses.Ending, Courses.LeadsTo, Courses.found_from}
+use Rattle.dom_traverse.proofs.{Spots.told_at, Spots.come_at, Spots.gone_at, WalkSteps.following-walks, WalkSteps.following-leave, WalkSteps.come_none, WalkSteps.come_some, WalkSteps.begin_some}
 use Rattle.dom_traverse.proofs.walks.next_node.Goals as goal
 
 pub run-requires : goal.run-requires

@@ -1,14 +1,11 @@
 -- One ancestor after another.
 use Rattle.std.proofs.Common.{rules, ◌≡◌, ◌==◌, ◌*◌, true, false, Some, None, ap, sym, ◌∙◌, subst}
 use Rattle.std.proofs.lemmas.Bool.{not-true, not-false}
-use Rattle.dom_model.specs.Forests.Forest.{Grove, size, parent_of}
-use Rattle.dom_model.specs.Traversal.Filters.{accepts}
-use Rattle.dom_model.specs.Traversal.WalkSteps.{leaving, parent_step, parent_by_steps}
+use Rattle.dom_model.specs.Definitions.{Grove, size, parent_of, accepts, leaving, parent_step, parent_by_steps}
 use Rattle.dom_model.proofs.Forests.Entries.{occurs-HasNode}
 use Rattle.dom_model.proofs.Traversal.WalksEnd.{Walks, Walks-on, parent-walks}
 use Rattle.dom_tree.specs.Spots.{node_at}
-use Rattle.dom_traverse.proofs.Spots.{told}
-use Rattle.dom_traverse.proofs.WalkSteps.{parent-top, parent-none, parent-accepted, parent-on}
+use Rattle.dom_traverse.proofs.{Spots.told, WalkSteps.parent-top, WalkSteps.parent-none, WalkSteps.parent-accepted, WalkSteps.parent-on}
 use Rattle.dom_traverse.proofs.walks.parent_node.Goals as goal
 
 pub at-here-requires : goal.at-here-requires

@@ -1,8 +1,6 @@
 -- The walk goes on from a node whose inside is left behind.
 use Rattle.std.proofs.Common.{◌≡◌, ◌*◌}
-use Rattle.dom_model.specs.Forests.Forest.{size}
-use Rattle.dom_model.specs.Traversal.WalkSteps.{leaving, parent_step, parent_by_steps}
-use Rattle.dom_model.specs.Traversal.Ending.{moves_left}
+use Rattle.dom_model.specs.Definitions.{size, leaving, parent_step, parent_by_steps, moves_left}
 use Rattle.dom_model.proofs.Traversal.WalksEnd.{Walks}
 use Rattle.dom_traverse.proofs.walks.parent_node.Given as goal
 

@@ -1,14 +1,11 @@
 -- Back to the end of a sibling, or up.
 use Rattle.std.proofs.Common.{rules, ◌≡◌, ◌==◌, ◌*◌, true, false, Some, None, refl, ap, sym, ◌∙◌, subst, tests}
-use Rattle.dom_model.specs.Forests.Forest.{Grove, size, parent_of, previous_of}
-use Rattle.dom_model.specs.Traversal.Filters.{accepts}
-use Rattle.dom_model.specs.Traversal.WalkSteps.{back_past_node, previous_step, previous_by_steps}
+use Rattle.dom_model.specs.Definitions.{Grove, size, parent_of, previous_of, accepts, back_past_node, previous_step, previous_by_steps}
 use Rattle.dom_model.proofs.Forests.Entries.{occurs-HasNode}
 use Rattle.dom_model.proofs.Traversal.WalksEnd.{Walks, Walks-on, LeadsOn-leaving, previous-walks}
 use Rattle.dom_tree.specs.Spots.{node_at}
 use Rattle.dom_traverse.specs.Ends.{Descends, IsEnd}
-use Rattle.dom_traverse.proofs.Spots.{told}
-use Rattle.dom_traverse.proofs.WalkSteps.{back-accepted, back-on, back-root, back-none, back-parent, back-parent_root, back-up, end_found}
+use Rattle.dom_traverse.proofs.{Spots.told, WalkSteps.back-accepted, WalkSteps.back-on, WalkSteps.back-root, WalkSteps.back-none, WalkSteps.back-parent, WalkSteps.back-parent_root, WalkSteps.back-up, WalkSteps.end_found}
 use Rattle.dom_traverse.proofs.walks.previous_node.Goals as goal
 
 pub returns-then-eq : goal.returns-then-eq

@@ -1,8 +1,6 @@
 -- The walk goes on from past the node where it stands.
 use Rattle.std.proofs.Common.{◌≡◌, ◌*◌}
-use Rattle.dom_model.specs.Forests.Forest.{size}
-use Rattle.dom_model.specs.Traversal.WalkSteps.{back_past_node, previous_step, previous_by_steps}
-use Rattle.dom_model.specs.Traversal.Ending.{moves_left}
+use Rattle.dom_model.specs.Definitions.{size, back_past_node, previous_step, previous_by_steps, moves_left}
 use Rattle.dom_model.proofs.Traversal.WalksEnd.{Walks}
 use Rattle.dom_traverse.proofs.walks.previous_node.Given as goal
 

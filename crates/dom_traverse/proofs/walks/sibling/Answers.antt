@@ -1,14 +1,10 @@
 -- The walk begins past the current node.
 use Rattle.std.proofs.Common.{rules, ◌≡◌, ℕ, None, ap, sym, ◌∙◌, subst}
-use Rattle.dom_model.specs.Forests.Forest.{Grove}
-use Rattle.dom_model.specs.Traversal.WalkSteps.{at, ended, at_or}
+use Rattle.dom_model.specs.Definitions.{Grove, at, ended, at_or}
 use Rattle.dom_model.proofs.Forests.Entries.{occurs-HasNode}
 use Rattle.dom_tree.specs.Spots.{node_at}
-use Rattle.dom_traverse.specs.declared.course.Limit.TheVariants.{Accepted}
-use Rattle.dom_traverse.specs.declared.course.Course.{Course}
-use Rattle.dom_traverse.specs.Courses.{past_in, Ending, LeadsTo, found_from}
-use Rattle.dom_traverse.proofs.Spots.{come_at, gone_at}
-use Rattle.dom_traverse.proofs.WalkSteps.{sibling-walks, come_none, come_some}
+use Rattle.dom_traverse.specs.{declared.course.Limit.TheVariants.Accepted, declared.course.Course.Course, Courses.past_in, Courses.Ending, Courses.LeadsTo, Courses.found_from}
+use Rattle.dom_traverse.proofs.{Spots.come_at, Spots.gone_at, WalkSteps.sibling-walks, WalkSteps.come_none, WalkSteps.come_some}
 use Rattle.dom_traverse.proofs.walks.sibling.Goals as goal
 
 pub past-requires : goal.past-requires

@@ -1,12 +1,10 @@
 -- The start of a block has those of the blocks ahead before it.
 use Rattle.std.proofs.Common.{◌≡◌, ◌<◌, length, refl, ap, ◌∙◌, arith}
-use Rattle.dom_model.specs.Forests.Arena.{entry_at, children_in, previous_in}
+use Rattle.dom_model.specs.Definitions.{entry_at, children_in, previous_in}
 use Rattle.dom_model.proofs.PlainLists.Places.{place-there}
 use Rattle.dom_links.specs.Placed.{slot_of}
 use Rattle.dom_tree.specs.Blocks.{ahead_of, counts_in, if_in_block}
-use Rattle.dom_tree.proofs.BlockSteps.{in-block, block-few, block-end}
-use Rattle.dom_tree.proofs.Steps.{led}
-use Rattle.dom_tree.proofs.Written.{listed_under, ahead-next}
+use Rattle.dom_tree.proofs.{BlockSteps.in-block, BlockSteps.block-few, BlockSteps.block-end, Steps.led, Written.listed_under, Written.ahead-next}
 use Rattle.dom_tree.proofs.blocking.index_in_block.Goals as goal
 
 pub ahead_of-ahead-requires-clause-few : goal.ahead_of-ahead-requires-clause-few

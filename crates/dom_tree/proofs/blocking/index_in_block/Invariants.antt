@@ -1,6 +1,6 @@
 -- As many places ahead as steps were made, in the same block.
 use Rattle.std.proofs.Common.{◌≡◌}
-use Rattle.dom_model.specs.Forests.Arena.{entry_at}
+use Rattle.dom_model.specs.Definitions.{entry_at}
 use Rattle.dom_links.specs.Placed.{slot_of, IsPlaced}
 use Rattle.dom_tree.specs.Slots.{index_in}
 use Rattle.dom_tree.proofs.Written.{IsAhead}

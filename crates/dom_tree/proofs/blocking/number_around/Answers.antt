@@ -1,8 +1,7 @@
 -- The children are in blocks, or those up to the child are numbered.
 use Rattle.std.proofs.Common.{◌≡◌, ℕ, [], refl, sym, subst, arith}
 use Rattle.dom_links.specs.Placed.{slot_of}
-use Rattle.dom_tree.specs.Places.{AreRenumbered}
-use Rattle.dom_tree.specs.Blocks.{AreFilled, counts_in, counts_but}
+use Rattle.dom_tree.specs.{Places.AreRenumbered, Blocks.AreFilled, Blocks.counts_in, Blocks.counts_but}
 use Rattle.dom_tree.proofs.BlocksKept.{blocked-filled, blocked-numbered}
 use Rattle.dom_tree.proofs.blocking.number_around.Goals as goal
 

@@ -2,9 +2,7 @@
 use Rattle.std.proofs.Common.{ap, ◌∙◌}
 use Rattle.dom_links.specs.Placed.{Placed, index_of, slot_of}
 use Rattle.dom_tree.specs.Slots.{Kept, unknown, assured}
-use Rattle.dom_tree.proofs.BlocksKept.{blocks-written}
-use Rattle.dom_tree.proofs.Written.{held-same}
-use Rattle.dom_tree.proofs.Places.{placed-still}
+use Rattle.dom_tree.proofs.{BlocksKept.blocks-written, Written.held-same, Places.placed-still}
 use Rattle.dom_tree.proofs.blocking.number_blocks.Goals as goal
 
 pub set_sure-requires : goal.set_sure-requires

@@ -2,9 +2,7 @@
 use Rattle.std.proofs.Common.{IsSome, refl, sym, ◌∙◌, subst, arith, ◌/◌}
 use Rattle.dom_links.specs.Placed.{slot_of, slots_of}
 use Rattle.dom_tree.specs.Blocks.{block_at}
-use Rattle.dom_tree.proofs.Written.{held-same, writing-start, writing-there, writing-end}
-use Rattle.dom_tree.proofs.Writing.{written-places, written-placed, written-next}
-use Rattle.dom_tree.proofs.Places.{some-mapped, placed-still}
+use Rattle.dom_tree.proofs.{Written.held-same, Written.writing-start, Written.writing-there, Written.writing-end, Writing.written-places, Writing.written-placed, Writing.written-next, Places.some-mapped, Places.placed-still}
 use Rattle.dom_tree.proofs.blocking.write_blocks.Goals as goal
 
 pub loop-place-init : goal.loop-place-init

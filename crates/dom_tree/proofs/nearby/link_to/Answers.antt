@@ -1,7 +1,6 @@
 -- A number that is given leads to its place.
 use Rattle.std.proofs.Common.{◌≡◌, Some, None, refl, sym, subst}
-use Rattle.dom_tree.specs.Places.{slots_in, Leads}
-use Rattle.dom_tree.specs.Spelled.{slot_for}
+use Rattle.dom_tree.specs.{Places.slots_in, Places.Leads, Spelled.slot_for}
 use Rattle.dom_tree.proofs.Steps.{led}
 use Rattle.dom_tree.proofs.nearby.link_to.Goals as goal
 

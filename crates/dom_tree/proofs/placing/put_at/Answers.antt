@@ -1,5 +1,5 @@
 use Rattle.std.proofs.Common.{◌<◌, length, refl, sym, ◌∙◌, subst}
-use Rattle.dom_model.specs.Forests.Arena.{entry_at, children_in}
+use Rattle.dom_model.specs.Definitions.{entry_at, children_in}
 use Rattle.dom_links.specs.Placed.{slot_of, slots_of}
 use Rattle.dom_tree.proofs.Counting.{linked-some}
 use Rattle.dom_tree.proofs.placing.put_at.Goals as goal

@@ -1,6 +1,6 @@
 -- The kind that the node's label has.
 use Rattle.std.proofs.Common.{ap, sym, ◌∙◌}
-use Rattle.dom_model.specs.Forests.Kinds.{is_kind}
+use Rattle.dom_model.specs.Definitions.{is_kind}
 use Rattle.dom_links.specs.Placed.{slot_of}
 use Rattle.dom_tree.specs.declared.item.Item.TheInside.{Inside}
 use Rattle.dom_tree.proofs.TalliesKept.{kind-read}

@@ -1,9 +1,7 @@
 -- Each step goes to the sibling before.
 use Rattle.std.proofs.Common.{refl, sym, subst}
 use Rattle.dom_links.specs.Placed.{slot_of, IsPlaced}
-use Rattle.dom_tree.proofs.Written.{ahead-start, ahead-there, ahead-next, ahead-end}
-use Rattle.dom_tree.proofs.Steps.{led, led-there}
-use Rattle.dom_tree.proofs.Places.{slot-led}
+use Rattle.dom_tree.proofs.{Written.ahead-start, Written.ahead-there, Written.ahead-next, Written.ahead-end, Steps.led, Steps.led-there, Places.slot-led}
 use Rattle.dom_tree.proofs.upkeep.child_ahead.Goals as goal
 
 pub loop-passed-init : goal.loop-passed-init

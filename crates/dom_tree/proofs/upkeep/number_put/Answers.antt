@@ -1,13 +1,9 @@
 -- What was written to the child leaves the places.
 use Rattle.std.proofs.Common.{ap, ◌∙◌}
-use Rattle.dom_model.specs.Forests.Arena.{entry_at}
+use Rattle.dom_model.specs.Definitions.{entry_at}
 use Rattle.dom_links.specs.Placed.{Placed, slot_of, slots_of}
-use Rattle.dom_tree.specs.Places.{with_arena}
-use Rattle.dom_tree.specs.Slots.{Kept, nodes_alone, indexed, assured}
-use Rattle.dom_tree.specs.Numberings.{sure_put}
-use Rattle.dom_tree.proofs.Nodes.{indexed-nodes}
-use Rattle.dom_tree.proofs.Written.{held-same}
-use Rattle.dom_tree.proofs.Places.{placed-still}
+use Rattle.dom_tree.specs.{Places.with_arena, Slots.Kept, Slots.nodes_alone, Slots.indexed, Slots.assured, Numberings.sure_put}
+use Rattle.dom_tree.proofs.{Nodes.indexed-nodes, Written.held-same, Places.placed-still}
 use Rattle.dom_tree.proofs.upkeep.number_put.Goals as goal
 
 pub set_sure-requires : goal.set_sure-requires

@@ -1,15 +1,10 @@
 -- What is written is right, and what stands behind is unknown.
 use Rattle.std.proofs.Common.{◌≡◌, ◌+◌, ◌-◌, min, length, slice_get, Some, false, option_map, sym, ap, ◌∙◌, subst, arith}
-use Rattle.dom_model.specs.PlainLists.Lists.{place_in}
-use Rattle.dom_model.specs.Forests.Arena.{entry_at, children_in, next_in}
+use Rattle.dom_model.specs.Definitions.{place_in, entry_at, children_in, next_in}
 use Rattle.dom_model.proofs.PlainLists.Places.{place-there}
 use Rattle.dom_links.specs.Placed.{Placed, index_of, slot_of, slots_of}
-use Rattle.dom_tree.specs.Places.{Leads}
-use Rattle.dom_tree.specs.Slots.{Kept, assured}
-use Rattle.dom_tree.specs.Numberings.{told, IsWritten}
-use Rattle.dom_tree.proofs.Written.{children-same, held-same, listed_under, next-ahead, numbered}
-use Rattle.dom_tree.proofs.Steps.{led}
-use Rattle.dom_tree.proofs.Places.{placed-still}
+use Rattle.dom_tree.specs.{Places.Leads, Slots.Kept, Slots.assured, Numberings.told, Numberings.IsWritten}
+use Rattle.dom_tree.proofs.{Written.children-same, Written.held-same, Written.listed_under, Written.next-ahead, Written.numbered, Steps.led, Places.placed-still}
 use Rattle.dom_tree.proofs.upkeep.number_up_to.Goals as goal
 
 pub overflow_cast-index : goal.overflow_cast-index

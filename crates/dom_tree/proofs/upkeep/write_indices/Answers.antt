@@ -2,9 +2,7 @@
 use Rattle.std.proofs.Common.{IsSome, refl, sym, ◌∙◌, subst}
 use Rattle.dom_links.specs.Placed.{slot_of, slots_of}
 use Rattle.dom_tree.specs.Numberings.{told}
-use Rattle.dom_tree.proofs.Written.{writing-start, writing-there, writing-end}
-use Rattle.dom_tree.proofs.Writing.{written-places, written-placed, written-next}
-use Rattle.dom_tree.proofs.Places.{some-mapped}
+use Rattle.dom_tree.proofs.{Written.writing-start, Written.writing-there, Written.writing-end, Writing.written-places, Writing.written-placed, Writing.written-next, Places.some-mapped}
 use Rattle.dom_tree.proofs.upkeep.write_indices.Goals as goal
 
 pub loop-place-init : goal.loop-place-init

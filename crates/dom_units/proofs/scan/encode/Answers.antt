@@ -1,10 +1,6 @@
-use Rattle.std.proofs.Common.{◌∙◌, sym, ap, arith}
-use Rattle.std.proofs.lemmas.Grind.{common_steps}
-use Rattle.std.specs.Prelude.{flat_map}
+use Rattle.std.proofs.Common.{◌∙◌, sym, ap, arith, flat_map}
+use Rattle.std.proofs.lemmas.{Grind.common_steps, Iterator.YieldsList-from_chars, Iterator.Consumers.YieldsList-end, List.Folds.flat_map-map}
 use Rattle.std.specs.Char.Escape.{encode_utf16}
-use Rattle.std.proofs.lemmas.Iterator.{YieldsList-from_chars}
-use Rattle.std.proofs.lemmas.Iterator.Consumers.{YieldsList-end}
-use Rattle.std.proofs.lemmas.List.Folds.{flat_map-map}
 use Rattle.dom_units.proofs.scan.encode.Goals as goal
 
 pub returns : goal.returns

@@ -1,5 +1,4 @@
-use Rattle.std.proofs.Common.{◌≡◌}
-use Rattle.std.specs.Prelude.{flat_map}
+use Rattle.std.proofs.Common.{◌≡◌, flat_map}
 use Rattle.std.specs.Char.Escape.{encode_utf16}
 use Rattle.dom_units.proofs.scan.encode.Given as goal
 

@@ -1,7 +1,6 @@
 use Rattle.std.proofs.Common.{◌≡◌, drop, map}
 use Rattle.serde_json.specs.View.{view}
-use Rattle.dom_model.specs.Commands.Table.{no_arguments}
-use Rattle.dom_model.specs.Commands.Line.{arguments_from}
+use Rattle.dom_model.specs.Definitions.{no_arguments, arguments_from}
 use Rattle.dom_wire.specs.Shapes.{shape_view, arguments_view}
 use Rattle.dom_wire.proofs.decoding.arguments_of.Given as goal
 

@@ -1,5 +1,5 @@
 use Rattle.std.proofs.Common.{sym}
-use Rattle.dom_model.specs.Commands.Line.{move_names}
+use Rattle.dom_model.specs.Definitions.{move_names}
 use Rattle.dom_wire.proofs.Steps.{named_in-none}
 use Rattle.dom_wire.proofs.filters.course_of.Goals as goal
 

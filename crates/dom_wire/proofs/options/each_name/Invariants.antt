@@ -1,8 +1,6 @@
-use Rattle.std.proofs.Common.{◌≡◌, drop, map, ◌++◌, string_bytes}
-use Rattle.std.specs.Prelude.{option_map}
-use Rattle.serde_json.specs.Find.{as_str}
-use Rattle.serde_json.specs.View.{items_view}
-use Rattle.dom_model.specs.Commands.Line.{each_item}
+use Rattle.std.proofs.Common.{◌≡◌, drop, map, ◌++◌, string_bytes, option_map}
+use Rattle.serde_json.specs.{Find.as_str, View.items_view}
+use Rattle.dom_model.specs.Definitions.{each_item}
 use Rattle.dom_wire.proofs.options.each_name.Given as goal
 
 abbrev pub invariant-loop-item : goal.invariant-loop-item

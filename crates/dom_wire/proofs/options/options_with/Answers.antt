@@ -1,9 +1,6 @@
-use Rattle.std.proofs.Common.{◌≡◌, true, None, sym}
-use Rattle.std.specs.Prelude.{is_some}
-use Rattle.serde_json.specs.Find.{as_object}
-use Rattle.serde_json.specs.View.{view}
-use Rattle.dom_model.specs.Commands.Line.{options_in}
-use Rattle.dom_observe.specs.Names.{names_of}
+use Rattle.std.proofs.Common.{◌≡◌, true, None, sym, is_some}
+use Rattle.serde_json.specs.{Find.as_object, View.view}
+use Rattle.dom_model.specs.Definitions.{options_in}
 use Rattle.dom_wire.proofs.Steps.{options-read, options-none}
 use Rattle.dom_wire.proofs.options.options_with.Goals as goal
 

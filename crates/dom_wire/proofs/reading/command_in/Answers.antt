@@ -1,4 +1,4 @@
-use Rattle.dom_model.specs.Commands.Table.{whole_table}
+use Rattle.dom_model.specs.Definitions.{whole_table}
 use Rattle.dom_wire.proofs.Steps.{command_in-array}
 use Rattle.dom_wire.proofs.reading.command_in.Goals as goal
 

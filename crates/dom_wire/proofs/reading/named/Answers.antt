@@ -1,5 +1,5 @@
 use Rattle.std.proofs.Common.{◌∙◌}
-use Rattle.dom_model.specs.Commands.Table.{whole_table}
+use Rattle.dom_model.specs.Definitions.{whole_table}
 use Rattle.dom_wire.proofs.Steps.{find-of_length}
 use Rattle.dom_wire.proofs.reading.named.Goals as goal
 

@@ -1,6 +1,5 @@
-use Rattle.std.proofs.Common.{◌≡◌, drop, map}
-use Rattle.std.specs.Prelude.{find}
-use Rattle.dom_model.specs.Commands.Line.{is_row_of}
+use Rattle.std.proofs.Common.{◌≡◌, drop, map, find}
+use Rattle.dom_model.specs.Definitions.{is_row_of}
 use Rattle.dom_wire.specs.Rows.{row_of}
 use Rattle.dom_wire.proofs.reading.named_among.Given as goal
 

@@ -1,5 +1,5 @@
-use Rattle.dom_model.specs.Commands.Table.{whole_table}
-use Rattle.dom_model.specs.Commands.Line.{command_of, command_of_json}
+use Rattle.dom_model.specs.Definitions.{command_of_json}
+use Rattle.dom_model.specs.{Commands.Table.whole_table, Commands.Line.command_of}
 use Rattle.dom_wire.proofs.Steps.{json_of-text, json_of-none}
 use Rattle.dom_wire.proofs.reading.read_line.Goals as goal
 use Rattle.std.proofs.Common.{ap, sym, true≢false}

@@ -1,6 +1,6 @@
 use Rattle.std.proofs.Common.{◌≡◌, take, map, ◌++◌, ◌∷◌}
 use Rattle.json.specs.Token.{begin_array}
-use Rattle.dom_model.specs.Commands.Printed.{told_json}
+use Rattle.dom_model.specs.Definitions.{told_json}
 use Rattle.dom_wire.specs.Prints.{tokens_of_all}
 use Rattle.dom_wire.proofs.records.write_notified.Given as goal
 

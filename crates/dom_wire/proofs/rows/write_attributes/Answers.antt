@@ -1,5 +1,5 @@
-use Rattle.std.proofs.Common.{◌∙◌, add-one, ap, length, ◌≤◌, arith, ◌++◌}
-use Rattle.dom_model.specs.Commands.Printed.{attribute_json}
+use Rattle.std.proofs.Common.{◌∙◌, arith}
+use Rattle.dom_model.specs.Definitions.{attribute_json}
 use Rattle.dom_wire.proofs.Steps.{list_closed, list_grown}
 use Rattle.dom_wire.proofs.rows.write_attributes.Goals as goal
 

@@ -1,4 +1,4 @@
-use Rattle.dom_model.specs.Commands.Printed.{row_json}
+use Rattle.dom_model.specs.Definitions.{row_json}
 use Rattle.dom_wire.proofs.Steps.{list_closed}
 use Rattle.dom_wire.proofs.rows.write_rows.Goals as goal
 

@@ -1,6 +1,6 @@
 use Rattle.std.proofs.Common.{◌≡◌, take, map, ◌++◌, ◌∷◌}
 use Rattle.json.specs.Token.{begin_array}
-use Rattle.dom_model.specs.Commands.Printed.{row_json}
+use Rattle.dom_model.specs.Definitions.{row_json}
 use Rattle.dom_wire.specs.Prints.{tokens_of_all}
 use Rattle.dom_wire.proofs.rows.write_rows.Given as goal
 

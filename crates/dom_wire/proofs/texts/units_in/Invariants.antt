@@ -1,7 +1,6 @@
-use Rattle.std.proofs.Common.{◌≡◌, drop, ◌++◌}
-use Rattle.std.specs.Prelude.{option_map}
+use Rattle.std.proofs.Common.{◌≡◌, drop, ◌++◌, option_map}
 use Rattle.serde_json.specs.View.{items_view}
-use Rattle.dom_model.specs.Commands.Line.{unit_in, each_item}
+use Rattle.dom_model.specs.Definitions.{unit_in, each_item}
 use Rattle.dom_wire.proofs.texts.units_in.Given as goal
 
 abbrev pub invariant-loop-item : goal.invariant-loop-item

@@ -1,4 +1,4 @@
-use Rattle.dom_model.specs.Commands.Printed.{number_json}
+use Rattle.dom_model.specs.Definitions.{number_json}
 use Rattle.dom_wire.proofs.Steps.{list_closed}
 use Rattle.dom_wire.proofs.values.write_each_unit.Goals as goal
 

@@ -1,6 +1,6 @@
 use Rattle.std.proofs.Common.{true, false, ap, sym, ◌∙◌, arith}
 use Rattle.std.proofs.lemmas.Grind.{common_steps}
-use Rattle.dom_model.specs.Worlds.World.{Point, Range}
+use Rattle.dom_model.specs.Definitions.{Point, Range}
 use Rattle.dom_content.proofs.RangeTexts.{range-held}
 use Rattle.dom_wrap.proofs.AllowCode.{near-as, told-deep, told-odd, told-unplaceable, told-allowed}
 use Rattle.dom_wrap.proofs.allowing.can_surround.Goals as goal

@@ -1,5 +1,5 @@
 use Rattle.std.proofs.Common.{ap, sym, ◌∙◌}
-use Rattle.dom_model.specs.Worlds.World.{Point, Range}
+use Rattle.dom_model.specs.Definitions.{Point, Range}
 use Rattle.dom_wrap.proofs.AllowCode.{common-held, next-behind-of}
 use Rattle.dom_wrap.proofs.allowing.first_behind.Goals as goal
 

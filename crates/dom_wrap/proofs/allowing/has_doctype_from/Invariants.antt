@@ -1,8 +1,7 @@
 -- None of those that were passed is a doctype, so what is told of those to come is told of all.
 use Rattle.std.proofs.Common.{◌≡◌}
 use Rattle.dom_model.specs.declared.Kind.TheVariants.{DocumentType}
-use Rattle.dom_model.specs.Forests.Forest.{children_of}
-use Rattle.dom_model.specs.MutationAlgorithms.Checks.{has_kind}
+use Rattle.dom_model.specs.Definitions.{children_of, has_kind}
 use Rattle.dom_edit.proofs.AmongChildren.{AreAmong}
 use Rattle.dom_edit.specs.Places.{from_optional}
 use Rattle.dom_wrap.proofs.allowing.has_doctype_from.Given as goal

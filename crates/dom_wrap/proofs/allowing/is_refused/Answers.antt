@@ -1,4 +1,4 @@
-use Rattle.dom_model.specs.Worlds.World.{Range}
+use Rattle.dom_model.specs.Definitions.{Range}
 use Rattle.dom_wrap.proofs.AllowCode.{common-held, start-root, end-root}
 use Rattle.dom_wrap.proofs.allowing.is_refused.Goals as goal
 

@@ -1,6 +1,5 @@
 use Rattle.std.proofs.Common.{◌∙◌}
-use Rattle.dom_wrap.proofs.InsertedNode.{reference-held}
-use Rattle.dom_wrap.proofs.AllowCode.{error-at}
+use Rattle.dom_wrap.proofs.{InsertedNode.reference-held, AllowCode.error-at}
 use Rattle.dom_wrap.proofs.allowing.is_refused_at.Goals as goal
 
 pub check_insert-requires-clause-child_held : goal.check_insert-requires-clause-child_held

@@ -1,6 +1,6 @@
 use Rattle.std.proofs.Common.{sym, ◌∙◌, arith}
 use Rattle.std.proofs.lemmas.Grind.{common_steps}
-use Rattle.dom_model.specs.Worlds.World.{Range}
+use Rattle.dom_model.specs.Definitions.{Range}
 use Rattle.dom_wrap.proofs.AllowCode.{behind-among, between-doctypes}
 use Rattle.dom_wrap.proofs.allowing.is_refused_between.Goals as goal
 

@@ -1,7 +1,7 @@
 -- None of those that were passed is left, so what is told of those to come is told of all.
 use Rattle.std.proofs.Common.{◌≡◌}
 use Rattle.std.specs.List.{list_any}
-use Rattle.dom_model.specs.Forests.Forest.{children_of}
+use Rattle.dom_model.specs.Definitions.{children_of}
 use Rattle.dom_edit.specs.Whole.{unwatched}
 use Rattle.dom_edit.proofs.AmongChildren.{AreAmong}
 use Rattle.dom_wrap.specs.Allowing.{is_left_element}

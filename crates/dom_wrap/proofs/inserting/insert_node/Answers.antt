@@ -1,8 +1,7 @@
 use Rattle.std.proofs.Common.{arith}
 use Rattle.std.proofs.lemmas.Grind.{common_steps}
-use Rattle.dom_model.specs.Worlds.World.{Range}
-use Rattle.dom_wrap.proofs.InsertedNode.{insert-passes, may-insert}
-use Rattle.dom_wrap.proofs.Marking.{stand-by_insert_node}
+use Rattle.dom_model.specs.Definitions.{Range}
+use Rattle.dom_wrap.proofs.{InsertedNode.insert-passes, InsertedNode.may-insert, Marking.stand-by_insert_node}
 use Rattle.dom_wrap.proofs.inserting.insert_node.Goals as goal
 
 pub insert_at_start-requires-clause-allowed : goal.insert_at_start-requires-clause-allowed

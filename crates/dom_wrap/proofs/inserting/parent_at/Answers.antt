@@ -1,7 +1,6 @@
 use Rattle.std.proofs.Common.{ap, sym, ◌∙◌, subst}
 use Rattle.dom_model.specs.declared.Kind.TheVariants.{Text}
-use Rattle.dom_model.specs.Forests.Forest.{HasNode}
-use Rattle.dom_model.specs.Forests.Nodes.{is_of_kind}
+use Rattle.dom_model.specs.Definitions.{HasNode, is_of_kind}
 use Rattle.dom_wrap.proofs.InsertedNode.{held-or, parent-child}
 use Rattle.dom_wrap.proofs.inserting.parent_at.Goals as goal
 

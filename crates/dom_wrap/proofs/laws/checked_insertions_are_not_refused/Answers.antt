@@ -1,5 +1,5 @@
 use Rattle.std.proofs.Common.{ap}
-use Rattle.dom_model.specs.RangesAndContents.Wrapping.{refusal_in}
+use Rattle.dom_model.specs.Definitions.{refusal_in}
 use Rattle.dom_model.proofs.RangesAndContents.InsertAllowed.{insert-allowed, insert-done}
 use Rattle.dom_wrap.proofs.laws.checked_insertions_are_not_refused.Goals as goal
 

@@ -1,7 +1,5 @@
-use Rattle.dom_model.specs.TokenText.Tokens.{texts_of, all_on_texts}
-use Rattle.dom_model.specs.TokenText.Edits.{all_on_world}
-use Rattle.dom_model.proofs.TokenText.Marked.MarkedFirst.{marked-first}
-use Rattle.dom_model.proofs.TokenText.Marked.MarkedEdits.{marked-edits, end-found, markers-follow}
+use Rattle.dom_model.specs.Definitions.{texts_of, all_on_texts, all_on_world}
+use Rattle.dom_model.proofs.TokenText.{Marked.MarkedFirst.marked-first, Marked.MarkedEdits.marked-edits, Marked.MarkedEdits.end-found, Marked.MarkedEdits.markers-follow}
 use Rattle.dom_wrap.proofs.laws.ends_stand_where_edits_put_their_markers.Goals as goal
 
 pub returns : goal.returns

@@ -1,5 +1,4 @@
-use Rattle.dom_edit.proofs.Leaving.{held-covered, parent-held}
-use Rattle.dom_edit.proofs.NodesKept.{nodes-ranged}
+use Rattle.dom_edit.proofs.{Leaving.held-covered, Leaving.parent-held, NodesKept.nodes-ranged}
 use Rattle.dom_wrap.proofs.SurroundingSteps.{passes-selected, whole-selected, present-selected}
 use Rattle.dom_wrap.proofs.surrounding.select.Goals as goal
 

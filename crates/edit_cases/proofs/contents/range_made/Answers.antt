@@ -1,9 +1,6 @@
-use Rattle.std.proofs.Common.{◌≡◌, true, arith, rules, ◌∙◌}
+use Rattle.std.proofs.Common.{◌≡◌, true, arith, rules, ◌∙◌, is_some, is_ok}
 use Rattle.std.proofs.lemmas.Grind.{common_steps}
-use Rattle.std.specs.Prelude.{is_some, is_ok}
-use Rattle.dom_model.specs.Forests.Forest.{entry_in, root_of}
-use Rattle.dom_model.specs.Worlds.Lengths.{unit_count}
-use Rattle.dom_model.specs.RangesAndContents.Ranges.{check_point}
+use Rattle.dom_model.specs.Definitions.{entry_in, root_of, unit_count, check_point}
 use Rattle.dom_ranges.specs.Tables.{refused}
 use Rattle.edit_cases.proofs.LiveRanges.{range-checked, range-in}
 use Rattle.edit_cases.proofs.contents.range_made.Goals as goal

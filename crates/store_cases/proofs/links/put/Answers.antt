@@ -1,5 +1,5 @@
 use Rattle.std.proofs.Common.{◌≡◌, length, arith}
-use Rattle.dom_model.specs.Forests.Arena.{entry_at, children_in}
+use Rattle.dom_model.specs.Definitions.{entry_at, children_in}
 use Rattle.dom_links.proofs.Leaves.{leaf_alone}
 use Rattle.store_cases.proofs.links.put.Goals as goal
 

@@ -1,8 +1,6 @@
 -- The state that was read stands inside its root.
 use Rattle.std.proofs.Common.{rules, ◌≡◌, true, ap}
-use Rattle.dom_model.specs.PlainLists.Lists.{among}
-use Rattle.dom_model.specs.Forests.Forest.{HasNode, ancestors}
-use Rattle.dom_model.specs.Worlds.World.{Iterator}
+use Rattle.dom_model.specs.Definitions.{among, HasNode, ancestors}
 use Rattle.dom_traverse.proofs.Stances.{read-inside}
 use Rattle.tree_cases.proofs.iterators.is_inside.Goals as goal
 

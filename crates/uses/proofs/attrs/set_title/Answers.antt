@@ -1,5 +1,5 @@
 use Rattle.std.proofs.Common.{codes}
-use Rattle.dom_model.specs.Forests.Texts.{units_of}
+use Rattle.dom_model.specs.Definitions.{units_of}
 use Rattle.uses.proofs.SetAttributes.{attribute_value-with_attribute}
 use Rattle.uses.proofs.attrs.set_title.Goals as goal
 

@@ -1,6 +1,5 @@
 use Rattle.std.proofs.Common.{◌≡◌, ◌∙◌, ap}
-use Rattle.dom_model.specs.Forests.Forest.{HasNode, entry_in}
-use Rattle.dom_model.specs.DataAndCopies.Data.{content_in}
+use Rattle.dom_model.specs.Definitions.{HasNode, entry_in, content_in}
 use Rattle.dom_edit.proofs.CallerLemmas.{after-made, after-appended, held-stays, data-stays, new-held, new-data}
 use Rattle.uses.proofs.edit.append_text.Goals as goal
 

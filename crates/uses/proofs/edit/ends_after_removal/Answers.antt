@@ -1,4 +1,4 @@
-use Rattle.dom_model.specs.Forests.Texts.{units_of}
+use Rattle.dom_model.specs.Definitions.{units_of}
 use Rattle.uses.proofs.edit.ends_after_removal.Goals as goal
 
 pub remove_text-requires-clause-keeps : goal.remove_text-requires-clause-keeps

@@ -1,7 +1,5 @@
 use Rattle.std.proofs.Common.{◌≡◌, ◌∙◌, None, sym, refl}
-use Rattle.dom_model.specs.Forests.Forest.{HasNode}
-use Rattle.dom_model.specs.Worlds.World.{first_world}
-use Rattle.dom_model.specs.MutationAlgorithms.Checks.{check_insert}
+use Rattle.dom_model.specs.Definitions.{HasNode, first_world, check_insert}
 use Rattle.uses.proofs.Paragraphs.{of_kept, with_element, keeps-made, keeps-appended, keeps-element}
 use Rattle.uses.proofs.edit.put_element.Goals as goal
 

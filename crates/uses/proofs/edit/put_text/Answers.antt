@@ -1,11 +1,7 @@
 use Rattle.std.proofs.Common.{◌≡◌, ◌∙◌, true, None, Some, ap, sym, refl, rules, arith}
 use Rattle.std.specs.Option.{ForSome}
 use Rattle.dom_model.specs.declared.Kind.TheVariants.{Document}
-use Rattle.dom_model.specs.Forests.Forest.{HasNode}
-use Rattle.dom_model.specs.Forests.Texts.{units_of}
-use Rattle.dom_model.specs.Worlds.Making.{with_text}
-use Rattle.dom_model.specs.MutationAlgorithms.Checks.{check_insert}
-use Rattle.dom_model.specs.Forests.Nodes.{is_of_kind}
+use Rattle.dom_model.specs.Definitions.{HasNode, units_of, with_text, check_insert, is_of_kind}
 use Rattle.uses.specs.Paragraph.{empty_paragraph}
 use Rattle.uses.proofs.Paragraphs.{of_kept, with_both, keeps-made, keeps-appended, keeps-paragraph}
 use Rattle.uses.proofs.edit.put_text.Goals as goal

@@ -1,5 +1,4 @@
-use Rattle.std.proofs.Common.{◌∙◌, ap, sym, subst, refl, length}
-use Rattle.std.specs.Prelude.{IsSome}
+use Rattle.std.proofs.Common.{◌∙◌, ap, sym, subst, refl, length, IsSome}
 use Rattle.uses.proofs.Removals.{data-length, data-range_in, ranged-whole, removed-ends, start-there, end-there}
 use Rattle.uses.proofs.edit.remove_text.Goals as goal
 

@@ -1,6 +1,5 @@
 use Rattle.std.proofs.Common.{◌∙◌}
-use Rattle.dom_model.specs.MutationObservers.Observing.{standing_on, noted}
-use Rattle.dom_model.specs.Forests.Forest.{ancestors}
+use Rattle.dom_model.specs.Definitions.{standing_on, noted, ancestors}
 use Rattle.uses.proofs.observe.tell_and_take.Goals as goal
 
 pub take-requires : goal.take-requires

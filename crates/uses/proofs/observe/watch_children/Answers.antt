@@ -1,4 +1,4 @@
-use Rattle.dom_model.specs.MutationObservers.Records.{with_observer}
+use Rattle.dom_model.specs.Definitions.{with_observer}
 use Rattle.uses.proofs.observe.watch_children.Goals as goal
 
 pub observe-requires : goal.observe-requires

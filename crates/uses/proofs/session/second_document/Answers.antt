@@ -1,8 +1,6 @@
 use Rattle.std.proofs.Common.{◌∙◌, ap}
 use Rattle.std.proofs.lemmas.Result.{IfOk-weaker}
-use Rattle.dom_model.specs.Worlds.World.{first_world}
-use Rattle.dom_model.specs.Commands.Command.{NewDocument}
-use Rattle.dom_model.specs.Commands.Answer.{answer}
+use Rattle.dom_model.specs.Definitions.{first_world, NewDocument, answer}
 use Rattle.uses.proofs.session.second_document.Goals as goal
 
 pub returns : goal.returns

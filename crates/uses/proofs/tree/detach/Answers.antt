@@ -1,5 +1,5 @@
 use Rattle.std.proofs.Common.{ap, ◌∙◌, refl}
-use Rattle.dom_model.specs.Forests.Forest.{parent_of}
+use Rattle.dom_model.specs.Definitions.{parent_of}
 use Rattle.dom_model.proofs.PlainLists.Numbers.{same_or, same, apart}
 use Rattle.dom_model.proofs.Forests.Entries.{parent-cut}
 use Rattle.uses.proofs.tree.detach.Goals as goal

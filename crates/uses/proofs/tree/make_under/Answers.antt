@@ -1,5 +1,5 @@
 use Rattle.std.proofs.Common.{ℕ, arith}
-use Rattle.dom_model.specs.Forests.Forest.{Node}
+use Rattle.dom_model.specs.Definitions.{Node}
 use Rattle.uses.proofs.NewChildren.{parent-held, child-held, child-root, child-no_cycle, child-kinds, child-parent, child-last}
 use Rattle.uses.proofs.tree.make_under.Goals as goal
 

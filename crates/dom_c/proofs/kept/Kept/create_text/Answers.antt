@@ -1,5 +1,5 @@
-use Rattle.std.specs.Prelude.{Ok}
-use Rattle.dom_model.specs.Commands.Command.{CreateText}
+use Rattle.std.proofs.Common.{Ok}
+use Rattle.dom_model.specs.Definitions.{CreateText}
 use Rattle.dom_c.specs.Reads.{then_make}
 use Rattle.dom_c.proofs.Faults.{fault-made}
 use Rattle.dom_c.proofs.kept.Kept.create_text.Goals as goal

@@ -1,5 +1,5 @@
 -- `lend` lends the session, and the handle follows it. Assumes `Logic`.
-use Rattle.std.proofs.Common.{◌≡◌, ℕ, List, [], ◌∷◌, refl, sym, ap, ◌∙◌}
+use Rattle.std.proofs.Common.{◌≡◌, ℕ, List, [], ◌∷◌, refl, sym, ap, ◌∙◌, Option, IsSome}
 use seplogic.Ra.Ura.{Ura}
 use base.Fraction.{full_share}
 use base.Logic.{ent, sep, id⊢}
@@ -28,16 +28,10 @@ use denote.Struct.Struct.{Struct}
 use denote.Triple.Walked.{Stays, walk_of, says, stay_dropped, Goes-spent_ref, ends_at}
 use Rattle.std.proofs.raw_atomic.Walks.{proved}
 use Rattle.std.proofs.VecSteps.Shapes.{after}
-use Rattle.std.specs.Prelude.{Option, IsSome}
-use Rattle.dom_c.specs.contracts.lodged.Lodged.{the_row as S}
-use Rattle.dom_c.specs.Lends.{with_kept}
-use Rattle.dom_c.specs.Ownership.{chunk, held}
-use Rattle.dom_c.specs.declared.slot.Slot.{Slot}
+use Rattle.dom_c.specs.{contracts.lodged.Lodged.the_row as S, Lends.with_kept, Ownership.chunk, Ownership.held, declared.slot.Slot.Slot}
 use Rattle.dom_c.specs.contracts.slot.Slot as of_slot
 use Rattle.dom_c.specs.contracts.slot.Slot.lend as f
-use Rattle.dom_c.proofs.Held.{what}
-use Rattle.dom_c.proofs.slot.Slot.TheLaws.{lowers}
-use Rattle.dom_c.proofs.slot.Slot.lend.Statement.{statement}
+use Rattle.dom_c.proofs.{Held.what, slot.Slot.TheLaws.lowers, slot.Slot.lend.Statement.statement}
 use Rattle.dom_c.proofs.slot.Slot.lend.Code as code
 
 abbrev R : RattleType

@@ -1,5 +1,5 @@
 -- `put` writes the session into its room. Assumes `Logic`.
-use Rattle.std.proofs.Common.{◌≡◌, List, [], ◌∷◌, ◌++◌, refl, sym, subst}
+use Rattle.std.proofs.Common.{◌≡◌, List, [], ◌∷◌, ◌++◌, refl, sym, subst, Some, None}
 use base.Fraction.{full_share}
 use base.Logic.{SProp, ent, id⊢}
 use base.Fml.{ftrue, flft}
@@ -26,18 +26,10 @@ use denote.Triple.Walked.{Stays, walk_of, says, ends_at, stay_ref, stay_dropped,
 use Rattle.core.proofs.alloc.Calls.{Goes-blank, handle_tells}
 use Rattle.std.proofs.raw_atomic.Walks.{proved_at}
 use Rattle.std_alloc.specs.contracts.room.vacant.Vacant as room-type
-use Rattle.std_alloc.proofs.OfVacant.{vacant_val, vacant_typed, Vacant-had}
-use Rattle.std_alloc.proofs.RawLayout.{as_written}
-use Rattle.std_alloc.proofs.RcSteps.{word}
-use Rattle.std_alloc.proofs.VecSteps.Shapes.{after}
-use Rattle.std.specs.Prelude.{Some, None}
-use Rattle.dom_c.specs.contracts.lodged.Lodged.{the_row as S}
-use Rattle.dom_c.specs.declared.slot.Slot.{Slot}
-use Rattle.dom_c.specs.contracts.slot.Slot.{the_row as R}
+use Rattle.std_alloc.proofs.{OfVacant.vacant_val, OfVacant.vacant_typed, OfVacant.Vacant-had, RawLayout.as_written, RcSteps.word, VecSteps.Shapes.after}
+use Rattle.dom_c.specs.{contracts.lodged.Lodged.the_row as S, declared.slot.Slot.Slot, contracts.slot.Slot.the_row as R}
 use Rattle.dom_c.specs.contracts.slot.Slot.put as f
-use Rattle.dom_c.proofs.Held.{heap, inside, field_made}
-use Rattle.dom_c.proofs.slot.Slot.TheLaws.{lowers}
-use Rattle.dom_c.proofs.slot.Slot.put.Statement.{statement}
+use Rattle.dom_c.proofs.{Held.heap, Held.inside, Held.field_made, slot.Slot.TheLaws.lowers, slot.Slot.put.Statement.statement}
 use Rattle.dom_c.proofs.slot.Slot.put.Code as code
 
 abbrev Room : RattleType

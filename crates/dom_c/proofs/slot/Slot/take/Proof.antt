@@ -1,5 +1,5 @@
 -- `take` reads the session out, and its block is room again. Assumes `Logic`.
-use Rattle.std.proofs.Common.{List, [], ◌∷◌, ◌++◌, refl, sym, ap, subst, ◌∙◌}
+use Rattle.std.proofs.Common.{List, [], ◌∷◌, ◌++◌, refl, sym, ap, subst, ◌∙◌, Option, None, IsSome}
 use base.Fraction.{full_share}
 use base.Logic.{SProp, ent, id⊢}
 use base.Fml.{ftrue, fat, froom, flft}
@@ -26,20 +26,10 @@ use denote.Struct.Tuple.{Tuple}
 use denote.Triple.Walked.{Stays, walk_of, ends_at, stay_ref, stay_dropped, Goes-ref}
 use Rattle.core.proofs.alloc.Calls.{Goes-blank, handle_tells}
 use Rattle.std.proofs.raw_atomic.Walks.{proved_at}
-use Rattle.std_alloc.proofs.OfVacant.{Vacant, vacant_ty, vacant_val, vacant_typed, Vacant-made}
-use Rattle.std_alloc.proofs.Pairs.{pair_val, pair_Typed, pair_of}
-use Rattle.std_alloc.proofs.RawLayout.{as_raw}
-use Rattle.std_alloc.proofs.RcSteps.{Good, Ptr-Good, word}
-use Rattle.std_alloc.proofs.VecSteps.Shapes.{after}
-use Rattle.std.specs.Prelude.{Option, None, IsSome}
-use Rattle.dom_c.specs.contracts.lodged.Lodged.{the_row as S}
-use Rattle.dom_c.specs.Ownership.{chunk, held}
-use Rattle.dom_c.specs.declared.slot.Slot.{Slot}
-use Rattle.dom_c.specs.contracts.slot.Slot.{the_row as R}
+use Rattle.std_alloc.proofs.{OfVacant.Vacant, OfVacant.vacant_ty, OfVacant.vacant_val, OfVacant.vacant_typed, OfVacant.Vacant-made, Pairs.pair_val, Pairs.pair_Typed, Pairs.pair_of, RawLayout.as_raw, RcSteps.Good, RcSteps.Ptr-Good, RcSteps.word, VecSteps.Shapes.after}
+use Rattle.dom_c.specs.{contracts.lodged.Lodged.the_row as S, Ownership.chunk, Ownership.held, declared.slot.Slot.Slot, contracts.slot.Slot.the_row as R}
 use Rattle.dom_c.specs.contracts.slot.Slot.take as f
-use Rattle.dom_c.proofs.Held.{what, heap, says_both, value_out, field_made}
-use Rattle.dom_c.proofs.slot.Slot.TheLaws.{lowers}
-use Rattle.dom_c.proofs.slot.Slot.take.Statement.{statement}
+use Rattle.dom_c.proofs.{Held.what, Held.heap, Held.says_both, Held.value_out, Held.field_made, slot.Slot.TheLaws.lowers, slot.Slot.take.Statement.statement}
 use Rattle.dom_c.proofs.slot.Slot.take.Code as code
 
 abbrev Room : RattleType

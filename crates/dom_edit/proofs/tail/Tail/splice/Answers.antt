@@ -1,5 +1,5 @@
 use Rattle.std.proofs.Common.{◌≤◌, List, ℕ, drop, length, ap, sym, ◌∙◌, subst, arith}
-use Rattle.dom_model.specs.Forests.Texts.{spliced}
+use Rattle.dom_model.specs.Definitions.{spliced}
 use Rattle.std.proofs.lemmas.Result.{on_ok_weaker}
 use Rattle.dom_edit.proofs.TailUnits.{within-whole, drop-spliced}
 use Rattle.dom_edit.proofs.tail.Tail.splice.Goals as goal

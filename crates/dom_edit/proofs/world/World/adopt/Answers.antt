@@ -1,14 +1,9 @@
 use Rattle.std.proofs.Common.{◌≡◌, false, refl, ap, ◌∙◌, arith, tests, rules}
 use Rattle.std.proofs.lemmas.Bool.Decides.{nat_tests}
-use Rattle.dom_model.specs.Forests.Forest.{Grove}
-use Rattle.dom_model.specs.Worlds.World.{Content}
-use Rattle.dom_model.proofs.TokenText.AlikeTrees.TreesAlike.{bared}
-use Rattle.dom_model.proofs.TokenText.AlikeTrees.TreesAlikeAfter.{bared-adopted}
+use Rattle.dom_model.specs.Definitions.{Grove, Content}
+use Rattle.dom_model.proofs.TokenText.{AlikeTrees.TreesAlike.bared, AlikeTrees.TreesAlikeAfter.bared-adopted}
 use Rattle.dom_edit.specs.declared.world.World.{World}
-use Rattle.dom_edit.proofs.Marking.{stand-by_adopt}
-use Rattle.dom_edit.proofs.Adopting.{removed-held, removed-root, removed-document, whole-adopted, follows-staying}
-use Rattle.dom_edit.proofs.NodesKept.{nodes-then, nodes-adopted}
-use Rattle.dom_edit.proofs.WatchersKept.{watchers-ranged}
+use Rattle.dom_edit.proofs.{Marking.stand-by_adopt, Adopting.removed-held, Adopting.removed-root, Adopting.removed-document, Adopting.whole-adopted, Adopting.follows-staying, NodesKept.nodes-then, NodesKept.nodes-adopted, WatchersKept.watchers-ranged}
 use Rattle.dom_edit.proofs.world.World.adopt.Goals as goal
 
 pub document_of-requires : goal.document_of-requires

@@ -1,15 +1,9 @@
 use Rattle.std.proofs.Common.{◌≡◌, false, None, [], ◌∷◌, refl, sym, subst, tests, rules}
 use Rattle.std.proofs.lemmas.Result.{on_ok_weaker}
-use Rattle.dom_model.specs.Forests.Forest.{HasNode, parent_of}
-use Rattle.dom_model.specs.MutationAlgorithms.Editing.{remove}
+use Rattle.dom_model.specs.Definitions.{HasNode, parent_of, remove}
 use Rattle.dom_model.proofs.Forests.Entries.{HasNode-occurs}
-use Rattle.dom_edit.specs.declared.world.World.{World}
-use Rattle.dom_edit.specs.Keeping.{KeepsNodes}
-use Rattle.dom_edit.specs.Leaving.{LeavesAll}
-use Rattle.dom_edit.specs.Whole.{IsWhole, Follows}
-use Rattle.dom_edit.proofs.InsertedNodes.{alone-entering, follows-freed_alone, open-freed, follows-insert}
-use Rattle.dom_edit.proofs.LeftAlone.{same-left}
-use Rattle.dom_edit.proofs.NodesKept.{nodes-none, nodes-then}
+use Rattle.dom_edit.specs.{declared.world.World.World, Keeping.KeepsNodes, Leaving.LeavesAll, Whole.IsWhole, Whole.Follows}
+use Rattle.dom_edit.proofs.{InsertedNodes.alone-entering, InsertedNodes.follows-freed_alone, InsertedNodes.open-freed, InsertedNodes.follows-insert, LeftAlone.same-left, NodesKept.nodes-none, NodesKept.nodes-then}
 use Rattle.dom_edit.proofs.world.World.enter_alone.Goals as goal
 
 pub make_room_for_blocks-requires : goal.make_room_for_blocks-requires

@@ -1,18 +1,9 @@
 use Rattle.std.proofs.Common.{[], ◌∷◌, false, ap, sym, ◌∙◌, subst, arith, tests, rules}
 use Rattle.std.proofs.lemmas.Result.{on_ok_weaker}
-use Rattle.dom_model.specs.Forests.Forest.{children_of}
-use Rattle.dom_model.specs.MutationAlgorithms.Editing.{remove_all}
-use Rattle.dom_model.proofs.Forests.Entries.{HasNode-occurs}
-use Rattle.dom_model.proofs.Forests.Climbing.{hits-first}
-use Rattle.dom_edit.specs.declared.world.World.{World}
-use Rattle.dom_edit.specs.Inserting.{IsUnreferred}
-use Rattle.dom_edit.specs.Keeping.{KeepsNodes}
-use Rattle.dom_edit.specs.Leaving.{LeavesAll}
-use Rattle.dom_edit.specs.Whole.{IsWhole, Follows}
-use Rattle.dom_edit.proofs.InsertedNodes.{children-entering, follows-freed_children, open-freed, follows-insert, follows-nothing}
-use Rattle.dom_edit.proofs.LeftAlone.{newer-more, quiet-above, same-left, children-newer}
-use Rattle.dom_edit.proofs.NodesKept.{stay-there, nodes-none, nodes-then}
-use Rattle.dom_edit.proofs.ReplacedNodes.{children-held}
+use Rattle.dom_model.specs.Definitions.{children_of, remove_all}
+use Rattle.dom_model.proofs.Forests.{Entries.HasNode-occurs, Climbing.hits-first}
+use Rattle.dom_edit.specs.{declared.world.World.World, Inserting.IsUnreferred, Keeping.KeepsNodes, Leaving.LeavesAll, Whole.IsWhole, Whole.Follows}
+use Rattle.dom_edit.proofs.{InsertedNodes.children-entering, InsertedNodes.follows-freed_children, InsertedNodes.open-freed, InsertedNodes.follows-insert, InsertedNodes.follows-nothing, LeftAlone.newer-more, LeftAlone.quiet-above, LeftAlone.same-left, LeftAlone.children-newer, NodesKept.stay-there, NodesKept.nodes-none, NodesKept.nodes-then, ReplacedNodes.children-held}
 use Rattle.dom_edit.proofs.world.World.enter_children_unreferred.Goals as goal
 
 pub make_room_for_blocks-requires : goal.make_room_for_blocks-requires

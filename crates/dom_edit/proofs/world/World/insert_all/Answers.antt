@@ -1,15 +1,10 @@
 use Rattle.std.proofs.Common.{sym, subst, tests, rules}
 use Rattle.std.proofs.lemmas.Result.{on_ok_weaker}
-use Rattle.dom_model.proofs.Forests.Entries.{HasNode-occurs}
-use Rattle.dom_model.proofs.Forests.Climbing.{hits-first}
-use Rattle.dom_model.specs.MutationAlgorithms.Editing.{insert_all}
+use Rattle.dom_model.proofs.Forests.{Entries.HasNode-occurs, Climbing.hits-first}
+use Rattle.dom_model.specs.Definitions.{insert_all}
 use Rattle.dom_edit.specs.Whole.{Follows}
-use Rattle.dom_edit.proofs.InsertedNodes.{follows-insert_all}
-use Rattle.dom_edit.proofs.LeftAlone.{quiet-above, same-left}
-use Rattle.dom_edit.proofs.NodesKept.{none-there, placeable-there, child-held, ahead-held, stay-there, stay-some, nodes-then, nodes-observed}
-use Rattle.dom_edit.proofs.Unheard.{follows-unheard}
+use Rattle.dom_edit.proofs.{InsertedNodes.follows-insert_all, LeftAlone.quiet-above, LeftAlone.same-left, NodesKept.none-there, NodesKept.placeable-there, NodesKept.child-held, NodesKept.ahead-held, NodesKept.stay-there, NodesKept.stay-some, NodesKept.nodes-then, NodesKept.nodes-observed, Unheard.follows-unheard, world.World.insert_all.Goals.then-suppressed-via-then-suppressed, world.World.insert_all.Goals.then-suppressed-via-else-suppressed+then-is_idle}
 use Rattle.dom_edit.proofs.world.World.insert_all.Goals as goal
-use Rattle.dom_edit.proofs.world.World.insert_all.Goals.{then-suppressed-via-then-suppressed, then-suppressed-via-else-suppressed+then-is_idle}
 
 pub queue_tree_record-requires-clause-held : goal.queue_tree_record-requires-clause-held
 queue_tree_record-requires-clause-held c = c.place-2.ensures.kept.labelled.held c.args.parent (HasNode-occurs c.args.self.now.tree.forest c.args.parent c.requires.ready.parent_there)

@@ -1,12 +1,8 @@
-use Rattle.std.specs.Prelude.{◌||◌}
+use Rattle.std.proofs.Common.{◌||◌, ◌≡◌, ℕ, Bool, refl, ◌∙◌}
 use Rattle.std.specs.List.{list_any, flat_map}
-use Rattle.std.proofs.Common.{◌≡◌, ℕ, Bool, refl, ◌∙◌}
-use Rattle.dom_model.specs.PlainLists.Lists.{among}
-use Rattle.dom_model.specs.Forests.Forest.{inclusive_descendants}
-use Rattle.dom_model.specs.MutationAlgorithms.Discarding.{nodes_of_range, nodes_of_iterator, nodes_of_walker, nodes_unless_released, observed_nodes}
+use Rattle.dom_model.specs.Definitions.{among, inclusive_descendants, nodes_of_range, nodes_of_iterator, nodes_of_walker, nodes_unless_released, observed_nodes}
 use Rattle.dom_observe.specs.Held.{named}
-use Rattle.dom_edit.proofs.Naming.{or-met, or-next, named-own, named-parts}
-use Rattle.dom_edit.proofs.world.World.is_named.Goals.{then-refers, else-refers, then-refers-2, else-refers-2, then-refers-3, else-refers-3}
+use Rattle.dom_edit.proofs.{Naming.or-met, Naming.or-next, Naming.named-own, Naming.named-parts, world.World.is_named.Goals.then-refers, world.World.is_named.Goals.else-refers, world.World.is_named.Goals.then-refers-2, world.World.is_named.Goals.else-refers-2, world.World.is_named.Goals.then-refers-3, world.World.is_named.Goals.else-refers-3}
 use Rattle.dom_edit.proofs.world.World.is_named.Goals as goal
 
 pub returns-then-refers-4-clause-own : goal.returns-then-refers-4-clause-own

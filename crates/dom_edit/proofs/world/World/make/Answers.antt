@@ -1,13 +1,8 @@
-use Rattle.std.specs.Prelude.{unwrap_or}
-use Rattle.std.proofs.Common.{◌≡◌, ◌+◌, refl, ap, ◌∙◌, tests, rules}
+use Rattle.std.proofs.Common.{unwrap_or, ◌≡◌, ◌+◌, refl, ap, ◌∙◌, tests, rules}
 use Rattle.dom_ranges.specs.Chained.{covered_to}
 use Rattle.dom_observe.proofs.Outcomes.{by_outcome}
-use Rattle.dom_edit.specs.declared.world.World.{World}
-use Rattle.dom_edit.specs.Keeping.{present}
-use Rattle.dom_edit.proofs.Making.{follows-made, whole-made, whole-covered}
-use Rattle.dom_edit.proofs.CallerLemmas.{labels-made}
-use Rattle.dom_edit.proofs.NodesKept.{nodes-same}
-use Rattle.dom_edit.proofs.WatchersKept.{watchers-ranged}
+use Rattle.dom_edit.specs.{declared.world.World.World, Keeping.present}
+use Rattle.dom_edit.proofs.{Making.follows-made, Making.whole-made, Making.whole-covered, CallerLemmas.labels-made, NodesKept.nodes-same, WatchersKept.watchers-ranged}
 use Rattle.dom_edit.proofs.world.World.make.Goals as goal
 
 pub returns-clause-whole : goal.returns-clause-whole

@@ -1,8 +1,7 @@
 use Rattle.std.proofs.Common.{ℕ, List, Option, ap, sym, ◌∙◌, subst, length, tests, rules}
-use Rattle.dom_model.specs.Worlds.World.{Range}
+use Rattle.dom_model.specs.Definitions.{Range}
 use Rattle.dom_edit.specs.Inserting.{IsOpen}
-use Rattle.dom_model.proofs.Forests.Entries.{HasNode-occurs}
-use Rattle.dom_model.proofs.Forests.Indices.{parent-there}
+use Rattle.dom_model.proofs.Forests.{Entries.HasNode-occurs, Indices.parent-there}
 use Rattle.dom_edit.proofs.PlacedRoots.{room-fits, room-elsewhere}
 use Rattle.dom_edit.proofs.world.World.make_room.Goals as goal
 

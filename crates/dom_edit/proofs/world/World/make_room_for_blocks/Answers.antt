@@ -1,6 +1,5 @@
 use Rattle.std.proofs.Common.{ap}
-use Rattle.dom_model.specs.Forests.Forest.{Grove}
-use Rattle.dom_model.specs.Worlds.World.{Content}
+use Rattle.dom_model.specs.Definitions.{Grove, Content}
 use Rattle.dom_edit.proofs.world.World.make_room_for_blocks.Goals as goal
 
 pub returns : goal.returns

@@ -1,9 +1,6 @@
-use Rattle.dom_edit.proofs.Leaving.{follows-idle}
+use Rattle.dom_edit.proofs.{Leaving.follows-idle, NodesKept.one-there, Named.whole-named, WatchersKept.observers-same}
 use Rattle.std.proofs.Common.{[], ◌∷◌, refl, ap}
 use Rattle.dom_observe.specs.Watchers.{Watchers}
-use Rattle.dom_edit.proofs.NodesKept.{one-there}
-use Rattle.dom_edit.proofs.Named.{whole-named}
-use Rattle.dom_edit.proofs.WatchersKept.{observers-same}
 use Rattle.dom_edit.proofs.world.World.make_transients.Goals as goal
 
 pub returns-then-is_idle-clause-made : goal.returns-then-is_idle-clause-made

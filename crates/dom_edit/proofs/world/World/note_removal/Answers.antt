@@ -1,8 +1,7 @@
 -- The node is named, and those that the record names.
 use Rattle.std.proofs.Common.{[], ◌∷◌, ◌++◌, refl}
-use Rattle.dom_model.specs.MutationAlgorithms.Discarding.{if_any}
-use Rattle.dom_edit.proofs.Named.{there-append, there-told, whole-named}
-use Rattle.dom_edit.proofs.NodesKept.{none-there, one-there}
+use Rattle.dom_model.specs.Definitions.{if_any}
+use Rattle.dom_edit.proofs.{Named.there-append, Named.there-told, Named.whole-named, NodesKept.none-there, NodesKept.one-there}
 use Rattle.dom_edit.proofs.world.World.note_removal.Goals as goal
 
 pub returns-clause-whole : goal.returns-clause-whole

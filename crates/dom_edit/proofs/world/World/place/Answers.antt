@@ -1,12 +1,6 @@
 use Rattle.std.proofs.Common.{length, ap, sym, ◌∙◌, subst}
-use Rattle.dom_edit.specs.declared.world.World.{World}
-use Rattle.dom_edit.specs.Keeping.{present}
-use Rattle.dom_edit.specs.Leaving.{LeavesAll}
-use Rattle.dom_edit.specs.Whole.{IsWhole, Follows}
-use Rattle.dom_edit.proofs.LeftAlone.{placed-left}
-use Rattle.dom_edit.proofs.PlacedWorlds.{with_placed, placing, follows-placing, whole-placed, placed-is}
-use Rattle.dom_edit.proofs.InsertedNodes.{nodes-placed}
-use Rattle.dom_edit.proofs.WatchersKept.{present-room, watchers-ranged}
+use Rattle.dom_edit.specs.{declared.world.World.World, Keeping.present, Leaving.LeavesAll, Whole.IsWhole, Whole.Follows}
+use Rattle.dom_edit.proofs.{LeftAlone.placed-left, PlacedWorlds.with_placed, PlacedWorlds.placing, PlacedWorlds.follows-placing, PlacedWorlds.whole-placed, PlacedWorlds.placed-is, InsertedNodes.nodes-placed, WatchersKept.present-room, WatchersKept.watchers-ranged}
 use Rattle.dom_edit.proofs.world.World.place.Goals as goal
 
 pub returns-clause-placed : goal.returns-clause-placed

@@ -1,6 +1,6 @@
 use Rattle.std.proofs.Common.{◌∷◌, ◌++◌, refl, ap}
 use Rattle.dom_observe.specs.Watchers.{Watchers}
-use Rattle.dom_model.specs.MutationAlgorithms.Discarding.{if_any}
+use Rattle.dom_model.specs.Definitions.{if_any}
 use Rattle.dom_edit.proofs.Named.{there-told, whole-named}
 use Rattle.dom_edit.proofs.world.World.queue_tree_record.Goals as goal
 

@@ -1,11 +1,9 @@
 use Rattle.std.proofs.Common.{◌≡◌, ℕ, ◌+◌, true, List, [], ◌∷◌, ◌++◌, take, ap, sym, ◌∙◌}
 use Rattle.std.proofs.lemmas.List.{take_more}
-use Rattle.dom_model.specs.MutationAlgorithms.Editing.{remove, remove_all}
+use Rattle.dom_model.specs.Definitions.{remove, remove_all}
 use Rattle.dom_model.proofs.Forests.Entries.{HasNode-occurs}
 use Rattle.dom_edit.specs.Whole.{Follows}
-use Rattle.dom_edit.proofs.Following.{follows-then}
-use Rattle.dom_edit.proofs.InsertedNodes.{item-hit, remove_all-more, there-removed, follows-as}
-use Rattle.dom_edit.proofs.NodesKept.{nodes-then}
+use Rattle.dom_edit.proofs.{Following.follows-then, InsertedNodes.item-hit, InsertedNodes.remove_all-more, InsertedNodes.there-removed, InsertedNodes.follows-as, NodesKept.nodes-then}
 use Rattle.dom_edit.proofs.world.World.remove_all.Goals as goal
 
 pub remove_node-requires-clause-held : goal.remove_node-requires-clause-held

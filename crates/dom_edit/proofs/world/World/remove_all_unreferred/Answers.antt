@@ -1,14 +1,9 @@
 use Rattle.std.proofs.Common.{◌≡◌, ℕ, ◌+◌, true, List, [], ◌∷◌, ◌++◌, take, drop, ap, sym, ◌∙◌, subst}
 use Rattle.std.proofs.lemmas.List.{take_more, drop_more}
-use Rattle.dom_model.specs.MutationAlgorithms.Editing.{remove, remove_all}
-use Rattle.dom_model.proofs.Forests.Climbing.{hits-first}
-use Rattle.dom_model.proofs.Forests.Indices.{child-parent, child-once}
+use Rattle.dom_model.specs.Definitions.{remove, remove_all}
+use Rattle.dom_model.proofs.Forests.{Climbing.hits-first, Indices.child-parent, Indices.child-once}
 use Rattle.dom_edit.specs.Whole.{Follows}
-use Rattle.dom_edit.proofs.Following.{follows-none, follows-then}
-use Rattle.dom_edit.proofs.InsertedNodes.{remove_all-more, follows-as}
-use Rattle.dom_edit.proofs.LeftAlone.{newer-two, child-newer}
-use Rattle.dom_edit.proofs.Unreferred.{AreLeft, first-left, rest-left}
-use Rattle.dom_edit.proofs.NodesKept.{nodes-none, nodes-then}
+use Rattle.dom_edit.proofs.{Following.follows-none, Following.follows-then, InsertedNodes.remove_all-more, InsertedNodes.follows-as, LeftAlone.newer-two, LeftAlone.child-newer, Unreferred.AreLeft, Unreferred.first-left, Unreferred.rest-left, NodesKept.nodes-none, NodesKept.nodes-then}
 use Rattle.dom_edit.proofs.world.World.remove_all_unreferred.Goals as goal
 
 pub loop-node-init : goal.loop-node-init

@@ -1,10 +1,7 @@
-use Rattle.std.specs.Prelude.{Some, None}
-use Rattle.std.proofs.Common.{◌≡◌, true, sym, ◌∙◌, tests, rules}
+use Rattle.std.proofs.Common.{Some, None, ◌≡◌, true, sym, ◌∙◌, tests, rules}
 use Rattle.std.proofs.lemmas.Result.{on_ok_weaker}
-use Rattle.dom_model.specs.Forests.Forest.{parent_of}
-use Rattle.dom_edit.proofs.Following.{follows-none}
-use Rattle.dom_edit.proofs.Leaving.{it_is, parent-held, held-taken, left-apart, follows-removed, follows-noted}
-use Rattle.dom_edit.proofs.NodesKept.{nodes-then, nodes-observed, stay-some, previous-held, next-held}
+use Rattle.dom_model.specs.Definitions.{parent_of}
+use Rattle.dom_edit.proofs.{Following.follows-none, Leaving.it_is, Leaving.parent-held, Leaving.held-taken, Leaving.left-apart, Leaving.follows-removed, Leaving.follows-noted, NodesKept.nodes-then, NodesKept.nodes-observed, NodesKept.stay-some, NodesKept.previous-held, NodesKept.next-held}
 use Rattle.dom_edit.proofs.world.World.remove_node.Goals as goal
 
 pub make_transients-requires-clause-held : goal.make_transients-requires-clause-held

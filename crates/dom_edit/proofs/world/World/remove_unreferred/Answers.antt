@@ -1,18 +1,9 @@
 use Rattle.std.proofs.Common.{[], ◌∷◌, true, ap, ◌∙◌, arith}
 use Rattle.std.proofs.lemmas.Result.{on_ok_weaker}
-use Rattle.dom_model.specs.MutationAlgorithms.Editing.{taken_out}
-use Rattle.dom_model.proofs.Forests.Climbing.{hits-first}
-use Rattle.dom_model.proofs.Forests.Entries.{HasNode-occurs}
-use Rattle.dom_model.proofs.Forests.Indices.{parent-there}
-use Rattle.dom_edit.specs.declared.world.World.{World}
-use Rattle.dom_edit.specs.Whole.{Follows}
-use Rattle.dom_edit.specs.Keeping.{present}
-use Rattle.dom_edit.proofs.Following.{follows-none}
-use Rattle.dom_edit.proofs.Leaving.{parent-held, held-taken, follows-cut_out, whole-taken, follows-removed}
-use Rattle.dom_edit.proofs.LeftAlone.{cut-left, quiet-above, same-left}
-use Rattle.dom_edit.proofs.Unreferred.{ends-stay}
-use Rattle.dom_edit.proofs.NodesKept.{nodes-then, nodes-observed, nodes-cut}
-use Rattle.dom_edit.proofs.WatchersKept.{watchers-cut}
+use Rattle.dom_model.specs.Definitions.{taken_out}
+use Rattle.dom_model.proofs.Forests.{Climbing.hits-first, Entries.HasNode-occurs, Indices.parent-there}
+use Rattle.dom_edit.specs.{declared.world.World.World, Whole.Follows, Keeping.present}
+use Rattle.dom_edit.proofs.{Following.follows-none, Leaving.parent-held, Leaving.held-taken, Leaving.follows-cut_out, Leaving.whole-taken, Leaving.follows-removed, LeftAlone.cut-left, LeftAlone.quiet-above, LeftAlone.same-left, Unreferred.ends-stay, NodesKept.nodes-then, NodesKept.nodes-observed, NodesKept.nodes-cut, WatchersKept.watchers-cut}
 use Rattle.dom_edit.proofs.world.World.remove_unreferred.Goals as goal
 
 pub cut_out-requires-clause-held : goal.cut_out-requires-clause-held

@@ -1,9 +1,6 @@
 use Rattle.std.proofs.Common.{ap, ◌∙◌, tests, rules}
-use Rattle.dom_edit.proofs.Marking.{stand-by_replace}
+use Rattle.dom_edit.proofs.{Marking.stand-by_replace, InsertedNodes.brought-entering, ReplacedNodes.insertable-instead, ReplacedNodes.come-instead, ReplacedNodes.follows-replace, NodesKept.one-there, NodesKept.stay-there, NodesKept.stay-some, NodesKept.previous-held, NodesKept.next-held, NodesKept.entering-held, NodesKept.reference-held, NodesKept.nodes-then}
 use Rattle.dom_edit.specs.Inserting.{reference_in}
-use Rattle.dom_edit.proofs.InsertedNodes.{brought-entering}
-use Rattle.dom_edit.proofs.ReplacedNodes.{insertable-instead, come-instead, follows-replace}
-use Rattle.dom_edit.proofs.NodesKept.{one-there, stay-there, stay-some, previous-held, next-held, entering-held, reference-held, nodes-then}
 use Rattle.dom_edit.proofs.world.World.replace.Goals as goal
 
 pub enter-requires-clause-allowed : goal.enter-requires-clause-allowed

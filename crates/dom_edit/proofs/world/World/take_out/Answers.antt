@@ -1,13 +1,8 @@
 use Rattle.std.proofs.Common.{ap, ◌∙◌}
-use Rattle.dom_model.specs.Forests.Forest.{parent_of}
-use Rattle.dom_model.specs.MutationAlgorithms.Editing.{taken_out}
+use Rattle.dom_model.specs.Definitions.{parent_of, taken_out}
 use Rattle.dom_ranges.specs.Tables.{RangeTable}
-use Rattle.dom_edit.specs.declared.world.World.{World}
-use Rattle.dom_edit.specs.Keeping.{present}
-use Rattle.dom_edit.specs.Whole.{Follows}
-use Rattle.dom_edit.proofs.Leaving.{if_some, it_is, held-covered, parent-held, follows-cut_out, whole-taken}
-use Rattle.dom_edit.proofs.NodesKept.{nodes-cut}
-use Rattle.dom_edit.proofs.WatchersKept.{present-moved, watchers-cut}
+use Rattle.dom_edit.specs.{declared.world.World.World, Keeping.present, Whole.Follows}
+use Rattle.dom_edit.proofs.{Leaving.if_some, Leaving.it_is, Leaving.held-covered, Leaving.parent-held, Leaving.follows-cut_out, Leaving.whole-taken, NodesKept.nodes-cut, WatchersKept.present-moved, WatchersKept.watchers-cut}
 use Rattle.dom_edit.proofs.world.World.take_out.Goals as goal
 
 pub removing-requires-clause-parent : goal.removing-requires-clause-parent

@@ -35,14 +35,10 @@ use denote.Triple.Entry.{on_entry}
 use denote.Triple.Spec.{Meets, triple_of}
 use denote.Triple.Table.{entered, run_framed}
 use denote.Triple.Walked.{says, needs, Stays, stay_dropped, walk_of, ends_at, Goes-dropped, walk_Meets}
-use Rattle.std.specs.Prelude.{IsSome, Some}
-use Rattle.std_alloc.proofs.VecSteps.Shapes.{after}
-use Rattle.std_alloc.proofs.RcSteps.{word, word-Good}
-use Rattle.dom_links.specs.Cells.{look}
-use Rattle.dom_links.specs.Ownership.{cells_lent}
-use Rattle.dom_links.proofs.Finding.{Found, found}
-use Rattle.dom_links.proofs.Memory.{El, args, R, Pr, Np, word_had, cell_seen}
-use Rattle.dom_links.specs.contracts.pool.Pool.get.Key.{name as #self}
+use Rattle.std.proofs.Common.{IsSome, Some}
+use Rattle.std_alloc.proofs.{VecSteps.Shapes.after, RcSteps.word, RcSteps.word-Good}
+use Rattle.dom_links.specs.{Cells.look, Ownership.cells_lent, contracts.pool.Pool.get.Key.name as #self}
+use Rattle.dom_links.proofs.{Finding.Found, Finding.found, Memory.El, Memory.args, Memory.R, Memory.Pr, Memory.Np, Memory.word_had, Memory.cell_seen}
 use Rattle.dom_links.proofs.pool.Pool.get.Statement as stated
 use Rattle.dom_links.proofs.pool.Pool.get.Code as code
 

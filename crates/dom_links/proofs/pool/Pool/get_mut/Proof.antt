@@ -36,15 +36,10 @@ use denote.Triple.Entry.{on_entry}
 use denote.Triple.Spec.{Meets, triple_of}
 use denote.Triple.Table.{entered, run_framed}
 use denote.Triple.Walked.{says, needs, Stays, stay_dropped, walk_of, ends_at, Goes-dropped, Goes-spent_ref, walk_Meets}
-use Rattle.std.specs.Prelude.{IsSome, Some}
-use Rattle.std_alloc.proofs.VecSteps.Shapes.{after}
-use Rattle.std_alloc.proofs.RcSteps.{word, word-Good}
-use Rattle.dom_links.specs.Cells.{look}
-use Rattle.dom_links.specs.Lends.{with_item}
-use Rattle.dom_links.specs.Ownership.{chunk, cell_owns, cells_own}
-use Rattle.dom_links.proofs.Finding.{Found, found}
-use Rattle.dom_links.proofs.Memory.{El, args, R, Pr, Np, Mark, word_had, cells_cut, cells_glue}
-use Rattle.dom_links.specs.contracts.pool.Pool.get_mut.Key.{name as #self}
+use Rattle.std.proofs.Common.{IsSome, Some}
+use Rattle.std_alloc.proofs.{VecSteps.Shapes.after, RcSteps.word, RcSteps.word-Good}
+use Rattle.dom_links.specs.{Cells.look, Lends.with_item, Ownership.chunk, Ownership.cell_owns, Ownership.cells_own, contracts.pool.Pool.get_mut.Key.name as #self}
+use Rattle.dom_links.proofs.{Finding.Found, Finding.found, Memory.El, Memory.args, Memory.R, Memory.Pr, Memory.Np, Memory.Mark, Memory.word_had, Memory.cells_cut, Memory.cells_glue}
 use Rattle.dom_links.proofs.pool.Pool.get_mut.Statement as stated
 use Rattle.dom_links.proofs.pool.Pool.get_mut.Code as code
 

@@ -27,10 +27,8 @@ use denote.Triple.Clauses.{Clauses, Ended, closing}
 use denote.Triple.Entry.{on_entry}
 use denote.Triple.Spec.{Meets, triple_of}
 use denote.Triple.Table.{entered, run_framed}
-use Rattle.core.proofs.alloc.Calls.{Goes-blank}
-use Rattle.std_alloc.proofs.OfVacant.{vacant_val, vacant_typed, Vacant-had}
-use Rattle.std_alloc.proofs.RcSteps.{Good, word, word-Good}
-use Rattle.std_alloc.proofs.VecSteps.Shapes.{after}
+use Rattle.core.proofs.alloc.Calls.{Goes-blank, Fits, token}
+use Rattle.std_alloc.proofs.{OfVacant.vacant_val, OfVacant.vacant_typed, OfVacant.Vacant-had, RcSteps.Good, RcSteps.word, RcSteps.word-Good, VecSteps.Shapes.after, OfVacant.room_ty, RawLayout.as_written}
 use prog.Memory.{size}
 use prog.Model.{Model}
 use types.Kit.{Item, ⋆, ‵, ◌⊛◌, at_ret, ◌$◌, ◌∵◌, !, qed, by, move, keep, use2, split, join, fsplit, fsplit3, fjoin, fjoin3, feq_i, feq_l, suffices, frame, done}
@@ -40,16 +38,11 @@ use types.ByLocal.{alloc_all, pass_all, free_all, look_at, get, get_in, through,
 use denote.RawPtr.{Ptr, block_ptr, lies_at, room_for, Testable}
 use denote.Steps.{nothing, opens, closes}
 use denote.Triple.Walked.{needs, Stays, stay_dropped, stay_ref, walk_of, ends_at, Goes-dropped, Goes-ref, walk_Meets}
-use Rattle.core.proofs.alloc.Calls.{Fits, token}
-use Rattle.std.specs.Prelude.{None}
-use Rattle.std_alloc.proofs.OfVacant.{room_ty}
+use Rattle.std.proofs.Common.{None}
 use Rattle.std_alloc.specs.contracts.room.vacant.Vacant as room-type
-use Rattle.std_alloc.proofs.RawLayout.{as_written}
 use Rattle.std.proofs.GlobalToken.{dealloc_token-Testable}
-use Rattle.dom_links.specs.Cells.{look}
-use Rattle.dom_links.specs.Pointers.{IsPlace}
+use Rattle.dom_links.specs.{Cells.look, Pointers.IsPlace, contracts.pool.Pool.put_vacant.Key.name as #self}
 use Rattle.dom_links.proofs.Memory.{El, heap, args, R, Pr, Np, word_made, says_three, knows, value_in, tells, fresh}
-use Rattle.dom_links.specs.contracts.pool.Pool.put_vacant.Key.{name as #self}
 use Rattle.dom_links.proofs.pool.Pool.put_vacant.Statement as stated
 use Rattle.dom_links.proofs.pool.Pool.put_vacant.Code as code
 

@@ -28,10 +28,8 @@ use denote.Triple.Clauses.{Clauses, Ended, closing}
 use denote.Triple.Entry.{on_entry}
 use denote.Triple.Spec.{Meets, triple_of}
 use denote.Triple.Table.{entered, run_framed}
-use Rattle.core.proofs.alloc.Calls.{Goes-blank}
-use Rattle.std_alloc.proofs.OfVacant.{Vacant, vacant_ty, vacant_val, vacant_typed, Vacant-made}
-use Rattle.std_alloc.proofs.RcSteps.{Good, word, word-Good}
-use Rattle.std_alloc.proofs.VecSteps.Shapes.{after}
+use Rattle.core.proofs.alloc.Calls.{Goes-blank, Fits, handle_tells}
+use Rattle.std_alloc.proofs.{OfVacant.Vacant, OfVacant.vacant_ty, OfVacant.vacant_val, OfVacant.vacant_typed, OfVacant.Vacant-made, RcSteps.Good, RcSteps.word, RcSteps.word-Good, VecSteps.Shapes.after, Pairs.pair_val, Pairs.pair_Typed, Pairs.pair_of, RawLayout.as_raw}
 use types.Kit.{Item, ⋆, ‵, ◌⊛◌, some, given, pick, learn, at_ret, ◌$◌, ◌∵◌, !, qed, by, move, keep, use1, use2, split, join, rewrite, fsplit, fsplit3, fjoin, fjoin3, feq_i, feq_l, suffices, frame, done}
 use types.Part.{whole, sub, agg}
 use types.Run.{look as looks_at, stop, fld, load, of_opd, and_then, no_more, first, blocks, exec, returns, enter}
@@ -40,15 +38,9 @@ use denote.RawPtr.{Ptr, block_ptr, ptr_val, in_a_block, lies_at}
 use denote.Steps.{nothing, opens, closes}
 use denote.Struct.Tuple.{Tuple}
 use denote.Triple.Walked.{needs, Stays, stay_dropped, stay_ref, walk_of, ends_at, Goes-dropped, Goes-ref, walk_Meets}
-use Rattle.core.proofs.alloc.Calls.{Fits, handle_tells}
-use Rattle.std.specs.Prelude.{IsSome, Some}
-use Rattle.std_alloc.proofs.Pairs.{pair_val, pair_Typed, pair_of}
-use Rattle.std_alloc.proofs.RawLayout.{as_raw}
-use Rattle.dom_links.specs.Cells.{look, without}
-use Rattle.dom_links.specs.Ownership.{chunk, cell_owns, cells_own}
-use Rattle.dom_links.proofs.Finding.{Found, found}
-use Rattle.dom_links.proofs.Memory.{El, heap, args, R, Pr, Np, word_had, says_both, value_out, cells_cut}
-use Rattle.dom_links.specs.contracts.pool.Pool.take_vacant.Key.{name as #self}
+use Rattle.std.proofs.Common.{IsSome, Some}
+use Rattle.dom_links.specs.{Cells.look, Cells.without, Ownership.chunk, Ownership.cell_owns, Ownership.cells_own, contracts.pool.Pool.take_vacant.Key.name as #self}
+use Rattle.dom_links.proofs.{Finding.Found, Finding.found, Memory.El, Memory.heap, Memory.args, Memory.R, Memory.Pr, Memory.Np, Memory.word_had, Memory.says_both, Memory.value_out, Memory.cells_cut}
 use Rattle.dom_links.proofs.pool.Pool.take_vacant.Statement as stated
 use Rattle.dom_links.proofs.pool.Pool.take_vacant.Code as code
 

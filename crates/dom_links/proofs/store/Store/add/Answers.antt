@@ -1,9 +1,7 @@
 use Rattle.std.proofs.Common.{◌∙◌, Some, refl, ap, arith, tests, rules}
 use Rattle.dom_links.specs.Placed.{slot_of}
 use Rattle.std.proofs.lemmas.List.{length-set}
-use Rattle.dom_links.proofs.Closing.{free_read}
-use Rattle.dom_links.proofs.Filling.{given_slot, add_closes}
-use Rattle.dom_links.proofs.Placing.{arena_is, placed_lies, stays}
+use Rattle.dom_links.proofs.{Closing.free_read, Filling.given_slot, Filling.add_closes, Placing.arena_is, Placing.placed_lies, Placing.stays}
 use Rattle.dom_links.proofs.store.Store.add.Goals as goal
 
 pub index_mut-requires : goal.index_mut-requires

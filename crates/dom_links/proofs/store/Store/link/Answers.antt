@@ -1,10 +1,7 @@
 use Rattle.std.proofs.Common.{◌≡◌, Some, refl, sym, ◌∙◌, arith}
-use Rattle.dom_model.specs.Forests.Arena.{entry_at, parent_in}
-use Rattle.dom_links.specs.Placed.{slot_of, slots_of}
-use Rattle.dom_links.specs.Wiring.{with_next}
-use Rattle.dom_links.proofs.Closing.{free_read}
-use Rattle.dom_links.proofs.Relinking.{children_fewer, new_link, new_found, link_found, kept, link_closes}
-use Rattle.dom_links.proofs.Placing.{arena_is, sits, placed_node, placed_lies, stays, links_lie, places_is, slots_under}
+use Rattle.dom_model.specs.Definitions.{entry_at, parent_in}
+use Rattle.dom_links.specs.{Placed.slot_of, Placed.slots_of, Wiring.with_next}
+use Rattle.dom_links.proofs.{Closing.free_read, Relinking.children_fewer, Relinking.new_link, Relinking.new_found, Relinking.link_found, Relinking.kept, Relinking.link_closes, Placing.arena_is, Placing.sits, Placing.placed_node, Placing.placed_lies, Placing.stays, Placing.links_lie, Placing.places_is, Placing.slots_under}
 use Rattle.dom_links.proofs.store.Store.link.Goals as goal
 
 pub link_before-prev-requires : goal.link_before-prev-requires
@@ -41,10 +38,10 @@ invariant_of-self g c =
     let at_c = placed_lies c.self.invariant.stands c.self.view_is c.requires.child_placed c.node.ensures in
     let above_is = c.to.ensures ∙ sym (placed_lies c.self.invariant.stands c.self.view_is c.requires.parent_placed refl) in
     let below_is = c.to-link.ensures ∙ sym (placed_lies c.self.invariant.stands c.self.view_is c.requires.child_placed refl) in
-    let closed = link_closes _ _ v.arena c.lead_on.new.pool.cells c.lead_back.new.pool.cells c.recount.new.pool.cells c.settle.new.pool.cells c.self.inside.free.items (free_read _ _ c.self.inside.free.items (arena_is c.self.invariant.stands c.self.view_is))
+    let closed = link_closes _ _ v.arena c.lead_on.new.pool.cells c.lead_back.new.pool.cells c.recount.new.pool.cells c.write_links.new.pool.cells c.self.inside.free.items (free_read _ _ c.self.inside.free.items (arena_is c.self.invariant.stands c.self.view_is))
     (slot_of v c.args.parent) (slot_of v c.args.child) (slots_of v c.args.before) c.node-top.result.ptr c.node.result.ptr c.get.result.now c.to.result c.to-link.result c.link_before-prev.result c.args.before _ top c.requires.child_placed.held at_c c.requires.no_parent under above_is below_is prev_is next_is refl
     (record { looks = c.lead_on.ensures.nodes; many = c.lead_on.ensures.many }) (record { looks = c.lead_back.ensures.nodes; many = c.lead_back.ensures.many })
-    (record { looks = c.recount.ensures.nodes; many = c.recount.ensures.many }) (record { looks = c.settle.ensures.nodes; many = c.settle.ensures.many }) in
+    (record { looks = c.recount.ensures.nodes; many = c.recount.ensures.many }) (record { looks = c.write_links.ensures.nodes; many = c.write_links.ensures.many }) in
     record { stands = closed.stands; room = c.self.invariant.room; few = c.self.invariant.few }
 
 pub returns-clause-linked : goal.returns-clause-linked
@@ -57,10 +54,10 @@ returns-clause-linked g c =
     let at_c = placed_lies c.self.invariant.stands c.self.view_is c.requires.child_placed c.node.ensures in
     let above_is = c.to.ensures ∙ sym (placed_lies c.self.invariant.stands c.self.view_is c.requires.parent_placed refl) in
     let below_is = c.to-link.ensures ∙ sym (placed_lies c.self.invariant.stands c.self.view_is c.requires.child_placed refl) in
-    let closed = link_closes _ _ v.arena c.lead_on.new.pool.cells c.lead_back.new.pool.cells c.recount.new.pool.cells c.settle.new.pool.cells c.self.inside.free.items (free_read _ _ c.self.inside.free.items (arena_is c.self.invariant.stands c.self.view_is))
+    let closed = link_closes _ _ v.arena c.lead_on.new.pool.cells c.lead_back.new.pool.cells c.recount.new.pool.cells c.write_links.new.pool.cells c.self.inside.free.items (free_read _ _ c.self.inside.free.items (arena_is c.self.invariant.stands c.self.view_is))
     (slot_of v c.args.parent) (slot_of v c.args.child) (slots_of v c.args.before) c.node-top.result.ptr c.node.result.ptr c.get.result.now c.to.result c.to-link.result c.link_before-prev.result c.args.before _ top c.requires.child_placed.held at_c c.requires.no_parent under above_is below_is prev_is next_is refl
     (record { looks = c.lead_on.ensures.nodes; many = c.lead_on.ensures.many }) (record { looks = c.lead_back.ensures.nodes; many = c.lead_back.ensures.many })
-    (record { looks = c.recount.ensures.nodes; many = c.recount.ensures.many }) (record { looks = c.settle.ensures.nodes; many = c.settle.ensures.many }) in
+    (record { looks = c.recount.ensures.nodes; many = c.recount.ensures.many }) (record { looks = c.write_links.ensures.nodes; many = c.write_links.ensures.many }) in
     closed.view
 
 pub returns-clause-places : goal.returns-clause-places
@@ -76,8 +73,8 @@ returns-clause-kept g c = λ q placed.
     let at_c = placed_lies c.self.invariant.stands c.self.view_is c.requires.child_placed c.node.ensures in
     let above_is = c.to.ensures ∙ sym (placed_lies c.self.invariant.stands c.self.view_is c.requires.parent_placed refl) in
     let below_is = c.to-link.ensures ∙ sym (placed_lies c.self.invariant.stands c.self.view_is c.requires.child_placed refl) in
-    let closed = link_closes _ _ v.arena c.lead_on.new.pool.cells c.lead_back.new.pool.cells c.recount.new.pool.cells c.settle.new.pool.cells c.self.inside.free.items (free_read _ _ c.self.inside.free.items (arena_is c.self.invariant.stands c.self.view_is))
+    let closed = link_closes _ _ v.arena c.lead_on.new.pool.cells c.lead_back.new.pool.cells c.recount.new.pool.cells c.write_links.new.pool.cells c.self.inside.free.items (free_read _ _ c.self.inside.free.items (arena_is c.self.invariant.stands c.self.view_is))
     (slot_of v c.args.parent) (slot_of v c.args.child) (slots_of v c.args.before) c.node-top.result.ptr c.node.result.ptr c.get.result.now c.to.result c.to-link.result c.link_before-prev.result c.args.before _ top c.requires.child_placed.held at_c c.requires.no_parent under above_is below_is prev_is next_is refl
     (record { looks = c.lead_on.ensures.nodes; many = c.lead_on.ensures.many }) (record { looks = c.lead_back.ensures.nodes; many = c.lead_back.ensures.many })
-    (record { looks = c.recount.ensures.nodes; many = c.recount.ensures.many }) (record { looks = c.settle.ensures.nodes; many = c.settle.ensures.many }) in
+    (record { looks = c.recount.ensures.nodes; many = c.recount.ensures.many }) (record { looks = c.write_links.ensures.nodes; many = c.write_links.ensures.many }) in
     stays closed.stands refl (placed_lies c.self.invariant.stands c.self.view_is placed refl)

@@ -1,11 +1,7 @@
 use Rattle.std.proofs.Common.{◌∙◌, None, refl, sym, arith}
 use Rattle.dom_links.specs.Placed.{slot_of}
 use Rattle.std.proofs.lemmas.List.{length-set, get_or-set_other}
-use Rattle.dom_links.proofs.Closing.{free_read}
-use Rattle.dom_links.proofs.Relinking.{lies_from}
-use Rattle.dom_links.proofs.Reading.{value_read}
-use Rattle.dom_links.proofs.Filling.{take_room, take_ends}
-use Rattle.dom_links.proofs.Placing.{arena_is, within_table, some_at, placed_lies, stays}
+use Rattle.dom_links.proofs.{Closing.free_read, Relinking.lies_from, Reading.value_read, Filling.take_room, Filling.take_ends, Placing.arena_is, Placing.within_table, Placing.some_at, Placing.placed_lies, Placing.stays}
 use Rattle.dom_links.proofs.store.Store.take.Goals as goal
 
 pub link_at-requires : goal.link_at-requires

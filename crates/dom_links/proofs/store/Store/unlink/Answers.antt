@@ -1,10 +1,6 @@
 use Rattle.std.proofs.Common.{refl, sym, ◌∙◌, subst}
-use Rattle.dom_links.specs.Placed.{slot_of}
-use Rattle.dom_links.specs.Wiring.{with_next, settled}
-use Rattle.dom_links.proofs.Reading.{previous_found, next_found}
-use Rattle.dom_links.proofs.Closing.{free_read}
-use Rattle.dom_links.proofs.Relinking.{child_from, has_parent, counted, link_found, kept, Writes, unlink_closes}
-use Rattle.dom_links.proofs.Placing.{arena_is, places_is, placed_node, placed_lies, stays}
+use Rattle.dom_links.specs.{Placed.slot_of, Wiring.with_next, Wiring.with_links}
+use Rattle.dom_links.proofs.{Reading.previous_found, Reading.next_found, Closing.free_read, Relinking.child_from, Relinking.has_parent, Relinking.counted, Relinking.link_found, Relinking.kept, Relinking.Writes, Relinking.unlink_closes, Placing.arena_is, Placing.places_is, Placing.placed_node, Placing.placed_lies, Placing.stays}
 use Rattle.dom_links.proofs.store.Store.unlink.Goals as goal
 
 pub get-node-requires : goal.get-node-requires
@@ -37,20 +33,20 @@ pub invariant_of-self : goal.invariant_of-self
 invariant_of-self g c =
     let v = c.args.self.now in
     let k = child_from _ _ v.arena (slot_of v c.args.child) c.node-ptr.result.ptr c.get-node.result.now c.self.invariant.stands (arena_is c.self.invariant.stands c.self.view_is) refl c.requires.has_parent (placed_lies c.self.invariant.stands c.self.view_is c.requires.placed c.node-ptr.ensures) c.get-node.ensures in
-    let closed = unlink_closes _ _ v.arena c.lead_on.new.pool.cells c.lead_back.new.pool.cells c.recount.new.pool.cells c.settle.new.pool.cells c.self.inside.free.items (free_read _ _ c.self.inside.free.items (arena_is c.self.invariant.stands c.self.view_is))
+    let closed = unlink_closes _ _ v.arena c.lead_on.new.pool.cells c.lead_back.new.pool.cells c.recount.new.pool.cells c.write_links.new.pool.cells c.self.inside.free.items (free_read _ _ c.self.inside.free.items (arena_is c.self.invariant.stands c.self.view_is))
     (slot_of v c.args.child) c.node-ptr.result.ptr c.unwrap-top.result c.get-node.result.now c.get.result.now _ k (sym c.ptr.ensures ∙ c.unwrap-top.ensures) c.get.ensures refl
     (record { looks = c.lead_on.ensures.nodes; many = c.lead_on.ensures.many }) (record { looks = c.lead_back.ensures.nodes; many = c.lead_back.ensures.many })
-    (record { looks = c.recount.ensures.nodes; many = c.recount.ensures.many }) (subst (λ o. Writes (settled c.node-ptr.result.ptr o o o) c.recount.new.pool.cells c.settle.new.pool.cells) c.none-none.ensures (record { looks = c.settle.ensures.nodes; many = c.settle.ensures.many })) in
+    (record { looks = c.recount.ensures.nodes; many = c.recount.ensures.many }) (subst (λ o. Writes (with_links c.node-ptr.result.ptr o o o) c.recount.new.pool.cells c.write_links.new.pool.cells) c.none-none.ensures (record { looks = c.write_links.ensures.nodes; many = c.write_links.ensures.many })) in
     record { stands = closed.stands; room = c.self.invariant.room; few = c.self.invariant.few }
 
 pub returns-clause-unlinked : goal.returns-clause-unlinked
 returns-clause-unlinked g c =
     let v = c.args.self.now in
     let k = child_from _ _ v.arena (slot_of v c.args.child) c.node-ptr.result.ptr c.get-node.result.now c.self.invariant.stands (arena_is c.self.invariant.stands c.self.view_is) refl c.requires.has_parent (placed_lies c.self.invariant.stands c.self.view_is c.requires.placed c.node-ptr.ensures) c.get-node.ensures in
-    let closed = unlink_closes _ _ v.arena c.lead_on.new.pool.cells c.lead_back.new.pool.cells c.recount.new.pool.cells c.settle.new.pool.cells c.self.inside.free.items (free_read _ _ c.self.inside.free.items (arena_is c.self.invariant.stands c.self.view_is))
+    let closed = unlink_closes _ _ v.arena c.lead_on.new.pool.cells c.lead_back.new.pool.cells c.recount.new.pool.cells c.write_links.new.pool.cells c.self.inside.free.items (free_read _ _ c.self.inside.free.items (arena_is c.self.invariant.stands c.self.view_is))
     (slot_of v c.args.child) c.node-ptr.result.ptr c.unwrap-top.result c.get-node.result.now c.get.result.now _ k (sym c.ptr.ensures ∙ c.unwrap-top.ensures) c.get.ensures refl
     (record { looks = c.lead_on.ensures.nodes; many = c.lead_on.ensures.many }) (record { looks = c.lead_back.ensures.nodes; many = c.lead_back.ensures.many })
-    (record { looks = c.recount.ensures.nodes; many = c.recount.ensures.many }) (subst (λ o. Writes (settled c.node-ptr.result.ptr o o o) c.recount.new.pool.cells c.settle.new.pool.cells) c.none-none.ensures (record { looks = c.settle.ensures.nodes; many = c.settle.ensures.many })) in
+    (record { looks = c.recount.ensures.nodes; many = c.recount.ensures.many }) (subst (λ o. Writes (with_links c.node-ptr.result.ptr o o o) c.recount.new.pool.cells c.write_links.new.pool.cells) c.none-none.ensures (record { looks = c.write_links.ensures.nodes; many = c.write_links.ensures.many })) in
     closed.view
 
 pub returns-clause-places : goal.returns-clause-places
@@ -60,8 +56,8 @@ pub returns-clause-kept : goal.returns-clause-kept
 returns-clause-kept g c = λ q placed.
     let v = c.args.self.now in
     let k = child_from _ _ v.arena (slot_of v c.args.child) c.node-ptr.result.ptr c.get-node.result.now c.self.invariant.stands (arena_is c.self.invariant.stands c.self.view_is) refl c.requires.has_parent (placed_lies c.self.invariant.stands c.self.view_is c.requires.placed c.node-ptr.ensures) c.get-node.ensures in
-    let closed = unlink_closes _ _ v.arena c.lead_on.new.pool.cells c.lead_back.new.pool.cells c.recount.new.pool.cells c.settle.new.pool.cells c.self.inside.free.items (free_read _ _ c.self.inside.free.items (arena_is c.self.invariant.stands c.self.view_is))
+    let closed = unlink_closes _ _ v.arena c.lead_on.new.pool.cells c.lead_back.new.pool.cells c.recount.new.pool.cells c.write_links.new.pool.cells c.self.inside.free.items (free_read _ _ c.self.inside.free.items (arena_is c.self.invariant.stands c.self.view_is))
     (slot_of v c.args.child) c.node-ptr.result.ptr c.unwrap-top.result c.get-node.result.now c.get.result.now _ k (sym c.ptr.ensures ∙ c.unwrap-top.ensures) c.get.ensures refl
     (record { looks = c.lead_on.ensures.nodes; many = c.lead_on.ensures.many }) (record { looks = c.lead_back.ensures.nodes; many = c.lead_back.ensures.many })
-    (record { looks = c.recount.ensures.nodes; many = c.recount.ensures.many }) (subst (λ o. Writes (settled c.node-ptr.result.ptr o o o) c.recount.new.pool.cells c.settle.new.pool.cells) c.none-none.ensures (record { looks = c.settle.ensures.nodes; many = c.settle.ensures.many })) in
+    (record { looks = c.recount.ensures.nodes; many = c.recount.ensures.many }) (subst (λ o. Writes (with_links c.node-ptr.result.ptr o o o) c.recount.new.pool.cells c.write_links.new.pool.cells) c.none-none.ensures (record { looks = c.write_links.ensures.nodes; many = c.write_links.ensures.many })) in
     stays closed.stands refl (placed_lies c.self.invariant.stands c.self.view_is placed refl)

@@ -1,6 +1,6 @@
 -- The set answers as the list does.
 use Rattle.std.proofs.Common.{ap, ◌∙◌, subst}
-use Rattle.dom_model.specs.MutationObservers.Records.{name_passes}
+use Rattle.dom_model.specs.Definitions.{name_passes}
 use Rattle.dom_observe.specs.Names.{text_of, Sifts}
 use Rattle.dom_observe.proofs.Sifting.{sifted}
 use Rattle.dom_observe.proofs.filter.Asked.passes.Goals as goal

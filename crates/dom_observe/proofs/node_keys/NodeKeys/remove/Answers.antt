@@ -2,9 +2,8 @@
 use Rattle.std.proofs.Common.{◌≡◌, ℕ, ◌+◌, ◌-◌, ◌<◌, List, drop, length, remove, ap, sym, ◌∙◌, subst, arith, length-drop}
 use Rattle.std.proofs.Math.Seq.{paste}
 use Rattle.dom_observe.specs.Keys.{Keys}
-use Rattle.dom_observe.proofs.NodeKeys.{drop-moved, drop-remove}
+use Rattle.dom_observe.proofs.{NodeKeys.drop-moved, NodeKeys.drop-remove, node_keys.NodeKeys.remove.Goals.then-place-count, node_keys.NodeKeys.remove.Goals.else-place-count}
 use Rattle.dom_observe.proofs.node_keys.NodeKeys.remove.Goals as goal
-use Rattle.dom_observe.proofs.node_keys.NodeKeys.remove.Goals.{then-place-count, else-place-count}
 
 pub returns : goal.returns
 returns c =

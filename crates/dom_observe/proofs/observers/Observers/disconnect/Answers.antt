@@ -1,29 +1,9 @@
 -- The observer's registrations go from every node, and its queue is emptied.
-use Rattle.dom_observe.proofs.Awaiting.{awaited-emptied}
-use Rattle.std.proofs.Common.{◌≡◌, ℕ, true, List, [], Option, Some, length, filter, ap, sym, ◌∙◌, subst, inr}
-use Rattle.std.specs.Prelude.{slice_set}
-use Rattle.dom_model.specs.PlainLists.Lists.{among}
-use Rattle.dom_model.specs.MutationObservers.Record.{Record}
-use Rattle.dom_model.specs.MutationObservers.Records.{disconnected}
-use Rattle.dom_observe.specs.declared.registration.Ended.TheVariants.{Of}
-use Rattle.dom_observe.specs.declared.roster.Observer.{Observer}
-use Rattle.dom_observe.specs.Watchers.{Watchers, Watches, on}
-use Rattle.dom_observe.specs.Registrations.{at, listed, is_live, spares}
-use Rattle.dom_observe.specs.Kept.{registered_nodes, has_queue, AllThere, IsKept, IsAwaited}
-use Rattle.dom_observe.specs.Roster.{lasting_by, passing_by, queues_by}
-use Rattle.dom_observe.specs.Naming.{TellsNone}
-use Rattle.dom_observe.proofs.Agreeing.{agree-ended}
-use Rattle.dom_observe.proofs.Holding.{names-only, none-ended, tells-emptied, same-there}
-use Rattle.dom_observe.proofs.Keeping.{on-registered_nodes, kept-emptied, kept_table, found-ended, stand-ended}
-use Rattle.dom_observe.proofs.Keyrings.{indexed-lost}
-use Rattle.dom_observe.proofs.KeysOnce.{placed_once-swept}
-use Rattle.dom_observe.proofs.QueueLists.{has-set}
-use Rattle.dom_observe.proofs.Rosters.{has-kept, lasting-there, passing-there, lasting-set, passing-set, queues-set}
-use Rattle.dom_observe.proofs.Sources.{sources-ended}
-use Rattle.dom_observe.proofs.Tables.{all_imply}
-use Rattle.dom_observe.proofs.Watching.{watches-filtered, watches-taken}
+use Rattle.dom_observe.proofs.{Awaiting.awaited-emptied, Agreeing.agree-ended, Holding.names-only, Holding.none-ended, Holding.tells-emptied, Holding.same-there, Keeping.on-registered_nodes, Keeping.kept-emptied, Keeping.kept_table, Keeping.found-ended, Keeping.stand-ended, Keyrings.indexed-lost, KeysOnce.placed_once-swept, QueueLists.has-set, Rosters.has-kept, Rosters.lasting-there, Rosters.passing-there, Rosters.lasting-set, Rosters.passing-set, Rosters.queues-set, Sources.sources-ended, Tables.all_imply, Watching.watches-filtered, Watching.watches-taken, Turns.rising-swept}
+use Rattle.std.proofs.Common.{◌≡◌, ℕ, true, List, [], Option, Some, length, filter, ap, sym, ◌∙◌, subst, inr, slice_set}
+use Rattle.dom_model.specs.Definitions.{among, Record, disconnected}
+use Rattle.dom_observe.specs.{declared.registration.Ended.TheVariants.Of, declared.roster.Observer.Observer, Watchers.Watchers, Watchers.Watches, Watchers.on, Registrations.at, Registrations.listed, Registrations.is_live, Registrations.spares, Kept.registered_nodes, Kept.has_queue, Kept.AllThere, Kept.IsKept, Kept.IsAwaited, Roster.lasting_by, Roster.passing_by, Roster.queues_by, Naming.TellsNone}
 use Rattle.std.proofs.lemmas.List.{length-set}
-use Rattle.dom_observe.proofs.Turns.{rising-swept}
 use Rattle.dom_observe.proofs.observers.Observers.disconnect.Goals as goal
 
 pub get_mut-kept-requires : goal.get_mut-kept-requires

@@ -2,12 +2,8 @@
 use Rattle.std.proofs.Common.{◌≡◌, ℕ, zero, suc, ◌==◌, Bool, true, false, List, [], ◌∷◌, length, refl, ap, sym, ◌∙◌, subst, arith}
 use Rattle.std.proofs.lemmas.List.{length-map}
 use Rattle.dom_model.proofs.PlainLists.Numbers.{same_or, same, apart}
-use Rattle.dom_observe.specs.Once.{once}
-use Rattle.dom_observe.specs.Watchers.{Watchers, Watches, on}
-use Rattle.dom_model.specs.MutationObservers.Observing.{registered_on}
-use Rattle.dom_observe.specs.Registrations.{found, listed}
-use Rattle.dom_observe.specs.Kept.{registered_nodes, has_queue}
-use Rattle.dom_observe.specs.Roster.{queues_by}
+use Rattle.dom_observe.specs.{Once.once, Watchers.Watchers, Watchers.Watches, Watchers.on, Registrations.found, Registrations.listed, Kept.registered_nodes, Kept.has_queue, Roster.queues_by}
+use Rattle.dom_model.specs.Definitions.{registered_on}
 use Rattle.dom_observe.proofs.Keeping.{nobody, none_listed}
 use Rattle.dom_observe.proofs.observers.Observers.is_idle.Goals as goal
 

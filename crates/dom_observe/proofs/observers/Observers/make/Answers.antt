@@ -1,21 +1,9 @@
 -- One more queue, and nothing in it.
-use Rattle.dom_observe.proofs.Awaiting.{awaited-made}
+use Rattle.dom_observe.proofs.{Awaiting.awaited-made, Holding.names-only, Holding.names-same, Holding.tells-grown, Keeping.kept-made, Keyrings.indexed-more, Outcomes.on_ok, Outcomes.on_err, Outcomes.both_ok, Outcomes.by_one, Outcomes.by_both, Rosters.length-queues, Watching.watches-made}
 use Rattle.std.proofs.Common.{List, [], ◌∷◌, ◌++◌, Option, Some, None, length, is_some, ap, sym, ◌∙◌, subst}
 use Rattle.std.proofs.Math.Seq.{get_or-append_seam}
-use Rattle.dom_model.specs.MutationObservers.Records.{with_observer}
-use Rattle.dom_observe.specs.declared.roster.Observer.{Observer}
-use Rattle.dom_observe.specs.Watchers.{Watchers, Watches}
-use Rattle.dom_observe.specs.Registrations.{at, listed}
-use Rattle.dom_observe.specs.Kept.{registered_nodes, has_queue, IsKept, IsIndexed, IsAwaited}
-use Rattle.dom_observe.specs.Roster.{lasting_by, passing_by, queues_by}
-use Rattle.dom_observe.specs.Held.{NamesOnly}
-use Rattle.dom_observe.specs.Naming.{TellsNone}
-use Rattle.dom_observe.proofs.Holding.{names-only, names-same, tells-grown}
-use Rattle.dom_observe.proofs.Keeping.{kept-made}
-use Rattle.dom_observe.proofs.Keyrings.{indexed-more}
-use Rattle.dom_observe.proofs.Outcomes.{on_ok, on_err, both_ok, by_one, by_both}
-use Rattle.dom_observe.proofs.Rosters.{length-queues}
-use Rattle.dom_observe.proofs.Watching.{watches-made}
+use Rattle.dom_model.specs.Definitions.{with_observer}
+use Rattle.dom_observe.specs.{declared.roster.Observer.Observer, Watchers.Watchers, Watchers.Watches, Registrations.at, Registrations.listed, Kept.registered_nodes, Kept.has_queue, Kept.IsKept, Kept.IsIndexed, Kept.IsAwaited, Roster.lasting_by, Roster.passing_by, Roster.queues_by, Held.NamesOnly, Naming.TellsNone}
 use Rattle.dom_observe.proofs.observers.Observers.make.Goals as goal
 
 pub invariant_of-self : goal.invariant_of-self

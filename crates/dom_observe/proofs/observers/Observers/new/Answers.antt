@@ -1,6 +1,5 @@
 -- Nothing stands under any key.
-use Rattle.std.proofs.Common.{◌≡◌, ℕ, zero, suc, false, [], Option, option_map, None, Some, refl, ap, sym, ◌∙◌, tests, rules}
-use Rattle.std.specs.Prelude.{slice_index_or}
+use Rattle.std.proofs.Common.{◌≡◌, ℕ, zero, suc, false, [], Option, option_map, None, Some, refl, ap, sym, ◌∙◌, tests, rules, slice_index_or}
 use Rattle.slab.specs.Slab.{Slab}
 use Rattle.dom_model.specs.Worlds.World as model
 use Rattle.dom_observe.specs.declared.registration.Registration as held

@@ -1,30 +1,8 @@
 -- Each pending observer is told its records; then nobody is pending, and none of those has records.
-use Rattle.std.proofs.Common.{◌≡◌, ℕ, true, if◌then◌else◌, [], length, map, filter, refl, ap, sym, ◌∙◌, subst}
-use Rattle.std.specs.Prelude.{is_none}
-use Rattle.dom_model.specs.PlainLists.Lists.{among}
-use Rattle.dom_model.specs.Worlds.World.{Registration}
-use Rattle.dom_model.specs.MutationObservers.Records.{has_records, told_in}
-use Rattle.dom_observe.specs.Notifying.{waiting_in}
-use Rattle.dom_observe.proofs.Outcomes.{at_err}
-use Rattle.dom_observe.specs.Watchers.{Watchers, Watches, on, records_at}
-use Rattle.dom_observe.specs.Naming.{TellsNone}
-use Rattle.dom_observe.specs.Registrations.{at, listed, is_live, passes_for, Owned}
-use Rattle.dom_observe.specs.Kept.{registered_nodes, has_queue, AllThere, HaveNone, IsKept}
-use Rattle.dom_observe.specs.Roster.{first_keys, second_keys, lasting_by, passing_by, queues_by}
-use Rattle.dom_observe.proofs.Awaiting.{awaited-queues, awaited-notified}
-use Rattle.dom_observe.proofs.Holding.{names-only, none-ended, same-there}
-use Rattle.dom_observe.specs.declared.registration.Ended.TheVariants.{Transient}
-use Rattle.dom_observe.proofs.Indexing.{indexed-notified}
-use Rattle.dom_observe.proofs.Keeping.{on-registered_nodes, stand-alike, stand-ended, found-ended, kept_queues}
-use Rattle.dom_observe.proofs.Keyrings.{indexed-same, indexed-by}
-use Rattle.dom_observe.proofs.KeysOnce.{placed_once-swept}
-use Rattle.dom_observe.proofs.Rosters.{has-same, length-same}
-use Rattle.dom_observe.proofs.Tables.{all_imply}
-use Rattle.dom_observe.proofs.Gathered.{waiting-told}
-use Rattle.dom_observe.proofs.Agreeing.{agree-ended}
-use Rattle.dom_observe.proofs.Sources.{sources-ended}
-use Rattle.dom_observe.proofs.Watching.{watches-notified}
-use Rattle.dom_observe.proofs.Turns.{rising-swept}
+use Rattle.std.proofs.Common.{◌≡◌, ℕ, true, if◌then◌else◌, [], length, map, filter, refl, ap, sym, ◌∙◌, subst, is_none}
+use Rattle.dom_model.specs.Definitions.{among, Registration, has_records, told_in}
+use Rattle.dom_observe.specs.{Notifying.waiting_in, Watchers.Watchers, Watchers.Watches, Watchers.on, Watchers.records_at, Naming.TellsNone, Registrations.at, Registrations.listed, Registrations.is_live, Registrations.passes_for, Registrations.Owned, Kept.registered_nodes, Kept.has_queue, Kept.AllThere, Kept.HaveNone, Kept.IsKept, Roster.first_keys, Roster.second_keys, Roster.lasting_by, Roster.passing_by, Roster.queues_by, declared.registration.Ended.TheVariants.Transient}
+use Rattle.dom_observe.proofs.{Outcomes.at_err, Awaiting.awaited-queues, Awaiting.awaited-notified, Holding.names-only, Holding.none-ended, Holding.same-there, Indexing.indexed-notified, Keeping.on-registered_nodes, Keeping.stand-alike, Keeping.stand-ended, Keeping.found-ended, Keeping.kept_queues, Keyrings.indexed-same, Keyrings.indexed-by, KeysOnce.placed_once-swept, Rosters.has-same, Rosters.length-same, Tables.all_imply, Gathered.waiting-told, Agreeing.agree-ended, Sources.sources-ended, Watching.watches-notified, Turns.rising-swept}
 use Rattle.dom_observe.proofs.observers.Observers.notify.Goals as goal
 
 pub gather-requires : goal.gather-requires

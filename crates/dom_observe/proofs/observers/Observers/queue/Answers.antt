@@ -1,31 +1,8 @@
 -- Each observer that the mutation interests gets its record, and is pending.
-use Rattle.std.proofs.Common.{◌≡◌, ℕ, ◌==◌, true, List, [], ◌∷◌, ◌++◌, length, filter, refl, ap, sym, ◌∙◌, subst, arith}
-use Rattle.std.specs.Prelude.{flat_map, filter_map}
-use Rattle.dom_model.specs.Forests.Forest.{ancestors}
-use Rattle.dom_model.specs.Worlds.World.{Mutation}
-use Rattle.dom_model.specs.MutationObservers.Observing.{standing_on, registered_on}
-use Rattle.dom_model.specs.MutationObservers.Records.{interests, observers_of}
-use Rattle.dom_model.specs.PlainLists.Lists.{among}
-use Rattle.dom_model.specs.PlainLists.LastOnce.{with_all_last}
-use Rattle.dom_observe.specs.Once.{once}
-use Rattle.dom_observe.specs.Watchers.{Watchers, Watches, records_at, on}
-use Rattle.dom_observe.specs.Registrations.{at, listed}
-use Rattle.dom_observe.specs.Kept.{registered_nodes, has_queue}
-use Rattle.dom_observe.specs.Roster.{queues_by}
-use Rattle.dom_observe.specs.Telling.{listeners}
-use Rattle.dom_observe.specs.Held.{nodes_of_mutation}
-use Rattle.dom_observe.proofs.Awaiting.{awaited-queued}
-use Rattle.dom_observe.proofs.Holding.{names-only, names-same, same-there}
-use Rattle.dom_observe.proofs.Hearing.{all_last-there}
-use Rattle.dom_observe.proofs.Keyrings.{indexed-same}
-use Rattle.dom_observe.proofs.Releasing.{each-there}
-use Rattle.dom_observe.proofs.Rosters.{has-same, length-same}
-use Rattle.dom_observe.proofs.Outcomes.{on_both, at_err}
-use Rattle.dom_observe.proofs.Keeping.{on-registered_nodes, nobody}
-use Rattle.dom_observe.proofs.Queued.{standing_on-none, standing_stands, kept-queued, told-queued, pended-queued}
-use Rattle.dom_observe.proofs.Watching.{watches-noted, watches-unheard}
-use Rattle.dom_observe.proofs.Quiet.{not_nothing, none-stand, none-standing}
-use Rattle.dom_observe.proofs.Refusing.{queued-same, partly-queued}
+use Rattle.std.proofs.Common.{◌≡◌, ℕ, ◌==◌, true, List, [], ◌∷◌, ◌++◌, length, filter, refl, ap, sym, ◌∙◌, subst, arith, flat_map, filter_map}
+use Rattle.dom_model.specs.Definitions.{ancestors, Mutation, standing_on, registered_on, interests, observers_of, among, with_all_last}
+use Rattle.dom_observe.specs.{Once.once, Watchers.Watchers, Watchers.Watches, Watchers.records_at, Watchers.on, Registrations.at, Registrations.listed, Kept.registered_nodes, Kept.has_queue, Roster.queues_by, Telling.listeners, Held.nodes_of_mutation}
+use Rattle.dom_observe.proofs.{Awaiting.awaited-queued, Holding.names-only, Holding.names-same, Holding.same-there, Hearing.all_last-there, Keyrings.indexed-same, Releasing.each-there, Rosters.has-same, Rosters.length-same, Outcomes.on_both, Outcomes.at_err, Keeping.on-registered_nodes, Keeping.nobody, Queued.standing_on-none, Queued.standing_stands, Queued.kept-queued, Queued.told-queued, Queued.pended-queued, Watching.watches-noted, Watching.watches-unheard, Quiet.not_nothing, Quiet.none-stand, Quiet.none-standing, Refusing.queued-same, Refusing.partly-queued}
 use Rattle.std.proofs.lemmas.Bool.{true≢false}
 use Rattle.dom_model.proofs.PlainLists.Numbers.{same_or, same, apart}
 use Rattle.dom_observe.proofs.observers.Observers.queue.Goals as goal

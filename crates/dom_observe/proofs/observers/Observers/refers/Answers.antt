@@ -1,21 +1,9 @@
 -- What the registrations and the queues name is what the definitions have as observed.
-use Rattle.std.proofs.Common.{◌≡◌, ℕ, ◌||◌, ◌+◌, List, [], Option, ap, sym, ◌∙◌, subst, nat_eq, arith}
-use Rattle.std.specs.Prelude.{unwrap_or}
+use Rattle.std.proofs.Common.{◌≡◌, ℕ, ◌||◌, ◌+◌, List, [], Option, ap, sym, ◌∙◌, subst, nat_eq, arith, unwrap_or}
 use Rattle.std.specs.List.{list_any, IsDistinct}
-use Rattle.dom_model.specs.PlainLists.Lists.{among}
-use Rattle.dom_model.specs.Forests.Forest.{inclusive_descendants}
-use Rattle.dom_model.specs.MutationObservers.Record.{Record}
-use Rattle.dom_model.specs.Worlds.World.{Registration}
-use Rattle.dom_model.specs.MutationObservers.Records.{queue_of}
-use Rattle.dom_model.specs.MutationAlgorithms.Discarding.{nodes_of_registration, nodes_of_record, queued_records}
-use Rattle.dom_observe.specs.Watchers.{Watchers, Watches}
-use Rattle.dom_observe.specs.Kept.{registered_nodes}
-use Rattle.dom_observe.specs.Roster.{queues_by}
-use Rattle.dom_observe.specs.Held.{named}
-use Rattle.dom_observe.proofs.Holding.{named-parts}
-use Rattle.dom_observe.proofs.Keyed.{any-keyed}
-use Rattle.dom_observe.proofs.Named.{any-flat, any-registered, queues-waiting, keys-registered_nodes, any-observed}
-use Rattle.dom_observe.proofs.Awaiting.{awaited-names}
+use Rattle.dom_model.specs.Definitions.{among, inclusive_descendants, Record, Registration, queue_of, nodes_of_registration, nodes_of_record, queued_records}
+use Rattle.dom_observe.specs.{Watchers.Watchers, Watchers.Watches, Kept.registered_nodes, Roster.queues_by, Held.named}
+use Rattle.dom_observe.proofs.{Holding.named-parts, Keyed.any-keyed, Named.any-flat, Named.any-registered, Named.queues-waiting, Named.keys-registered_nodes, Named.any-observed, Awaiting.awaited-names}
 use Rattle.dom_observe.proofs.observers.Observers.refers.Goals as goal
 
 pub returns-then-is_named-clause-observed : goal.returns-then-is_named-clause-observed

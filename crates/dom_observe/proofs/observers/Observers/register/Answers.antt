@@ -1,35 +1,9 @@
 -- The registration gets the options, or a new one comes last.
-use Rattle.std.proofs.Common.{◌≡◌, ◌≤◌, ℕ, true, not, List, [], ◌∷◌, ◌++◌, if◌then◌else◌, ◌==◌, map, filter, find, Option, Some, None, option_map, refl, ap, sym, ◌∙◌, subst, arith}
-use Rattle.std.specs.Prelude.{filter_map, slice_index_or, slice_set}
+use Rattle.std.proofs.Common.{◌≡◌, ◌≤◌, ℕ, true, not, List, [], ◌∷◌, ◌++◌, if◌then◌else◌, ◌==◌, map, filter, find, Option, Some, None, option_map, refl, ap, sym, ◌∙◌, subst, arith, filter_map, slice_index_or, slice_set}
 use Rattle.std.specs.List.{list_any}
-use Rattle.dom_model.specs.PlainLists.Lists.{among}
-use Rattle.dom_model.specs.Worlds.World.{Registration}
-use Rattle.dom_model.specs.MutationObservers.Record.{Record}
-use Rattle.dom_model.specs.MutationObservers.Observing.{registered_on}
-use Rattle.dom_model.specs.MutationObservers.Records.{is_registered, is_transient_from, with_options, new_registration, observed}
-use Rattle.dom_observe.specs.Watchers.{Watchers, Watches, on}
-use Rattle.dom_observe.specs.Once.{once}
-use Rattle.dom_observe.specs.Registrations.{plain, at, listed, is_live, left_by, own_at, AllStand, HaveSources, Agree, ByOrigin}
-use Rattle.dom_observe.specs.Kept.{registered_nodes, has_queue, IsKept, IsIndexed, IsAwaited}
-use Rattle.dom_observe.specs.Roster.{lasting_by, passing_by, queues_by}
-use Rattle.dom_observe.proofs.Indexing.{from-left, indexed-changed, indexed-passing_ended, indexed-lasting}
-use Rattle.dom_observe.proofs.Agreeing.{agree-own, agree-again, agree-lasting, nothing-comes}
-use Rattle.dom_observe.proofs.Once.{count-once}
-use Rattle.dom_observe.proofs.OwnKeys.{on-lasts}
-use Rattle.dom_observe.proofs.Outcomes.{on_ok, by_one, by_errors, by_outcome, by_two}
-use Rattle.dom_observe.proofs.Sources.{sources-ended, sources-changed, sources-added}
-use Rattle.dom_observe.proofs.Counting.{tally, count-filter}
-use Rattle.dom_observe.proofs.Tables.{live_of_stands, found-added, stands-added}
-use Rattle.dom_observe.proofs.Keeping.{on-registered_nodes, kept_table}
-use Rattle.dom_observe.proofs.Keyrings.{indexed-by}
-use Rattle.dom_observe.proofs.KeysOnce.{placed_once-swept}
-use Rattle.dom_observe.proofs.Rosters.{has-kept, within-lasting, within-passing, lasting-there, passing-there, lasting-set, passing-set, lasting-same, passing-same, queues-same}
-use Rattle.dom_observe.specs.Naming.{NamesNone, TellsNone}
-use Rattle.dom_observe.specs.declared.registration.Ended.TheVariants.{From}
-use Rattle.dom_observe.proofs.Holding.{names-only, none-ended, none-changed, none-added, same-queues}
-use Rattle.dom_observe.proofs.Again.{any_own, stand-again, found-again}
-use Rattle.dom_observe.proofs.Watching.{watches-observed, watches-observed_again}
-use Rattle.dom_observe.proofs.Turns.{rising-swept, rising-same}
+use Rattle.dom_model.specs.Definitions.{among, Registration, Record, registered_on, is_registered, is_transient_from, with_options, new_registration, observed}
+use Rattle.dom_observe.specs.{Watchers.Watchers, Watchers.Watches, Watchers.on, Once.once, Registrations.plain, Registrations.at, Registrations.listed, Registrations.is_live, Registrations.left_by, Registrations.own_at, Registrations.AllStand, Registrations.HaveSources, Registrations.Agree, Registrations.ByOrigin, Kept.registered_nodes, Kept.has_queue, Kept.IsKept, Kept.IsIndexed, Kept.IsAwaited, Roster.lasting_by, Roster.passing_by, Roster.queues_by, Naming.NamesNone, Naming.TellsNone, declared.registration.Ended.TheVariants.From}
+use Rattle.dom_observe.proofs.{Indexing.from-left, Indexing.indexed-changed, Indexing.indexed-passing_ended, Indexing.indexed-lasting, Agreeing.agree-own, Agreeing.agree-again, Agreeing.agree-lasting, Agreeing.nothing-comes, Once.count-once, OwnKeys.on-lasts, Outcomes.on_ok, Outcomes.by_one, Outcomes.by_errors, Outcomes.by_outcome, Outcomes.by_two, Sources.sources-ended, Sources.sources-changed, Sources.sources-added, Counting.tally, Counting.count-filter, Tables.live_of_stands, Tables.found-added, Tables.stands-added, Keeping.on-registered_nodes, Keeping.kept_table, Keyrings.indexed-by, KeysOnce.placed_once-swept, Rosters.has-kept, Rosters.within-lasting, Rosters.within-passing, Rosters.lasting-there, Rosters.passing-there, Rosters.lasting-set, Rosters.passing-set, Rosters.lasting-same, Rosters.passing-same, Rosters.queues-same, Holding.names-only, Holding.none-ended, Holding.none-changed, Holding.none-added, Holding.same-queues, Again.any_own, Again.stand-again, Again.found-again, Watching.watches-observed, Watching.watches-observed_again, Turns.rising-swept, Turns.rising-same}
 use Rattle.dom_observe.proofs.observers.Observers.register.Goals as goal
 
 pub get-requires : goal.get-requires

@@ -1,29 +1,10 @@
 -- The observer's registrations go from every node, it is not pending any more, and has no queue.
-use Rattle.dom_observe.proofs.Awaiting.{awaited-released}
-use Rattle.std.proofs.Common.{◌≡◌, ℕ, true, List, [], Option, Some, None, filter, is_some, ap, sym, ◌∙◌, subst, arith, nat_eq}
-use Rattle.std.specs.Prelude.{slice_set}
-use Rattle.dom_model.specs.PlainLists.Lists.{among, left_out}
-use Rattle.dom_model.specs.MutationObservers.Record.{Record}
-use Rattle.dom_model.specs.MutationObservers.Records.{released_observer}
-use Rattle.dom_observe.specs.declared.registration.Ended.TheVariants.{Of}
-use Rattle.dom_observe.specs.Watchers.{Watchers, Watches, on}
-use Rattle.dom_observe.specs.Registrations.{at, listed, is_live, spares}
-use Rattle.dom_observe.specs.Kept.{registered_nodes, has_queue, AllThere, IsKept, IsAwaited}
-use Rattle.dom_observe.specs.Roster.{lasting_by, passing_by, queues_by}
-use Rattle.dom_observe.specs.Naming.{TellsNone}
-use Rattle.dom_observe.proofs.Agreeing.{agree-ended}
-use Rattle.dom_observe.proofs.Holding.{names-only, none-ended, tells-released}
-use Rattle.dom_observe.proofs.Keeping.{on-registered_nodes, found-ended}
-use Rattle.dom_observe.proofs.Keyrings.{indexed-lost}
-use Rattle.dom_observe.proofs.KeysOnce.{placed_once-swept}
-use Rattle.dom_observe.proofs.QueueLists.{queue_within}
-use Rattle.dom_observe.proofs.Releasing.{taken-out, out-taken, there-taken, others-there, kept-released}
-use Rattle.dom_observe.proofs.Rosters.{has-kept, lasting-there, passing-there, length-queues, lasting-gone, passing-gone, queues-gone}
-use Rattle.dom_observe.proofs.Sources.{sources-ended}
-use Rattle.dom_observe.proofs.Watching.{watches-filtered, watches-released}
+use Rattle.dom_observe.proofs.{Awaiting.awaited-released, Agreeing.agree-ended, Holding.names-only, Holding.none-ended, Holding.tells-released, Keeping.on-registered_nodes, Keeping.found-ended, Keyrings.indexed-lost, KeysOnce.placed_once-swept, QueueLists.queue_within, Releasing.taken-out, Releasing.out-taken, Releasing.there-taken, Releasing.others-there, Releasing.kept-released, Rosters.has-kept, Rosters.lasting-there, Rosters.passing-there, Rosters.length-queues, Rosters.lasting-gone, Rosters.passing-gone, Rosters.queues-gone, Sources.sources-ended, Watching.watches-filtered, Watching.watches-released, Turns.rising-swept}
+use Rattle.std.proofs.Common.{◌≡◌, ℕ, true, List, [], Option, Some, None, filter, is_some, ap, sym, ◌∙◌, subst, arith, nat_eq, slice_set}
+use Rattle.dom_model.specs.Definitions.{among, left_out, Record, released_observer}
+use Rattle.dom_observe.specs.{declared.registration.Ended.TheVariants.Of, Watchers.Watchers, Watchers.Watches, Watchers.on, Registrations.at, Registrations.listed, Registrations.is_live, Registrations.spares, Kept.registered_nodes, Kept.has_queue, Kept.AllThere, Kept.IsKept, Kept.IsAwaited, Roster.lasting_by, Roster.passing_by, Roster.queues_by, Naming.TellsNone}
 use Rattle.std.specs.List.{list_any}
 use Rattle.std.proofs.lemmas.List.{get_or-set_same, set-set}
-use Rattle.dom_observe.proofs.Turns.{rising-swept}
 use Rattle.dom_observe.proofs.observers.Observers.release.Goals as goal
 
 pub get_mut-kept-requires : goal.get_mut-kept-requires

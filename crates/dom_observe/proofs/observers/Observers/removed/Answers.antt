@@ -1,38 +1,10 @@
 -- Transient registrations are made, and then each observer that the mutation interests gets its record.
-use Rattle.dom_observe.proofs.Awaiting.{awaited-queued}
-use Rattle.std.proofs.Common.{◌≡◌, ℕ, ◌==◌, true, List, [], ◌∷◌, ◌++◌, length, refl, ap, sym, ◌∙◌, subst, arith}
-use Rattle.std.specs.Prelude.{flat_map, filter_map, option_to_list}
+use Rattle.dom_observe.proofs.{Awaiting.awaited-queued, Holding.names-only, Holding.names-same, Holding.same-queues, Holding.same-there, Hearing.all_last-there, Keeping.on-registered_nodes, Keyrings.indexed-by, Keyrings.indexed-same, Outcomes.on_both, Outcomes.at_err, Queued.standing_on-none, Queued.standing_stands, Queued.kept-queued, Queued.told-queued, Queued.pended-queued, Quiet.not_nothing, Quiet.none-stand, Quiet.none-standing, Refusing.front-same, Refusing.gets-none, Refusing.removed-same, Refusing.partly-removed, Releasing.each-there, Removals.listeners-alike, Removals.stood, Removals.standing-live, Removals.standing-unnamed, Removals.kept-left, Removals.standing-left, Removals.watches-none_above, Rosters.has-same, Rosters.length-same, Tables.live_of_stands, Transients.transients-of_all, Watching.watches-transients, Watching.watches-noted}
+use Rattle.std.proofs.Common.{◌≡◌, ℕ, ◌==◌, true, List, [], ◌∷◌, ◌++◌, length, refl, ap, sym, ◌∙◌, subst, arith, flat_map, filter_map, option_to_list}
 use Rattle.std.proofs.lemmas.Bool.{true≢false, or_parts}
-use Rattle.dom_model.specs.Forests.Forest.{ancestors}
-use Rattle.dom_model.specs.Worlds.World.{Mutation}
-use Rattle.dom_model.specs.MutationObservers.Observing.{standing_on, registered_on, with_transients}
-use Rattle.dom_model.specs.MutationObservers.Records.{observers_of, record_for}
-use Rattle.dom_model.specs.PlainLists.Lists.{among}
-use Rattle.dom_model.specs.PlainLists.LastOnce.{with_all_last}
+use Rattle.dom_model.specs.Definitions.{ancestors, Mutation, standing_on, registered_on, with_transients, observers_of, record_for, among, with_all_last}
 use Rattle.dom_model.proofs.PlainLists.Numbers.{same_or, same, apart}
-use Rattle.dom_observe.specs.Once.{once}
-use Rattle.dom_observe.specs.Watchers.{Watchers, Watches, records_at, on}
-use Rattle.dom_observe.specs.Registrations.{at, listed}
-use Rattle.dom_observe.specs.Kept.{registered_nodes, has_queue, IsAwaited}
-use Rattle.dom_observe.specs.Roster.{lasting_by, passing_by, queues_by}
-use Rattle.dom_observe.specs.Naming.{TellsNone}
-use Rattle.dom_observe.specs.Held.{nodes_of_mutation}
-use Rattle.dom_observe.specs.Refused.{GetsAtMostOne}
-use Rattle.dom_observe.specs.Telling.{listeners}
-use Rattle.dom_observe.proofs.Holding.{names-only, names-same, same-queues, same-there}
-use Rattle.dom_observe.proofs.Hearing.{all_last-there}
-use Rattle.dom_observe.proofs.Keeping.{on-registered_nodes}
-use Rattle.dom_observe.proofs.Keyrings.{indexed-by, indexed-same}
-use Rattle.dom_observe.proofs.Outcomes.{on_both, at_err}
-use Rattle.dom_observe.proofs.Queued.{standing_on-none, standing_stands, kept-queued, told-queued, pended-queued}
-use Rattle.dom_observe.proofs.Quiet.{not_nothing, none-stand, none-standing}
-use Rattle.dom_observe.proofs.Refusing.{front-same, gets-none, removed-same, partly-removed}
-use Rattle.dom_observe.proofs.Releasing.{each-there}
-use Rattle.dom_observe.proofs.Removals.{listeners-alike, stood, standing-live, standing-unnamed, kept-left, standing-left, watches-none_above}
-use Rattle.dom_observe.proofs.Rosters.{has-same, length-same}
-use Rattle.dom_observe.proofs.Tables.{live_of_stands}
-use Rattle.dom_observe.proofs.Transients.{transients-of_all}
-use Rattle.dom_observe.proofs.Watching.{watches-transients, watches-noted}
+use Rattle.dom_observe.specs.{Once.once, Watchers.Watchers, Watchers.Watches, Watchers.records_at, Watchers.on, Registrations.at, Registrations.listed, Kept.registered_nodes, Kept.has_queue, Kept.IsAwaited, Roster.lasting_by, Roster.passing_by, Roster.queues_by, Naming.TellsNone, Held.nodes_of_mutation, Refused.GetsAtMostOne, Telling.listeners}
 use Rattle.dom_observe.proofs.observers.Observers.removed.Goals as goal
 
 none : {A : Type 0} (xs : List A) → length xs ≡ 0 → xs ≡ []

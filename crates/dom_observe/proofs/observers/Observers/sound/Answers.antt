@@ -1,7 +1,6 @@
 -- What is kept, seen from outside.
 use Rattle.std.proofs.Common.{subst}
-use Rattle.dom_observe.specs.Roster.{queues_by}
-use Rattle.dom_observe.specs.Sound.{IsSound}
+use Rattle.dom_observe.specs.{Roster.queues_by, Sound.IsSound}
 use Rattle.dom_observe.proofs.Sounding.{seen-sound}
 use Rattle.dom_observe.proofs.observers.Observers.sound.Goals as goal
 

@@ -1,20 +1,8 @@
 -- One queue is emptied.
-use Rattle.dom_observe.proofs.Awaiting.{awaited-emptied}
-use Rattle.std.proofs.Common.{◌≡◌, ℕ, true, [], ap, sym, ◌∙◌, subst, List, Option, Some}
-use Rattle.std.specs.Prelude.{slice_set}
-use Rattle.dom_model.specs.Worlds.World.{Registration}
-use Rattle.dom_model.specs.MutationObservers.Record.{Record}
-use Rattle.dom_model.specs.MutationObservers.Records.{records_taken}
-use Rattle.dom_observe.specs.Watchers.{Watchers, Watches, records_at}
-use Rattle.dom_observe.specs.Registrations.{at, listed}
-use Rattle.dom_observe.specs.Kept.{registered_nodes, has_queue, IsKept, IsAwaited}
-use Rattle.dom_observe.specs.Roster.{queues_by}
-use Rattle.dom_observe.specs.Naming.{TellsNone}
-use Rattle.dom_observe.proofs.Holding.{names-only, tells-emptied, same-there}
-use Rattle.dom_observe.proofs.Keeping.{kept-emptied}
-use Rattle.dom_observe.proofs.Keyrings.{indexed-same}
-use Rattle.dom_observe.proofs.Rosters.{has-same, length-same}
-use Rattle.dom_observe.proofs.Watching.{watches-taken}
+use Rattle.dom_observe.proofs.{Awaiting.awaited-emptied, Holding.names-only, Holding.tells-emptied, Holding.same-there, Keeping.kept-emptied, Keyrings.indexed-same, Rosters.has-same, Rosters.length-same, Watching.watches-taken}
+use Rattle.std.proofs.Common.{◌≡◌, ℕ, true, [], ap, sym, ◌∙◌, subst, List, Option, Some, slice_set}
+use Rattle.dom_model.specs.Definitions.{Registration, Record, records_taken}
+use Rattle.dom_observe.specs.{Watchers.Watchers, Watchers.Watches, Watchers.records_at, Registrations.at, Registrations.listed, Kept.registered_nodes, Kept.has_queue, Kept.IsKept, Kept.IsAwaited, Roster.queues_by, Naming.TellsNone}
 use Rattle.dom_observe.proofs.observers.Observers.take.Goals as goal
 
 pub take_from-requires : goal.take_from-requires

@@ -1,9 +1,7 @@
 -- The pending observers are among those that were not told, and nobody is pending; or nothing has changed.
 use Rattle.std.proofs.Common.{[], sym, ◌∙◌, subst}
-use Rattle.dom_observe.specs.Kept.{has_queue, AllThere, IsKept}
-use Rattle.dom_observe.specs.Roster.{queues_by}
-use Rattle.dom_observe.proofs.Awaiting.{awaited-taken, insert_all-last}
-use Rattle.dom_observe.proofs.Holding.{names-only, names-same}
+use Rattle.dom_observe.specs.{Kept.has_queue, Kept.AllThere, Kept.IsKept, Roster.queues_by}
+use Rattle.dom_observe.proofs.{Awaiting.awaited-taken, Awaiting.insert_all-last, Holding.names-only, Holding.names-same}
 use Rattle.dom_observe.proofs.observers.Observers.take_pending.Goals as goal
 
 pub invariant_of-self-2 : goal.invariant_of-self-2

@@ -1,29 +1,9 @@
 -- The observer's queue is emptied, and its transient registrations go.
-use Rattle.std.proofs.Common.{◌≡◌, ℕ, true, if◌then◌else◌, List, [], Option, Some, length, filter, refl, ap, sym, ◌∙◌, subst}
-use Rattle.std.specs.Prelude.{slice_index_or, slice_set, unwrap_or}
-use Rattle.dom_model.specs.PlainLists.Lists.{among}
-use Rattle.dom_model.specs.MutationObservers.Record.{Record}
-use Rattle.dom_model.specs.MutationObservers.Records.{observer_told}
-use Rattle.dom_observe.specs.declared.registration.Ended.TheVariants.{TransientOf}
-use Rattle.dom_observe.specs.declared.roster.Observer.{Observer}
-use Rattle.dom_observe.specs.Watchers.{Watchers, Watches, records_at, on}
-use Rattle.dom_observe.specs.Registrations.{at, listed, is_live, left_by, spares}
-use Rattle.dom_observe.specs.Kept.{registered_nodes, has_queue, IsKept, IsAwaited}
-use Rattle.dom_observe.specs.Roster.{lasting_by, passing_by, queues_by}
-use Rattle.dom_observe.specs.Naming.{TellsNone}
-use Rattle.dom_observe.proofs.Agreeing.{agree-ended}
-use Rattle.dom_observe.proofs.Awaiting.{awaited-told, told-left}
-use Rattle.dom_observe.proofs.Holding.{names-only, none-ended, tells-emptied, same-there}
-use Rattle.dom_observe.proofs.Indexing.{indexed-passing_ended}
-use Rattle.dom_observe.proofs.Keeping.{on-registered_nodes, kept-emptied, kept_table, found-ended, stand-ended}
-use Rattle.dom_observe.proofs.Keyrings.{indexed-by}
-use Rattle.dom_observe.proofs.KeysOnce.{placed_once-swept}
-use Rattle.dom_observe.proofs.QueueLists.{has-set}
-use Rattle.dom_observe.proofs.Rosters.{has-kept, within-passing, passing-there, lasting-same, passing-set, queues-set, queue-there}
-use Rattle.dom_observe.proofs.Sources.{sources-ended}
-use Rattle.dom_observe.proofs.Watching.{watches-filtered, watches-taken}
+use Rattle.std.proofs.Common.{◌≡◌, ℕ, true, if◌then◌else◌, List, [], Option, Some, length, filter, refl, ap, sym, ◌∙◌, subst, slice_index_or, slice_set, unwrap_or}
+use Rattle.dom_model.specs.Definitions.{among, Record, observer_told}
+use Rattle.dom_observe.specs.{declared.registration.Ended.TheVariants.TransientOf, declared.roster.Observer.Observer, Watchers.Watchers, Watchers.Watches, Watchers.records_at, Watchers.on, Registrations.at, Registrations.listed, Registrations.is_live, Registrations.left_by, Registrations.spares, Kept.registered_nodes, Kept.has_queue, Kept.IsKept, Kept.IsAwaited, Roster.lasting_by, Roster.passing_by, Roster.queues_by, Naming.TellsNone}
+use Rattle.dom_observe.proofs.{Agreeing.agree-ended, Awaiting.awaited-told, Awaiting.told-left, Holding.names-only, Holding.none-ended, Holding.tells-emptied, Holding.same-there, Indexing.indexed-passing_ended, Keeping.on-registered_nodes, Keeping.kept-emptied, Keeping.kept_table, Keeping.found-ended, Keeping.stand-ended, Keyrings.indexed-by, KeysOnce.placed_once-swept, QueueLists.has-set, Rosters.has-kept, Rosters.within-passing, Rosters.passing-there, Rosters.lasting-same, Rosters.passing-set, Rosters.queues-set, Rosters.queue-there, Sources.sources-ended, Watching.watches-filtered, Watching.watches-taken, Turns.rising-swept}
 use Rattle.std.proofs.lemmas.List.{length-set}
-use Rattle.dom_observe.proofs.Turns.{rising-swept}
 use Rattle.dom_observe.proofs.observers.Observers.tell.Goals as goal
 
 pub get_mut-kept-requires : goal.get_mut-kept-requires

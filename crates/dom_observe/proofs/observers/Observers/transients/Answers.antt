@@ -3,23 +3,9 @@ use Rattle.std.proofs.Common.{◌≡◌, ℕ, true, false, ◌==◌, List, [], �
 use Rattle.std.specs.List.{AllByRecursion}
 use Rattle.std.proofs.lemmas.Bool.{true≢false, or_parts}
 use Rattle.dom_model.proofs.PlainLists.Numbers.{same_or, same, apart}
-use Rattle.dom_model.specs.Forests.Forest.{ancestors}
-use Rattle.dom_model.specs.MutationObservers.Observing.{registered_on, with_transients}
-use Rattle.dom_observe.specs.Once.{once}
-use Rattle.dom_observe.specs.Watchers.{Watchers, Watches, on}
-use Rattle.dom_observe.specs.Registrations.{at, found, listed, is_live, AllLive, Stands}
-use Rattle.dom_observe.specs.Kept.{registered_nodes, has_queue, IsKept, IsAwaited}
-use Rattle.dom_observe.specs.Roster.{lasting_by, passing_by, queues_by}
-use Rattle.dom_observe.specs.Naming.{names_one, TellsNone}
-use Rattle.dom_observe.proofs.Holding.{names-only, same-queues}
-use Rattle.dom_observe.proofs.Keyrings.{indexed-by}
-use Rattle.dom_observe.proofs.Outcomes.{on_ok, at_err}
-use Rattle.dom_observe.proofs.Refusing.{left-same, partly-left}
-use Rattle.dom_observe.proofs.Tables.{live_of_stands}
-use Rattle.dom_observe.proofs.Keeping.{on-registered_nodes, kept_table, all_deep, stands_of}
-use Rattle.dom_observe.proofs.Transients.{transients-once, none-added-there}
-use Rattle.dom_observe.proofs.Watching.{watches-transients}
-use Rattle.dom_observe.proofs.Quiet.{not_nothing, none-deep}
+use Rattle.dom_model.specs.Definitions.{ancestors, registered_on, with_transients}
+use Rattle.dom_observe.specs.{Once.once, Watchers.Watchers, Watchers.Watches, Watchers.on, Registrations.at, Registrations.found, Registrations.listed, Registrations.is_live, Registrations.AllLive, Registrations.Stands, Kept.registered_nodes, Kept.has_queue, Kept.IsKept, Kept.IsAwaited, Roster.lasting_by, Roster.passing_by, Roster.queues_by, Naming.names_one, Naming.TellsNone}
+use Rattle.dom_observe.proofs.{Holding.names-only, Holding.same-queues, Keyrings.indexed-by, Outcomes.on_ok, Outcomes.at_err, Refusing.left-same, Refusing.partly-left, Tables.live_of_stands, Keeping.on-registered_nodes, Keeping.kept_table, Keeping.all_deep, Keeping.stands_of, Transients.transients-once, Transients.none-added-there, Watching.watches-transients, Quiet.not_nothing, Quiet.none-deep}
 use Rattle.dom_observe.proofs.observers.Observers.transients.Goals as goal
 
 none : {A : Type 0} (xs : List A) → length xs ≡ 0 → xs ≡ []

@@ -1,7 +1,6 @@
-use Rattle.std.proofs.Common.{◌≡◌, ◌∙◌, ap, sym, string_bytes, Some, map}
-use Rattle.std.specs.Prelude.{bytes_eq}
+use Rattle.std.proofs.Common.{◌≡◌, ◌∙◌, ap, sym, string_bytes, Some, map, bytes_eq}
 use Rattle.std.specs.List.{list_any}
-use Rattle.dom_model.specs.MutationObservers.Records.{name_passes}
+use Rattle.dom_model.specs.Definitions.{name_passes}
 use Rattle.dom_observe.specs.Names.{names_of, text_of}
 use Rattle.dom_observe.proofs.Finding.{list_any-map}
 use Rattle.dom_observe.proofs.options.Options.passes.Goals as goal

@@ -1,9 +1,7 @@
 -- What is noted stands under the keys.
 use Rattle.std.proofs.Common.{◌∙◌, Some, ap, subst}
 use Rattle.std.specs.List.{list_any}
-use Rattle.dom_observe.specs.declared.origins.Origin.{Origin}
-use Rattle.dom_observe.specs.Registrations.{at, from_at}
-use Rattle.dom_observe.specs.Origins.{NotesIfAny}
+use Rattle.dom_observe.specs.{declared.origins.Origin.Origin, Registrations.at, Registrations.from_at, Origins.NotesIfAny}
 use Rattle.dom_observe.proofs.origins.Origins.has.Goals as goal
 
 pub returns-in-Some : goal.returns-in-Some

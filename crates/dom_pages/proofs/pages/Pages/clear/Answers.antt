@@ -1,11 +1,8 @@
 -- The cell of the number is emptied, and what the page gives back changes nothing that stands under a number.
 use Rattle.std.proofs.Common.{◌≡◌, ◌/◌, ◌<◌, false, true, None, length, slice_set, sym, ap, ◌∙◌, subst, arith}
 use Rattle.dom_pages.specs.Paged.{cells_of, AllVacant, IsPaged}
-use Rattle.dom_pages.proofs.Cells.{length-cells_of, cells_of-written, cells_of-emptied}
-use Rattle.dom_pages.proofs.Paging.{has_page, IsPaged-cleared, IsPaged-emptied}
-use Rattle.dom_pages.proofs.Written.{cell_at-cleared, is_written, is_cleared}
+use Rattle.dom_pages.proofs.{Cells.length-cells_of, Cells.cells_of-written, Cells.cells_of-emptied, Paging.has_page, Paging.IsPaged-cleared, Paging.IsPaged-emptied, Written.cell_at-cleared, Written.is_written, Written.is_cleared, pages.Pages.clear.Goals.then-number-self+then-is_vacant, pages.Pages.clear.Goals.else-number-self, pages.Pages.clear.Goals.else-number-self-via-then-number-self+else-is_vacant, pages.Pages.clear.Goals.else-number-self-via-else-number-self}
 use Rattle.dom_pages.proofs.pages.Pages.clear.Goals as goal
-use Rattle.dom_pages.proofs.pages.Pages.clear.Goals.{then-number-self+then-is_vacant, else-number-self, else-number-self-via-then-number-self+else-is_vacant, else-number-self-via-else-number-self}
 
 pub index_mut-page-requires : goal.index_mut-page-requires
 index_mut-page-requires g c =

@@ -1,7 +1,6 @@
 -- What stands under a number is read through its page, where there is one.
 use Rattle.std.proofs.Common.{◌/◌, ◌%◌, ◌≤◌, [], None, length, slice_index_or, sym, ap, ◌∙◌, arith}
-use Rattle.dom_pages.proofs.Paging.{get_or-items}
-use Rattle.dom_pages.proofs.Written.{cell_at-past}
+use Rattle.dom_pages.proofs.{Paging.get_or-items, Written.cell_at-past}
 use Rattle.dom_pages.proofs.pages.Pages.get.Goals as goal
 
 pub returns-in-Some : goal.returns-in-Some

@@ -1,9 +1,7 @@
 -- The next cell is written, behind the others.
 use Rattle.std.proofs.Common.{◌<◌, ◌*◌, ◌+◌, ◌∷◌, ◌++◌, [], Some, length, ap, sym, subst, ◌∙◌, arith, tests, rules}
 use Rattle.dom_pages.specs.Paged.{cells_of, IsPaged}
-use Rattle.dom_pages.proofs.Cells.{cells_of-pushed}
-use Rattle.dom_pages.proofs.Paging.{has_next, IsPaged-put}
-use Rattle.dom_pages.proofs.Written.{cell_at-same, is_written}
+use Rattle.dom_pages.proofs.{Cells.cells_of-pushed, Paging.has_next, Paging.IsPaged-put, Written.cell_at-same, Written.is_written}
 use Rattle.dom_pages.proofs.pages.Pages.push_reserved.Goals as goal
 
 pub returns-clause-items : goal.returns-clause-items

@@ -2,8 +2,7 @@
 use Rattle.std.proofs.Common.{true, None, Some, [], ◌∷◌, ◌++◌, refl, ap, ◌∙◌, arith, length, ◌+◌, length-append, tests, rules}
 use Rattle.std.proofs.lemmas.Grind.{common_steps}
 use Rattle.dom_ranges.specs.Chained.{cover_of}
-use Rattle.dom_ranges.proofs.Covers.{cover-length, cover-appended, covered_to-next}
-use Rattle.dom_ranges.proofs.Steps.{HasChains-covered}
+use Rattle.dom_ranges.proofs.{Covers.cover-length, Covers.cover-appended, Covers.covered_to-next, Steps.HasChains-covered}
 use Rattle.dom_ranges.proofs.chains.Chains.cover.Goals as goal
 
 pub loop-node-preserved : goal.loop-node-preserved

@@ -1,9 +1,7 @@
 use Rattle.std.proofs.Common.{◌≡◌, Some, None, refl, Option, ℕ, false, is_some, sym, ◌∙◌, arith, tests, rules}
 use Rattle.std.proofs.lemmas.Bool.{false≢true}
 use Rattle.dom_ranges.specs.Chained.{cover_of, head_at}
-use Rattle.dom_ranges.proofs.Covers.{cover-cleared, cover-past, cover-length}
-use Rattle.dom_ranges.proofs.Standing.{heads-tell}
-use Rattle.dom_ranges.proofs.Steps.{HasChains-forgotten}
+use Rattle.dom_ranges.proofs.{Covers.cover-cleared, Covers.cover-past, Covers.cover-length, Standing.heads-tell, Steps.HasChains-forgotten}
 use Rattle.dom_ranges.proofs.chains.Chains.forget.Goals as goal
 
 none-is : (o : Option ℕ) → is_some o ≡ false → o ≡ None

@@ -1,12 +1,9 @@
 -- Each step asks one end.
 use Rattle.std.proofs.Common.{◌≡◌, sym, ap, ◌∙◌, arith, tests, rules}
-use Rattle.dom_model.specs.Forests.Forest.{inclusive_descendants}
-use Rattle.dom_ranges.specs.declared.chains.End.{End}
-use Rattle.dom_ranges.specs.Chained.{end_at, point_at}
-use Rattle.dom_ranges.specs.Tables.{stands_among}
-use Rattle.dom_ranges.proofs.EndsAsked.{moved-inside, stays-outside, asked-stays, asked-moves, all-asked}
+use Rattle.dom_model.specs.Definitions.{inclusive_descendants}
+use Rattle.dom_ranges.specs.{declared.chains.End.End, Chained.end_at, Chained.point_at, Tables.stands_among}
+use Rattle.dom_ranges.proofs.{EndsAsked.moved-inside, EndsAsked.stays-outside, EndsAsked.asked-stays, EndsAsked.asked-moves, EndsAsked.all-asked, chains.Chains.gather.Goals.then-stands_inside, chains.Chains.gather.Goals.else-stands_inside}
 use Rattle.dom_ranges.proofs.chains.Chains.gather.Goals as goal
-use Rattle.dom_ranges.proofs.chains.Chains.gather.Goals.{then-stands_inside, else-stands_inside}
 
 pub new-id-requires : goal.new-id-requires
 new-id-requires g c = let table = c.args.self.now.table in omega (arith, c.loop-index-test.true, c.count-index-end.ensures, table.ok, table.small)

@@ -1,5 +1,5 @@
 -- The ends that were asked have moved where they stood inside.
-use Rattle.dom_model.specs.Forests.Forest.{inclusive_descendants}
+use Rattle.dom_model.specs.Definitions.{inclusive_descendants}
 use Rattle.dom_ranges.specs.Tables.{moved_in}
 use Rattle.dom_ranges.proofs.EndsAsked.{AreAsked}
 use Rattle.dom_ranges.proofs.chains.Chains.gather.Given as goal

@@ -1,6 +1,5 @@
 use Rattle.std.proofs.Common.{Some, None, sym, ap, ◌∙◌, set}
-use Rattle.std.proofs.lemmas.Bool.{eqb-true, eq-eqb, false≢true}
-use Rattle.std.proofs.lemmas.List.{set-set}
+use Rattle.std.proofs.lemmas.{Bool.eqb-true, Bool.eq-eqb, Bool.false≢true, List.set-set}
 use Rattle.dom_ranges.specs.Chained.{points_of}
 use Rattle.dom_ranges.proofs.Steps.{point-written, some-within, moved-points, rechained-inside, rechained-over}
 use Rattle.dom_ranges.proofs.chains.Chains.place.Goals as goal

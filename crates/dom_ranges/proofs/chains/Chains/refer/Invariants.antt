@@ -1,10 +1,8 @@
 -- What is inside is among the ends that are left.
 use Rattle.std.proofs.Common.{◌≡◌, ℕ, drop}
 use Rattle.std.specs.List.{list_any}
-use Rattle.dom_model.specs.PlainLists.Lists.{among}
-use Rattle.dom_model.specs.Forests.Forest.{inclusive_descendants}
-use Rattle.dom_ranges.specs.Chained.{points_of}
-use Rattle.dom_ranges.specs.Tables.{nodes_at}
+use Rattle.dom_model.specs.Definitions.{among, inclusive_descendants}
+use Rattle.dom_ranges.specs.{Chained.points_of, Tables.nodes_at}
 use Rattle.dom_ranges.proofs.chains.Chains.refer.Given as goal
 
 abbrev pub invariant-loop-end : goal.invariant-loop-end

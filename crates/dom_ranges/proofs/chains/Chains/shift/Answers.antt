@@ -1,7 +1,6 @@
 -- Each step shifts the end where the walk stands.
 use Rattle.std.proofs.Common.{sym, ap, ◌∙◌}
-use Rattle.dom_ranges.specs.declared.chains.End.{End}
-use Rattle.dom_ranges.specs.Shifting.{shifted}
+use Rattle.dom_ranges.specs.{declared.chains.End.End, Shifting.shifted}
 use Rattle.dom_ranges.proofs.Walking.{Walks-start, walk-within, walk-live, walk-moves, walk-step, walk-smaller, walk-end}
 use Rattle.dom_ranges.proofs.chains.Chains.shift.Goals as goal
 

@@ -1,7 +1,6 @@
 -- The ends from here to the end of the chain wait to be shifted.
 use Rattle.std.proofs.Common.{length}
-use Rattle.dom_ranges.specs.Chained.{cover_of}
-use Rattle.dom_ranges.specs.Shifting.{shifted}
+use Rattle.dom_ranges.specs.{Chained.cover_of, Shifting.shifted}
 use Rattle.dom_ranges.proofs.Walking.{Walks, along}
 use Rattle.dom_ranges.proofs.chains.Chains.shift.Given as goal
 

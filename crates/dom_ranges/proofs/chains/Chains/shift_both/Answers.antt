@@ -1,8 +1,7 @@
 use Rattle.std.proofs.Common.{◌≡◌, ℕ, ◌==◌, true, false, not, map, Option, option_map, ap, sym, ◌∙◌}
 use Rattle.std.proofs.lemmas.Bool.{eq-eqb, false≢true}
-use Rattle.dom_model.specs.Worlds.World.{Point}
-use Rattle.dom_ranges.specs.Chained.{points_of, on_node}
-use Rattle.dom_ranges.specs.Shifting.{shifted}
+use Rattle.dom_model.specs.Definitions.{Point}
+use Rattle.dom_ranges.specs.{Chained.points_of, Chained.on_node, Shifting.shifted}
 use Rattle.dom_ranges.proofs.Moving.{second-within, both-shifted, map-twice}
 use Rattle.dom_ranges.proofs.chains.Chains.shift_both.Goals as goal
 

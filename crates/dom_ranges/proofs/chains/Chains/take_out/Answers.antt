@@ -1,9 +1,8 @@
 use Rattle.std.proofs.Common.{ap, ◌∙◌, arith}
 use Rattle.std.proofs.lemmas.Grind.{common_steps}
-use Rattle.dom_model.specs.Worlds.World.{Point}
+use Rattle.dom_model.specs.Definitions.{Point}
 use Rattle.dom_ranges.specs.Chained.{points_of}
-use Rattle.dom_ranges.proofs.Covers.{item-there}
-use Rattle.dom_ranges.proofs.Steps.{out-table, out-heads, without-points, without-cover, rechained-out, stands, node-covered, prev-there, next-there}
+use Rattle.dom_ranges.proofs.{Covers.item-there, Steps.out-table, Steps.out-heads, Steps.without-points, Steps.without-cover, Steps.rechained-out, Steps.stands, Steps.node-covered, Steps.prev-there, Steps.next-there}
 use Rattle.dom_ranges.proofs.chains.Chains.take_out.Goals as goal
 
 pub lead_on-requires-clause-head : goal.lead_on-requires-clause-head

@@ -1,9 +1,9 @@
 use Rattle.std.proofs.Common.{◌∙◌}
-use Rattle.dom_model.specs.BoundaryPoints.Points.{after_splice}
+use Rattle.dom_model.specs.Definitions.{after_splice}
 use Rattle.dom_ranges.specs.Chained.{points_of, on_node}
-use Rattle.dom_ranges.proofs.Moving.{point-covered, order-shifted, view-shifted, map-same, splice-elsewhere, splice-node}
-use Rattle.dom_ranges.proofs.Inside.{close-fits}
+use Rattle.dom_ranges.proofs.{Moving.point-covered, Moving.order-shifted, Moving.view-shifted, Moving.map-same, Moving.splice-elsewhere, Inside.close-fits}
 use Rattle.dom_ranges.proofs.ranges.Ranges.close_up.Goals as goal
+use Rattle.dom_model.proofs.TokenText.Contents.ExtractedAsDeleted.{splice-node}
 
 pub shift-requires-clause-within : goal.shift-requires-clause-within
 shift-requires-clause-within c e p at there =

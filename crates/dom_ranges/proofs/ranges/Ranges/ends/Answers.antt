@@ -1,9 +1,7 @@
 use Rattle.std.proofs.Common.{refl, ap, ◌∙◌, arith}
 use Rattle.std.proofs.lemmas.Grind.{common_steps}
 use Rattle.dom_ranges.specs.Chained.{covers}
-use Rattle.dom_ranges.proofs.Slots.{slot-read}
-use Rattle.dom_ranges.proofs.Pairs.{range-found, first-live, second-live, first-within, covered-is}
-use Rattle.dom_ranges.proofs.Moving.{point-covered}
+use Rattle.dom_ranges.proofs.{Slots.slot-read, Pairs.range-found, Pairs.first-live, Pairs.second-live, Pairs.first-within, Pairs.covered-is, Moving.point-covered}
 use Rattle.dom_ranges.proofs.ranges.Ranges.ends.Goals as goal
 
 pub point-start-requires-clause-within : goal.point-start-requires-clause-within

@@ -1,7 +1,6 @@
 -- The walk stands inside, the ranges are as they were, and the nodes that were passed are covered no more.
 use Rattle.std.proofs.Common.{length}
-use Rattle.dom_model.specs.Forests.Forest.{IsForest, inclusive_descendants}
-use Rattle.dom_model.specs.PlainLists.Lists.{from_first}
+use Rattle.dom_model.specs.Definitions.{IsForest, inclusive_descendants, from_first}
 use Rattle.dom_ranges.proofs.Inside.{IsForgetting}
 use Rattle.dom_ranges.proofs.ranges.Ranges.forget.Given as goal
 

@@ -1,7 +1,6 @@
 use Rattle.std.proofs.Common.{◌∙◌, ap}
 use Rattle.dom_ranges.specs.Chained.{points_of}
-use Rattle.dom_ranges.proofs.EndsAsked.{stands-told}
-use Rattle.dom_ranges.proofs.Making.{order-kept}
+use Rattle.dom_ranges.proofs.{EndsAsked.stands-told, Making.order-kept}
 use Rattle.dom_ranges.proofs.ranges.Ranges.forget_one.Goals as goal
 
 pub forget-requires-clause-empty : goal.forget-requires-clause-empty

@@ -1,5 +1,5 @@
 -- The ends in the nodes that were passed have been gathered.
-use Rattle.dom_model.specs.Forests.Forest.{IsForest}
+use Rattle.dom_model.specs.Definitions.{IsForest}
 use Rattle.dom_ranges.proofs.Inside.{IsGathered}
 use Rattle.dom_ranges.proofs.ranges.Ranges.gather.Given as goal
 

@@ -1,4 +1,4 @@
-use Rattle.dom_model.specs.Forests.Forest.{inclusive_descendants}
+use Rattle.dom_model.specs.Definitions.{inclusive_descendants}
 use Rattle.dom_ranges.specs.Tables.{moved_in}
 use Rattle.dom_ranges.proofs.Moving.{order-shifted, view-shifted}
 use Rattle.dom_ranges.proofs.ranges.Ranges.gather_ends.Goals as goal

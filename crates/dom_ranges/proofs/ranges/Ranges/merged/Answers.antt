@@ -1,8 +1,7 @@
 use Rattle.std.proofs.Common.{◌≡◌, true, sym, ap, ◌∙◌}
-use Rattle.dom_model.specs.BoundaryPoints.Points.{after_merge}
+use Rattle.dom_model.specs.Definitions.{after_merge}
 use Rattle.dom_ranges.specs.Chained.{covers, cover_of}
-use Rattle.dom_ranges.proofs.Pairs.{covered-is}
-use Rattle.dom_ranges.proofs.Moving.{moves-within, order-shifted, view-shifted, merge-node}
+use Rattle.dom_ranges.proofs.{Pairs.covered-is, Moving.moves-within, Moving.order-shifted, Moving.view-shifted, Moving.merge-node}
 use Rattle.dom_ranges.proofs.ranges.Ranges.merged.Goals as goal
 
 pub shift_both-requires-clause-first_within : goal.shift_both-requires-clause-first_within

@@ -1,7 +1,6 @@
 -- By the nodes inside, else by each end.
 use Rattle.std.proofs.Common.{◌∙◌, tests, rules, of_calls}
-use Rattle.dom_model.specs.PlainLists.Lists.{among}
-use Rattle.dom_model.specs.Forests.Forest.{inclusive_descendants}
+use Rattle.dom_model.specs.Definitions.{among, inclusive_descendants}
 use Rattle.dom_tree.proofs.Asking.{asked-found}
 use Rattle.dom_ranges.specs.Tables.{live_nodes}
 use Rattle.dom_ranges.proofs.EndsAsked.{referred}

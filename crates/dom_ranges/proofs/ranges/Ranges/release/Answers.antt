@@ -1,8 +1,6 @@
 use Rattle.std.proofs.Common.{◌≡◌, ◌+◌, None, set, length, is_some, ap, ◌∙◌, arith}
 use Rattle.dom_ranges.specs.Tables.{range_in_slot}
-use Rattle.dom_ranges.proofs.Slots.{slot-read}
-use Rattle.dom_ranges.proofs.Pairs.{start-live, end-live}
-use Rattle.dom_ranges.proofs.Making.{some-number, moved-is, last-moves, numbers-left, kept-released, view-released}
+use Rattle.dom_ranges.proofs.{Slots.slot-read, Pairs.start-live, Pairs.end-live, Making.some-number, Making.moved-is, Making.last-moves, Making.numbers-left, Making.kept-released, Making.view-released}
 use Rattle.dom_ranges.proofs.ranges.Ranges.release.Goals as goal
 
 pub swap_remove-requires-clause-start : goal.swap_remove-requires-clause-start

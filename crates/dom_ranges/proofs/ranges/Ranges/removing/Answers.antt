@@ -1,7 +1,6 @@
 -- Where no range is live nothing is done; else the parent closes up, and what stands inside goes to where the node stood.
 use Rattle.std.proofs.Common.{sym, ap, ◌∙◌}
-use Rattle.dom_model.specs.Forests.Forest.{inclusive_descendants, parent_of, index_of}
-use Rattle.dom_model.specs.BoundaryPoints.Points.{after_splice, map_ranges}
+use Rattle.dom_model.specs.Definitions.{inclusive_descendants, parent_of, index_of, after_splice, map_ranges}
 use Rattle.dom_ranges.specs.Tables.{moved_in}
 use Rattle.dom_ranges.proofs.Inside.{still-removed, idle-removed, closed-removed, gathered-removed, if-each, if-some}
 use Rattle.dom_ranges.proofs.ranges.Ranges.removing.Goals as goal

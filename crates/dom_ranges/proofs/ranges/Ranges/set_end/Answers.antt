@@ -1,5 +1,5 @@
 use Rattle.std.proofs.Common.{ap, tests, rules}
-use Rattle.dom_model.specs.Worlds.World.{Point}
+use Rattle.dom_model.specs.Definitions.{Point}
 use Rattle.dom_ranges.proofs.MarkingSetters.{end-stands}
 use Rattle.dom_ranges.proofs.ranges.Ranges.set_end.Goals as goal
 

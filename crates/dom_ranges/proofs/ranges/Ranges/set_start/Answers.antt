@@ -1,8 +1,6 @@
 use Rattle.std.proofs.Common.{sym, ap, ◌∙◌, tests, rules}
-use Rattle.dom_model.specs.Worlds.World.{Point}
-use Rattle.dom_model.specs.Forests.Forest.{root_of}
-use Rattle.dom_ranges.proofs.Ends.{one-root}
-use Rattle.dom_ranges.proofs.MarkingSetters.{start-stands}
+use Rattle.dom_model.specs.Definitions.{Point, root_of}
+use Rattle.dom_ranges.proofs.{Ends.one-root, MarkingSetters.start-stands}
 use Rattle.dom_ranges.proofs.ranges.Ranges.set_start.Goals as goal
 
 pub same_root-requires-clause-b_held : goal.same_root-requires-clause-b_held

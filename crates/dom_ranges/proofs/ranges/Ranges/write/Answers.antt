@@ -1,9 +1,6 @@
 use Rattle.std.proofs.Common.{refl, sym, ap, ◌∙◌}
 use Rattle.dom_ranges.specs.Chained.{covers, point_at, moved_from}
-use Rattle.dom_ranges.proofs.Steps.{has-after}
-use Rattle.dom_ranges.proofs.Slots.{slot-read}
-use Rattle.dom_ranges.proofs.Pairs.{first-live, second-kept, covered-is}
-use Rattle.dom_ranges.proofs.Making.{kept-written, view-written}
+use Rattle.dom_ranges.proofs.{Steps.has-after, Slots.slot-read, Pairs.first-live, Pairs.second-kept, Pairs.covered-is, Making.kept-written, Making.view-written}
 use Rattle.dom_ranges.proofs.ranges.Ranges.write.Goals as goal
 
 pub place-requires-clause-live : goal.place-requires-clause-live

@@ -1,5 +1,5 @@
 use Rattle.std.proofs.Common.{◌++◌, ◌∷◌, [], List, ℕ, Some, length, ap, ◌∙◌, arith}
-use Rattle.dom_model.specs.Worlds.World.{Point, Range}
+use Rattle.dom_model.specs.Definitions.{Point, Range}
 use Rattle.dom_slots.specs.Slotted.{by_slot}
 use Rattle.dom_slots.proofs.Entries.{by_slot-pushed}
 use Rattle.dom_ranges.specs.StaticEnds.{count_in, with_end}

@@ -1,7 +1,5 @@
-use Rattle.std.proofs.Common.{ap, ◌∙◌}
-use Rattle.std.specs.Prelude.{flat_map}
-use Rattle.dom_model.specs.PlainLists.Lists.{among}
-use Rattle.dom_model.specs.MutationAlgorithms.Discarding.{nodes_of_range, nodes_unless_released}
+use Rattle.std.proofs.Common.{ap, ◌∙◌, flat_map}
+use Rattle.dom_model.specs.Definitions.{among, nodes_of_range, nodes_unless_released}
 use Rattle.dom_ranges.proofs.EndsCounted.{named-counted}
 use Rattle.dom_ranges.proofs.statics.Statics.names.Goals as goal
 

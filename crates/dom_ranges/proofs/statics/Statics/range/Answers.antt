@@ -1,7 +1,6 @@
 use Rattle.std.proofs.Common.{◌≡◌, ℕ, List, length, Option, Some, None, IfSome, is_some, option_and_then, slice_get, slice_index_or, nat_lt, Bor, refl, ap, sym, ◌∙◌}
 use Rattle.std.specs.Option.{option_copied}
-use Rattle.std.proofs.lemmas.Bool.{ltb-true, ltb-false}
-use Rattle.std.proofs.lemmas.Option.{slice_get_read, slice_get_past}
+use Rattle.std.proofs.lemmas.{Bool.ltb-true, Bool.ltb-false, Option.slice_get_read, Option.slice_get_past}
 use Rattle.dom_pages.specs.Numbered.{item_at}
 use Rattle.dom_slots.specs.Slotted.{by_slot}
 use Rattle.dom_slots.proofs.Entries.{item_at-by_slot}

@@ -1,10 +1,7 @@
 -- By the nodes inside, or by each end.
 use Rattle.std.proofs.Common.{ℕ, List, Option, ap, ◌∙◌, rules, of_calls}
 use Rattle.std.specs.List.{list_any, flat_map}
-use Rattle.dom_model.specs.PlainLists.Lists.{among}
-use Rattle.dom_model.specs.Forests.Forest.{inclusive_descendants}
-use Rattle.dom_model.specs.Worlds.World.{Range}
-use Rattle.dom_model.specs.MutationAlgorithms.Discarding.{nodes_of_range, nodes_unless_released}
+use Rattle.dom_model.specs.Definitions.{among, inclusive_descendants, Range, nodes_of_range, nodes_unless_released}
 use Rattle.dom_tree.proofs.Asking.{asked-found}
 use Rattle.dom_ranges.proofs.EndsCounted.{any-by_slot}
 use Rattle.dom_ranges.proofs.statics.Statics.refers.Goals as goal

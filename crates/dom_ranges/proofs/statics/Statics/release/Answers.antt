@@ -1,5 +1,5 @@
 use Rattle.std.proofs.Common.{ℕ, List, Option, None, slice_set, ap, ◌∙◌, arith}
-use Rattle.dom_model.specs.Worlds.World.{Point, Range}
+use Rattle.dom_model.specs.Definitions.{Point, Range}
 use Rattle.dom_slots.specs.Slotted.{slots_left, by_slot}
 use Rattle.dom_slots.proofs.Entries.{item_within, by_slot-released}
 use Rattle.dom_ranges.proofs.EndsCounted.{start-counted, end-counted, kept-released}

@@ -1,9 +1,7 @@
 use Rattle.std.proofs.Common.{◌∷◌, [], ◌++◌, false, arith, length-append, refl}
 use Rattle.std.proofs.lemmas.Result.{err_from_is_err_and}
-use Rattle.dom_serve.specs.ByLine.{PassesLine, CutsLine}
-use Rattle.dom_serve.specs.Tells.{is_write, is_write_fault}
-use Rattle.dom_serve.proofs.Calls.{IsCalled-more, HasAnswered-more}
-use Rattle.dom_serve.proofs.Fed.{line_ahead, Fed-line, Breaks-line, Fed-rest}
+use Rattle.dom_serve.specs.{ByLine.PassesLine, ByLine.CutsLine, Tells.is_write, Tells.is_write_fault}
+use Rattle.dom_serve.proofs.{Calls.IsCalled-more, Calls.HasAnswered-more, Fed.line_ahead, Fed.Fed-line, Fed.Breaks-line, Fed.Fed-rest}
 use Rattle.dom_serve.proofs.server.Server.feed_all.Goals as goal
 
 pub loop-line-preserved : goal.loop-line-preserved

@@ -1,10 +1,7 @@
 use Rattle.std.proofs.Common.{◌≡◌, ℕ, ◌+◌, ◌≤◌, false, List, ◌++◌, length}
-use Rattle.dom_model.specs.Commands.Answer.{Bounds}
-use Rattle.dom_model.specs.Commands.Table.{whole_table}
-use Rattle.dom_model.specs.Commands.Output.{due}
-use Rattle.dom_serve.specs.Calls.{HasAnswered, IsWritten}
-use Rattle.dom_serve.specs.ByLine.{IsWrittenByLine}
-use Rattle.dom_serve.specs.Server.{Stands, Grows}
+use Rattle.dom_model.specs.Definitions.{Bounds}
+use Rattle.dom_model.specs.{Commands.Table.whole_table, Commands.Output.due}
+use Rattle.dom_serve.specs.{Calls.HasAnswered, Calls.IsWritten, ByLine.IsWrittenByLine, Server.Stands, Server.Grows}
 use Rattle.dom_serve.proofs.server.Server.feed_all.Given as goal
 
 abbrev pub invariant-loop-line : goal.invariant-loop-line

@@ -1,8 +1,6 @@
 use Rattle.std.proofs.Common.{◌≡◌, false, refl}
-use Rattle.dom_model.specs.Commands.Command.{CreateText}
-use Rattle.dom_session.specs.Bounding.{bounds_of}
-use Rattle.dom_session.specs.Brief.{reply_of}
-use Rattle.dom_session.specs.Limiting.{numbered}
+use Rattle.dom_model.specs.Definitions.{CreateText}
+use Rattle.dom_session.specs.{Bounding.bounds_of, Brief.reply_of, Limiting.numbered}
 use Rattle.dom_session.proofs.Applying.{IsShown-step, IsAnswered-by}
 use Rattle.dom_session.proofs.session.Session.create_text.Goals as goal
 

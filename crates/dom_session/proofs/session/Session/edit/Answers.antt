@@ -1,10 +1,6 @@
 use Rattle.std.proofs.Common.{◌≡◌, false, ap}
 use Rattle.dom_edit.specs.declared.world.World.{World}
-use Rattle.dom_session.specs.Stands.{Held}
-use Rattle.dom_session.specs.Bounding.{bounds_of}
-use Rattle.dom_session.specs.Limiting.{numbered}
-use Rattle.dom_session.specs.Brief.{reply_of}
-use Rattle.dom_session.specs.Views.{editing_view}
+use Rattle.dom_session.specs.{Stands.Held, Bounding.bounds_of, Limiting.numbered, Brief.reply_of, Views.editing_view}
 use Rattle.dom_session.proofs.Applying.{IsShown-step, IsAnswered-editing}
 use Rattle.dom_session.proofs.session.Session.edit.Goals as goal
 

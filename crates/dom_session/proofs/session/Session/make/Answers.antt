@@ -1,8 +1,5 @@
 use Rattle.std.proofs.Common.{◌≡◌, false}
-use Rattle.dom_session.specs.Bounding.{bounds_of}
-use Rattle.dom_session.specs.Limiting.{numbered}
-use Rattle.dom_session.specs.Brief.{reply_of}
-use Rattle.dom_session.specs.Views.{making_view}
+use Rattle.dom_session.specs.{Bounding.bounds_of, Limiting.numbered, Brief.reply_of, Views.making_view}
 use Rattle.dom_session.proofs.Applying.{IsShown-step, IsAnswered-making}
 use Rattle.dom_session.proofs.session.Session.make.Goals as goal
 

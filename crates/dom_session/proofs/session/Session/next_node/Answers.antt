@@ -1,10 +1,7 @@
 use Rattle.std.proofs.Common.{◌≡◌, false, refl, ap}
-use Rattle.dom_model.specs.Commands.Command.{NextNode}
+use Rattle.dom_model.specs.Definitions.{NextNode}
 use Rattle.dom_edit.specs.declared.world.World.{World}
-use Rattle.dom_session.specs.Stands.{Held}
-use Rattle.dom_session.specs.Bounding.{bounds_of}
-use Rattle.dom_session.specs.Brief.{reply_of}
-use Rattle.dom_session.specs.Limiting.{numbered}
+use Rattle.dom_session.specs.{Stands.Held, Bounding.bounds_of, Brief.reply_of, Limiting.numbered}
 use Rattle.dom_session.proofs.Applying.{IsShown-step, IsAnswered-by}
 use Rattle.dom_session.proofs.session.Session.next_node.Goals as goal
 

@@ -1,7 +1,6 @@
 use Rattle.std.proofs.Common.{◌≡◌, ◌-◌, Some, None, is_some, length, slice_index_or, slice_set, ap, sym, ◌∙◌, arith}
 use Rattle.dom_slots.specs.Slotted.{slot_at}
-use Rattle.dom_slots.proofs.Fitting.{slot_within, mover_at}
-use Rattle.dom_slots.proofs.Steps.{last_is, IsSlotted-released}
+use Rattle.dom_slots.proofs.{Fitting.slot_within, Fitting.mover_at, Steps.last_is, Steps.IsSlotted-released}
 use Rattle.dom_slots.proofs.slots.Slots.release.Goals as goal
 
 pub overflow_sub-len : goal.overflow_sub-len

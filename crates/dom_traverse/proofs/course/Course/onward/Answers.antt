@@ -1,9 +1,8 @@
 -- Into the node, or past it.
-use Rattle.std.proofs.Common.{◌≡◌, Some, None, ap, ◌∙◌}
+use Rattle.std.proofs.Common.{◌≡◌, ap}
 use Rattle.dom_model.proofs.Traversal.WalksEnd.{LeadsOn-then}
 use Rattle.dom_tree.specs.Spots.{Spot, node_at}
-use Rattle.dom_traverse.proofs.CourseSteps.{goes_into, goes_past}
-use Rattle.dom_traverse.proofs.Spots.{for-one}
+use Rattle.dom_traverse.proofs.{CourseSteps.goes_into, CourseSteps.goes_past, Spots.for-one}
 use Rattle.dom_traverse.proofs.course.Course.onward.Goals as goal
 
 pub returns-in-Some-clause-tree : goal.returns-in-Some-clause-tree

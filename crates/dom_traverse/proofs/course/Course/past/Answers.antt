@@ -1,12 +1,10 @@
 -- On to a sibling, or up.
-use Rattle.std.proofs.Common.{rules, ◌≡◌, false, None, Some, refl, ap, sym, ◌∙◌, subst, Option}
-use Rattle.dom_model.specs.Forests.Forest.{Grove, parent_of}
-use Rattle.dom_model.specs.Traversal.WalkSteps.{Stand, at, ended, at_or}
+use Rattle.std.proofs.Common.{rules, ◌≡◌, false, None, refl, ap, sym, ◌∙◌, subst, Option}
+use Rattle.dom_model.specs.Definitions.{Grove, parent_of, at, ended, at_or}
 use Rattle.dom_model.proofs.Traversal.WalksEnd.{Leads-then}
 use Rattle.dom_tree.specs.Spots.{Spot, node_at}
 use Rattle.dom_traverse.specs.Courses.{past_in, sibling_on, blocks, stops, LeadsTo}
-use Rattle.dom_traverse.proofs.CourseSteps.{past-over, past-sibling, past-none, past-stop, past-parent, stays}
-use Rattle.dom_traverse.proofs.Spots.{told, for-one}
+use Rattle.dom_traverse.proofs.{CourseSteps.past-over, CourseSteps.past-sibling, CourseSteps.past-none, CourseSteps.past-stop, CourseSteps.past-parent, CourseSteps.stays, Spots.told, Spots.for-one}
 use Rattle.dom_traverse.proofs.course.Course.past.Goals as goal
 
 pub loop-here-init : goal.loop-here-init

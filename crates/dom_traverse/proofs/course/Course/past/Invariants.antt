@@ -1,7 +1,6 @@
 -- The walk has come past the node where it began to past where it stands.
 use Rattle.std.proofs.Common.{◌≡◌, ◌*◌}
-use Rattle.dom_model.specs.Forests.Forest.{size}
-use Rattle.dom_model.specs.Traversal.Ending.{moves_left}
+use Rattle.dom_model.specs.Definitions.{size, moves_left}
 use Rattle.dom_traverse.specs.Courses.{course_step, past_in, LeadsTo}
 use Rattle.dom_traverse.proofs.course.Course.past.Given as goal
 

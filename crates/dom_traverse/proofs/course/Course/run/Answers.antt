@@ -1,14 +1,11 @@
 -- One node after another.
 use Rattle.std.proofs.Common.{tests, rules, ◌≡◌, Option, None, Some, refl, ap, sym, ◌∙◌, subst}
 use Rattle.dom_model.specs.declared.Verdict.TheVariants.{Accept}
-use Rattle.dom_model.specs.Forests.Forest.{Grove}
-use Rattle.dom_model.specs.Traversal.Filters.{verdict_on}
-use Rattle.dom_model.specs.Traversal.WalkSteps.{at, ended, at_or}
+use Rattle.dom_model.specs.Definitions.{Grove, verdict_on, at, ended, at_or}
 use Rattle.dom_model.proofs.Traversal.WalksEnd.{Leads-then}
 use Rattle.dom_tree.specs.Spots.{Spot, node_at}
 use Rattle.dom_traverse.specs.Courses.{Ending, GoesOnTo}
-use Rattle.dom_traverse.proofs.CourseSteps.{stays, accepted-here}
-use Rattle.dom_traverse.proofs.Spots.{told}
+use Rattle.dom_traverse.proofs.{CourseSteps.stays, CourseSteps.accepted-here, Spots.told}
 use Rattle.dom_traverse.proofs.course.Course.run.Goals as goal
 
 pub loop-verdict-init : goal.loop-verdict-init

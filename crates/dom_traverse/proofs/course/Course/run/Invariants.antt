@@ -1,8 +1,6 @@
 -- The walk finds from where it stands what it finds from where it began.
 use Rattle.std.proofs.Common.{◌≡◌, ◌*◌}
-use Rattle.dom_model.specs.Forests.Forest.{size}
-use Rattle.dom_model.specs.Traversal.WalkSteps.{at}
-use Rattle.dom_model.specs.Traversal.Ending.{moves_left}
+use Rattle.dom_model.specs.Definitions.{size, at, moves_left}
 use Rattle.dom_traverse.specs.Courses.{course_step, LeadsTo}
 use Rattle.dom_traverse.proofs.course.Course.run.Given as goal
 

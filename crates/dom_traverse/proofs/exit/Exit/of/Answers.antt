@@ -1,8 +1,7 @@
 -- What the root loses, it stands over.
-use Rattle.std.proofs.Common.{true, ap, sym, ◌∙◌}
+use Rattle.std.proofs.Common.{ap, sym, ◌∙◌}
 use Rattle.std.proofs.lemmas.Bool.{false≢true}
-use Rattle.dom_model.specs.PlainLists.Lists.{among, before}
-use Rattle.dom_model.specs.Forests.Forest.{Grove, ancestors, inclusive_descendants}
+use Rattle.dom_model.specs.Definitions.{among, before, Grove, ancestors, inclusive_descendants}
 use Rattle.dom_traverse.proofs.Exiting.{lost-under}
 use Rattle.dom_traverse.proofs.exit.Exit.of.Goals as goal
 

@@ -1,8 +1,6 @@
 -- The iterator stands inside its root.
 use Rattle.std.proofs.Common.{◌≡◌, true, sym, subst}
-use Rattle.dom_model.specs.PlainLists.Lists.{among}
-use Rattle.dom_model.specs.Forests.Forest.{HasNode, ancestors}
-use Rattle.dom_model.specs.Worlds.World.{Iterator}
+use Rattle.dom_model.specs.Definitions.{among, HasNode, ancestors, Iterator}
 use Rattle.dom_traverse.proofs.Stances.{reference-there, reference-under}
 use Rattle.dom_traverse.proofs.iterator.NodeIterator.found_previous.Goals as goal
 

@@ -1,6 +1,6 @@
 -- The iterator has the next number, and the next slot.
 use Rattle.std.proofs.Common.{arith}
-use Rattle.dom_model.specs.Traversal.Iterators.{new_iterator}
+use Rattle.dom_model.specs.Definitions.{new_iterator}
 use Rattle.dom_traverse.proofs.BySlot.{entry-count, items-few, entry-more}
 use Rattle.dom_traverse.proofs.iterators.NodeIterators.make.Goals as goal
 

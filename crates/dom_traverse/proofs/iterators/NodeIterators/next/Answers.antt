@@ -1,6 +1,6 @@
 -- The iterator in the slot of the number.
 use Rattle.std.proofs.Common.{◌≡◌}
-use Rattle.dom_model.specs.Traversal.Iterators.{next_found, moved_to_next}
+use Rattle.dom_model.specs.Definitions.{next_found, moved_to_next}
 use Rattle.dom_traverse.specs.Standing.{StandsInside}
 use Rattle.dom_traverse.proofs.BySlot.{has-slot, slot-within, entry-told, entry-known, entry-written, long-written}
 use Rattle.dom_traverse.proofs.iterators.NodeIterators.next.Goals as goal

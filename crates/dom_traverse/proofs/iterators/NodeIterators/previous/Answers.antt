@@ -1,6 +1,6 @@
 -- The iterator in the slot of the number.
 use Rattle.std.proofs.Common.{◌≡◌}
-use Rattle.dom_model.specs.Traversal.Iterators.{previous_found, moved_to_previous}
+use Rattle.dom_model.specs.Definitions.{previous_found, moved_to_previous}
 use Rattle.dom_traverse.specs.Standing.{StandsInside}
 use Rattle.dom_traverse.proofs.BySlot.{has-slot, slot-within, entry-told, entry-known, entry-written, long-written}
 use Rattle.dom_traverse.proofs.iterators.NodeIterators.previous.Goals as goal

@@ -1,5 +1,5 @@
 -- Each iterator that was not released has taken the steps.
-use Rattle.dom_model.specs.MutationAlgorithms.PreRemoval.{pre_removed}
+use Rattle.dom_model.specs.Definitions.{pre_removed}
 use Rattle.dom_traverse.proofs.BySlot.{entry-each}
 use Rattle.dom_traverse.proofs.iterators.NodeIterators.removing.Goals as goal
 

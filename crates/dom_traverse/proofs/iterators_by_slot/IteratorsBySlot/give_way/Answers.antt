@@ -1,19 +1,15 @@
 -- Those that gave way are the iterators from then on.
 use Rattle.std.proofs.Common.{ap, sym, ◌∙◌, subst, arith}
-use Rattle.dom_model.specs.Worlds.World.{Iterator}
-use Rattle.dom_model.specs.MutationAlgorithms.PreRemoval.{pre_removed}
-use Rattle.dom_traverse.specs.GivingWay.{references_of, GaveWay}
-use Rattle.dom_traverse.specs.Whereabouts.{StandOrWait}
-use Rattle.dom_traverse.proofs.SeatSteps.{written-back}
-use Rattle.dom_traverse.proofs.StepsOff.{root-stays}
-use Rattle.dom_traverse.proofs.Found.{found-gave}
+use Rattle.dom_model.specs.Definitions.{Iterator, pre_removed}
+use Rattle.dom_traverse.specs.{GivingWay.references_of, GivingWay.GaveWay, Whereabouts.StandOrWait}
+use Rattle.dom_traverse.proofs.{SeatSteps.written-back, StepsOff.root-stays, Found.found-gave}
 use Rattle.dom_traverse.proofs.iterators_by_slot.IteratorsBySlot.give_way.Goals as goal
 
-pub settle-requires : goal.settle-requires
-settle-requires g c = subst (λ is. StandOrWait (λ (i : Iterator). i.reference) is c.self.inside.references) (sym c.deref.ensures.value) c.self.invariant.stand
+pub catch_up-requires : goal.catch_up-requires
+catch_up-requires g c = subst (λ is. StandOrWait (λ (i : Iterator). i.reference) is c.self.inside.references) (sym c.deref.ensures.value) c.self.invariant.stand
 
 pub give_way-requires-clause-stand : goal.give_way-requires-clause-stand
-give_way-requires-clause-stand g c = c.settle.ensures ∙ ap references_of (c.deref.ensures.value ∙ sym c.deref_mut.ensures.value)
+give_way-requires-clause-stand g c = c.catch_up.ensures ∙ ap references_of (c.deref.ensures.value ∙ sym c.deref_mut.ensures.value)
 
 pub invariant_of-self : goal.invariant_of-self
 invariant_of-self g c =

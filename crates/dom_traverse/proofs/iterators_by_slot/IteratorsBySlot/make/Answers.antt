@@ -1,6 +1,5 @@
 use Rattle.std.proofs.Common.{[], ◌∷◌, ◌++◌, length, refl, ap, ◌∙◌, arith, tests, rules}
-use Rattle.dom_model.specs.Worlds.World.{Iterator}
-use Rattle.dom_model.specs.Traversal.Iterators.{new_iterator}
+use Rattle.dom_model.specs.Definitions.{Iterator, new_iterator}
 use Rattle.dom_traverse.proofs.Found.{found-few, found-more}
 use Rattle.dom_traverse.proofs.iterators_by_slot.IteratorsBySlot.make.Goals as goal
 

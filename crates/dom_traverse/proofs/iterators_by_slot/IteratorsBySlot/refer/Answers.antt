@@ -1,10 +1,7 @@
 -- One iterator after another.
 use Rattle.std.proofs.Common.{◌≡◌, ◌<◌, List, length, get_or, arith, ap, sym, ◌∙◌, subst}
 use Rattle.std.proofs.lemmas.Grind.{common_steps}
-use Rattle.dom_model.specs.PlainLists.Lists.{among}
-use Rattle.dom_model.specs.Forests.Forest.{inclusive_descendants}
-use Rattle.dom_model.specs.Worlds.World.{Iterator}
-use Rattle.dom_model.specs.MutationAlgorithms.Discarding.{nodes_of_iterator}
+use Rattle.dom_model.specs.Definitions.{among, inclusive_descendants, Iterator, nodes_of_iterator}
 use Rattle.dom_traverse.proofs.Referring.{any-later}
 use Rattle.dom_traverse.proofs.iterators_by_slot.IteratorsBySlot.refer.Goals as goal
 

@@ -1,9 +1,7 @@
 -- No iterator that was passed stands there.
 use Rattle.std.proofs.Common.{◌≡◌, drop}
 use Rattle.std.specs.List.{list_any, flat_map}
-use Rattle.dom_model.specs.PlainLists.Lists.{among}
-use Rattle.dom_model.specs.Forests.Forest.{inclusive_descendants}
-use Rattle.dom_model.specs.MutationAlgorithms.Discarding.{nodes_of_iterator}
+use Rattle.dom_model.specs.Definitions.{among, inclusive_descendants, nodes_of_iterator}
 use Rattle.dom_traverse.proofs.iterators_by_slot.IteratorsBySlot.refer.Given as goal
 
 abbrev pub invariant-loop-iterator : goal.invariant-loop-iterator

@@ -1,12 +1,8 @@
 -- The nodes that iterators name are their roots and references.
 use Rattle.std.proofs.Common.{ap, ◌∙◌}
 use Rattle.std.specs.List.{list_any, flat_map}
-use Rattle.dom_model.specs.PlainLists.Lists.{among}
-use Rattle.dom_model.specs.Forests.Forest.{inclusive_descendants}
-use Rattle.dom_model.specs.Worlds.World.{Iterator}
-use Rattle.dom_model.specs.MutationAlgorithms.Discarding.{nodes_of_iterator}
-use Rattle.dom_traverse.proofs.Found.{found-names}
-use Rattle.dom_traverse.proofs.Settling.{told-none}
+use Rattle.dom_model.specs.Definitions.{among, inclusive_descendants, Iterator, nodes_of_iterator}
+use Rattle.dom_traverse.proofs.{Found.found-names, CatchingUp.told-none}
 use Rattle.dom_traverse.proofs.iterators_by_slot.IteratorsBySlot.refers.Goals as goal
 
 pub returns-in-Some : goal.returns-in-Some

@@ -1,6 +1,6 @@
 -- One iterator more has stepped off.
 use Rattle.std.proofs.Common.{length, ap, arith}
-use Rattle.dom_model.specs.MutationAlgorithms.PreRemoval.{pre_removed}
+use Rattle.dom_model.specs.Definitions.{pre_removed}
 use Rattle.dom_traverse.proofs.Following.{over-more}
 use Rattle.dom_traverse.proofs.iterators_by_slot.IteratorsBySlot.removing_each.Goals as goal
 

@@ -1,7 +1,7 @@
 -- The iterators that were passed have stepped off; the rest are as they were.
 use Rattle.std.proofs.Common.{◌≡◌, ◌++◌, map, take, drop}
 use Rattle.std.specs.Option.{ForSome}
-use Rattle.dom_model.specs.MutationAlgorithms.PreRemoval.{pre_removed}
+use Rattle.dom_model.specs.Definitions.{pre_removed}
 use Rattle.dom_traverse.specs.Exits.{IsExit}
 use Rattle.dom_traverse.proofs.iterators_by_slot.IteratorsBySlot.removing_each.Given as goal
 

@@ -1,8 +1,7 @@
 -- The iterators of one node more give way.
 use Rattle.std.proofs.Common.{sym, ◌∙◌}
 use Rattle.dom_model.proofs.Forests.TreeOrder.InsideWalks.{smaller}
-use Rattle.dom_traverse.proofs.Descendants.{among-inside}
-use Rattle.dom_traverse.proofs.LeavingInside.{leaving-top, leaving-next, leaving-end}
+use Rattle.dom_traverse.proofs.{Descendants.among-inside, LeavingInside.leaving-top, LeavingInside.leaving-next, LeavingInside.leaving-end}
 use Rattle.dom_traverse.proofs.iterators_by_slot.IteratorsBySlot.removing_inside.Goals as goal
 
 pub loop-next-init : goal.loop-next-init

@@ -1,8 +1,7 @@
 -- The iterators of the nodes that were passed have given way.
 use Rattle.std.proofs.Common.{length}
 use Rattle.std.specs.Option.{ForSome}
-use Rattle.dom_model.specs.PlainLists.Lists.{from_first}
-use Rattle.dom_model.specs.Forests.Forest.{IsForest, inclusive_descendants}
+use Rattle.dom_model.specs.Definitions.{from_first, IsForest, inclusive_descendants}
 use Rattle.dom_traverse.specs.Exits.{IsExit}
 use Rattle.dom_traverse.proofs.LeavingInside.{IsLeaving}
 use Rattle.dom_traverse.proofs.iterators_by_slot.IteratorsBySlot.removing_inside.Given as goal

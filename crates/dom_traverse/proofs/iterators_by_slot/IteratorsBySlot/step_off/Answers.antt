@@ -1,12 +1,9 @@
 -- The iterator that was read is the one in that slot; it waits where it has left its reference.
 use Rattle.std.proofs.Common.{◌≡◌, ℕ, ◌==◌, Bool, true, false, not, length, ap, sym, ◌∙◌, refl, arith}
 use Rattle.std.proofs.lemmas.Bool.{false≢true}
-use Rattle.dom_model.specs.Worlds.World.{Iterator}
-use Rattle.dom_model.specs.MutationAlgorithms.PreRemoval.{pre_removed}
+use Rattle.dom_model.specs.Definitions.{Iterator, pre_removed}
 use Rattle.dom_model.proofs.PlainLists.Numbers.{same_or, same, apart}
-use Rattle.dom_traverse.proofs.Following.{written-at}
-use Rattle.dom_traverse.proofs.Found.{found-left, found-kept}
-use Rattle.dom_traverse.proofs.StepsOff.{root-stays}
+use Rattle.dom_traverse.proofs.{Following.written-at, Found.found-left, Found.found-kept, StepsOff.root-stays}
 use Rattle.dom_traverse.proofs.iterators_by_slot.IteratorsBySlot.step_off.Goals as goal
 
 -- what is not found to differ is the same

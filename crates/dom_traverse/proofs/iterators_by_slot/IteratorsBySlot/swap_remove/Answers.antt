@@ -1,6 +1,6 @@
 -- The iterator that was there names its nodes no more, and the last lies there.
 use Rattle.std.proofs.Common.{length, ap, arith}
-use Rattle.dom_model.specs.Worlds.World.{Iterator}
+use Rattle.dom_model.specs.Definitions.{Iterator}
 use Rattle.dom_traverse.proofs.Found.{root-counted, found-fewer}
 use Rattle.dom_traverse.proofs.iterators_by_slot.IteratorsBySlot.swap_remove.Goals as goal
 

@@ -1,7 +1,6 @@
 -- The node of the number.
 use Rattle.std.proofs.Common.{ap, ◌∙◌}
-use Rattle.dom_model.specs.Forests.Forest.{Grove}
-use Rattle.dom_model.specs.Traversal.Filters.{accepts}
+use Rattle.dom_model.specs.Definitions.{Grove, accepts}
 use Rattle.dom_traverse.proofs.judge.Judge.accepts_number.Goals as goal
 
 pub returns : goal.returns

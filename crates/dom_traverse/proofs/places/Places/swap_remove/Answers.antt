@@ -1,10 +1,8 @@
 -- The last seat, which is free, is given up.
 use Rattle.std.proofs.Common.{◌≡◌, ◌+◌, ◌-◌, ◌<◌, length, take, None, get_or, ap, sym, subst, ◌∙◌, arith}
 use Rattle.std.specs.Option.{IsSome}
-use Rattle.dom_traverse.specs.Placing.{Placing}
-use Rattle.dom_traverse.specs.Seats.{places_of, last_freed}
-use Rattle.dom_traverse.proofs.SeatSteps.{written-back, some-within, some-place}
-use Rattle.dom_traverse.proofs.SeatsFreed.{last-free, chains-shrunk, view-shrunk}
+use Rattle.dom_traverse.specs.{Placing.Placing, Seats.places_of, Seats.last_freed}
+use Rattle.dom_traverse.proofs.{SeatSteps.written-back, SeatSteps.some-within, SeatSteps.some-place, SeatsFreed.last-free, SeatsFreed.chains-shrunk, SeatsFreed.view-shrunk}
 use Rattle.dom_traverse.proofs.places.Places.swap_remove.Goals as goal
 
 pub invariant_of-self : goal.invariant_of-self

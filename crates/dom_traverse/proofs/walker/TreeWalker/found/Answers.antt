@@ -1,9 +1,7 @@
 -- The steps of a move find what its list says.
 use Rattle.std.proofs.Common.{ap, sym, ◌∙◌}
-use Rattle.dom_model.specs.declared.Move.{Move}
-use Rattle.dom_model.specs.declared.Move.TheVariants.{ParentNode, FirstChild, LastChild, PreviousSibling, NextSibling, PreviousNode, NextNode}
-use Rattle.dom_model.specs.Worlds.World.{Walker}
-use Rattle.dom_model.specs.Traversal.Walks.{found_by_steps, walk_found}
+use Rattle.dom_model.specs.declared.{Move.Move, Move.TheVariants.ParentNode, Move.TheVariants.FirstChild, Move.TheVariants.LastChild, Move.TheVariants.PreviousSibling, Move.TheVariants.NextSibling, Move.TheVariants.PreviousNode, Move.TheVariants.NextNode}
+use Rattle.dom_model.specs.Definitions.{Walker, found_by_steps, walk_found}
 use Rattle.dom_model.proofs.Traversal.WalksMirrored.{walk-by_steps}
 use Rattle.dom_traverse.proofs.walker.TreeWalker.found.Goals as goal
 

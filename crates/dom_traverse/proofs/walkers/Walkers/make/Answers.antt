@@ -1,6 +1,6 @@
 -- The walker has the next number, and the next slot.
 use Rattle.std.proofs.Common.{arith}
-use Rattle.dom_model.specs.Traversal.Walks.{new_walker}
+use Rattle.dom_model.specs.Definitions.{new_walker}
 use Rattle.dom_traverse.proofs.BySlot.{entry-count, items-few, entry-more}
 use Rattle.dom_traverse.proofs.walkers.Walkers.make.Goals as goal
 

@@ -1,8 +1,6 @@
 -- What is named by the walkers in slots is what is named by those that were not released.
 use Rattle.std.proofs.Common.{◌∙◌}
-use Rattle.dom_model.specs.PlainLists.Lists.{among}
-use Rattle.dom_model.specs.Forests.Forest.{inclusive_descendants}
-use Rattle.dom_model.specs.MutationAlgorithms.Discarding.{nodes_of_walker}
+use Rattle.dom_model.specs.Definitions.{among, inclusive_descendants, nodes_of_walker}
 use Rattle.dom_traverse.proofs.BySlot.{any-entry}
 use Rattle.dom_traverse.proofs.walkers.Walkers.refers.Goals as goal
 

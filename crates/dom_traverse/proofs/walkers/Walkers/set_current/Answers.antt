@@ -1,5 +1,5 @@
 -- The walker in the slot of the number.
-use Rattle.dom_model.specs.Worlds.World.{Walker}
+use Rattle.dom_model.specs.Definitions.{Walker}
 use Rattle.dom_traverse.proofs.BySlot.{has-slot, slot-within, entry-written, long-written}
 use Rattle.dom_traverse.proofs.walkers.Walkers.set_current.Goals as goal
 

@@ -1,6 +1,6 @@
 -- The walker in the slot of the number.
 use Rattle.std.proofs.Common.{◌≡◌}
-use Rattle.dom_model.specs.Worlds.World.{Walker}
+use Rattle.dom_model.specs.Definitions.{Walker}
 use Rattle.dom_traverse.proofs.BySlot.{has-slot, slot-within, entry-told}
 use Rattle.dom_traverse.proofs.walkers.Walkers.state.Goals as goal
 

@@ -1,6 +1,6 @@
 -- The walker in the slot of the number.
 use Rattle.std.proofs.Common.{◌≡◌}
-use Rattle.dom_model.specs.Traversal.Walks.{walk_found, walker_moved}
+use Rattle.dom_model.specs.Definitions.{walk_found, walker_moved}
 use Rattle.dom_traverse.specs.Standing.{StandsThere}
 use Rattle.dom_traverse.proofs.BySlot.{has-slot, slot-within, entry-told, entry-known, entry-written, long-written}
 use Rattle.dom_traverse.proofs.walkers.Walkers.step.Goals as goal

@@ -1,6 +1,5 @@
 use Rattle.std.proofs.Common.{[], ◌∷◌, ◌++◌, length, refl, ap, ◌∙◌, arith, tests, rules}
-use Rattle.dom_model.specs.Worlds.World.{Walker}
-use Rattle.dom_model.specs.Traversal.Walks.{new_walker}
+use Rattle.dom_model.specs.Definitions.{Walker, new_walker}
 use Rattle.dom_traverse.proofs.Found.{found-few, found-more}
 use Rattle.dom_traverse.proofs.walkers_by_slot.WalkersBySlot.make.Goals as goal
 

@@ -1,10 +1,7 @@
 -- One walker after another.
 use Rattle.std.proofs.Common.{◌≡◌, ◌<◌, List, length, get_or, arith, ap, sym, ◌∙◌, subst}
 use Rattle.std.proofs.lemmas.Grind.{common_steps}
-use Rattle.dom_model.specs.PlainLists.Lists.{among}
-use Rattle.dom_model.specs.Forests.Forest.{inclusive_descendants}
-use Rattle.dom_model.specs.Worlds.World.{Walker}
-use Rattle.dom_model.specs.MutationAlgorithms.Discarding.{nodes_of_walker}
+use Rattle.dom_model.specs.Definitions.{among, inclusive_descendants, Walker, nodes_of_walker}
 use Rattle.dom_traverse.proofs.Referring.{any-later}
 use Rattle.dom_traverse.proofs.walkers_by_slot.WalkersBySlot.refer.Goals as goal
 

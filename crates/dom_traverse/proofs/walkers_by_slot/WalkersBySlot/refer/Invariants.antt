@@ -1,9 +1,7 @@
 -- No walker that was passed stands there.
 use Rattle.std.proofs.Common.{◌≡◌, drop}
 use Rattle.std.specs.List.{list_any, flat_map}
-use Rattle.dom_model.specs.PlainLists.Lists.{among}
-use Rattle.dom_model.specs.Forests.Forest.{inclusive_descendants}
-use Rattle.dom_model.specs.MutationAlgorithms.Discarding.{nodes_of_walker}
+use Rattle.dom_model.specs.Definitions.{among, inclusive_descendants, nodes_of_walker}
 use Rattle.dom_traverse.proofs.walkers_by_slot.WalkersBySlot.refer.Given as goal
 
 abbrev pub invariant-loop-walker : goal.invariant-loop-walker

@@ -1,12 +1,8 @@
 -- The nodes that walkers name are their roots and current nodes.
 use Rattle.std.proofs.Common.{ap, ◌∙◌}
 use Rattle.std.specs.List.{list_any, flat_map}
-use Rattle.dom_model.specs.PlainLists.Lists.{among}
-use Rattle.dom_model.specs.Forests.Forest.{inclusive_descendants}
-use Rattle.dom_model.specs.Worlds.World.{Walker}
-use Rattle.dom_model.specs.MutationAlgorithms.Discarding.{nodes_of_walker}
-use Rattle.dom_traverse.proofs.Found.{found-names}
-use Rattle.dom_traverse.proofs.Settling.{told-none}
+use Rattle.dom_model.specs.Definitions.{among, inclusive_descendants, Walker, nodes_of_walker}
+use Rattle.dom_traverse.proofs.{Found.found-names, CatchingUp.told-none}
 use Rattle.dom_traverse.proofs.walkers_by_slot.WalkersBySlot.refers.Goals as goal
 
 pub returns-in-Some : goal.returns-in-Some

@@ -1,8 +1,7 @@
 -- The walker that was written is the one in that slot.
 use Rattle.std.proofs.Common.{length, refl, ap, arith}
-use Rattle.dom_model.specs.Worlds.World.{Walker}
-use Rattle.dom_traverse.proofs.Following.{written-at}
-use Rattle.dom_traverse.proofs.Found.{found-left}
+use Rattle.dom_model.specs.Definitions.{Walker}
+use Rattle.dom_traverse.proofs.{Following.written-at, Found.found-left}
 use Rattle.dom_traverse.proofs.walkers_by_slot.WalkersBySlot.set_current.Goals as goal
 
 pub invariant_of-self : goal.invariant_of-self

@@ -1,9 +1,7 @@
 -- The walker that was read is the one in that slot.
 use Rattle.std.proofs.Common.{◌≡◌, length, refl, ap, ◌∙◌, arith}
-use Rattle.dom_model.specs.Worlds.World.{Walker}
-use Rattle.dom_model.specs.Traversal.Walks.{walk_found, walker_moved}
-use Rattle.dom_traverse.proofs.Following.{told-at, written-at}
-use Rattle.dom_traverse.proofs.Found.{found-left, moved-walker_root}
+use Rattle.dom_model.specs.Definitions.{Walker, walk_found, walker_moved}
+use Rattle.dom_traverse.proofs.{Following.told-at, Following.written-at, Found.found-left, Found.moved-walker_root}
 use Rattle.dom_traverse.proofs.walkers_by_slot.WalkersBySlot.step.Goals as goal
 
 pub invariant_of-self : goal.invariant_of-self

@@ -1,6 +1,6 @@
 -- The walker that was there names its nodes no more, and the last lies there.
 use Rattle.std.proofs.Common.{length, ap, arith}
-use Rattle.dom_model.specs.Worlds.World.{Walker}
+use Rattle.dom_model.specs.Definitions.{Walker}
 use Rattle.dom_traverse.proofs.Found.{root-counted, found-fewer}
 use Rattle.dom_traverse.proofs.walkers_by_slot.WalkersBySlot.swap_remove.Goals as goal
 

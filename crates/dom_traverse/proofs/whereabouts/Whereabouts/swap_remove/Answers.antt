@@ -1,6 +1,5 @@
 use Rattle.std.proofs.Common.{◌<◌, length, None, swap_remove, ap, ◌∙◌, arith}
-use Rattle.dom_traverse.proofs.Spreading.{stands-there, last-stands, as-many, spread-fewer}
-use Rattle.dom_traverse.proofs.Swapped.{swap_remove-any}
+use Rattle.dom_traverse.proofs.{Spreading.stands-there, Spreading.last-stands, Spreading.as-many, Spreading.spread-fewer, Swapped.swap_remove-any}
 use Rattle.dom_traverse.proofs.whereabouts.Whereabouts.swap_remove.Goals as goal
 
 pub swap_remove-requires-clause-stands : goal.swap_remove-requires-clause-stands

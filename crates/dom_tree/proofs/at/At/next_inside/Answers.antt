@@ -1,14 +1,10 @@
 -- The first child, or else the next sibling of the nearest ancestor below the top that has one.
 use Rattle.std.proofs.Common.{◌≡◌, ◌==◌, ◌<◌, true, false, None, ap, sym, ◌∙◌, subst}
 use Rattle.std.proofs.lemmas.Bool.{not-true, not-false, eqb-true, eqb-false}
-use Rattle.dom_model.specs.Forests.Forest.{occurs, tree_at}
-use Rattle.dom_model.proofs.Forests.Above.{above}
-use Rattle.dom_model.proofs.Forests.ToTheRoot.{shorter, inside}
-use Rattle.dom_model.proofs.Forests.TreeOrder.Ordering.{past}
-use Rattle.dom_model.proofs.Forests.TreeOrder.Stepping.{first-after, none-after, tree-next, tree-up, tree-top, tree-parent}
+use Rattle.dom_model.specs.Definitions.{occurs, tree_at}
+use Rattle.dom_model.proofs.Forests.{Above.above, ToTheRoot.shorter, ToTheRoot.inside, TreeOrder.Ordering.past, TreeOrder.Stepping.first-after, TreeOrder.Stepping.none-after, TreeOrder.Stepping.tree-next, TreeOrder.Stepping.tree-up, TreeOrder.Stepping.tree-top, TreeOrder.Stepping.tree-parent}
 use Rattle.dom_tree.specs.Places.{called}
-use Rattle.dom_tree.proofs.Spots.{tree-is, node-is, first-spot}
-use Rattle.dom_tree.proofs.Steps.{stands, up, parented, on, hindmost, led}
+use Rattle.dom_tree.proofs.{Spots.tree-is, Spots.node-is, Spots.first-spot, Steps.stands, Steps.up, Steps.parented, Steps.on, Steps.hindmost, Steps.led}
 use Rattle.dom_tree.proofs.at.At.next_inside.Goals as goal
 
 pub returns-in-Some-clause-node : goal.returns-in-Some-clause-node

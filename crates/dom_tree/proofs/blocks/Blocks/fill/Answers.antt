@@ -1,8 +1,7 @@
 -- Where a parent is in the map and there is room, its counts are made anew; else it has none.
 use Rattle.std.proofs.Common.{◌≡◌, ℕ, Some, [], is_some, refl, ap, sym, ◌∙◌, subst}
 use Rattle.dom_tree.specs.Blocks.{counts_in, counts_but, AreFilled}
-use Rattle.dom_tree.proofs.MapTable.{blocks, but-changed, but-none, but-here}
-use Rattle.dom_tree.proofs.blocks.Blocks.fill.Goals.{in-Some+else-fill, in_default}
+use Rattle.dom_tree.proofs.{MapTable.blocks, MapTable.but-changed, MapTable.but-none, MapTable.but-here, blocks.Blocks.fill.Goals.in-Some+else-fill, blocks.Blocks.fill.Goals.in_default}
 use Rattle.dom_tree.proofs.blocks.Blocks.fill.Goals as goal
 
 pub returns-then-fill-clause-filled : goal.returns-then-fill-clause-filled

@@ -1,8 +1,7 @@
 -- Where a parent has counts, one of them is written.
 use Rattle.std.proofs.Common.{Some, None, is_some, ap, sym, ◌∙◌}
 use Rattle.dom_tree.specs.Blocks.{counts_in, lowered}
-use Rattle.dom_tree.proofs.MapTable.{blocks, held-at, but-changed, but-none}
-use Rattle.dom_tree.proofs.blocks.Blocks.lower.Goals.{in-Some, in_default}
+use Rattle.dom_tree.proofs.{MapTable.blocks, MapTable.held-at, MapTable.but-changed, MapTable.but-none, blocks.Blocks.lower.Goals.in-Some, blocks.Blocks.lower.Goals.in_default}
 use Rattle.dom_tree.proofs.blocks.Blocks.lower.Goals as goal
 
 pub returns : goal.returns

@@ -1,8 +1,7 @@
 -- Where a parent has counts, one of them is written.
 use Rattle.std.proofs.Common.{Some, None, is_some, ap, sym, ◌∙◌}
 use Rattle.dom_tree.specs.Blocks.{counts_in, raised}
-use Rattle.dom_tree.proofs.MapTable.{blocks, held-at, but-changed, but-none}
-use Rattle.dom_tree.proofs.blocks.Blocks.raise.Goals.{in-Some, in_default}
+use Rattle.dom_tree.proofs.{MapTable.blocks, MapTable.held-at, MapTable.but-changed, MapTable.but-none, blocks.Blocks.raise.Goals.in-Some, blocks.Blocks.raise.Goals.in_default}
 use Rattle.dom_tree.proofs.blocks.Blocks.raise.Goals as goal
 
 pub returns : goal.returns

@@ -1,9 +1,8 @@
 -- Where a parent is in the map, its counts are written.
 use Rattle.std.proofs.Common.{Some, None, option_map, is_some, ap, sym, ◌∙◌}
-use Rattle.dom_model.specs.Forests.Kinds.{is_kind}
+use Rattle.dom_model.specs.Definitions.{is_kind}
 use Rattle.dom_tree.specs.Tallies.{tally_in, lowered}
-use Rattle.dom_tree.proofs.MapTable.{tallies, held-at, but-changed, but-none}
-use Rattle.dom_tree.proofs.tallies.Tallies.lower.Goals.{in-Some, in_default}
+use Rattle.dom_tree.proofs.{MapTable.tallies, MapTable.held-at, MapTable.but-changed, MapTable.but-none, tallies.Tallies.lower.Goals.in-Some, tallies.Tallies.lower.Goals.in_default}
 use Rattle.dom_tree.proofs.tallies.Tallies.lower.Goals as goal
 
 pub returns : goal.returns

@@ -1,7 +1,6 @@
 -- What the test finds in the steps that are left is what the whole finds, and each step passed one node.
 use Rattle.std.proofs.Common.{◌≡◌, ◌+◌, ◌≤◌, ℕ, Bool, length}
-use Rattle.dom_model.specs.PlainLists.Lists.{from_first}
-use Rattle.dom_model.specs.Forests.Forest.{inclusive_descendants}
+use Rattle.dom_model.specs.Definitions.{from_first, inclusive_descendants}
 use Rattle.dom_model.proofs.Forests.TreeOrder.InsideWalks.{IsAt}
 use Rattle.dom_tree.proofs.Asking.{IsAsking}
 use Rattle.dom_tree.proofs.tree.Tree.any_inside.Given as goal

@@ -1,11 +1,8 @@
 -- The places by slot are the indices by number.
 use Rattle.std.proofs.Common.{ap, ◌∙◌}
-use Rattle.dom_model.specs.PlainLists.Lists.{place_in}
-use Rattle.dom_model.specs.Forests.Arena.{entry_at, list_under}
+use Rattle.dom_model.specs.Definitions.{place_in, entry_at, list_under}
 use Rattle.dom_links.specs.Placed.{slot_of}
-use Rattle.dom_tree.proofs.Trees.{index-slots}
-use Rattle.dom_tree.proofs.Steps.{led, under_one}
-use Rattle.dom_tree.proofs.Places.{place-held, slot-led}
+use Rattle.dom_tree.proofs.{Trees.index-slots, Steps.led, Steps.under_one, Places.place-held, Places.slot-led}
 use Rattle.dom_tree.proofs.tree.Tree.before_by_block.Goals as goal
 
 pub place_of-a-requires : goal.place_of-a-requires

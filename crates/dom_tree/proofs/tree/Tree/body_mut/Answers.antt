@@ -1,13 +1,9 @@
 -- Whatever is written to the body, number and label stay.
 use Rattle.std.proofs.Common.{refl}
-use Rattle.dom_model.specs.Forests.Forest.{Node, with_node}
+use Rattle.dom_model.specs.Definitions.{Node, with_node}
 use Rattle.dom_links.specs.Placed.{slot_of}
 use Rattle.dom_tree.specs.Bodies.{with_body, bodied_at}
-use Rattle.dom_tree.proofs.BlocksKept.{blocked-altered}
-use Rattle.dom_tree.proofs.TalliesKept.{tallied-kept}
-use Rattle.dom_tree.proofs.Trees.{alter-done, keeps-shown, part-read}
-use Rattle.dom_tree.proofs.OwnedTrees.{alter-tree}
-use Rattle.dom_tree.proofs.Places.{place-held, slot-led, seated}
+use Rattle.dom_tree.proofs.{BlocksKept.blocked-altered, TalliesKept.tallied-kept, Trees.alter-done, Trees.keeps-shown, Trees.part-read, OwnedTrees.alter-tree, Places.place-held, Places.slot-led, Places.seated}
 use Rattle.dom_tree.proofs.tree.Tree.body_mut.Goals as goal
 
 pub place_of-place-requires : goal.place_of-place-requires

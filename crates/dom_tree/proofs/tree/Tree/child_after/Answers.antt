@@ -1,11 +1,9 @@
 -- The next child is at the next index.
-use Rattle.std.proofs.Common.{◌≡◌, suc, ◌+◌, Some, None, sym, ap, ◌∙◌, arith}
-use Rattle.std.specs.Prelude.{slice_get}
-use Rattle.dom_model.specs.Forests.Forest.{children_of}
+use Rattle.std.proofs.Common.{◌≡◌, suc, ◌+◌, Some, None, sym, ap, ◌∙◌, arith, slice_get}
+use Rattle.dom_model.specs.Definitions.{children_of}
 use Rattle.dom_model.proofs.Forests.Siblings.{child-next, child-held, get-past}
-use Rattle.dom_tree.proofs.Places.{place-held}
+use Rattle.dom_tree.proofs.{Places.place-held, Steps.begins, Steps.on, Steps.hindmost, Steps.led}
 use Rattle.dom_tree.specs.Places.{called}
-use Rattle.dom_tree.proofs.Steps.{begins, on, hindmost, led}
 use Rattle.dom_tree.proofs.tree.Tree.child_after.Goals as goal
 
 pub place_of-here-requires : goal.place_of-here-requires

@@ -1,12 +1,9 @@
 -- The previous child is at the index before.
-use Rattle.std.proofs.Common.{◌≡◌, suc, ◌+◌, ◌-◌, Some, None, sym, ap, ◌∙◌, arith}
-use Rattle.std.specs.Prelude.{slice_get}
-use Rattle.dom_model.specs.Forests.Forest.{children_of}
+use Rattle.std.proofs.Common.{◌≡◌, suc, ◌+◌, ◌-◌, Some, None, sym, ap, ◌∙◌, arith, slice_get}
+use Rattle.dom_model.specs.Definitions.{children_of}
 use Rattle.dom_model.proofs.Forests.Siblings.{child-held, get-past}
-use Rattle.dom_tree.proofs.Beside.{child-back}
-use Rattle.dom_tree.proofs.Places.{place-held}
+use Rattle.dom_tree.proofs.{Beside.child-back, Places.place-held, Steps.begins, Steps.back, Steps.foremost, Steps.led}
 use Rattle.dom_tree.specs.Places.{called}
-use Rattle.dom_tree.proofs.Steps.{begins, back, foremost, led}
 use Rattle.dom_tree.proofs.tree.Tree.child_before.Goals as goal
 
 pub place_of-here-requires : goal.place_of-here-requires

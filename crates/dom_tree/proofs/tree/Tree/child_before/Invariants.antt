@@ -1,8 +1,7 @@
 -- The child that the walk has come to.
-use Rattle.std.proofs.Common.{◌≡◌, ◌-◌, Some}
-use Rattle.std.specs.Prelude.{slice_get}
+use Rattle.std.proofs.Common.{◌≡◌, ◌-◌, Some, slice_get}
 use Rattle.dom_links.specs.Placed.{IsPlaced}
-use Rattle.dom_model.specs.Forests.Forest.{children_of}
+use Rattle.dom_model.specs.Definitions.{children_of}
 use Rattle.dom_tree.specs.Places.{called}
 use Rattle.dom_tree.proofs.tree.Tree.child_before.Given as goal
 

@@ -1,12 +1,9 @@
 -- The next child is at the next index.
-use Rattle.std.proofs.Common.{◌≡◌, suc, None, sym, ap, ◌∙◌, add-one, arith, refl}
-use Rattle.std.specs.Prelude.{slice_get}
-use Rattle.dom_model.specs.PlainLists.Lists.{head_of}
-use Rattle.dom_model.specs.Forests.Forest.{children_of}
+use Rattle.std.proofs.Common.{◌≡◌, suc, None, sym, ap, ◌∙◌, add-one, arith, refl, slice_get}
+use Rattle.dom_model.specs.Definitions.{head_of, children_of}
 use Rattle.dom_model.proofs.Forests.Siblings.{child-next, get-past, get-head}
-use Rattle.dom_tree.proofs.Places.{place-held}
+use Rattle.dom_tree.proofs.{Places.place-held, Steps.begins, Steps.down, Steps.childless, Steps.on, Steps.hindmost, Steps.led}
 use Rattle.dom_tree.specs.Places.{called}
-use Rattle.dom_tree.proofs.Steps.{begins, down, childless, on, hindmost, led}
 use Rattle.dom_tree.proofs.tree.Tree.child_from_first.Goals as goal
 
 pub place_of-requires : goal.place_of-requires

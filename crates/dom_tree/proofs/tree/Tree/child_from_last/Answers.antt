@@ -1,14 +1,9 @@
 -- The previous child is at the index before.
-use Rattle.std.proofs.Common.{◌≡◌, suc, ◌+◌, ◌-◌, length, None, IsSome, sym, ap, ◌∙◌, subst, arith, refl}
+use Rattle.std.proofs.Common.{◌≡◌, suc, ◌+◌, ◌-◌, length, None, IsSome, sym, ap, ◌∙◌, subst, arith, refl, slice_get}
 use Rattle.std.proofs.lemmas.Bool.{false≢true}
-use Rattle.std.specs.Prelude.{slice_get}
-use Rattle.dom_model.specs.PlainLists.Lists.{last_of}
-use Rattle.dom_model.specs.Forests.Forest.{children_of}
-use Rattle.dom_tree.proofs.PlacesAt.{get-within}
-use Rattle.dom_tree.proofs.Beside.{get-last, child-back}
-use Rattle.dom_tree.proofs.Places.{place-held}
+use Rattle.dom_model.specs.Definitions.{last_of, children_of}
+use Rattle.dom_tree.proofs.{PlacesAt.get-within, Beside.get-last, Beside.child-back, Places.place-held, Steps.begins, Steps.down_last, Steps.leaf, Steps.back, Steps.foremost, Steps.led}
 use Rattle.dom_tree.specs.Places.{called}
-use Rattle.dom_tree.proofs.Steps.{begins, down_last, leaf, back, foremost, led}
 use Rattle.dom_tree.proofs.tree.Tree.child_from_last.Goals as goal
 
 pub place_of-requires : goal.place_of-requires

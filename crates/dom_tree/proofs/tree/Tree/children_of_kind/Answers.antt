@@ -1,12 +1,10 @@
 -- What is counted by slot is so by number.
 use Rattle.std.proofs.Common.{◌≡◌, Some, ap, sym, ◌∙◌}
 use Rattle.dom_model.specs.declared.Kind.TheVariants.{Element, DocumentType}
-use Rattle.dom_model.specs.Forests.Forest.{children_of}
-use Rattle.dom_model.specs.MutationAlgorithms.Checks.{count_kind}
+use Rattle.dom_model.specs.Definitions.{children_of, count_kind}
 use Rattle.dom_links.specs.Placed.{slot_of}
 use Rattle.dom_tree.specs.Tallies.{tally_in}
-use Rattle.dom_tree.proofs.Places.{place-held, slot-led}
-use Rattle.dom_tree.proofs.TalliesKept.{tally-read}
+use Rattle.dom_tree.proofs.{Places.place-held, Places.slot-led, TalliesKept.tally-read}
 use Rattle.dom_tree.proofs.tree.Tree.children_of_kind.Goals as goal
 
 pub place_of-place-requires : goal.place_of-place-requires

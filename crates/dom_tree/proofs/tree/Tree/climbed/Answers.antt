@@ -1,15 +1,10 @@
 -- Each step goes to the parent, which is there as long as more than the node itself is above it.
 use Rattle.std.proofs.Common.{◌≡◌, ◌<◌, length, Some, None, option_map, sym, ap, ◌∙◌, subst, arith}
 use Rattle.dom_links.specs.Placed.{IsPlaced}
-use Rattle.dom_model.specs.Forests.Forest.{ancestors}
-use Rattle.dom_model.proofs.Forests.Above.{above}
-use Rattle.dom_model.proofs.Forests.Entries.{occurs-HasNode}
-use Rattle.dom_model.proofs.Forests.WaysMeeting.{parent-above}
-use Rattle.dom_tree.specs.Ways.{IsOnWay}
-use Rattle.dom_tree.proofs.Places.{place-held}
-use Rattle.dom_tree.specs.Places.{called}
-use Rattle.dom_tree.proofs.Steps.{begins, stands, up, parented, led}
-use Rattle.dom_tree.proofs.Ways.{way-start, way-up}
+use Rattle.dom_model.specs.Definitions.{ancestors}
+use Rattle.dom_model.proofs.Forests.{Above.above, Entries.occurs-HasNode, WaysMeeting.parent-above}
+use Rattle.dom_tree.specs.{Ways.IsOnWay, Places.called}
+use Rattle.dom_tree.proofs.{Places.place-held, Steps.begins, Steps.stands, Steps.up, Steps.parented, Steps.led, Ways.way-start, Ways.way-up}
 use Rattle.dom_tree.proofs.tree.Tree.climbed.Goals as goal
 
 pub place_of-here-requires : goal.place_of-here-requires

@@ -1,7 +1,6 @@
 -- As many by slot as by number.
 use Rattle.std.proofs.Common.{refl}
-use Rattle.dom_tree.proofs.Trees.{count-read}
-use Rattle.dom_tree.proofs.Places.{place-held, slot-led}
+use Rattle.dom_tree.proofs.{Trees.count-read, Places.place-held, Places.slot-led}
 use Rattle.dom_links.specs.Placed.{slot_of}
 use Rattle.dom_tree.proofs.tree.Tree.count.Goals as goal
 

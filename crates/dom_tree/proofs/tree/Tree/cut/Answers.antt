@@ -1,15 +1,9 @@
 -- A child cut by place is cut by number.
 use Rattle.std.proofs.Common.{IsSome, refl, sym, ap, ◌∙◌, subst}
-use Rattle.dom_model.specs.Forests.Arena.{Arena, entry_at, parent_in, unlinked}
-use Rattle.dom_model.specs.Forests.Forest.{cut}
+use Rattle.dom_model.specs.Definitions.{Arena, entry_at, parent_in, unlinked, cut}
 use Rattle.dom_links.specs.Placed.{Placed, index_of, slot_of}
-use Rattle.dom_tree.specs.Slots.{Kept}
-use Rattle.dom_tree.proofs.Trees.{parent-there, parent-still, cut-done, changed-shown}
-use Rattle.dom_tree.specs.Blocks.{AreBlocked}
-use Rattle.dom_tree.proofs.OwnedTrees.{cut-tree}
-use Rattle.dom_tree.proofs.Putting.{cut-blocked}
-use Rattle.dom_tree.proofs.TalliesKept.{tallied-cut}
-use Rattle.dom_tree.proofs.Places.{place-of_child, slot-led, placed-still, parent-held, unlinked-from, seated, same-places}
+use Rattle.dom_tree.specs.{Slots.Kept, Blocks.AreBlocked}
+use Rattle.dom_tree.proofs.{Trees.parent-there, Trees.parent-still, Trees.cut-done, Trees.changed-shown, OwnedTrees.cut-tree, Putting.cut-blocked, TalliesKept.tallied-cut, Places.place-of_child, Places.slot-led, Places.placed-still, Places.parent-held, Places.unlinked-from, Places.seated, Places.same-places}
 use Rattle.dom_tree.proofs.tree.Tree.cut.Goals as goal
 
 pub place_of-place-requires : goal.place_of-place-requires

@@ -1,15 +1,9 @@
 -- Each step up leaves one ancestor behind; there are no more above than there are nodes.
 use Rattle.std.proofs.Common.{length, ap, arith}
-use Rattle.dom_model.specs.Forests.Forest.{ancestors}
-use Rattle.dom_model.proofs.Forests.Above.{above}
-use Rattle.dom_model.proofs.Forests.Climbing.{ancestors-there}
-use Rattle.dom_model.proofs.Forests.Entries.{occurs-HasNode}
-use Rattle.dom_model.proofs.Forests.Paths.{root-path}
-use Rattle.dom_model.proofs.Forests.WaysMeeting.{depth-size}
-use Rattle.dom_tree.proofs.Trees.{live-read}
-use Rattle.dom_tree.proofs.Places.{place-held}
+use Rattle.dom_model.specs.Definitions.{ancestors}
+use Rattle.dom_model.proofs.Forests.{Above.above, Climbing.ancestors-there, Entries.occurs-HasNode, Paths.root-path, WaysMeeting.depth-size}
+use Rattle.dom_tree.proofs.{Trees.live-read, Places.place-held, Steps.begins, Steps.stands, Steps.up, Steps.topmost, Steps.led}
 use Rattle.dom_tree.specs.Places.{called}
-use Rattle.dom_tree.proofs.Steps.{begins, stands, up, topmost, led}
 use Rattle.dom_tree.proofs.tree.Tree.depth.Goals as goal
 
 pub place_of-here-requires : goal.place_of-here-requires

@@ -1,7 +1,7 @@
 -- As many steps up as were made, and the ancestors that are left.
 use Rattle.std.proofs.Common.{◌≡◌, ◌+◌, length}
 use Rattle.dom_links.specs.Placed.{IsPlaced}
-use Rattle.dom_model.specs.Forests.Forest.{ancestors}
+use Rattle.dom_model.specs.Definitions.{ancestors}
 use Rattle.dom_tree.specs.Places.{called}
 use Rattle.dom_tree.proofs.tree.Tree.depth.Given as goal
 

@@ -1,8 +1,7 @@
 -- The value in the slot is the node's.
 use Rattle.std.proofs.Common.{refl}
-use Rattle.dom_model.specs.Forests.Forest.{Node}
-use Rattle.dom_tree.proofs.Trees.{value-read}
-use Rattle.dom_tree.proofs.Places.{place-held, slot-led}
+use Rattle.dom_model.specs.Definitions.{Node}
+use Rattle.dom_tree.proofs.{Trees.value-read, Places.place-held, Places.slot-led}
 use Rattle.dom_links.specs.Placed.{slot_of}
 use Rattle.dom_tree.proofs.tree.Tree.document_of.Goals as goal
 

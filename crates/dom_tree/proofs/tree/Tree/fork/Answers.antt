@@ -1,19 +1,10 @@
 -- As deep as one another, and of one root, two nodes that are not one both have a parent.
 use Rattle.std.proofs.Common.{◌≡◌, Some, true, length, refl, sym, ap, ◌∙◌, subst, arith}
 use Rattle.std.proofs.lemmas.Bool.{eqb-true, eqb-false}
-use Rattle.dom_model.specs.PlainLists.Lists.{among}
-use Rattle.dom_model.specs.Forests.Arena.{entry_at}
-use Rattle.dom_model.specs.Forests.Forest.{ancestors, root_of}
-use Rattle.dom_model.proofs.Forests.Above.{above}
-use Rattle.dom_model.proofs.Forests.Entries.{occurs-HasNode}
-use Rattle.dom_model.proofs.Forests.ToTheRoot.{shorter, root-above}
-use Rattle.dom_model.proofs.Forests.WaysMeeting.{level-parent}
-use Rattle.dom_tree.proofs.Places.{place-held}
-use Rattle.dom_tree.proofs.TreeOrder.{among-self, among-parent, among-through}
-use Rattle.dom_tree.specs.Places.{called}
-use Rattle.dom_tree.specs.Slots.{nodes_alone}
-use Rattle.dom_tree.specs.Spelled.{number_in_slot}
-use Rattle.dom_tree.proofs.Steps.{begins, stands, one, up, parented, led}
+use Rattle.dom_model.specs.Definitions.{among, entry_at, ancestors, root_of}
+use Rattle.dom_model.proofs.Forests.{Above.above, Entries.occurs-HasNode, ToTheRoot.shorter, ToTheRoot.root-above, WaysMeeting.level-parent}
+use Rattle.dom_tree.proofs.{Places.place-held, TreeOrder.among-self, TreeOrder.among-parent, TreeOrder.among-through, Steps.begins, Steps.stands, Steps.one, Steps.up, Steps.parented, Steps.led}
+use Rattle.dom_tree.specs.{Places.called, Slots.nodes_alone, Spelled.number_in_slot}
 use Rattle.dom_tree.proofs.tree.Tree.fork.Goals as goal
 
 pub place_of-left-requires : goal.place_of-left-requires

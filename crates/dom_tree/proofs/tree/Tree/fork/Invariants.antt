@@ -1,8 +1,7 @@
 -- Two ways up, as deep as one another, that have not met.
 use Rattle.std.proofs.Common.{◌≡◌, length, true}
-use Rattle.dom_model.specs.PlainLists.Lists.{among}
+use Rattle.dom_model.specs.Definitions.{among, ancestors, root_of}
 use Rattle.dom_links.specs.Placed.{IsPlaced}
-use Rattle.dom_model.specs.Forests.Forest.{ancestors, root_of}
 use Rattle.dom_tree.specs.Places.{called}
 use Rattle.dom_tree.proofs.tree.Tree.fork.Given as goal
 

@@ -1,5 +1,5 @@
 -- What is left of the tree, and where the walk stands in it.
-use Rattle.dom_model.specs.Forests.Forest.{size}
+use Rattle.dom_model.specs.Definitions.{size}
 use Rattle.dom_tree.proofs.Freeing.{IsFreeing}
 use Rattle.dom_tree.proofs.tree.Tree.free.Given as goal
 

@@ -1,14 +1,10 @@
 -- Each step counts one on both sides, so where all were made the index is more than the steps.
 use Rattle.std.proofs.Common.{◌≡◌, length, refl, sym, ap, ◌∙◌, subst, arith}
-use Rattle.dom_model.specs.Forests.Arena.{siblings_in}
-use Rattle.dom_model.specs.Forests.Forest.{entry_in, parent_of, index_of}
+use Rattle.dom_model.specs.Definitions.{siblings_in, entry_in, parent_of, index_of}
 use Rattle.dom_model.proofs.Forests.Siblings.{index-step, index-first, index-within}
 use Rattle.dom_links.specs.Placed.{slot_of}
-use Rattle.dom_tree.proofs.Beside.{forward-step, sides-end}
-use Rattle.dom_tree.proofs.Trees.{kept-read}
-use Rattle.dom_tree.proofs.Places.{place-held}
+use Rattle.dom_tree.proofs.{Beside.forward-step, Beside.sides-end, Trees.kept-read, Places.place-held, Steps.begins, Steps.listed, Steps.stands, Steps.up, Steps.topmost, Steps.under, Steps.beside, Steps.on, Steps.hindmost, Steps.back, Steps.foremost, Steps.led}
 use Rattle.dom_tree.specs.Places.{called}
-use Rattle.dom_tree.proofs.Steps.{begins, listed, stands, up, topmost, under, beside, on, hindmost, back, foremost, led}
 use Rattle.dom_tree.proofs.tree.Tree.index_by_steps.Goals as goal
 
 pub place_of-backward-requires : goal.place_of-backward-requires

@@ -1,7 +1,7 @@
 -- As many steps to both sides as were made, and the places of where the walk stands.
 use Rattle.std.proofs.Common.{◌≡◌, ◌+◌}
 use Rattle.dom_links.specs.Placed.{IsPlaced}
-use Rattle.dom_model.specs.Forests.Forest.{parent_of, index_of}
+use Rattle.dom_model.specs.Definitions.{parent_of, index_of}
 use Rattle.dom_tree.specs.Places.{called}
 use Rattle.dom_tree.proofs.tree.Tree.index_by_steps.Given as goal
 

@@ -1,12 +1,10 @@
 -- Each step goes one sibling on and one back.
 use Rattle.std.proofs.Common.{refl, ap, sym, ◌∙◌, nat_lt, arith}
 use Rattle.std.proofs.lemmas.Bool.{eqb-true, eqb-false}
-use Rattle.dom_model.specs.Forests.Forest.{parent_of, index_of}
+use Rattle.dom_model.specs.Definitions.{parent_of, index_of}
 use Rattle.dom_model.proofs.Forests.Siblings.{index-step}
-use Rattle.dom_tree.proofs.Beside.{forward-step, index-below, ahead-met, ahead-end, ahead-on, behind-met, behind-end, behind-on}
-use Rattle.dom_tree.proofs.Places.{place-held}
+use Rattle.dom_tree.proofs.{Beside.forward-step, Beside.index-below, Beside.ahead-met, Beside.ahead-end, Beside.ahead-on, Beside.behind-met, Beside.behind-end, Beside.behind-on, Places.place-held, Steps.begins, Steps.stands, Steps.meets, Steps.on, Steps.hindmost, Steps.back, Steps.foremost, Steps.led}
 use Rattle.dom_tree.specs.Places.{called}
-use Rattle.dom_tree.proofs.Steps.{begins, stands, meets, on, hindmost, back, foremost, led}
 use Rattle.dom_tree.proofs.tree.Tree.is_ahead_within.Goals as goal
 
 pub place_of-requires : goal.place_of-requires

@@ -1,7 +1,7 @@
 -- The other child has not been met on either side.
 use Rattle.std.proofs.Common.{◌≡◌, ◌+◌, nat_lt}
 use Rattle.dom_links.specs.Placed.{IsPlaced}
-use Rattle.dom_model.specs.Forests.Forest.{parent_of, index_of}
+use Rattle.dom_model.specs.Definitions.{parent_of, index_of}
 use Rattle.dom_tree.specs.Places.{called}
 use Rattle.dom_tree.proofs.tree.Tree.is_ahead_within.Given as goal
 

@@ -1,17 +1,10 @@
 -- Each step goes to the parent, past a node that is not the one.
-use Rattle.std.proofs.Common.{◌==◌, ap, sym, ◌∙◌, refl}
+use Rattle.std.proofs.Common.{◌==◌, ap, sym, ◌∙◌, refl, is_some}
 use Rattle.std.proofs.lemmas.Bool.{not-true, not-false}
-use Rattle.std.specs.Prelude.{is_some}
-use Rattle.dom_model.specs.PlainLists.Lists.{among}
-use Rattle.dom_model.specs.Forests.Forest.{ancestors}
-use Rattle.dom_model.proofs.Forests.Above.{above}
-use Rattle.dom_model.proofs.Forests.ToTheRoot.{shorter, among-above, among-here, among-top}
-use Rattle.dom_tree.proofs.Trees.{holds-read}
-use Rattle.dom_tree.proofs.Places.{place-held}
-use Rattle.dom_model.proofs.Forests.ToTheRoot.{inside-same}
-use Rattle.dom_tree.proofs.Referring.{nothing-under}
+use Rattle.dom_model.specs.Definitions.{among, ancestors}
+use Rattle.dom_model.proofs.Forests.{Above.above, ToTheRoot.shorter, ToTheRoot.among-above, ToTheRoot.among-here, ToTheRoot.among-top, ToTheRoot.inside-same}
+use Rattle.dom_tree.proofs.{Trees.holds-read, Places.place-held, Referring.nothing-under, Steps.begins, Steps.stands, Steps.meets, Steps.up, Steps.topmost, Steps.led}
 use Rattle.dom_tree.specs.Places.{called}
-use Rattle.dom_tree.proofs.Steps.{begins, stands, meets, up, topmost, led}
 use Rattle.dom_tree.proofs.tree.Tree.is_ancestor.Goals as goal
 
 pub returns-in_default : goal.returns-in_default

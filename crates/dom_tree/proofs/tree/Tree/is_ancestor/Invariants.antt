@@ -1,8 +1,7 @@
 -- It is an ancestor of where the walk stands, where it is one of where it began.
 use Rattle.std.proofs.Common.{◌≡◌, length}
-use Rattle.dom_model.specs.PlainLists.Lists.{among}
+use Rattle.dom_model.specs.Definitions.{among, ancestors}
 use Rattle.dom_links.specs.Placed.{IsPlaced}
-use Rattle.dom_model.specs.Forests.Forest.{ancestors}
 use Rattle.dom_tree.specs.Places.{called}
 use Rattle.dom_tree.proofs.tree.Tree.is_ancestor.Given as goal
 

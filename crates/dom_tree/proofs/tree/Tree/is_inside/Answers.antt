@@ -1,11 +1,8 @@
 -- Where there are children, the ancestors tell.
 use Rattle.std.proofs.Common.{◌≡◌, None, is_some, ap, sym, ◌∙◌, subst, refl}
-use Rattle.dom_model.specs.PlainLists.Lists.{head_of}
-use Rattle.dom_model.specs.Forests.Forest.{HasNode, children_of}
-use Rattle.dom_tree.proofs.Trees.{holds-read}
-use Rattle.dom_tree.proofs.Steps.{begins, stands, childless, led}
+use Rattle.dom_model.specs.Definitions.{head_of, HasNode, children_of}
+use Rattle.dom_tree.proofs.{Trees.holds-read, Steps.begins, Steps.stands, Steps.childless, Steps.led, Referring.inside-none, Referring.nothing-under, Referring.inside-alone}
 use Rattle.dom_model.proofs.Forests.ToTheRoot.{inside-same}
-use Rattle.dom_tree.proofs.Referring.{inside-none, nothing-under, inside-alone}
 use Rattle.dom_tree.proofs.tree.Tree.is_inside.Goals as goal
 
 pub place_at-requires : goal.place_at-requires

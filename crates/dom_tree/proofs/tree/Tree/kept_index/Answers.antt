@@ -1,9 +1,7 @@
 -- An index below the parent's count is right.
 use Rattle.std.proofs.Common.{refl, tests, rules}
-use Rattle.dom_tree.proofs.Trees.{kept-read}
-use Rattle.dom_tree.proofs.Places.{place-held, slot-led}
+use Rattle.dom_tree.proofs.{Trees.kept-read, Places.place-held, Places.slot-led, Steps.led}
 use Rattle.dom_links.specs.Placed.{slot_of}
-use Rattle.dom_tree.proofs.Steps.{led}
 use Rattle.dom_tree.proofs.tree.Tree.kept_index.Goals as goal
 
 pub place_of-place-requires : goal.place_of-place-requires

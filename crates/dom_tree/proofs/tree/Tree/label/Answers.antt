@@ -1,10 +1,10 @@
 use Rattle.std.proofs.Common.{refl}
--- The value in the slot is the node's.
-use Rattle.dom_model.specs.Forests.Forest.{Node}
-use Rattle.dom_tree.proofs.Trees.{value-read}
-use Rattle.dom_tree.proofs.Places.{place-held, slot-led}
+use Rattle.dom_model.specs.Definitions.{Node}
+use Rattle.dom_tree.proofs.{Trees.value-read, Places.place-held, Places.slot-led}
 use Rattle.dom_links.specs.Placed.{slot_of}
 use Rattle.dom_tree.proofs.tree.Tree.label.Goals as goal
+
+-- The value in the slot is the node's.
 
 pub place_of-requires : goal.place_of-requires
 place_of-requires g c = place-held c.self.invariant c.self.view_is c.args.id c.requires

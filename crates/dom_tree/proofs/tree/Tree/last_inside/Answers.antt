@@ -1,11 +1,9 @@
 -- Each step goes to the last child.
 use Rattle.std.proofs.Common.{ap, ◌∙◌}
-use Rattle.dom_model.specs.PlainLists.Lists.{last_of}
-use Rattle.dom_model.specs.Forests.Forest.{inclusive_descendants}
+use Rattle.dom_model.specs.Definitions.{last_of, inclusive_descendants}
 use Rattle.dom_model.proofs.Forests.TreeOrder.Ending.{last-leaf, last-down}
-use Rattle.dom_tree.proofs.Places.{place-held}
+use Rattle.dom_tree.proofs.{Places.place-held, Steps.begins, Steps.stands, Steps.down_last, Steps.leaf, Steps.led}
 use Rattle.dom_tree.specs.Places.{called}
-use Rattle.dom_tree.proofs.Steps.{begins, stands, down_last, leaf, led}
 use Rattle.dom_tree.proofs.tree.Tree.last_inside.Goals as goal
 
 pub place_of-here-requires : goal.place_of-here-requires

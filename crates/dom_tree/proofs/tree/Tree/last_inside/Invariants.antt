@@ -1,8 +1,7 @@
 -- The tree of where the walk stands ends where the first one ends.
 use Rattle.std.proofs.Common.{◌≡◌}
-use Rattle.dom_model.specs.PlainLists.Lists.{last_of}
+use Rattle.dom_model.specs.Definitions.{last_of, size, tree_at, inclusive_descendants}
 use Rattle.dom_links.specs.Placed.{IsPlaced}
-use Rattle.dom_model.specs.Forests.Forest.{size, tree_at, inclusive_descendants}
 use Rattle.dom_tree.specs.Places.{called}
 use Rattle.dom_tree.proofs.tree.Tree.last_inside.Given as goal
 

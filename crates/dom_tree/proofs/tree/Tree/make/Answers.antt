@@ -1,6 +1,6 @@
 -- The new root is in itself, and then in its document.
 use Rattle.std.proofs.Common.{refl, ap, ◌∙◌, unwrap_or}
-use Rattle.dom_model.specs.Forests.Forest.{Node}
+use Rattle.dom_model.specs.Definitions.{Node}
 use Rattle.dom_tree.proofs.DocumentsKept.{made-held, made-moved}
 use Rattle.dom_tree.proofs.tree.Tree.make.Goals as goal
 

@@ -2,20 +2,10 @@
 use Rattle.std.proofs.Common.{◌≡◌, ℕ, List, [], ◌∷◌, ◌++◌, length, Option, Some, None, ap, sym, ◌∙◌, refl, subst, tests, rules, arith}
 use Rattle.std.proofs.lemmas.List.{length-map}
 use denote.RawPtr.{Ptr}
-use Rattle.dom_model.specs.Forests.Arena.{Arena, added, next_slot, entry_at}
-use Rattle.dom_model.specs.Forests.Kinds.{Label as PlainLabel}
+use Rattle.dom_model.specs.Definitions.{Arena, added, next_slot, entry_at, Label as PlainLabel}
 use Rattle.dom_links.specs.Placed.{slots_of}
-use Rattle.dom_tree.specs.Places.{slots_in}
-use Rattle.dom_tree.specs.Blocks.{AreBlocked}
-use Rattle.dom_tree.specs.Slots.{Kept}
-use Rattle.dom_tree.specs.declared.tallies.Tally.{Tally}
-use Rattle.dom_tree.specs.Tallies.{AreStarted}
-use Rattle.dom_tree.proofs.BlocksKept.{blocked-added}
-use Rattle.dom_tree.proofs.TalliesKept.{tallied-make}
-use Rattle.dom_tree.proofs.Stores.{added-new}
-use Rattle.dom_tree.proofs.Places.{made-read, slots-made, placed-made}
-use Rattle.dom_tree.proofs.Trees.{made-is, made-keeps, made-shown}
-use Rattle.dom_tree.proofs.OwnedSteps.{made-tree}
+use Rattle.dom_tree.specs.{Places.slots_in, Blocks.AreBlocked, Slots.Kept, declared.tallies.Tally.Tally, Tallies.AreStarted}
+use Rattle.dom_tree.proofs.{BlocksKept.blocked-added, TalliesKept.tallied-make, Stores.added-new, Places.made-read, Places.slots-made, Places.placed-made, Trees.made-is, Trees.made-keeps, Trees.made-shown, OwnedSteps.made-tree}
 use Rattle.dom_tree.proofs.tree.Tree.make_alone.Goals as goal
 
 pub invariant_of-self-2 : goal.invariant_of-self-2

@@ -1,14 +1,9 @@
 -- The nodes are the same, and the indices right.
 use Rattle.std.proofs.Common.{refl, ap, sym, ◌∙◌, subst}
-use Rattle.dom_model.specs.PlainLists.Lists.{place_in}
-use Rattle.dom_model.specs.Forests.Arena.{Arena, entry_at, list_under}
-use Rattle.dom_model.specs.Forests.Forest.{Node}
+use Rattle.dom_model.specs.Definitions.{place_in, Arena, entry_at, list_under, Node}
 use Rattle.dom_tree.specs.Tallies.{AreTallied}
 use Rattle.dom_links.specs.Placed.{slot_of}
-use Rattle.dom_tree.proofs.Trees.{index-slots, numbered-shown}
-use Rattle.dom_tree.proofs.OwnedTrees.{numbered-tree}
-use Rattle.dom_tree.proofs.Steps.{led}
-use Rattle.dom_tree.proofs.Places.{place-held, slot-led, seated, same-places}
+use Rattle.dom_tree.proofs.{Trees.index-slots, Trees.numbered-shown, OwnedTrees.numbered-tree, Steps.led, Places.place-held, Places.slot-led, Places.seated, Places.same-places}
 use Rattle.dom_tree.proofs.tree.Tree.make_known.Goals as goal
 
 pub place_of-place-requires : goal.place_of-place-requires

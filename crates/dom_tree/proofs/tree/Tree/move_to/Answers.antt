@@ -1,9 +1,7 @@
 -- The node document is written, and the counts of the two documents.
 use Rattle.std.proofs.Common.{true, refl, sym, ◌∙◌}
 use Rattle.std.proofs.lemmas.Bool.{false≢true}
-use Rattle.dom_tree.proofs.Steps.{led}
-use Rattle.dom_tree.proofs.Places.{place-held}
-use Rattle.dom_tree.proofs.Moving.{moved-placed, strayed-seated, moved-shown, former-listed, from-some, to-placed, to-few, counted-seated, counted-shown}
+use Rattle.dom_tree.proofs.{Steps.led, Places.place-held, Moving.moved-placed, Moving.strayed-seated, Moving.moved-shown, Moving.former-listed, Moving.from-some, Moving.to-placed, Moving.to-few, Moving.counted-seated, Moving.counted-shown}
 use Rattle.dom_tree.proofs.tree.Tree.move_to.Goals as goal
 
 pub place_of-place-requires : goal.place_of-place-requires

@@ -1,13 +1,9 @@
 -- The first child, or else the next sibling of the nearest ancestor that has one.
 use Rattle.std.proofs.Common.{ap, sym, ◌∙◌, subst}
-use Rattle.dom_model.specs.PlainLists.Lists.{head_of}
-use Rattle.dom_model.specs.Forests.Forest.{children_of}
-use Rattle.dom_model.proofs.Forests.Above.{above}
-use Rattle.dom_model.proofs.Forests.ToTheRoot.{shorter}
-use Rattle.dom_model.proofs.Forests.TreeOrder.Stepping.{Past, order-first, Past-start, Past-next, Past-up, Past-end}
-use Rattle.dom_tree.proofs.Places.{place-held}
+use Rattle.dom_model.specs.Definitions.{head_of, children_of}
+use Rattle.dom_model.proofs.Forests.{Above.above, ToTheRoot.shorter, TreeOrder.Stepping.Past, TreeOrder.Stepping.order-first, TreeOrder.Stepping.Past-start, TreeOrder.Stepping.Past-next, TreeOrder.Stepping.Past-up, TreeOrder.Stepping.Past-end}
+use Rattle.dom_tree.proofs.{Places.place-held, Steps.begins, Steps.stands, Steps.up, Steps.topmost, Steps.down, Steps.childless, Steps.on, Steps.hindmost, Steps.led}
 use Rattle.dom_tree.specs.Places.{called}
-use Rattle.dom_tree.proofs.Steps.{begins, stands, up, topmost, down, childless, on, hindmost, led}
 use Rattle.dom_tree.proofs.tree.Tree.next_in_order.Goals as goal
 
 pub place_of-here-requires : goal.place_of-here-requires

@@ -1,7 +1,7 @@
 -- What follows in tree order is what comes past the tree of where the walk stands.
 use Rattle.std.proofs.Common.{length}
 use Rattle.dom_links.specs.Placed.{IsPlaced}
-use Rattle.dom_model.specs.Forests.Forest.{ancestors}
+use Rattle.dom_model.specs.Definitions.{ancestors}
 use Rattle.dom_model.proofs.Forests.TreeOrder.Stepping.{Past}
 use Rattle.dom_tree.specs.Places.{called}
 use Rattle.dom_tree.proofs.tree.Tree.next_in_order.Given as goal

@@ -1,16 +1,10 @@
 -- The first child, or else the next sibling of the nearest ancestor below the top that has one.
 use Rattle.std.proofs.Common.{◌==◌, ◌<◌, None, refl, ap, sym, ◌∙◌, subst}
 use Rattle.std.proofs.lemmas.Bool.{not-true, not-false, eqb-true, eqb-false}
-use Rattle.dom_model.specs.PlainLists.Lists.{head_of}
-use Rattle.dom_model.specs.Forests.Forest.{children_of, occurs, tree_at}
-use Rattle.dom_model.proofs.Forests.Above.{above}
-use Rattle.dom_model.proofs.Forests.ToTheRoot.{shorter, inside}
-use Rattle.dom_model.proofs.Forests.TreeOrder.Ordering.{past}
-use Rattle.dom_model.proofs.Forests.TreeOrder.Stepping.{first-after, none-after, tree-next, tree-up, tree-top, tree-parent}
-use Rattle.dom_tree.proofs.Places.{place-held}
-use Rattle.dom_tree.proofs.TreeOrder.{top-there}
+use Rattle.dom_model.specs.Definitions.{head_of, children_of, occurs, tree_at}
+use Rattle.dom_model.proofs.Forests.{Above.above, ToTheRoot.shorter, ToTheRoot.inside, TreeOrder.Ordering.past, TreeOrder.Stepping.first-after, TreeOrder.Stepping.none-after, TreeOrder.Stepping.tree-next, TreeOrder.Stepping.tree-up, TreeOrder.Stepping.tree-top, TreeOrder.Stepping.tree-parent}
+use Rattle.dom_tree.proofs.{Places.place-held, TreeOrder.top-there, Steps.begins, Steps.stands, Steps.meets, Steps.up, Steps.parented, Steps.down, Steps.childless, Steps.on, Steps.hindmost, Steps.led}
 use Rattle.dom_tree.specs.Places.{called}
-use Rattle.dom_tree.proofs.Steps.{begins, stands, meets, up, parented, down, childless, on, hindmost, led}
 use Rattle.dom_tree.proofs.tree.Tree.next_inside.Goals as goal
 
 pub place_of-here-requires : goal.place_of-here-requires

@@ -1,8 +1,7 @@
 -- What follows in tree order is what comes past the tree of where the walk stands.
 use Rattle.std.proofs.Common.{◌≡◌, ◌<◌, length, None}
-use Rattle.dom_model.specs.PlainLists.Lists.{after}
+use Rattle.dom_model.specs.Definitions.{after, ancestors, occurs, tree_at, inclusive_descendants}
 use Rattle.dom_links.specs.Placed.{IsPlaced}
-use Rattle.dom_model.specs.Forests.Forest.{ancestors, occurs, tree_at, inclusive_descendants}
 use Rattle.dom_model.proofs.Forests.TreeOrder.Ordering.{past}
 use Rattle.dom_tree.specs.Places.{called}
 use Rattle.dom_tree.proofs.tree.Tree.next_inside.Given as goal

@@ -1,9 +1,8 @@
 -- The last child is held.
 use Rattle.std.proofs.Common.{sym, ◌∙◌}
-use Rattle.dom_model.specs.Forests.Forest.{children_of}
+use Rattle.dom_model.specs.Definitions.{children_of}
 use Rattle.dom_model.proofs.PlainLists.Members.{hits-last_of}
-use Rattle.dom_model.proofs.Forests.Entries.{HasNode-occurs}
-use Rattle.dom_model.proofs.Forests.Indices.{child-there}
+use Rattle.dom_model.proofs.Forests.{Entries.HasNode-occurs, Indices.child-there}
 use Rattle.dom_tree.proofs.tree.Tree.number_children.Goals as goal
 
 pub index-index-requires : goal.index-index-requires

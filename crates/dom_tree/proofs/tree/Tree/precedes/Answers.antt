@@ -1,7 +1,6 @@
 -- Where one node is above the other that decides, else the two children where the ways meet.
 use Rattle.std.proofs.Common.{◌≡◌, Some, true, refl, sym, ◌∙◌, subst}
-use Rattle.dom_model.specs.PlainLists.Lists.{among}
-use Rattle.dom_model.specs.Forests.Forest.{ancestors}
+use Rattle.dom_model.specs.Definitions.{among, ancestors}
 use Rattle.dom_tree.proofs.TreeOrder.{top-there, met-beside, met-below, met-above}
 use Rattle.dom_tree.proofs.tree.Tree.precedes.Goals as goal
 

@@ -1,11 +1,7 @@
 -- A leaf is put by place as any root is.
 use Rattle.std.proofs.Common.{◌≤◌, None, inl, inr, subst}
 use Rattle.dom_links.specs.Placed.{slot_of}
-use Rattle.dom_tree.proofs.LeavesPut.{led-nowhere, leaf-outside, leaf-may, leaf-led, leaf-back, nowhere-held}
-use Rattle.dom_tree.proofs.Places.{slot-led}
-use Rattle.dom_tree.proofs.Putting.{put_at-seated, put_at-shown}
-use Rattle.dom_tree.proofs.Steps.{led}
-use Rattle.dom_tree.proofs.Trees.{parent-none, no_cycle-slots, count-read}
+use Rattle.dom_tree.proofs.{LeavesPut.led-nowhere, LeavesPut.leaf-outside, LeavesPut.leaf-may, LeavesPut.leaf-led, LeavesPut.leaf-back, LeavesPut.nowhere-held, Places.slot-led, Putting.put_at-seated, Putting.put_at-shown, Steps.led, Trees.parent-none, Trees.no_cycle-slots, Trees.count-read}
 use Rattle.dom_tree.proofs.tree.Tree.put_leaf.Goals as goal
 
 pub invariant_of-parent_at : goal.invariant_of-parent_at

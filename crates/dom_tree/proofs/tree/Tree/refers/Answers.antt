@@ -1,7 +1,6 @@
 -- A parent, or one number after another.
 use Rattle.std.proofs.Common.{◌≡◌, sym, ◌∙◌, arith, tests, rules}
-use Rattle.dom_tree.proofs.Places.{made-read}
-use Rattle.dom_tree.proofs.Referring.{refers-none, refers-one, none-from}
+use Rattle.dom_tree.proofs.{Places.made-read, Referring.refers-none, Referring.refers-one, Referring.none-from}
 use Rattle.dom_tree.proofs.tree.Tree.refers.Goals as goal
 
 pub loop-number-init : goal.loop-number-init

@@ -1,11 +1,9 @@
 -- Each step goes to the parent, which has the same root and fewer ancestors.
 use Rattle.std.proofs.Common.{ap, sym, ◌∙◌}
-use Rattle.dom_model.specs.Forests.Forest.{root_of}
-use Rattle.dom_model.proofs.Forests.Above.{above}
-use Rattle.dom_model.proofs.Forests.ToTheRoot.{shorter, root-above, root-is}
-use Rattle.dom_tree.proofs.Places.{place-held}
+use Rattle.dom_model.specs.Definitions.{root_of}
+use Rattle.dom_model.proofs.Forests.{Above.above, ToTheRoot.shorter, ToTheRoot.root-above, ToTheRoot.root-is}
+use Rattle.dom_tree.proofs.{Places.place-held, Steps.begins, Steps.stands, Steps.up, Steps.topmost, Steps.led}
 use Rattle.dom_tree.specs.Places.{called}
-use Rattle.dom_tree.proofs.Steps.{begins, stands, up, topmost, led}
 use Rattle.dom_tree.proofs.tree.Tree.root.Goals as goal
 
 pub place_of-top-requires : goal.place_of-top-requires

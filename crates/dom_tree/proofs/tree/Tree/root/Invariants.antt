@@ -1,7 +1,7 @@
 -- The root of where the walk stands is the root of where it began.
 use Rattle.std.proofs.Common.{◌≡◌, length}
 use Rattle.dom_links.specs.Placed.{IsPlaced}
-use Rattle.dom_model.specs.Forests.Forest.{root_of, ancestors}
+use Rattle.dom_model.specs.Definitions.{root_of, ancestors}
 use Rattle.dom_tree.specs.Places.{called}
 use Rattle.dom_tree.proofs.tree.Tree.root.Given as goal
 

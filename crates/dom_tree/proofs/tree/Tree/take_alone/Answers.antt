@@ -1,18 +1,8 @@
 -- The root's slot is emptied, and its place in the table.
 use Rattle.std.proofs.Common.{Some, None, slice_set, refl, sym, ap, ◌∙◌, subst, arith}
-use Rattle.dom_model.specs.Forests.Arena.{Arena, entry_at}
-use Rattle.dom_model.specs.Forests.Forest.{Grove, parent_of, children_of}
-use Rattle.dom_tree.specs.Blocks.{AreBlocked}
-use Rattle.dom_tree.specs.Slots.{Kept}
-use Rattle.dom_tree.specs.Owned.{document_in}
-use Rattle.dom_tree.specs.Places.{slots_in}
-use Rattle.dom_tree.specs.Tallies.{tally_but}
-use Rattle.dom_tree.proofs.BlocksKept.{blocked-taken}
-use Rattle.dom_tree.proofs.TalliesKept.{tallied-take}
-use Rattle.dom_tree.proofs.Trees.{held-slot, parent-none, children-none, take-live, take-done, take-shown}
-use Rattle.dom_tree.proofs.DocumentsKept.{document-HasNode}
-use Rattle.dom_tree.proofs.OwnedSteps.{taken-known, taken-tree}
-use Rattle.dom_tree.proofs.Places.{place-held, slot-led, slots-taken, placed-taken, within}
+use Rattle.dom_model.specs.Definitions.{Arena, entry_at, Grove, parent_of, children_of}
+use Rattle.dom_tree.specs.{Blocks.AreBlocked, Slots.Kept, Owned.document_in, Places.slots_in, Tallies.tally_but}
+use Rattle.dom_tree.proofs.{BlocksKept.blocked-taken, TalliesKept.tallied-take, Trees.held-slot, Trees.parent-none, Trees.children-none, Trees.take-live, Trees.take-done, Trees.take-shown, DocumentsKept.document-HasNode, OwnedSteps.taken-known, OwnedSteps.taken-tree, Places.place-held, Places.slot-led, Places.slots-taken, Places.placed-taken, Places.within}
 use Rattle.dom_tree.proofs.tree.Tree.take_alone.Goals as goal
 
 pub place_of-place-requires : goal.place_of-place-requires

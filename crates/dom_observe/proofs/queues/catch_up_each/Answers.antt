@@ -1,11 +1,9 @@
 -- Each observer is there.
 use Rattle.std.proofs.Common.{◌≡◌, true, List, Option, Some, slice_get, ap, sym, ◌∙◌}
 use Rattle.std.proofs.lemmas.Option.{slice_get-get_or}
-use Rattle.dom_observe.specs.declared.roster.Observer.{Observer}
-use Rattle.dom_observe.specs.Roster.{is_there}
-use Rattle.dom_observe.proofs.EndedOnes.{at-get}
-use Rattle.dom_observe.proofs.Rosters.{has-kept}
-use Rattle.dom_observe.proofs.queues.settle_each.Goals as goal
+use Rattle.dom_observe.specs.{declared.roster.Observer.Observer, Roster.is_there}
+use Rattle.dom_observe.proofs.{EndedOnes.at-get, Rosters.has-kept}
+use Rattle.dom_observe.proofs.queues.catch_up_each.Goals as goal
 
 pub get_mut-kept-requires : goal.get_mut-kept-requires
 get_mut-kept-requires c =

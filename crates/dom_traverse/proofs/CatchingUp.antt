@@ -2,8 +2,7 @@
 use Rattle.std.proofs.Common.{◌≡◌, ℕ, ◌+◌, ◌-◌, ◌<◌, Bool, false, List, [], ◌∷◌, ◌++◌, length, map, get_or, set, swap_remove, Option, Some, None, is_some, IfNone, inl, inr, refl, sym, ap, ◌∙◌, ⊎_elim, arith, length-set, length-append, get_or-set_same, get_or-set_other}
 use Rattle.std.specs.Option.{IsSome}
 use Rattle.std.proofs.Math.Seq.{get_or-append_seam}
-use Rattle.std.proofs.lemmas.Bool.{cases_eq, false≢true}
-use Rattle.std.proofs.lemmas.List.{ext_get_or, get_or_default, get_or-map, get_or_append_left, length-map, set-get_or}
+use Rattle.std.proofs.lemmas.{Bool.cases_eq, Bool.false≢true, List.ext_get_or, List.get_or_default, List.get_or-map, List.get_or_append_left, List.length-map, List.set-get_or}
 use Rattle.dom_slots.proofs.Places.{length-swap_remove}
 use Rattle.dom_traverse.specs.Whereabouts.{node_in, StandsOrWaits, StandOrWait}
 use Rattle.dom_traverse.proofs.Swapped.{swapped-here, swapped-other}
@@ -31,8 +30,8 @@ module _ {A : Type 0} (at : A → ℕ) where
 
   module _ (xs : List A) (nodes : List (Option ℕ)) (are : StandOrWait at xs nodes) where
     -- and where none waits all stand
-    pub settled-end : ((e : ℕ) → e < length nodes → IsSome (node_in nodes e)) → nodes ≡ map (λ x. Some (at x)) xs
-    settled-end all =
+    pub caught_up-end : ((e : ℕ) → e < length nodes → IsSome (node_in nodes e)) → nodes ≡ map (λ x. Some (at x)) xs
+    caught_up-end all =
         ext_get_or None nodes (map (λ x. Some (at x)) xs) (are.long ∙ sym (length-map xs (λ x. Some (at x))))
         (λ k l. let w : k < length xs = omega (arith, l, are.long) in stands k l w (item xs k w))
       where
@@ -44,8 +43,8 @@ module _ {A : Type 0} (at : A → ℕ) where
             go (inr h) = h ∙ sym (get_or-map (λ x. Some (at x)) xs k x None w)
 
     -- one that waits comes to stand
-    pub settled-step : (id : ℕ) (x : A) (nodes' : List (Option ℕ)) → id < length nodes → x ≡ get_or xs id x → nodes' ≡ set nodes id (Some (at x)) → StandOrWait at xs nodes'
-    settled-step id x nodes' w is h = record {
+    pub caught_up-step : (id : ℕ) (x : A) (nodes' : List (Option ℕ)) → id < length nodes → x ≡ get_or xs id x → nodes' ≡ set nodes id (Some (at x)) → StandOrWait at xs nodes'
+    caught_up-step id x nodes' w is h = record {
       long = ap length h ∙ length-set nodes id (Some (at x)) ∙ are.long;
       each = λ k z l. ⊎_elim (λ (q : k ≡ id). here k z q) (λ (d : k ≡ id → ⊥). there k z d (are.each k z l)) (cases_eq k id);
     }
