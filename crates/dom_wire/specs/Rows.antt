@@ -1,111 +1,99 @@
 -- The row of the table that each name stands for.
-use Rattle.std.specs.Prelude.{ℕ, nat_eq, Bool, [], ◌∷◌, length, codes}
+use Rattle.std.specs.Prelude.{ℕ, nat_eq, Bool, [], length, slice_index_or}
 use Rattle.dom_model.specs.Commands.Command as model
-use Rattle.dom_model.specs.Commands.Table.{Row, row, Arguments, a_number, a_number_or_null, a_string, a_text, a_text_or_null, a_flag, a_flag_or_null, a_filter, a_move, the_options, number_at, string_at}
+use Rattle.dom_model.specs.Commands.Table.{Row, row, Arguments, whole_table}
 use Rattle.dom_wire.specs.declared.names.Name.{Name}
 use Rattle.dom_wire.specs.declared.names.Name.TheVariants.{NewDocument, CreateElement, CreateText, CreateComment, CreatePI, CreateDoctype, CreateFragment, InsertBefore, AppendChild, AdoptNode, ReplaceChild, RemoveChild, Remove, ReplaceChildren, ImportNode, CloneNode, Normalize, DescribeNode, Children, Index, Length, Root, IsContaining, IsEqual, ComparePosition, TextContent, SetTextContent, Tree, GetData, SetData, AppendData, InsertData, DeleteData, ReplaceData, SubstringData, SplitText, SetAttribute, GetAttribute, HasAttribute, RemoveAttribute, ToggleAttribute, AttributeNames, CreateRange, CloneRange, DescribeRange, SetStart, SetEnd, SetStartBefore, SetStartAfter, SetEndBefore, SetEndAfter, Collapse, SelectNode, SelectNodeContents, CompareBoundaryPoints, ComparePoint, IsPointInRange, IntersectsNode, CommonAncestor, RangeText, DeleteContents, ExtractContents, CloneContents, InsertNode, SurroundContents, ReleaseRange, CreateIterator, CreateWalker, DescribeIterator, NextNode, PreviousNode, DescribeWalker, SetCurrent, Walk, CreateObserver, Observe, Disconnect, TakeRecords, Notify, Pending, Discard, CreateStaticRange, DescribeStaticRange}
 
+-- the place of a name's row in the table
+unfoldable pub place_of : Name → ℕ
+place_of NewDocument = 0
+place_of CreateElement = 1
+place_of CreateText = 2
+place_of CreateComment = 3
+place_of CreatePI = 4
+place_of CreateDoctype = 5
+place_of CreateFragment = 6
+place_of InsertBefore = 7
+place_of AppendChild = 8
+place_of AdoptNode = 9
+place_of ReplaceChild = 10
+place_of RemoveChild = 11
+place_of Remove = 12
+place_of ReplaceChildren = 13
+place_of ImportNode = 14
+place_of CloneNode = 15
+place_of Normalize = 16
+place_of DescribeNode = 17
+place_of Children = 18
+place_of Index = 19
+place_of Length = 20
+place_of Root = 21
+place_of IsContaining = 22
+place_of IsEqual = 23
+place_of ComparePosition = 24
+place_of TextContent = 25
+place_of SetTextContent = 26
+place_of Tree = 27
+place_of GetData = 28
+place_of SetData = 29
+place_of AppendData = 30
+place_of InsertData = 31
+place_of DeleteData = 32
+place_of ReplaceData = 33
+place_of SubstringData = 34
+place_of SplitText = 35
+place_of SetAttribute = 36
+place_of GetAttribute = 37
+place_of HasAttribute = 38
+place_of RemoveAttribute = 39
+place_of ToggleAttribute = 40
+place_of AttributeNames = 41
+place_of CreateRange = 42
+place_of CloneRange = 43
+place_of DescribeRange = 44
+place_of SetStart = 45
+place_of SetEnd = 46
+place_of SetStartBefore = 47
+place_of SetStartAfter = 48
+place_of SetEndBefore = 49
+place_of SetEndAfter = 50
+place_of Collapse = 51
+place_of SelectNode = 52
+place_of SelectNodeContents = 53
+place_of CompareBoundaryPoints = 54
+place_of ComparePoint = 55
+place_of IsPointInRange = 56
+place_of IntersectsNode = 57
+place_of CommonAncestor = 58
+place_of RangeText = 59
+place_of DeleteContents = 60
+place_of ExtractContents = 61
+place_of CloneContents = 62
+place_of InsertNode = 63
+place_of SurroundContents = 64
+place_of ReleaseRange = 65
+place_of CreateIterator = 66
+place_of CreateWalker = 67
+place_of DescribeIterator = 68
+place_of NextNode = 69
+place_of PreviousNode = 70
+place_of DescribeWalker = 71
+place_of SetCurrent = 72
+place_of Walk = 73
+place_of CreateObserver = 74
+place_of Observe = 75
+place_of Disconnect = 76
+place_of TakeRecords = 77
+place_of Notify = 78
+place_of Pending = 79
+place_of Discard = 80
+place_of CreateStaticRange = 81
+place_of DescribeStaticRange = 82
+
 unfoldable pub row_of : Name → Row
-row_of NewDocument = row (codes "newDocument") [] (λ (a : Arguments). model.NewDocument)
-row_of CreateElement = row (codes "createElement") (a_number ∷ a_string ∷ []) (λ (a : Arguments). model.CreateElement (number_at a 0) (string_at a 1))
-row_of CreateText = row (codes "createText") (a_number ∷ a_text ∷ []) (λ (a : Arguments). model.CreateText (number_at a 0) a.text)
-row_of CreateComment = row (codes "createComment") (a_number ∷ a_text ∷ []) (λ (a : Arguments). model.CreateComment (number_at a 0) a.text)
-row_of CreatePI = row (codes "createPI") (a_number ∷ a_string ∷ a_text ∷ []) (λ (a : Arguments). model.CreatePI (number_at a 0) (string_at a 1) a.text)
-row_of CreateDoctype = row (codes "createDoctype") (a_number ∷ a_string ∷ a_string ∷ a_string ∷ [])
-    (λ (a : Arguments). model.CreateDoctype (number_at a 0) (string_at a 1) (string_at a 2) (string_at a 3))
-row_of CreateFragment = row (codes "createFragment") (a_number ∷ []) (λ (a : Arguments). model.CreateFragment (number_at a 0))
-row_of InsertBefore = row (codes "insertBefore") (a_number ∷ a_number ∷ a_number_or_null ∷ [])
-    (λ (a : Arguments). model.InsertBefore (number_at a 0) (number_at a 1) a.number)
-row_of AppendChild = row (codes "appendChild") (a_number ∷ a_number ∷ []) (λ (a : Arguments). model.AppendChild (number_at a 0) (number_at a 1))
-row_of AdoptNode = row (codes "adoptNode") (a_number ∷ a_number ∷ []) (λ (a : Arguments). model.AdoptNode (number_at a 0) (number_at a 1))
-row_of ReplaceChild = row (codes "replaceChild") (a_number ∷ a_number ∷ a_number ∷ [])
-    (λ (a : Arguments). model.ReplaceChild (number_at a 0) (number_at a 1) (number_at a 2))
-row_of RemoveChild = row (codes "removeChild") (a_number ∷ a_number ∷ []) (λ (a : Arguments). model.RemoveChild (number_at a 0) (number_at a 1))
-row_of Remove = row (codes "remove") (a_number ∷ []) (λ (a : Arguments). model.Remove (number_at a 0))
-row_of ReplaceChildren = row (codes "replaceChildren") (a_number ∷ a_number_or_null ∷ []) (λ (a : Arguments). model.ReplaceChildren (number_at a 0) a.number)
-row_of ImportNode = row (codes "importNode") (a_number ∷ a_number ∷ a_flag ∷ []) (λ (a : Arguments). model.ImportNode (number_at a 0) (number_at a 1) a.flag)
-row_of CloneNode = row (codes "cloneNode") (a_number ∷ a_flag ∷ []) (λ (a : Arguments). model.CloneNode (number_at a 0) a.flag)
-row_of Normalize = row (codes "normalize") (a_number ∷ []) (λ (a : Arguments). model.Normalize (number_at a 0))
-row_of DescribeNode = row (codes "node") (a_number ∷ []) (λ (a : Arguments). model.DescribeNode (number_at a 0))
-row_of Children = row (codes "children") (a_number ∷ []) (λ (a : Arguments). model.Children (number_at a 0))
-row_of Index = row (codes "index") (a_number ∷ []) (λ (a : Arguments). model.Index (number_at a 0))
-row_of Length = row (codes "length") (a_number ∷ []) (λ (a : Arguments). model.Length (number_at a 0))
-row_of Root = row (codes "root") (a_number ∷ []) (λ (a : Arguments). model.Root (number_at a 0))
-row_of IsContaining = row (codes "contains") (a_number ∷ a_number_or_null ∷ []) (λ (a : Arguments). model.IsContaining (number_at a 0) a.number)
-row_of IsEqual = row (codes "isEqual") (a_number ∷ a_number_or_null ∷ []) (λ (a : Arguments). model.IsEqual (number_at a 0) a.number)
-row_of ComparePosition = row (codes "comparePosition") (a_number ∷ a_number ∷ []) (λ (a : Arguments). model.ComparePosition (number_at a 0) (number_at a 1))
-row_of TextContent = row (codes "textContent") (a_number ∷ []) (λ (a : Arguments). model.TextContent (number_at a 0))
-row_of SetTextContent = row (codes "setTextContent") (a_number ∷ a_text_or_null ∷ []) (λ (a : Arguments). model.SetTextContent (number_at a 0) a.text)
-row_of Tree = row (codes "tree") (a_number ∷ []) (λ (a : Arguments). model.Tree (number_at a 0))
-row_of GetData = row (codes "data") (a_number ∷ []) (λ (a : Arguments). model.GetData (number_at a 0))
-row_of SetData = row (codes "setData") (a_number ∷ a_text ∷ []) (λ (a : Arguments). model.SetData (number_at a 0) a.text)
-row_of AppendData = row (codes "appendData") (a_number ∷ a_text ∷ []) (λ (a : Arguments). model.AppendData (number_at a 0) a.text)
-row_of InsertData = row (codes "insertData") (a_number ∷ a_number ∷ a_text ∷ []) (λ (a : Arguments). model.InsertData (number_at a 0) (number_at a 1) a.text)
-row_of DeleteData = row (codes "deleteData") (a_number ∷ a_number ∷ a_number ∷ [])
-    (λ (a : Arguments). model.DeleteData (number_at a 0) (number_at a 1) (number_at a 2))
-row_of ReplaceData = row (codes "replaceData") (a_number ∷ a_number ∷ a_number ∷ a_text ∷ [])
-    (λ (a : Arguments). model.ReplaceData (number_at a 0) (number_at a 1) (number_at a 2) a.text)
-row_of SubstringData = row (codes "substringData") (a_number ∷ a_number ∷ a_number ∷ [])
-    (λ (a : Arguments). model.SubstringData (number_at a 0) (number_at a 1) (number_at a 2))
-row_of SplitText = row (codes "splitText") (a_number ∷ a_number ∷ []) (λ (a : Arguments). model.SplitText (number_at a 0) (number_at a 1))
-row_of SetAttribute = row (codes "setAttribute") (a_number ∷ a_string ∷ a_text ∷ [])
-    (λ (a : Arguments). model.SetAttribute (number_at a 0) (string_at a 1) a.text)
-row_of GetAttribute = row (codes "getAttribute") (a_number ∷ a_string ∷ []) (λ (a : Arguments). model.GetAttribute (number_at a 0) (string_at a 1))
-row_of HasAttribute = row (codes "hasAttribute") (a_number ∷ a_string ∷ []) (λ (a : Arguments). model.HasAttribute (number_at a 0) (string_at a 1))
-row_of RemoveAttribute = row (codes "removeAttribute") (a_number ∷ a_string ∷ []) (λ (a : Arguments). model.RemoveAttribute (number_at a 0) (string_at a 1))
-row_of ToggleAttribute = row (codes "toggleAttribute") (a_number ∷ a_string ∷ a_flag_or_null ∷ [])
-    (λ (a : Arguments). model.ToggleAttribute (number_at a 0) (string_at a 1) a.flag_or_null)
-row_of AttributeNames = row (codes "attributeNames") (a_number ∷ []) (λ (a : Arguments). model.AttributeNames (number_at a 0))
-row_of CreateRange = row (codes "createRange") (a_number ∷ []) (λ (a : Arguments). model.CreateRange (number_at a 0))
-row_of CloneRange = row (codes "cloneRange") (a_number ∷ []) (λ (a : Arguments). model.CloneRange (number_at a 0))
-row_of DescribeRange = row (codes "range") (a_number ∷ []) (λ (a : Arguments). model.DescribeRange (number_at a 0))
-row_of SetStart = row (codes "setStart") (a_number ∷ a_number ∷ a_number ∷ [])
-    (λ (a : Arguments). model.SetStart (number_at a 0) (number_at a 1) (number_at a 2))
-row_of SetEnd = row (codes "setEnd") (a_number ∷ a_number ∷ a_number ∷ []) (λ (a : Arguments). model.SetEnd (number_at a 0) (number_at a 1) (number_at a 2))
-row_of SetStartBefore = row (codes "setStartBefore") (a_number ∷ a_number ∷ []) (λ (a : Arguments). model.SetStartBefore (number_at a 0) (number_at a 1))
-row_of SetStartAfter = row (codes "setStartAfter") (a_number ∷ a_number ∷ []) (λ (a : Arguments). model.SetStartAfter (number_at a 0) (number_at a 1))
-row_of SetEndBefore = row (codes "setEndBefore") (a_number ∷ a_number ∷ []) (λ (a : Arguments). model.SetEndBefore (number_at a 0) (number_at a 1))
-row_of SetEndAfter = row (codes "setEndAfter") (a_number ∷ a_number ∷ []) (λ (a : Arguments). model.SetEndAfter (number_at a 0) (number_at a 1))
-row_of Collapse = row (codes "collapse") (a_number ∷ a_flag ∷ []) (λ (a : Arguments). model.Collapse (number_at a 0) a.flag)
-row_of SelectNode = row (codes "selectNode") (a_number ∷ a_number ∷ []) (λ (a : Arguments). model.SelectNode (number_at a 0) (number_at a 1))
-row_of SelectNodeContents = row (codes "selectNodeContents") (a_number ∷ a_number ∷ [])
-    (λ (a : Arguments). model.SelectNodeContents (number_at a 0) (number_at a 1))
-row_of CompareBoundaryPoints = row (codes "compareBoundaryPoints") (a_number ∷ a_number ∷ a_number ∷ [])
-    (λ (a : Arguments). model.CompareBoundaryPoints (number_at a 0) (number_at a 1) (number_at a 2))
-row_of ComparePoint = row (codes "comparePoint") (a_number ∷ a_number ∷ a_number ∷ [])
-    (λ (a : Arguments). model.ComparePoint (number_at a 0) (number_at a 1) (number_at a 2))
-row_of IsPointInRange = row (codes "isPointInRange") (a_number ∷ a_number ∷ a_number ∷ [])
-    (λ (a : Arguments). model.IsPointInRange (number_at a 0) (number_at a 1) (number_at a 2))
-row_of IntersectsNode = row (codes "intersectsNode") (a_number ∷ a_number ∷ []) (λ (a : Arguments). model.IntersectsNode (number_at a 0) (number_at a 1))
-row_of CommonAncestor = row (codes "commonAncestor") (a_number ∷ []) (λ (a : Arguments). model.CommonAncestor (number_at a 0))
-row_of RangeText = row (codes "rangeText") (a_number ∷ []) (λ (a : Arguments). model.RangeText (number_at a 0))
-row_of DeleteContents = row (codes "deleteContents") (a_number ∷ []) (λ (a : Arguments). model.DeleteContents (number_at a 0))
-row_of ExtractContents = row (codes "extractContents") (a_number ∷ []) (λ (a : Arguments). model.ExtractContents (number_at a 0))
-row_of CloneContents = row (codes "cloneContents") (a_number ∷ []) (λ (a : Arguments). model.CloneContents (number_at a 0))
-row_of InsertNode = row (codes "insertNode") (a_number ∷ a_number ∷ []) (λ (a : Arguments). model.InsertNode (number_at a 0) (number_at a 1))
-row_of SurroundContents = row (codes "surroundContents") (a_number ∷ a_number ∷ []) (λ (a : Arguments). model.SurroundContents (number_at a 0) (number_at a 1))
-row_of ReleaseRange = row (codes "releaseRange") (a_number ∷ []) (λ (a : Arguments). model.ReleaseRange (number_at a 0))
-row_of CreateIterator = row (codes "createIterator") (a_number ∷ a_number ∷ a_filter ∷ [])
-    (λ (a : Arguments). model.CreateIterator (number_at a 0) (record { show = number_at a 1; rules = a.rules }))
-row_of CreateWalker = row (codes "createWalker") (a_number ∷ a_number ∷ a_filter ∷ [])
-    (λ (a : Arguments). model.CreateWalker (number_at a 0) (record { show = number_at a 1; rules = a.rules }))
-row_of DescribeIterator = row (codes "iterator") (a_number ∷ []) (λ (a : Arguments). model.DescribeIterator (number_at a 0))
-row_of NextNode = row (codes "nextNode") (a_number ∷ []) (λ (a : Arguments). model.NextNode (number_at a 0))
-row_of PreviousNode = row (codes "previousNode") (a_number ∷ []) (λ (a : Arguments). model.PreviousNode (number_at a 0))
-row_of DescribeWalker = row (codes "walker") (a_number ∷ []) (λ (a : Arguments). model.DescribeWalker (number_at a 0))
-row_of SetCurrent = row (codes "setCurrent") (a_number ∷ a_number ∷ []) (λ (a : Arguments). model.SetCurrent (number_at a 0) (number_at a 1))
-row_of Walk = row (codes "walk") (a_number ∷ a_move ∷ []) (λ (a : Arguments). model.Walk (number_at a 0) a.move)
-row_of CreateObserver = row (codes "createObserver") [] (λ (a : Arguments). model.CreateObserver)
-row_of Observe = row (codes "observe") (a_number ∷ a_number ∷ the_options ∷ []) (λ (a : Arguments). model.Observe (number_at a 0) (number_at a 1) a.options)
-row_of Disconnect = row (codes "disconnect") (a_number ∷ []) (λ (a : Arguments). model.Disconnect (number_at a 0))
-row_of TakeRecords = row (codes "takeRecords") (a_number ∷ []) (λ (a : Arguments). model.TakeRecords (number_at a 0))
-row_of Notify = row (codes "notify") [] (λ (a : Arguments). model.Notify)
-row_of Pending = row (codes "pending") [] (λ (a : Arguments). model.Pending)
-row_of Discard = row (codes "discard") (a_number ∷ []) (λ (a : Arguments). model.Discard (number_at a 0))
-row_of CreateStaticRange = row (codes "createStaticRange") (a_number ∷ a_number ∷ a_number ∷ a_number ∷ [])
-    (λ (a : Arguments).
-    model.CreateStaticRange (record { node = number_at a 0; offset = number_at a 1 }) (record { node = number_at a 2; offset = number_at a 3 }))
-row_of DescribeStaticRange = row (codes "staticRange") (a_number ∷ []) (λ (a : Arguments). model.DescribeStaticRange (number_at a 0))
+unfolding place_of whole_table
+row_of name = slice_index_or whole_table (place_of name) (row [] [] (λ (a : Arguments). model.NewDocument))
 
 -- a row whose name has so many bytes
 abbrev pub is_of_length : ℕ → Row → Bool
