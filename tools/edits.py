@@ -3,8 +3,8 @@
 
 A function's proof stands on the contracts of what it calls, and never on their bodies. So beside each function that an edit changes a second one, its twin,
 gets the edited body, with the same contract and a copy of the proof: one check of a copy with all twins of a crate tells for each that it has no proof, and
-at which goals. What has no twin, or was not refused at a clause there, is tried in its place: in as few groups as no two of which change one function,
-each applied to a copy that is checked once, over what the checks before it proved.
+at which goals. What has no twin, or was not refused at a clause there, is tried in its place, over what the checks before it proved: first at the function
+that it is meant to meet alone, and then, in as few groups as no two of which change one function, by a check of all that the edits touch.
 
 An edit is refused, at a function and its goals; or let through; or bad, where it does not fit, does not compile, or its function was not reached. One
 that is refused at no clause, since a proof file names what it takes away or its new body has no proof of any kind, is told: it says little of the
@@ -202,6 +202,31 @@ class Trial:
             if refused and twin.edit in self.waiting and not any(told.calls for told in found.values()):
                 self.settle(twin.edit, Outcome(REFUSED, edit_twins.original(refused), found[refused].goals))
 
+    def meant_groups(self):
+        """Returns the edits that say where they are to be refused, in groups of which each may be tried at once."""
+        groups = []
+        for edit in [it for it in self.waiting if it.meant]:
+            found = next((it for it in groups if not edit.is_alone() and not it[0].is_alone() and edit.fits(it)), None)
+            if found:
+                found.append(edit)
+            else:
+                groups.append([edit])
+        return groups
+
+    def try_meant(self, jobs):
+        """Settles the edits that a check of the functions that they are meant to meet refuses there; returns how many checks it took."""
+        groups = self.meant_groups()
+        for group in groups:
+            functions = {it.path: it.meant.rpartition(": ")[0] for it in group}
+            only = [word for name in sorted({*functions.values()}) for word in ("--only", name)]
+            ran = self.rt.checked(self.crate, edit_files.texts_of(group, self.crate.folder), ["--jobs", str(jobs), *only], self.work)
+            said = edit_told.read(self.crate.name, ran.stdout)
+            for edit in group if said.has_judged else ():
+                told = said.functions.get(functions[edit.path])
+                if told and told.is_refused and not told.calls:
+                    self.settle(edit, Outcome(REFUSED, functions[edit.path], told.goals))
+        return len(groups)
+
     def spoiled(self, group, said):
         """Settles those of a group whose check ended before it judged: the edits at whose functions it found a fault, or one of them that is then alone."""
         guilty = {it.path: text for it in group for file, line, text in said.faults if self.is_near(it, file, line)}
@@ -245,6 +270,7 @@ class Trial:
     def run(self, jobs):
         """Tries all, and returns what each came to, by its path."""
         checks = self.try_twins(jobs)
+        checks += self.try_meant(jobs if not checks else 1)
         while self.waiting:
             self.waiting.sort(key=lambda it: self.tried[it.path])
             group = self.group()
