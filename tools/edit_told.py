@@ -5,7 +5,7 @@ import re
 from edit_files import joined
 
 # A line of a crate's function; one on an error in a proof's file; one on an error in the source, which reaches no prover.
-OF_FUNCTION = re.compile(r"(?:fn|impl) (.+?): (proved|not proved|no proof|could not tell)\b(.*)")
+OF_FUNCTION = re.compile(r"(?:fn|impl) (.+?): (proved|not proved|no proof|could not tell|no holes|depends on a hole)\b(.*)")
 OF_PROOF = re.compile(r"(?:\./)?proofs/(\S+)/(?:Answers|Invariants|Proof)\.antt:\d+:\d+: error: (?:`([^`]*)`: )?(.*)")
 OF_SOURCE = re.compile(r"(?:\./)?(src/\S+?):(\d+):\d+: error\[([\w-]+)\]: (.*)")
 SEARCHED = re.compile(r"did not prove ((?:`[^`]*`(?:, | and )?)+)")
@@ -19,10 +19,12 @@ UNCOVERED = "does not cover"
 
 @dataclasses.dataclass
 class Told:
-    """What is told of one function. `goals` are those that it has no proof of, `calls` the functions without a proof that its own waits for."""
+    """What is told of one function. `goals` are those that it has no proof of, `errors` what a proof file's answer to each is refused with, `calls` the functions
+    without a proof that its own waits for."""
 
     kind: str = ""
     goals: list = dataclasses.field(default_factory=list)
+    errors: dict = dataclasses.field(default_factory=dict)
     calls: list = dataclasses.field(default_factory=list)
     is_uncovered: bool = False
     lacks_names: bool = False
@@ -79,6 +81,7 @@ def proof_line(said, line):
     told.lacks_names = told.lacks_names or bool(NAMES.search(found[3]))
     if not NAMES.search(found[3]):
         told.add(found[2])
+        told.errors.setdefault(found[2], found[3])
 
 
 def read(crate, text):

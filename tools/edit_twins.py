@@ -15,6 +15,8 @@ import edit_files
 PARTS = ("src", "specs", "proofs")
 SUFFIX = "_edited_"
 NAMED = re.compile(rf"{SUFFIX}\d+\b")
+# A `use` line that names several modules of the proofs of one crate.
+LISTED = re.compile(r"^use Rattle\.\w+\.proofs\.\{.*\}$", re.M)
 # The first line of a block of functions, and one that meets a trait or declares it.
 BLOCK = re.compile(r"(?:unsafe\s+)?impl\b")
 OF_TRAIT = re.compile(r".*\bfor\b")
@@ -138,10 +140,12 @@ class Twins:
     def lay_proof(self, to, twin):
         own, twins = f"{self.folder}/proofs/{place_of(twin.owner)}", f"{to}/proofs/{place_of(twin.named())}"
         pairs = [*zip(modules_of(self.crate, twin.owner), modules_of(self.crate, twin.named()))]
+        listed = re.compile(rf"(?<=[{{ ]){re.escape(twin.owner.path().replace('::', '.'))}\.")
         for path, text in self.texts.items():
             if os.path.dirname(path) == own:
                 for old, new in pairs:
                     text = text.replace(old, new)
+                text = LISTED.sub(lambda it: listed.sub(f"{twin.named().path().replace('::', '.')}.", it[0]), text)
                 os.makedirs(twins, exist_ok=True)
                 with open(f"{twins}/{os.path.basename(path)}", "w", encoding="utf-8") as it:
                     it.write(text)

@@ -2,9 +2,10 @@
 """Tries the edits that must fail, all of a crate in one check where that can be, and tells of each at which goal it is refused.
 
 A function's proof stands on the contracts of what it calls, and never on their bodies. So beside each function that an edit changes a second one, its twin,
-gets the edited body, with the same contract and a copy of the proof: one check of a copy with all twins of a crate tells for each that it has no proof, and
-at which goals. What has no twin, or was not refused at a clause there, is tried in its place: in as few groups as no two of which change one function,
-each applied to a copy that is checked once, over what the checks before it proved.
+gets the edited body, with the same contract and a copy of the proof. One check of a copy with all twins of a crate asks each for the one goal that its edit
+is meant to meet (`edit_probes.py`); a second one asks what is left for all goals. What has no twin, or was not refused at a clause there, is tried in its
+place, over what the checks before it proved: first at the function that it is meant to meet alone, and then, in as few groups as no two of which change one
+function, by a check of all that the edits touch.
 
 An edit is refused, at a function and its goals; or let through; or bad, where it does not fit, does not compile, or its function was not reached. One
 that is refused at no clause, since a proof file names what it takes away or its new body has no proof of any kind, is told: it says little of the
@@ -27,6 +28,7 @@ import sys
 import tempfile
 
 import edit_files
+import edit_probes
 import edit_told
 import edit_twins
 import start
@@ -174,7 +176,26 @@ class Trial:
             self.settle(edit, Outcome(BAD, why=f"it does not compile: {spoiled[edit.path]}"))
         return checks
 
-    def check_twins(self, twins, left_out, jobs):
+    def try_probes(self, jobs):
+        """Settles the edits whose probes have no proof of the goal that they are meant to meet, or none where they say no goal; returns how many checks it took."""
+        probes = edit_probes.Probes(self.crate.name, self.crate.folder, self.waiting)
+        if not probes.made:
+            return 0
+        said, _ = self.check_twins(probes, (), jobs, ["--allow-holes"])
+        if said.has_judged:
+            for it in probes.refused(said):
+                self.settle(it.edit, Outcome(REFUSED, it.owner.path(), [probes.goal(it)]))
+            for it, told in probes.lost(said):
+                self.settle_lost(it, told)
+        return 1
+
+    def settle_lost(self, twin, told):
+        """Settles an edit that says no goal and whose twin has no proof."""
+        if twin.edit in self.waiting:
+            name, why = twin.owner.path(), "a proof file names what it takes away" if told.lacks_names else told.kind
+            self.settle(twin.edit, Outcome(REFUSED, name, told.goals) if told.is_refused else Outcome(BY_NAME, why=f"{name}: {why}"))
+
+    def check_twins(self, twins, left_out, jobs, words=()):
         """Checks a copy of the crate with twins, but those of some edits; returns what it said, and which edit each line of a twin is of."""
         with tempfile.TemporaryDirectory(prefix=f"rt-twins-{os.getpid()}-") as room:
             at = twins.lay(room, left_out)
@@ -182,17 +203,21 @@ class Trial:
             crate.folder = room
             only = [word for it in twins.made if it.edit.path not in left_out for word in ("--only", it.named().path())]
             for number in (jobs, 1):
-                ran = self.rt.checked(crate, {}, ["--jobs", str(number), *only], self.work)
+                ran = self.rt.checked(crate, {}, ["--jobs", str(number), *only, *words], None if words else self.work)
                 if ran.returncode != -signal.SIGKILL:
                     break
         return edit_told.read(self.crate.name, ran.stdout), at
 
     def controls(self, jobs):
-        """Returns the twins that are not proved though nothing is edited in them: what these are of would be told as refused whatever the edit."""
-        twins = edit_twins.Twins(self.crate.name, self.crate.folder, self.waiting, are_edited=False)
+        """Returns the twins that are not proved though nothing is edited in them, and the probes whose goals are not: what these are of would be told as refused
+        whatever the edit. The other two results are how many twins and probes there are."""
+        twins, probes = (kind(self.crate.name, self.crate.folder, self.waiting, are_edited=False) for kind in (edit_twins.Twins, edit_probes.Probes))
         said, _ = self.check_twins(twins, (), jobs)
         proved = lambda it: all(said.functions[name].is_proved for name in edit_told.names_of(said, it.named())) and edit_told.names_of(said, it.named())
-        return [it for it in twins.made if not proved(it)], len(twins.made)
+        lost = [it for it in twins.made if not proved(it)]
+        if probes.made:
+            lost += probes.unproved(self.check_twins(probes, (), jobs, ["--allow-holes"])[0])
+        return lost, len(twins.made), len(probes.made)
 
     def judge_twins(self, twins, said):
         """Settles those edits of which a twin is refused at a clause, and waits for nobody."""
@@ -201,6 +226,31 @@ class Trial:
             refused = next((name for name, told in found.items() if told.is_refused), None)
             if refused and twin.edit in self.waiting and not any(told.calls for told in found.values()):
                 self.settle(twin.edit, Outcome(REFUSED, edit_twins.original(refused), found[refused].goals))
+
+    def meant_groups(self):
+        """Returns the edits that say where they are to be refused, in groups of which each may be tried at once."""
+        groups = []
+        for edit in [it for it in self.waiting if it.meant]:
+            found = next((it for it in groups if not edit.is_alone() and not it[0].is_alone() and edit.fits(it)), None)
+            if found:
+                found.append(edit)
+            else:
+                groups.append([edit])
+        return groups
+
+    def try_meant(self, jobs):
+        """Settles the edits that a check of the functions that they are meant to meet refuses there; returns how many checks it took."""
+        groups = self.meant_groups()
+        for group in groups:
+            functions = {it.path: it.meant.rpartition(": ")[0] for it in group}
+            only = [word for name in sorted({*functions.values()}) for word in ("--only", name)]
+            ran = self.rt.checked(self.crate, edit_files.texts_of(group, self.crate.folder), ["--jobs", str(jobs), *only], self.work)
+            said = edit_told.read(self.crate.name, ran.stdout)
+            for edit in group if said.has_judged else ():
+                told = said.functions.get(functions[edit.path])
+                if told and told.is_refused and not told.calls:
+                    self.settle(edit, Outcome(REFUSED, functions[edit.path], told.goals))
+        return len(groups)
 
     def spoiled(self, group, said):
         """Settles those of a group whose check ended before it judged: the edits at whose functions it found a fault, or one of them that is then alone."""
@@ -244,7 +294,9 @@ class Trial:
 
     def run(self, jobs):
         """Tries all, and returns what each came to, by its path."""
-        checks = self.try_twins(jobs)
+        checks = self.try_probes(jobs)
+        checks += self.try_twins(jobs if not checks else 1)
+        checks += self.try_meant(jobs if not checks else 1)
         while self.waiting:
             self.waiting.sort(key=lambda it: self.tried[it.path])
             group = self.group()
@@ -305,12 +357,12 @@ class Edits(start.Start):
         return True
 
     def try_controls(self, crate, jobs):
-        """Checks a twin of each function that an edit changes, with nothing edited, and answers whether all are proved."""
+        """Checks a twin of each function that an edit changes and a probe of each goal that one is meant to meet, with nothing edited, and answers whether all are proved."""
         with self.work(crate) as work:
-            lost, count = Trial(self.rt, crate, edit_files.edits_of(self.rt, crate.folder), work, self.say).controls(jobs)
+            lost, twins, probes = Trial(self.rt, crate, edit_files.edits_of(self.rt, crate.folder), work, self.say).controls(jobs)
         for it in lost:
-            self.say(f"{crate.name}: {it.owner.path()} has no proof as a twin, with nothing edited")
-        self.say(f"{crate.name}: {count - len(lost)} of {count} twins proved")
+            self.say(f"{crate.name}: {it.named().path()} has no proof, with nothing edited")
+        self.say(f"{crate.name}: {twins} twins and {probes} probes, {len(lost)} without a proof")
         return not lost
 
     @contextlib.contextmanager
@@ -361,7 +413,7 @@ def main():
     words.add_argument("crates", nargs="*", metavar="CRATE", help="try the edits of these crates, in place of all")
     words.add_argument("--write", action="store_true", help="write the lines `at:` from what the check says")
     words.add_argument("--anew", action="store_true", help="try each, also what was tried before on this machine")
-    words.add_argument("--controls", action="store_true", help="try no edit: check a twin of each function with nothing edited, all of which have to be proved")
+    words.add_argument("--controls", action="store_true", help="try no edit: check twins and probes with nothing edited, all of which have to be proved")
     words.add_argument("--after", metavar="LINE", default="0 passed, 0 failed", help="the last line of the tests before these")
     given = words.parse_args()
     for it in given.crates:

@@ -34,6 +34,8 @@ SAYS = {
     "dom_links": "linked slots in raw memory",
     "dom_pages": "tables in pages that are given back",
     "dom_slots": "numbers that come and go, without gaps",
+    "dom_chains": "items in the chain of their key",
+    "dom_ids": "the numbers by which callers name things",
     "dom_units": "texts as UTF-16 units",
     "dom_kinds": "kinds, labels, names, exceptions",
     "dom_c": "the core as a C library",

@@ -1,5 +1,5 @@
 #!/usr/bin/env python3
-"""The tests of tools/edits.py, over a crate of five functions that is made here: what is refused, let through, bad, or refused elsewhere is told as such.
+"""The tests of tools/edits.py, over a crate of six functions that is made here: what is refused, let through, bad, or refused elsewhere is told as such.
 
 The last line is `N passed, M failed`.
 """
@@ -12,8 +12,8 @@ import sys
 import tempfile
 
 HERE = os.path.dirname(os.path.realpath(__file__))
-SCRIPTS = ("start.py", "edits.py", "edit_files.py", "edit_told.py", "edit_twins.py")
-SOURCE = """//! Five functions, of which one promises nothing, and one is of a type that another file declares.
+SCRIPTS = ("start.py", "edits.py", "edit_files.py", "edit_probes.py", "edit_told.py", "edit_twins.py")
+SOURCE = """//! Six functions, of which one promises nothing, and one is of a type that another file declares.
 #![tactic(auto)]
 
 mod pair;
@@ -21,6 +21,8 @@ mod pair;
 pub use pair::Pair;
 
 ghost use Rattle.std.specs.Prelude.{◌≡◌, ◌≤◌, ◌+◌};
+
+const MORE: u8 = 3;
 
 /// One more.
 pub fn next(n: u8) -> u8
@@ -36,6 +38,14 @@ pub fn second(n: u8) -> u8
     ensures { result ≡ n + 2 }
 {
     next(next(n))
+}
+
+/// Three more.
+pub fn third(n: u8) -> u8
+    requires { n ≤ 200 }
+    ensures { result ≡ n + 3 }
+{
+    n + MORE
 }
 
 /// The larger.
@@ -76,6 +86,7 @@ EDITS = {
     "next_adds_two": ("    n + 1", "    n + 2", "next: returns", "refused at next: returns"),
     "second_adds_one": ("next(next(n))", "next(n)", "second: returns", "refused at second: returns"),
     "second_is_spelled_wrong": ("next(next(n))", "next(nxt(n))", "second: returns", "BAD: it does not compile: unknown-name: "),
+    "third_adds_four": ("u8 = 3;", "u8 = 4;", "third: returns", "refused at third: returns"),
     "smaller_at_a_clause": ("if n < other", "if n > other", "larger: returns-then-n-other-clause-left", "refused at larger: "),
     "larger_at_no_such_clause": ("if n < other", "if n > other", "larger: returns-clause-middle", "refused at larger: "),
     "larger_the_other_way": ("if n < other", "if n <= other", "larger: returns", "LET THROUGH: the crate is proved with it"),
@@ -107,13 +118,13 @@ def run(room, *words):
 
 
 def of_twins(room):
-    """Runs the edits that are refused where they are meant to be, which take one check, and twins with nothing edited; returns what was wrong."""
+    """Runs the edits that are refused where they are meant to be, which take a check of probes and one of what has none, and twins and probes with nothing edited; returns what was wrong."""
     for name in FAILED:
         os.remove(f"{room}/crates/small/edits/{name}.edit")
     said = run(room, "--anew").stderr
-    faults = [] if f"{len(EDITS) - len(FAILED)} edits in 1 checks" in said else ["the edits that are refused take more than one check"]
+    faults = [] if f"{len(EDITS) - len(FAILED)} edits in 2 checks" in said else ["the edits that are refused take more than two checks"]
     said = run(room, "--controls")
-    return faults + ([] if said.returncode == 0 and "4 of 4 twins proved" in said.stderr else ["a twin with nothing edited is not proved"])
+    return faults + ([] if said.returncode == 0 and "4 twins and 4 probes, 0 without a proof" in said.stderr else [f"a twin or a probe with nothing edited is not proved: {said.stderr}"])
 
 
 def main():

@@ -145,7 +145,7 @@ fn copy_node(
 {
     let label = world.tree.label(node).try_clone(alloc)?;
     let content = world.tree.body(node).try_clone(alloc)?;
-    world.make(alloc, label, content, document)
+    world.make(label, content, document)
 }
 
 // Copies one node, to be the last child of a parent, into that one's node document.

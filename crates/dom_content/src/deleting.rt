@@ -105,7 +105,7 @@ fn cut_up_to(world: &mut World, alloc: Global, end: Point) -> Result<(), AllocEr
 }
 
 // Takes each of these nodes out of its parent in turn.
-fn remove_each(world: &mut World, alloc: Global, nodes: &[NodeId]) -> Result<(), AllocError>
+fn remove_each(world: &mut World, nodes: &[NodeId]) -> Result<(), AllocError>
     requires whole { IsWhole world.old }
     requires held { (n : ℕ) → 0 < hits n nodes.now → HasNode world.old.tree.forest n }
     ensures removed { OnOk result (Follows world.old world.new (remove_each nodes.now)) }
@@ -113,7 +113,7 @@ fn remove_each(world: &mut World, alloc: Global, nodes: &[NodeId]) -> Result<(),
     ensures whole { IsWhole world.new }
 {
     for node in nodes {
-        world.remove(alloc, *node)?;
+        world.remove(*node)?;
     }
     Ok(())
 }
@@ -139,7 +139,7 @@ fn delete_between(
     let place = new_place(&world.tree, start, &parts.first);
     let tops = contained_tops(world, alloc, start, end, &parts)?;
     cut_from(world, alloc, start)?;
-    remove_each(world, alloc, &tops)?;
+    remove_each(world, &tops)?;
     cut_up_to(world, alloc, end)?;
     stand_at(world, range, place);
     Ok(())

@@ -195,7 +195,7 @@ fn draw(
     ensures whole { IsWhole world.new }
 {
     let document = document_in(&world.tree, start.node);
-    let fragment = new_fragment(world, alloc, document)?;
+    let fragment = new_fragment(world, document)?;
     fill(world, alloc, moves, fragment, start, end, parts)?;
     Ok(fragment)
 }

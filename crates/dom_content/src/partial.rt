@@ -69,7 +69,7 @@ pub(crate) fn open_partial(
     let document = document_in(&world.tree, node);
     let copy = copy_of(world, alloc, node, false)?;
     put_last(world, alloc, into, copy)?;
-    let inner = new_fragment(world, alloc, document)?;
+    let inner = new_fragment(world, document)?;
     Ok(Partial {
         copy,
         inner,

@@ -27,11 +27,7 @@ use dom_units::{Units, units_within};
 use std::alloc::{AllocError, Global};
 
 // Makes a fragment without children in a document. Its number is the next one.
-pub(crate) fn new_fragment(
-    world: &mut World,
-    alloc: Global,
-    document: NodeId,
-) -> Result<NodeId, AllocError>
+pub(crate) fn new_fragment(world: &mut World, document: NodeId) -> Result<NodeId, AllocError>
     requires whole { IsWhole world.old }
     requires document_kind { is_of_kind Document world.old.tree.forest document ≡ true }
     requires room { HasRoom world.old (new_fragment document) }
@@ -45,7 +41,7 @@ pub(crate) fn new_fragment(
     ensures whole { IsWhole world.new }
 {
     let label = Label::nameless(Kind::DocumentFragment);
-    world.make(alloc, label, Content::nothing(), Some(document))
+    world.make(label, Content::nothing(), Some(document))
 }
 
 // Puts a new node, or the children of a new fragment, last under a parent that may have it: no end of a live range stands inside it.
@@ -155,7 +151,7 @@ fn copy_with(
     let attrs = world.tree.body(node).copied_attributes(alloc)?;
     let document = document_in(&world.tree, node);
     let content = Content::new(alloc, units, attrs)?;
-    world.make(alloc, label, content, Some(document))
+    world.make(label, content, Some(document))
 }
 
 // Takes units of a node's data out from an offset on that is within the data, where the contents move.

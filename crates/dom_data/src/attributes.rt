@@ -32,17 +32,12 @@ pub fn set_attribute(
     ensures observers { SameObservers world.old.observers world.new.observers }
     ensures whole { IsWhole world.new }
 {
-    tell_attribute(world, alloc, node, name.as_str())?;
+    tell_attribute(world, node, name.as_str())?;
     set_in(&mut world.tree, alloc, node, name, value)
 }
 
 /// Removes an attribute, with a record of its value; nothing where it is not there ("remove an attribute by name").
-pub fn remove_attribute(
-    world: &mut World,
-    alloc: Global,
-    node: NodeId,
-    name: &str,
-) -> Result<(), AllocError>
+pub fn remove_attribute(world: &mut World, node: NodeId, name: &str) -> Result<(), AllocError>
     requires whole { IsWhole world.old }
     requires kind { is_of_kind Element world.old.tree.forest node ≡ true }
     ensures removed { OnOk result (Follows world.old world.new (remove_attribute node name.now)) }
@@ -53,7 +48,7 @@ pub fn remove_attribute(
     if !has_in(&world.tree, node, name) {
         return Ok(());
     }
-    tell_attribute(world, alloc, node, name)?;
+    tell_attribute(world, node, name)?;
     remove_in(&mut world.tree, node, name);
     Ok(())
 }
@@ -86,7 +81,7 @@ pub fn toggle_attribute(
     if on {
         set_attribute(world, alloc, node, name, Units::new(alloc))?;
     } else {
-        remove_attribute(world, alloc, node, name.as_str())?;
+        remove_attribute(world, node, name.as_str())?;
     }
     Ok(on)
 }

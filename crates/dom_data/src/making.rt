@@ -30,5 +30,5 @@ pub(crate) fn make_text(
     ensures whole { IsWhole world.new }
 {
     let content = Content::of_text(alloc, text)?;
-    world.make(alloc, Label::nameless(Kind::Text), content, Some(document))
+    world.make(Label::nameless(Kind::Text), content, Some(document))
 }

@@ -116,7 +116,6 @@ pub(crate) fn index_if_asked(world: &World, parent: NodeId, child: NodeId) -> us
 // one after it begins.
 fn take_in(
     world: &mut World,
-    alloc: Global,
     node: NodeId,
     parent: NodeId,
     next: NodeId,
@@ -135,14 +134,13 @@ fn take_in(
     let _ = data_in(&world.tree, node).len();
     let index = index_if_asked(world, parent, next);
     world.ranges.merged(next, node, base, parent, index);
-    world.remove(alloc, next)?;
+    world.remove(next)?;
     Ok(base + length)
 }
 
 // The same of each Text that follows, where the node has their data already, from `base` on.
 fn take_each_in(
     world: &mut World,
-    alloc: Global,
     node: NodeId,
     parent: NodeId,
     base: usize,
@@ -156,7 +154,7 @@ fn take_each_in(
 {
     let mut further = base;
     for text in texts {
-        further = take_in(world, alloc, node, parent, *text, further)?;
+        further = take_in(world, node, parent, *text, further)?;
     }
     Ok(())
 }
@@ -198,7 +196,7 @@ fn join_siblings(
     let added = data_among(&world.tree, alloc, &texts)?;
     let base = data_in(&world.tree, node).len();
     append_units(world, alloc, node, added.units())?;
-    take_each_in(world, alloc, node, parent, base, &texts)
+    take_each_in(world, node, parent, base, &texts)
 }
 
 // Joins a Text with those that follow it among its siblings. The record of its data comes where none follows it, too.
@@ -225,7 +223,7 @@ fn normalize_text(world: &mut World, alloc: Global, node: NodeId) -> Result<(), 
     ensures whole { IsWhole world.new }
 {
     if data_in(&world.tree, node).len() == 0 {
-        world.remove(alloc, node)
+        world.remove(node)
     } else {
         join_following(world, alloc, node)
     }

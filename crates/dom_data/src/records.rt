@@ -14,10 +14,10 @@ use dom_edit::{Content, World, data_in};
 use dom_model::RecordType;
 use dom_observe::Mutation;
 use dom_tree::{NodeId, Tree};
-use std::alloc::{AllocError, Global};
+use std::alloc::AllocError;
 
 // Queues a record of a node's data, which is about to change, for each observer that it interests. Records are made in the observers' own memory.
-pub(crate) fn tell_data(world: &mut World, _alloc: Global, node: NodeId) -> Result<(), AllocError>
+pub(crate) fn tell_data(world: &mut World, node: NodeId) -> Result<(), AllocError>
     requires whole { IsWhole world.old }
     requires held { HasNode world.old.tree.forest node }
     ensures told { OnOk result (Follows world.old world.new (data_record node)) }
@@ -58,12 +58,7 @@ fn attribute_change<'a>(tree: &'a Tree<Content>, node: NodeId, name: &'a str) ->
 }
 
 // Queues a record of an attribute, which is about to change, for each observer that it interests. Records are made in the observers' own memory.
-pub(crate) fn tell_attribute(
-    world: &mut World,
-    _alloc: Global,
-    node: NodeId,
-    name: &str,
-) -> Result<(), AllocError>
+pub(crate) fn tell_attribute(world: &mut World, node: NodeId, name: &str) -> Result<(), AllocError>
     requires whole { IsWhole world.old }
     requires held { HasNode world.old.tree.forest node }
     ensures told { OnOk result (Follows world.old world.new (attribute_record node name.now)) }

@@ -38,7 +38,7 @@ pub(crate) fn replace_units(
     ensures nodes { KeepsNumbers world.old world.new }
     ensures whole { IsWhole world.new }
 {
-    tell_data(world, alloc, node)?;
+    tell_data(world, node)?;
     splice_data(&mut world.tree, alloc, node, offset, count, added)?;
     world.ranges.spliced(node, offset, count, added.len());
     Ok(())

@@ -128,7 +128,7 @@ pub fn split_checked(
     let document = document_in(&world.tree, node);
     let new = make_text(world, alloc, document, Units::new(alloc))?;
     put_behind(world, alloc, node, new)?;
-    tell_data(world, alloc, node)?;
+    tell_data(world, node)?;
     move_tail(&mut world.tree, alloc, node, offset, new)?;
     split_ends(world, node, offset, new);
     world.ranges.spliced(node, offset, count, 0);

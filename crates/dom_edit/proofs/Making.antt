@@ -8,7 +8,7 @@ use Rattle.dom_model.proofs.PlainLists.Numbers.{same_or, same, apart}
 use Rattle.dom_model.proofs.Forests.{Entries.entry_under-absent, Entries.occurs-HasNode, Totals.total-beside, Documents.HasOneDocument-new_root}
 use Rattle.dom_model.proofs.Worlds.{Measured.entry-joined, Measured.entry-beside, Measured.kind-beside, Owners.HasOwners-new_root, Owners.kind-there}
 use Rattle.dom_model.proofs.Soundness.{SoundMaking.sound-made_node, SoundWorlds.statics-kept}
-use Rattle.dom_ranges.specs.Chained.{covered_to}
+use Rattle.dom_ranges.specs.Tables.{covered_to}
 use Rattle.dom_observe.specs.{Held.NamesHeld, Watchers.Watches}
 use Rattle.dom_observe.proofs.HeldNames.{held-kept}
 use Rattle.dom_edit.specs.{declared.world.World.World, Whole.AreCovered, Whole.IsWhole, Whole.Follows, Whole.unwatched}

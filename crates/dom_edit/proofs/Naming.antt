@@ -10,7 +10,7 @@ use Rattle.dom_model.proofs.PlainLists.Numbers.{same_or, same, apart}
 use Rattle.dom_model.proofs.Forests.{Changes.seen, Changes.nothing, Changes.just, Totals.total-tree_at, Climbing.hits-ancestors, Climbing.hits-not_among, Climbing.not_among-hits, Entries.HasNode-occurs, Entries.occurs-HasNode, EachNode.EachNode-without, Documents.HasOneDocument-without, Paths.parent-path, ToTheRoot.among-top, TreeOrder.Flattened.hits-numbers}
 use Rattle.dom_model.proofs.Worlds.Owners.{EachNode-each, HasOwners-discarded, kind-there}
 use Rattle.dom_model.proofs.Soundness.{SoundForests.entry_there, SoundForests.child-fits, SoundDiscarding.sound-without}
-use Rattle.dom_ranges.specs.{Chained.uncovered, Tables.live_nodes}
+use Rattle.dom_ranges.specs.Tables.{uncovered, live_nodes}
 use Rattle.dom_observe.specs.Held.{named}
 use Rattle.dom_observe.proofs.HeldNames.{held-freed}
 use Rattle.dom_edit.specs.{declared.world.World.World, Whole.AreHeld, Whole.AreCovered, Whole.IsWhole, Whole.Keeps, Whole.unwatched, Used.named_in, Used.is_used}

@@ -5,8 +5,7 @@ use Rattle.dom_model.specs.PlainLists.Lists.{among}
 use Rattle.dom_model.specs.Forests.Forest.{Forest, inclusive_descendants}
 use Rattle.dom_model.specs.Worlds.World.{Content}
 use Rattle.dom_model.specs.MutationAlgorithms.Discarding.{nodes_of_range, nodes_of_iterator, nodes_of_walker, nodes_unless_released, is_held_outside}
-use Rattle.dom_ranges.specs.Chained.{uncovered}
-use Rattle.dom_ranges.specs.Tables.{RangeTable}
+use Rattle.dom_ranges.specs.Tables.{uncovered, RangeTable}
 use Rattle.dom_observe.specs.Held.{named}
 use Rattle.dom_edit.specs.declared.world.World.{World}
 

@@ -104,10 +104,10 @@ impl World {
         ensures whole { IsWhole self.new }
     {
         if !self.tree.is_of_kind(node, Kind::DocumentFragment) {
-            return self.enter_alone(alloc, false, node, parent, child);
+            return self.enter_alone(false, node, parent, child);
         }
         let nodes = children(&self.tree, alloc, node)?;
-        self.enter_children(alloc, false, node, parent, child, nodes.as_slice())
+        self.enter_children(false, node, parent, child, nodes.as_slice())
     }
 
     /// Inserts a node, or the children of a fragment, as [`World::insert`] does, where no end of a live range stands inside the node.
@@ -134,7 +134,7 @@ impl World {
         ensures whole { IsWhole self.new }
     {
         let incoming = entering(&self.tree, alloc, node)?;
-        self.enter_unreferred(alloc, node, parent, child, &incoming)
+        self.enter_unreferred(node, parent, child, &incoming)
     }
 
     /// Puts a node, or the children of a fragment, in as the last of a parent's children (append).
@@ -207,28 +207,16 @@ impl World {
         let following = self.tree.next(child);
         let reference = reference_child(&self.tree, node, following);
         let incoming = entering(&self.tree, alloc, node)?;
-        self.remove_node(alloc, child, true)?;
+        self.remove_node(child, true)?;
         // the checker covers no variable of this type that is passed by value twice
         let before = reference;
-        self.enter(alloc, true, node, parent, before, &incoming)?;
-        self.queue_tree_record(
-            alloc,
-            parent,
-            incoming.nodes(&node),
-            &[child],
-            previous,
-            reference,
-        )?;
+        self.enter(true, node, parent, before, &incoming)?;
+        self.queue_tree_record(parent, incoming.nodes(&node), &[child], previous, reference)?;
         Ok(())
     }
 
     /// Takes a child out of a parent, or refuses with `NotFoundError` where it does not stand under it (pre-remove).
-    pub fn remove_child(
-        &mut self,
-        alloc: Global,
-        parent: NodeId,
-        child: NodeId,
-    ) -> Result<(), Refusal>
+    pub fn remove_child(&mut self, parent: NodeId, child: NodeId) -> Result<(), Refusal>
         requires whole { IsWhole self.old }
         requires parent_held { HasNode self.old.tree.forest parent }
         requires child_held { HasNode self.old.tree.forest child }
@@ -246,14 +234,14 @@ impl World {
         if self.tree.parent(child) != Some(parent) {
             return Err(Refusal::Dom(DomError::NotFoundError));
         }
-        self.remove_node(alloc, child, false)?;
+        self.remove_node(child, false)?;
         Ok(())
     }
 
     /// Takes a node out of its parent; a root stays as it is (remove).
     ///
     /// Memory is wanted for observers alone: after an error the node has left, and some observers may not hear of it.
-    pub fn remove(&mut self, alloc: Global, node: NodeId) -> Result<(), AllocError>
+    pub fn remove(&mut self, node: NodeId) -> Result<(), AllocError>
         requires whole { IsWhole self.old }
         requires held { HasNode self.old.tree.forest node }
         ensures removed { OnOk result (Follows self.old self.new (remove false node)) }
@@ -262,7 +250,7 @@ impl World {
         ensures kept { KeepsNodes self.old self.new }
         ensures whole { IsWhole self.new }
     {
-        self.remove_node(alloc, node, false)
+        self.remove_node(node, false)
     }
 
     /// Makes a node, the children of a fragment, or nothing, all that stands under a parent (replace all).
@@ -319,16 +307,16 @@ impl World {
         let inserted = node;
         let incoming = entering_if_any(&self.tree, alloc, entered)?;
         let removed = children(&self.tree, alloc, parent)?;
-        self.remove_all(alloc, removed.as_slice())?;
-        self.insert_if_any(alloc, inserted, parent, &incoming)?;
+        self.remove_all(removed.as_slice())?;
+        self.insert_if_any(inserted, parent, &incoming)?;
         let added = nodes_if_any(&node, &incoming);
-        self.queue_replaced(alloc, parent, added, removed.as_slice())
+        self.queue_replaced(parent, added, removed.as_slice())
     }
 
     /// Takes a node out of its parent, and gives it and all that stands under it a node document (adopt).
     ///
     /// A Document is refused with `NotSupportedError`.
-    pub fn adopt(&mut self, alloc: Global, document: NodeId, node: NodeId) -> Result<(), Refusal>
+    pub fn adopt(&mut self, document: NodeId, node: NodeId) -> Result<(), Refusal>
         requires whole { IsWhole self.old }
         requires document_kind { is_of_kind Document self.old.tree.forest document ≡ true }
         requires node_held { HasNode self.old.tree.forest node }
@@ -343,7 +331,7 @@ impl World {
         if self.tree.is_of_kind(node, Kind::Document) {
             return Err(Refusal::Dom(DomError::NotSupportedError));
         }
-        self.remove_node(alloc, node, false)?;
+        self.remove_node(node, false)?;
         // nothing is to be set where the node document stays
         if self.tree.document_of(node) != document {
             self.tree.set_document(node, document);

@@ -82,7 +82,7 @@ fn previous_to(tree: &Tree<Content>, parent: NodeId, child: Option<NodeId>) -> O
 
 impl World {
     /// Takes nodes out of where they stand, one after another, with no record.
-    pub(crate) fn remove_all(&mut self, alloc: Global, nodes: &[NodeId]) -> Result<(), AllocError>
+    pub(crate) fn remove_all(&mut self, nodes: &[NodeId]) -> Result<(), AllocError>
         requires whole { IsWhole self.old }
         requires held { AreThere self.old.tree.forest nodes.now }
         ensures removed { OnOk result (Follows self.old self.new (remove_all nodes.now)) }
@@ -90,7 +90,7 @@ impl World {
         ensures whole { IsWhole self.new }
     {
         for node in nodes {
-            self.remove_node(alloc, *node, true)?;
+            self.remove_node(*node, true)?;
         }
         Ok(())
     }
@@ -112,12 +112,7 @@ impl World {
     }
 
     // Queues the record of a fragment that its children left.
-    fn queue_emptied(
-        &mut self,
-        alloc: Global,
-        node: NodeId,
-        nodes: &[NodeId],
-    ) -> Result<(), AllocError>
+    fn queue_emptied(&mut self, node: NodeId, nodes: &[NodeId]) -> Result<(), AllocError>
         requires whole { IsWhole self.old }
         requires held { HasNode self.old.tree.forest node }
         requires nodes { AreThere self.old.tree.forest nodes.now }
@@ -128,14 +123,13 @@ impl World {
         ensures kept { KeepsNodes self.old self.new }
         ensures whole { IsWhole self.new }
     {
-        self.queue_tree_record(alloc, node, &[], nodes, None, None)
+        self.queue_tree_record(node, &[], nodes, None, None)
     }
 
     // Roots come in, with a record or, where it is suppressed or nobody observes, without one.
     #[inline(always)]
     fn insert_all(
         &mut self,
-        alloc: Global,
         suppressed: bool,
         parent: NodeId,
         child: Option<NodeId>,
@@ -158,7 +152,7 @@ impl World {
         let after = child;
         let previous = previous_to(&self.tree, parent, before);
         self.place(parent, after, nodes);
-        self.queue_tree_record(alloc, parent, nodes, &[], previous, child)
+        self.queue_tree_record(parent, nodes, &[], previous, child)
     }
 
     // Room for blocks of a parent's children, where a question about them wanted it. The world stays as it is.
@@ -173,7 +167,6 @@ impl World {
     #[inline(always)]
     pub(crate) fn enter_alone(
         &mut self,
-        alloc: Global,
         suppressed: bool,
         node: NodeId,
         parent: NodeId,
@@ -190,14 +183,13 @@ impl World {
         ensures whole { IsWhole self.new }
     {
         self.make_room_for_blocks(parent)?;
-        self.remove_node(alloc, node, false)?;
-        self.insert_all(alloc, suppressed, parent, child, &[node])
+        self.remove_node(node, false)?;
+        self.insert_all(suppressed, parent, child, &[node])
     }
 
     /// Inserts a fragment, of which the list is its children, under a parent, before a child of it or last. Nothing is done where it has none.
     pub(crate) fn enter_children(
         &mut self,
-        alloc: Global,
         suppressed: bool,
         node: NodeId,
         parent: NodeId,
@@ -217,15 +209,14 @@ impl World {
             return Ok(());
         }
         self.make_room_for_blocks(parent)?;
-        self.remove_all(alloc, nodes)?;
-        self.queue_emptied(alloc, node, nodes)?;
-        self.insert_all(alloc, suppressed, parent, child, nodes)
+        self.remove_all(nodes)?;
+        self.queue_emptied(node, nodes)?;
+        self.insert_all(suppressed, parent, child, nodes)
     }
 
     // The same of a fragment inside which no live range end stands, with a record: of its children no end is asked for.
     fn enter_children_unreferred(
         &mut self,
-        alloc: Global,
         node: NodeId,
         parent: NodeId,
         child: Option<NodeId>,
@@ -247,14 +238,13 @@ impl World {
         }
         self.make_room_for_blocks(parent)?;
         self.remove_all_unreferred(node, nodes)?;
-        self.queue_emptied(alloc, node, nodes)?;
-        self.insert_all(alloc, false, parent, child, nodes)
+        self.queue_emptied(node, nodes)?;
+        self.insert_all(false, parent, child, nodes)
     }
 
     /// Inserts a node, of which it is told what comes in with it, under a parent, before a child of it or last.
     pub(crate) fn enter(
         &mut self,
-        alloc: Global,
         suppressed: bool,
         node: NodeId,
         parent: NodeId,
@@ -270,9 +260,9 @@ impl World {
         ensures whole { IsWhole self.new }
     {
         match incoming {
-            Incoming::Alone => self.enter_alone(alloc, suppressed, node, parent, child),
+            Incoming::Alone => self.enter_alone(suppressed, node, parent, child),
             Incoming::Children(nodes) => {
-                self.enter_children(alloc, suppressed, node, parent, child, nodes.as_slice())
+                self.enter_children(suppressed, node, parent, child, nodes.as_slice())
             }
         }
     }
@@ -280,7 +270,6 @@ impl World {
     /// Inserts a node inside which no live range end stands, of which it is told what comes in with it, with a record.
     pub(crate) fn enter_unreferred(
         &mut self,
-        alloc: Global,
         node: NodeId,
         parent: NodeId,
         child: Option<NodeId>,
@@ -298,9 +287,9 @@ impl World {
         ensures whole { IsWhole self.new }
     {
         match incoming {
-            Incoming::Alone => self.enter_alone(alloc, false, node, parent, child),
+            Incoming::Alone => self.enter_alone(false, node, parent, child),
             Incoming::Children(nodes) => {
-                self.enter_children_unreferred(alloc, node, parent, child, nodes.as_slice())
+                self.enter_children_unreferred(node, parent, child, nodes.as_slice())
             }
         }
     }

@@ -12,7 +12,7 @@ use crate::world::World;
 use dom_model::RecordType;
 use dom_observe::Mutation;
 use dom_tree::NodeId;
-use std::alloc::{AllocError, Global};
+use std::alloc::AllocError;
 
 impl World {
     /// Queues a record of children that came in under a node or left it, for each observer that it interests.
@@ -20,7 +20,6 @@ impl World {
     /// The lists are lent: nothing is copied where it interests nobody, and records are made in the observers' own memory. After an error some observers may have their record and others not.
     pub(crate) fn queue_tree_record<'a>(
         &mut self,
-        _alloc: Global,
         target: NodeId,
         added: &'a [NodeId],
         removed: &'a [NodeId],

@@ -20,7 +20,7 @@ use crate::world::World;
 use dom_model::RecordType;
 use dom_observe::Mutation;
 use dom_tree::{At, NodeId, Tree};
-use std::alloc::{AllocError, Global};
+use std::alloc::AllocError;
 
 // Where a child stands: under its parent, between two siblings.
 #[derive(Clone, Copy)]
@@ -147,12 +147,7 @@ impl World {
     }
 
     /// Takes a node out of its parent, with a record of it or, where it is suppressed, without one. A root stays as it is.
-    pub(crate) fn remove_node(
-        &mut self,
-        _alloc: Global,
-        node: NodeId,
-        suppressed: bool,
-    ) -> Result<(), AllocError>
+    pub(crate) fn remove_node(&mut self, node: NodeId, suppressed: bool) -> Result<(), AllocError>
         requires whole { IsWhole self.old }
         requires held { HasNode self.old.tree.forest node }
         ensures removed { OnOk result (Follows self.old self.new (remove suppressed node)) }

@@ -64,7 +64,6 @@ impl World {
     /// Inserts a node, of which it is told what comes in with it, as the last of a parent's children, with no record. Nothing is done where none is given.
     pub(crate) fn insert_if_any(
         &mut self,
-        alloc: Global,
         node: Option<NodeId>,
         parent: NodeId,
         incoming: &Incoming,
@@ -79,7 +78,7 @@ impl World {
         ensures whole { IsWhole self.new }
     {
         match node {
-            Some(node) => self.enter(alloc, true, node, parent, None, incoming),
+            Some(node) => self.enter(true, node, parent, None, incoming),
             None => Ok(()),
         }
     }
@@ -87,7 +86,6 @@ impl World {
     /// Queues a record of what replaced the children of a parent, where something came in or left.
     pub(crate) fn queue_replaced(
         &mut self,
-        alloc: Global,
         parent: NodeId,
         added: &[NodeId],
         removed: &[NodeId],
@@ -104,6 +102,6 @@ impl World {
         if added.is_empty() && removed.is_empty() {
             return Ok(());
         }
-        self.queue_tree_record(alloc, parent, added, removed, None, None)
+        self.queue_tree_record(parent, added, removed, None, None)
     }
 }

@@ -72,14 +72,13 @@ impl World {
     {
         let label = Label::nameless(Kind::Document);
         let mut world = World::empty(alloc);
-        let _ = world.make(alloc, label, Content::nothing(), None)?;
+        let _ = world.make(label, Content::nothing(), None)?;
         Ok(world)
     }
 
     /// Makes a root with no children, in the given document or, where there is none, in itself. Its number is the next one.
     pub fn make(
         &mut self,
-        alloc: Global,
         label: Label,
         content: Content,
         document: Option<NodeId>,
@@ -100,8 +99,6 @@ impl World {
         } }
         ensures whole { IsWhole self.new }
     {
-        // each call on a world takes the allocator; here the parts have it
-        let _ = alloc;
         self.ranges.cover(self.tree.made() + 1)?;
         self.tree.make(label, content, document)
     }

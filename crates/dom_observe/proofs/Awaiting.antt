@@ -121,9 +121,9 @@ insert_all-last ns [] = refl
 insert_all-last ns (m ∷ ms) = ap (λ ks. insert_all nat_eq ks ms) (insert-last ns m) ∙ insert_all-last (with_last ns m) ms
 
 -- the transient registrations of an observer end
-pub told-left : (u v : ℕ → Option Registration) (lists : List (ℕ × List ℕ)) (ls ps : List (List ℕ)) (some : List ℕ) (there : ℕ → Bool) (o : ℕ) → IsIndexed u lists ls ps some there
+pub told-left : (u v : ℕ → Option Registration) (ls ps : List (List ℕ)) (some : List ℕ) (there : ℕ → Bool) (o : ℕ) → IsIndexed u ls ps some there
     → ((k : ℕ) → v k ≡ (if among k (slice_index_or ps o []) then left_by (TransientOf o) (u k) else u k)) → (k : ℕ) → v k ≡ left_by (TransientOf o) (u k)
-told-left u v lists ls ps some there o ix left k = left k ∙ ap (λ b. if b then left_by (TransientOf o) (u k) else u k) (ix.passing o k) ∙ go (u k)
+told-left u v ls ps some there o ix left k = left k ∙ ap (λ b. if b then left_by (TransientOf o) (u k) else u k) (ix.passing o k) ∙ go (u k)
   where
     by : (r : Registration) (b : Bool) → (if b then (if not b then Some r else None) else Some r) ≡ (if not b then Some r else None)
     by r true = refl

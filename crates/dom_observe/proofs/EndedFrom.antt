@@ -4,7 +4,7 @@ use Rattle.std.specs.Option.{option_map_or}
 use Rattle.std.proofs.lemmas.{Bool.true≢false, List.take-append-drop, List.length-drop, List.Elements.filter-append}
 use Rattle.dom_model.specs.Definitions.{among, is_number, Registration}
 use Rattle.dom_model.proofs.PlainLists.Numbers.{same_or, same, apart}
-use Rattle.dom_observe.specs.{declared.registration.Ending.Ending, declared.registration.Ended.TheVariants.From, declared.registration.Lifetime.TheVariants.Passing, Registrations.is_live, Registrations.left_after, Registrations.goes, Registrations.passes_for, Registrations.origin, Registrations.origin_at, Registrations.Between, Registrations.IsFirstFrom, Registrations.IsPast}
+use Rattle.dom_observe.specs.{declared.registration.Ending.Ending, declared.registration.Ended.TheVariants.From, declared.registration.Lifetime.TheVariants.Passing, Registrations.is_live, Registrations.left_after, Registrations.passes_for, Registrations.origin, Registrations.origin_at, Registrations.Between, Registrations.IsFirstFrom, Registrations.IsPast}
 use Rattle.dom_observe.proofs.{EndedOnes.filter_all, EndedOnes.filter_none, NodeByNode.take-whole, Ordered.taken, Ordered.dropped, Turns.all_among, HeldNames.among-either}
 
 -- the transient registrations of the observer that come from the node

@@ -1,14 +1,12 @@
 -- What observers name, as their registrations and queues change.
 use Rattle.std.proofs.Common.{◌≡◌, ◌≢◌, ℕ, zero, suc, ◌<◌, ◌==◌, Bool, true, false, ◌||◌, if◌then◌else◌, List, [], ◌∷◌, ◌++◌, length, map, filter, Option, None, Some, option_map, refl, ap, sym, ◌∙◌, subst, nat_eq, unwrap_or, slice_index_or, slice_set, flat_map}
 use Rattle.std.specs.{Map.keys_of, Option.option_map_or, List.list_any, List.IsDistinct, List.AllByRecursion}
-use Rattle.std.proofs.lemmas.{Bool.true≢false, Bool.or_parts, Bool.or_from, List.Folds.list_any-append}
-use Rattle.slab.specs.Slab.{Slab}
+use Rattle.std.proofs.lemmas.{Bool.true≢false, Bool.or_parts, Bool.or_from, List.Folds.list_any-append, Map.Made.keys_of-map_values}
 use Rattle.dom_model.specs.Definitions.{among, Options, Registration, Mutation, Record, transient_of, nodes_of_registration, nodes_of_record}
 use Rattle.dom_model.proofs.PlainLists.Numbers.{Same, same_or, same, apart}
 use Rattle.dom_model.proofs.RangesAndContents.RangesElsewhere.{among-any}
-use Rattle.dom_observe.specs.declared.registration.Registration as held
-use Rattle.dom_observe.specs.{declared.registration.Ended.Ended, Keys.Keys, Watchers.Watchers, Watchers.records_at, Watchers.on, Held.named, Held.watching, Held.nodes_of_mutation, Held.NamesOnly, Held.SameObservers, Registrations.at, Registrations.listed, Registrations.spares, Registrations.left_by, Registrations.is_live, Registrations.AllLive, Registrations.StandsOn, Registrations.Added, Registrations.with_new_options, Registrations.transient_under, Kept.registered_nodes, Kept.has_queue, Kept.IsKept, Naming.names_one, Naming.NamesNone, Naming.TellsNone, Telling.delivered}
-use Rattle.dom_observe.proofs.{Asked.any-found, Finding.list_any-map, Keeping.on-registered_nodes, QueueLists.records-set, QueueLists.records-gone, QueueLists.records-stay, QueueLists.records-more, Named.any-flat, Named.none_under, Named.some_under, Named.keys-registered_nodes, Tables.all_imply, Tables.all_append, Tables.all_filter, Tables.all_at, Tables.transient_shape, Tables.alike-added}
+use Rattle.dom_observe.specs.{declared.registration.Ended.Ended, Watchers.Watchers, Watchers.records_at, Watchers.on, Held.named, Held.watching, Held.nodes_of_mutation, Held.NamesOnly, Held.SameObservers, Registrations.Registered, Registrations.at, Registrations.found, Registrations.spares, Registrations.left_by, Registrations.is_live, Registrations.AllLive, Registrations.StandsOn, Registrations.Added, Registrations.with_new_options, Registrations.transient_under, Kept.registered_nodes, Kept.has_queue, Kept.IsKept, Naming.names_one, Naming.NamesNone, Naming.TellsNone, Telling.delivered}
+use Rattle.dom_observe.proofs.{Asked.any-found, Finding.list_any-map, Keeping.on-registered_nodes, QueueLists.records-set, QueueLists.records-gone, QueueLists.records-stay, QueueLists.records-more, Named.any-flat, Named.none_under, Named.some_under, Tables.all_imply, Tables.all_append, Tables.all_filter, Tables.all_at, Tables.transient_shape, Tables.alike-added}
 
 module _ {A : Type 0} (p : A → Bool) where
   pub none_all : (xs : List A) → list_any p xs ≡ false → AllByRecursion (λ x. p x ≡ false) xs
@@ -39,27 +37,27 @@ named-parts p o =
     ∙ (λ i. list_any (λ (e : ℕ × List Registration). any-flat p nodes_of_registration e.1 i) o.nodes || list_any (λ (q : Option (List Record)). any-flat p nodes_of_record (unwrap_or q []) i) o.queues)
 
 -- What is registered on nodes, and what is under the keys that they have.
-module _ (table : Slab held.Registration) (entries : List (ℕ × Keys)) where
+module _ (reg : Registered) where
   -- no registration passes, and so none under a number does
-  pub none_under_keys : (q : Registration → Bool) → list_any (λ (e : ℕ × List Registration). list_any q e.1) (registered_nodes table entries) ≡ false
-      → (n : ℕ) → AllByRecursion (λ k. option_map_or q (at table k) false ≡ false) (on n (listed entries))
+  pub none_under_keys : (q : Registration → Bool) → list_any (λ (e : ℕ × List Registration). list_any q e.1) (registered_nodes reg) ≡ false
+      → (n : ℕ) → AllByRecursion (λ k. option_map_or q (at reg k) false ≡ false) (on n reg.lists)
   none_under_keys q none n =
-      none_all (λ k. option_map_or q (at table k) false) (on n (listed entries))
-      (any-found q (at table) (on n (listed entries)) ∙ ap (list_any q) (sym (on-registered_nodes table n entries)) ∙ some_under q n (registered_nodes table entries) none)
+      none_all (λ k. option_map_or q (at reg k) false) (on n reg.lists)
+      (any-found q (at reg) (on n reg.lists) ∙ ap (list_any q) (sym (on-registered_nodes reg n)) ∙ some_under q n (registered_nodes reg) none)
 
   -- no registration under a number passes, and so none does
-  pub none_registered : (q : Registration → Bool) → IsDistinct nat_eq (keys_of entries) → ((n : ℕ) → AllByRecursion (λ k. option_map_or q (at table k) false ≡ false) (on n (listed entries)))
-      → list_any (λ (e : ℕ × List Registration). list_any q e.1) (registered_nodes table entries) ≡ false
+  pub none_registered : (q : Registration → Bool) → IsDistinct nat_eq (keys_of reg.lists) → ((n : ℕ) → AllByRecursion (λ k. option_map_or q (at reg k) false ≡ false) (on n reg.lists))
+      → list_any (λ (e : ℕ × List Registration). list_any q e.1) (registered_nodes reg) ≡ false
   none_registered q distinct all =
-      none_under q (registered_nodes table entries) (subst (IsDistinct nat_eq) (sym (keys-registered_nodes table entries)) distinct)
-      (λ n. ap (list_any q) (on-registered_nodes table n entries) ∙ sym (any-found q (at table) (on n (listed entries))) ∙ all_none (λ k. option_map_or q (at table k) false) (on n (listed entries)) (all n))
+      none_under q (registered_nodes reg) (subst (IsDistinct nat_eq) (sym (keys_of-map_values (found reg) reg.lists)) distinct)
+      (λ n. ap (list_any q) (on-registered_nodes reg n) ∙ sym (any-found q (at reg) (on n reg.lists)) ∙ all_none (λ k. option_map_or q (at reg k) false) (on n reg.lists) (all n))
 
-module _ (table : Slab held.Registration) (entries : List (ℕ × Keys)) (queues : List (Option (List Record))) (pending : List ℕ) where
+module _ (reg : Registered) (queues : List (Option (List Record))) (pending : List ℕ) where
   abbrev shown : Watchers
-  shown = record { nodes = registered_nodes table entries; queues = queues; pending = pending }
+  shown = record { nodes = registered_nodes reg; queues = queues; pending = pending }
 
-  pub none-named : (p : ℕ → Bool) → list_any p (named (record { nodes = registered_nodes table entries; queues = queues; pending = pending })) ≡ false → NamesNone p (at table) (listed entries) × TellsNone p queues
-  none-named p none = (registered, any_tells (list_any told) queues refl (or_parts (list_any (λ (e : ℕ × List Registration). list_any one e.1) (registered_nodes table entries)) (list_any (λ (q : Option (List Record)). list_any told (unwrap_or q [])) queues) parts).1)
+  pub none-named : (p : ℕ → Bool) → list_any p (named (record { nodes = registered_nodes reg; queues = queues; pending = pending })) ≡ false → NamesNone p (at reg) reg.lists × TellsNone p queues
+  none-named p none = (registered, any_tells (list_any told) queues refl (or_parts (list_any (λ (e : ℕ × List Registration). list_any one e.1) (registered_nodes reg)) (list_any (λ (q : Option (List Record)). list_any told (unwrap_or q [])) queues) parts).1)
     where
       one : Registration → Bool
       one r = list_any p (nodes_of_registration r)
@@ -67,41 +65,41 @@ module _ (table : Slab held.Registration) (entries : List (ℕ × Keys)) (queues
       told : Record → Bool
       told r = list_any p (nodes_of_record r)
 
-      parts : (list_any (λ (e : ℕ × List Registration). list_any one e.1) (registered_nodes table entries) || list_any (λ (q : Option (List Record)). list_any told (unwrap_or q [])) queues) ≡ false
+      parts : (list_any (λ (e : ℕ × List Registration). list_any one e.1) (registered_nodes reg) || list_any (λ (q : Option (List Record)). list_any told (unwrap_or q [])) queues) ≡ false
       parts = sym (named-parts p shown) ∙ none
 
-      registered : NamesNone p (at table) (listed entries)
-      registered = none_under_keys table entries one (or_parts (list_any (λ (e : ℕ × List Registration). list_any one e.1) (registered_nodes table entries)) (list_any (λ (q : Option (List Record)). list_any told (unwrap_or q [])) queues) parts).0
+      registered : NamesNone p (at reg) reg.lists
+      registered = none_under_keys reg one (or_parts (list_any (λ (e : ℕ × List Registration). list_any one e.1) (registered_nodes reg)) (list_any (λ (q : Option (List Record)). list_any told (unwrap_or q [])) queues) parts).0
 
-  pub named-none : (p : ℕ → Bool) → IsDistinct nat_eq (keys_of entries) → NamesNone p (at table) (listed entries) → TellsNone p queues
-      → list_any p (named (record { nodes = registered_nodes table entries; queues = queues; pending = pending })) ≡ false
+  pub named-none : (p : ℕ → Bool) → IsDistinct nat_eq (keys_of reg.lists) → NamesNone p (at reg) reg.lists → TellsNone p queues
+      → list_any p (named (record { nodes = registered_nodes reg; queues = queues; pending = pending })) ≡ false
   named-none p distinct names tells =
       named-parts p shown
-      ∙ or_from (list_any (λ (e : ℕ × List Registration). list_any (λ r. list_any p (nodes_of_registration r)) e.1) (registered_nodes table entries)) (list_any (λ (q : Option (List Record)). list_any (λ r. list_any p (nodes_of_record r)) (unwrap_or q [])) queues)
-      (none_registered table entries (λ r. list_any p (nodes_of_registration r)) distinct names) (tells_any (list_any (λ r. list_any p (nodes_of_record r))) queues tells)
+      ∙ or_from (list_any (λ (e : ℕ × List Registration). list_any (λ r. list_any p (nodes_of_registration r)) e.1) (registered_nodes reg)) (list_any (λ (q : Option (List Record)). list_any (λ r. list_any p (nodes_of_record r)) (unwrap_or q [])) queues)
+      (none_registered reg (λ r. list_any p (nodes_of_registration r)) distinct names) (tells_any (list_any (λ r. list_any p (nodes_of_record r))) queues tells)
 
   all_among : (P : ℕ → Type 0) (xs : List ℕ) (i : ℕ) → AllByRecursion P xs → among i xs ≡ true → P i
   all_among P [] i h t = absurd (true≢false (sym t))
   all_among P (x ∷ xs) i h t = elim (same_or x i) [ same e u ↦ subst P e h.0 | apart ne u ↦ let k = rw u at t in all_among P xs i h.1 k ]
 
   -- whom the registrations and the pending list name is there
-  pub watching-there : IsKept table entries queues pending → (i : ℕ) → among i (watching (record { nodes = registered_nodes table entries; queues = queues; pending = pending })) ≡ true → has_queue queues i ≡ true
+  pub watching-there : IsKept reg queues pending → (i : ℕ) → among i (watching (record { nodes = registered_nodes reg; queues = queues; pending = pending })) ≡ true → has_queue queues i ≡ true
   watching-there kept i there = go (has_queue queues i) refl
     where
       seen : List ℕ
-      seen = flat_map (λ (e : ℕ × List Registration). map (λ (r : Registration). r.observer) e.1) (registered_nodes table entries)
+      seen = flat_map (λ (e : ℕ × List Registration). map (λ (r : Registration). r.observer) e.1) (registered_nodes reg)
 
-      other : has_queue queues i ≡ false → (n k : ℕ) → StandsOn (at table) (has_queue queues) n k → option_map_or (λ (r : Registration). r.observer == i) (at table k) false ≡ false
+      other : has_queue queues i ≡ false → (n k : ℕ) → StandsOn (at reg) (has_queue queues) n k → option_map_or (λ (r : Registration). r.observer == i) (at reg k) false ≡ false
       other off n k s =
           ap (λ o. option_map_or (λ (r : Registration). r.observer == i) o false) s.is
           ∙ elim (same_or s.registration.observer i) [ same e t ↦ absurd (true≢false (sym s.observer ∙ ap (has_queue queues) e ∙ off)) | apart ne t ↦ t ]
 
       unregistered : has_queue queues i ≡ false → list_any (λ m. m == i) seen ≡ false
       unregistered off =
-          any-flat (λ m. m == i) (λ (e : ℕ × List Registration). map (λ (r : Registration). r.observer) e.1) (registered_nodes table entries)
-          ∙ (λ j. list_any (λ (e : ℕ × List Registration). list_any-map (λ m. m == i) (λ (r : Registration). r.observer) e.1 j) (registered_nodes table entries))
-          ∙ none_registered table entries (λ (r : Registration). r.observer == i) kept.unique
-          (λ n. all_imply (StandsOn (at table) (has_queue queues) n) (λ k. option_map_or (λ (r : Registration). r.observer == i) (at table k) false ≡ false) (other off n) (on n (listed entries)) (kept.stand n))
+          any-flat (λ m. m == i) (λ (e : ℕ × List Registration). map (λ (r : Registration). r.observer) e.1) (registered_nodes reg)
+          ∙ (λ j. list_any (λ (e : ℕ × List Registration). list_any-map (λ m. m == i) (λ (r : Registration). r.observer) e.1 j) (registered_nodes reg))
+          ∙ none_registered reg (λ (r : Registration). r.observer == i) kept.are.unique
+          (λ n. all_imply (StandsOn (at reg) (has_queue queues) n) (λ k. option_map_or (λ (r : Registration). r.observer == i) (at reg k) false ≡ false) (other off n) (on n reg.lists) (kept.stand n))
 
       go : (b : Bool) → has_queue queues i ≡ b → b ≡ true
       go true e = refl
@@ -111,30 +109,29 @@ module _ (table : Slab held.Registration) (entries : List (ℕ × Keys)) (queues
           (among-any i pending ∙ ap (λ b. b || list_any (λ m. m == i) pending) (sym (unregistered off)) ∙ sym (list_any-append (λ m. m == i) seen pending) ∙ sym (among-any i (seen ++ pending)) ∙ there)
 
 -- A step that lets no name in but these.
-module _ (table : Slab held.Registration) (entries : List (ℕ × Keys)) (queues : List (Option (List Record))) (pending : List ℕ) (old : Watchers) (is : shown table entries queues pending ≡ old)
-    (table' : Slab held.Registration) (entries' : List (ℕ × Keys)) (queues' : List (Option (List Record))) (pending' : List ℕ)
-    (kept : IsKept table' entries' queues' pending') (these : List ℕ)
-    (lets : (p : ℕ → Bool) → list_any p these ≡ false → NamesNone p (at table) (listed entries) → TellsNone p queues → NamesNone p (at table') (listed entries') × TellsNone p queues') where
-  pub names-only : NamesOnly these old (record { nodes = registered_nodes table' entries'; queues = queues'; pending = pending' })
-  names-only = record { nodes = nodes; observers = watching-there table' entries' queues' pending' kept }
+module _ (reg : Registered) (queues : List (Option (List Record))) (pending : List ℕ) (old : Watchers) (is : shown reg queues pending ≡ old)
+    (reg' : Registered) (queues' : List (Option (List Record))) (pending' : List ℕ) (kept : IsKept reg' queues' pending') (these : List ℕ)
+    (lets : (p : ℕ → Bool) → list_any p these ≡ false → NamesNone p (at reg) reg.lists → TellsNone p queues → NamesNone p (at reg') reg'.lists × TellsNone p queues') where
+  pub names-only : NamesOnly these old (record { nodes = registered_nodes reg'; queues = queues'; pending = pending' })
+  names-only = record { nodes = nodes; observers = watching-there reg' queues' pending' kept }
     where
-      nodes : (n : ℕ) → among n (named (shown table' entries' queues' pending')) ≡ true → among n (named old ++ these) ≡ true
+      nodes : (n : ℕ) → among n (named (shown reg' queues' pending')) ≡ true → among n (named old ++ these) ≡ true
       nodes n there = go (among n (named old ++ these)) refl
         where
           go : (b : Bool) → among n (named old ++ these) ≡ b → b ≡ true
           go true e = refl
           go false e =
               let split : (list_any (λ m. m == n) (named old) || list_any (λ m. m == n) these) ≡ false = sym (list_any-append (λ m. m == n) (named old) these) ∙ sym (among-any n (named old ++ these)) ∙ e in
-              let none : list_any (λ m. m == n) (named (shown table entries queues pending)) ≡ false = ap (λ o. list_any (λ m. m == n) (named o)) is ∙ (or_parts (list_any (λ m. m == n) (named old)) (list_any (λ m. m == n) these) split).0 in
-              let before = none-named table entries queues pending (λ m. m == n) none in
+              let none : list_any (λ m. m == n) (named (shown reg queues pending)) ≡ false = ap (λ o. list_any (λ m. m == n) (named o)) is ∙ (or_parts (list_any (λ m. m == n) (named old)) (list_any (λ m. m == n) these) split).0 in
+              let before = none-named reg queues pending (λ m. m == n) none in
               let after = lets (λ m. m == n) (or_parts (list_any (λ m. m == n) (named old)) (list_any (λ m. m == n) these) split).1 before.0 before.1 in
-              absurd (true≢false (sym there ∙ among-any n (named (shown table' entries' queues' pending')) ∙ named-none table' entries' queues' pending' (λ m. m == n) kept.unique after.0 after.1))
+              absurd (true≢false (sym there ∙ among-any n (named (shown reg' queues' pending')) ∙ named-none reg' queues' pending' (λ m. m == n) kept.are.unique after.0 after.1))
 
 -- nothing changes
-pub names-same : (table : Slab held.Registration) (entries : List (ℕ × Keys)) (queues : List (Option (List Record))) (pending : List ℕ) → IsKept table entries queues pending
-    → (old : Watchers) → record { nodes = registered_nodes table entries; queues = queues; pending = pending } ≡ old → (these : List ℕ) → NamesOnly these old old
-names-same table entries queues pending kept old is these =
-    subst (NamesOnly these old) is (names-only table entries queues pending old is table entries queues pending kept these (λ p _ names tells. (names, tells)))
+pub names-same : (reg : Registered) (queues : List (Option (List Record))) (pending : List ℕ) → IsKept reg queues pending
+    → (old : Watchers) → record { nodes = registered_nodes reg; queues = queues; pending = pending } ≡ old → (these : List ℕ) → NamesOnly these old old
+names-same reg queues pending kept old is these =
+    subst (NamesOnly these old) is (names-only reg queues pending old is reg queues pending kept these (λ p _ names tells. (names, tells)))
 
 -- the same queues are of the same observers
 pub same-queues : (old new : Watchers) → new.queues ≡ old.queues → SameObservers old new

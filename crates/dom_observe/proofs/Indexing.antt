@@ -4,14 +4,12 @@ use Rattle.std.specs.{Option.option_map_or, List.AllByRecursion}
 use Rattle.std.proofs.lemmas.{Bool.true≢false, List.get_or-set_same, List.get_or-set_other}
 use Rattle.dom_model.specs.Definitions.{hits, among, with_last, Options, Registration, transient_of}
 use Rattle.dom_model.proofs.PlainLists.Numbers.{same_or, same, apart}
-use Rattle.dom_observe.specs.{declared.registration.Ended.Ended, declared.registration.Ended.TheVariants.Transient, declared.registration.Ended.TheVariants.Of, declared.registration.Ended.TheVariants.From, Registrations.is_live, Registrations.left_by, Registrations.lasts_for, Registrations.passes_for, Registrations.Placed, Registrations.Owned, Registrations.Stands, Registrations.Added, Registrations.NewKey, Registrations.origin, Registrations.transient_under, Registrations.with_new_options, Registrations.ByOrigin, Registrations.IsPast, Kept.AllThere, Kept.PlacedOnce, Kept.IsIndexed}
-use Rattle.dom_observe.proofs.{EndedOnes.stays_by, EndedOnes.stays_off, EndedOnes.stays-or-gone, EndedOnes.either_by, Hearing.stay-last, Hearing.there-last, Owning.lasting-kind, Owning.passing-kind, Owning.not_both, Owning.not_both2, Owning.owned-ended, Owning.owned-other, Owning.owned-new, Owning.owned-beside, Owning.owned-changed, Owning.placed-added, Owning.placed-changed, Owning.left-from, KeysOnce.once-set, KeysOnce.once-new, KeysOnce.once-ended, KeysOnce.placed_once-added, Ordered.ordered-filter, Ordered.ordered-set, Ordered.ordered-new, Ordered.ordered-beside, Ordered.ordered-ended, Ordered.ordered-changed, Queued.not_before, Tables.all_at, Tables.all_imply, Tables.transient_shape}
+use Rattle.dom_observe.specs.{declared.registration.Ended.Ended, declared.registration.Ended.TheVariants.Transient, declared.registration.Ended.TheVariants.Of, declared.registration.Ended.TheVariants.From, Registrations.is_live, Registrations.left_by, Registrations.lasts_for, Registrations.passes_for, Registrations.Owned, Registrations.Stands, Registrations.NewKey, Registrations.origin, Registrations.transient_under, Registrations.with_new_options, Registrations.ByOrigin, Registrations.IsPast, Kept.AllThere, Kept.IsIndexed}
+use Rattle.dom_observe.proofs.{EndedOnes.stays_by, EndedOnes.stays_off, EndedOnes.stays-or-gone, EndedOnes.either_by, Hearing.stay-last, Hearing.there-last, Owning.lasting-kind, Owning.passing-kind, Owning.not_both, Owning.not_both2, Owning.owned-ended, Owning.owned-other, Owning.owned-new, Owning.owned-beside, Owning.owned-changed, Owning.left-from, KeysOnce.once-set, KeysOnce.once-new, KeysOnce.once-ended, Ordered.ordered-filter, Ordered.ordered-set, Ordered.ordered-new, Ordered.ordered-beside, Ordered.ordered-ended, Ordered.ordered-changed, Queued.not_before, Tables.all_at, Tables.all_imply, Tables.transient_shape}
 
 -- one more observer may have transient registrations
-pub indexed-pended : (u : ℕ → Option Registration) (lists : List (ℕ × List ℕ)) (ls ps : List (List ℕ)) (some : List ℕ) (there : ℕ → Bool) (o : ℕ) → there o ≡ true → IsIndexed u lists ls ps some there → IsIndexed u lists ls ps (with_last some o) there
-indexed-pended u lists ls ps some there o held_there ix = record {
-  placed = ix.placed;
-  placed_once = ix.placed_once;
+pub indexed-pended : (u : ℕ → Option Registration) (ls ps : List (List ℕ)) (some : List ℕ) (there : ℕ → Bool) (o : ℕ) → there o ≡ true → IsIndexed u ls ps some there → IsIndexed u ls ps (with_last some o) there
+indexed-pended u ls ps some there o held_there ix = record {
   lasting = ix.lasting;
   passing = ix.passing;
   lasting_once = ix.lasting_once;
@@ -21,13 +19,11 @@ indexed-pended u lists ls ps some there o held_there ix = record {
   known = there-last there o some ix.known held_there;
 }
 
-module _ (u : ℕ → Option Registration) (lists : List (ℕ × List ℕ)) (r : Registration) (v : ℕ → Option Registration) (lists' : List (ℕ × List ℕ)) (a : Added u lists r v lists')
-    (place : ℕ) (keys keys' : List ℕ) (key : NewKey u r v place keys keys') (ls ps : List (List ℕ)) (some : List ℕ) (there : ℕ → Bool) (ix : IsIndexed u lists ls ps some there) where
+module _ (u : ℕ → Option Registration) (r : Registration) (v : ℕ → Option Registration) (place : ℕ) (keys keys' : List ℕ) (key : NewKey u r v place keys keys') (ls ps : List (List ℕ)) (some : List ℕ) (there : ℕ → Bool)
+    (ix : IsIndexed u ls ps some there) where
   -- a transient registration comes in
-  pub indexed-transient : is_some r.source ≡ true → (ps' : List (List ℕ)) → r.observer < length ps → keys ≡ slice_index_or ps r.observer [] → ps' ≡ slice_set ps r.observer keys' → among r.observer some ≡ true → (ByOrigin u keys → IsPast u (origin r) keys place) → IsIndexed v lists' ls ps' some there
+  pub indexed-transient : is_some r.source ≡ true → (ps' : List (List ℕ)) → r.observer < length ps → keys ≡ slice_index_or ps r.observer [] → ps' ≡ slice_set ps r.observer keys' → among r.observer some ≡ true → (ByOrigin u keys → IsPast u (origin r) keys place) → IsIndexed v ls ps' some there
   indexed-transient source ps' lt had set in_some past = record {
-    placed = placed-added u lists r v lists' a ix.placed;
-    placed_once = placed_once-added u lists r v lists' a ix.placed ix.placed_once;
     lasting = owned-beside u v r place keys keys' key lasts_for (λ j. refl) (λ j. off (r.observer == j) r.source source) ls ix.lasting;
     passing = owned-new u v r place keys keys' key passes_for passing-kind (λ j. on_its (r.observer == j) r.source source) ps ps' lt had set ix.passing;
     lasting_once = ix.lasting_once;
@@ -51,10 +47,8 @@ module _ (u : ℕ → Option Registration) (lists : List (ℕ × List ℕ)) (r :
       on_its false (Some n) h = refl
 
   -- a lasting one comes in
-  pub indexed-lasting : r.source ≡ None → (ls' : List (List ℕ)) → r.observer < length ls → keys ≡ slice_index_or ls r.observer [] → ls' ≡ slice_set ls r.observer keys' → IsIndexed v lists' ls' ps some there
+  pub indexed-lasting : r.source ≡ None → (ls' : List (List ℕ)) → r.observer < length ls → keys ≡ slice_index_or ls r.observer [] → ls' ≡ slice_set ls r.observer keys' → IsIndexed v ls' ps some there
   indexed-lasting source ls' lt had set = record {
-    placed = placed-added u lists r v lists' a ix.placed;
-    placed_once = placed_once-added u lists r v lists' a ix.placed ix.placed_once;
     lasting = owned-new u v r place keys keys' key lasts_for lasting-kind (λ j. ap (λ s. (r.observer == j) && is_none s) source ∙ on_its (r.observer == j)) ls ls' lt had set ix.lasting;
     passing = owned-beside u v r place keys keys' key passes_for (λ j. refl) (λ j. ap (λ s. (r.observer == j) && is_some s) source ∙ off (r.observer == j)) ps ix.passing;
     lasting_once = once-new u v r place keys keys' key lasts_for (λ j. refl) ls ls' lt had set ix.lasting ix.lasting_once;
@@ -73,15 +67,13 @@ module _ (u : ℕ → Option Registration) (lists : List (ℕ × List ℕ)) (r :
       on_its false = refl
 
 -- Registrations of an observer end, of those that last or of the transient ones.
-module _ (u v : ℕ → Option Registration) (lists lists' : List (ℕ × List ℕ)) (ls ps : List (List ℕ)) (some : List ℕ) (there : ℕ → Bool) (o : ℕ) (ended : Ended) (ix : IsIndexed u lists ls ps some there) (placed : Placed v lists') (placed_once : PlacedOnce lists') where
+module _ (u v : ℕ → Option Registration) (ls ps : List (List ℕ)) (some : List ℕ) (there : ℕ → Bool) (o : ℕ) (ended : Ended) (ix : IsIndexed u ls ps some there) where
   pub indexed-lasting_ended : (ls' : List (List ℕ)) → o < length ls → ((k : ℕ) → v k ≡ (if among k (slice_index_or ls o []) then left_by ended (u k) else u k))
-      → ls' ≡ slice_set ls o (filter (is_live v) (slice_index_or ls o [])) → IsIndexed v lists' ls' ps some there
+      → ls' ≡ slice_set ls o (filter (is_live v) (slice_index_or ls o [])) → IsIndexed v ls' ps some there
   indexed-lasting_ended ls' lt left set =
       let either = stays_by u v (slice_index_or ls o []) ended left in
       let owned_passing = owned-other lasts_for lasting-kind u v ls o ix.lasting either (stays_off u v (slice_index_or ls o []) ended left) passes_for (λ j. refl) (not_both o) ps ix.passing in
       record {
-        placed = placed;
-        placed_once = placed_once;
         lasting = owned-ended lasts_for lasting-kind u v ls o ix.lasting (stays_by u v (slice_index_or ls o []) ended left) (stays_off u v (slice_index_or ls o []) ended left) ls' lt set;
         passing = owned_passing;
         lasting_once = once-ended ls ls' o (is_live v) lt set ix.lasting_once;
@@ -92,13 +84,11 @@ module _ (u v : ℕ → Option Registration) (lists lists' : List (ℕ × List �
       }
 
   pub indexed-passing_ended : (ps' : List (List ℕ)) → o < length ps → ((k : ℕ) → v k ≡ (if among k (slice_index_or ps o []) then left_by ended (u k) else u k))
-      → ps' ≡ slice_set ps o (filter (is_live v) (slice_index_or ps o [])) → IsIndexed v lists' ls ps' some there
+      → ps' ≡ slice_set ps o (filter (is_live v) (slice_index_or ps o [])) → IsIndexed v ls ps' some there
   indexed-passing_ended ps' lt left set =
       let keys = filter (is_live v) (slice_index_or ps o []) in
       let owned_passing = owned-ended passes_for passing-kind u v ps o ix.passing (stays_by u v (slice_index_or ps o []) ended left) (stays_off u v (slice_index_or ps o []) ended left) ps' lt set in
       record {
-        placed = placed;
-        placed_once = placed_once;
         lasting = owned-other passes_for passing-kind u v ps o ix.passing (stays_by u v (slice_index_or ps o []) ended left) (stays_off u v (slice_index_or ps o []) ended left) lasts_for (λ j. refl) (not_both2 o) ls ix.lasting;
         passing = owned_passing;
         lasting_once = ix.lasting_once;
@@ -152,8 +142,8 @@ module _ (o : ℕ) (t : Registration → Bool) where
         ap (among k) (get_or-set_other lists o i [] [] ne) ∙ owned i k ∙ sym (ap (its i) (left k) ∙ others-stay i ne (u k))
   ]
 
-module _ (u v : ℕ → Option Registration) (lists lists' : List (ℕ × List ℕ)) (ls ps : List (List ℕ)) (some : List ℕ) (there : ℕ → Bool) (o : ℕ) (ix : IsIndexed u lists ls ps some there)
-    (within1 : o < length ls) (within2 : o < length ps) (placed : Placed v lists') (placed_once : PlacedOnce lists') (left : (k : ℕ) → v k ≡ left_by (Of o) (u k)) where
+module _ (u v : ℕ → Option Registration) (ls ps : List (List ℕ)) (some : List ℕ) (there : ℕ → Bool) (o : ℕ) (ix : IsIndexed u ls ps some there)
+    (within1 : o < length ls) (within2 : o < length ps) (left : (k : ℕ) → v k ≡ left_by (Of o) (u k)) where
   none_left : (p : ℕ) → slice_index_or ps p [] ≡ [] → slice_index_or (slice_set ps o []) p [] ≡ []
   none_left p none = elim (same_or p o) [
     | same e t ↦ ap (λ q. slice_index_or (slice_set ps o []) q []) e ∙ get_or-set_same ps o [] [] within2
@@ -161,12 +151,10 @@ module _ (u v : ℕ → Option Registration) (lists lists' : List (ℕ × List �
   ]
 
   -- those that are left have transient ones only where they had, and are there by another test
-  pub indexed-left : (some' : List ℕ) (there' : ℕ → Bool) → ((p : ℕ) → among p some' ≡ false → (p ≡ o) ⊎ (among p some ≡ false)) → AllThere there' some' → IsIndexed v lists' (slice_set ls o []) (slice_set ps o []) some' there'
+  pub indexed-left : (some' : List ℕ) (there' : ℕ → Bool) → ((p : ℕ) → among p some' ≡ false → (p ≡ o) ⊎ (among p some ≡ false)) → AllThere there' some' → IsIndexed v (slice_set ls o []) (slice_set ps o []) some' there'
   indexed-left some' there' out known =
       let owned_passing = owned-left o (λ (r : Registration). is_some r.source) u v ps within2 left ix.passing in
       record {
-        placed = placed;
-        placed_once = placed_once;
         lasting = owned-left o (λ (r : Registration). is_none r.source) u v ls within1 left ix.lasting;
         passing = owned_passing;
         lasting_once = once-set ls (slice_set ls o []) o [] within1 refl (λ k. omega arith) ix.lasting_once;
@@ -181,16 +169,14 @@ module _ (u v : ℕ → Option Registration) (lists lists' : List (ℕ × List �
       go p (inr off) = none_left p (ix.fleeting p off)
 
 -- the transient registrations from a node end
-pub from-left : (u v : ℕ → Option Registration) (lists : List (ℕ × List ℕ)) (ls ps : List (List ℕ)) (some : List ℕ) (there : ℕ → Bool) (o node : ℕ) → IsIndexed u lists ls ps some there
+pub from-left : (u v : ℕ → Option Registration) (ls ps : List (List ℕ)) (some : List ℕ) (there : ℕ → Bool) (o node : ℕ) → IsIndexed u ls ps some there
     → ((k : ℕ) → v k ≡ (if among k (slice_index_or ps o []) then left_by (From o node) (u k) else u k)) → (k : ℕ) → v k ≡ left_by (From o node) (u k)
-from-left u v lists ls ps some there o node ix left k = left k ∙ ap (λ b. if b then left_by (From o node) (u k) else u k) (ix.passing o k) ∙ left-from o node (u k)
+from-left u v ls ps some there o node ix left k = left k ∙ ap (λ b. if b then left_by (From o node) (u k) else u k) (ix.passing o k) ∙ left-from o node (u k)
 
 -- a registration gets other options
-pub indexed-changed : (u v : ℕ → Option Registration) (lists : List (ℕ × List ℕ)) (ls ps : List (List ℕ)) (some : List ℕ) (there : ℕ → Bool) (key : ℕ) (options : Options) → v key ≡ option_map (with_new_options options) (u key) → ((k : ℕ) → k ≢ key → v k ≡ u k)
-    → IsIndexed u lists ls ps some there → IsIndexed v lists ls ps some there
-indexed-changed u v lists ls ps some there key options changed others ix = record {
-  placed = placed-changed u v key options changed others lists ix.placed;
-  placed_once = ix.placed_once;
+pub indexed-changed : (u v : ℕ → Option Registration) (ls ps : List (List ℕ)) (some : List ℕ) (there : ℕ → Bool) (key : ℕ) (options : Options) → v key ≡ option_map (with_new_options options) (u key) → ((k : ℕ) → k ≢ key → v k ≡ u k)
+    → IsIndexed u ls ps some there → IsIndexed v ls ps some there
+indexed-changed u v ls ps some there key options changed others ix = record {
   lasting = owned-changed u v key options changed others lasts_for lasting-kind ls ix.lasting;
   passing = owned-changed u v key options changed others passes_for passing-kind ps ix.passing;
   lasting_once = ix.lasting_once;
@@ -201,12 +187,10 @@ indexed-changed u v lists ls ps some there key options changed others ix = recor
 }
 
 -- as many observers at least are there, and each has the keys that it had
-pub indexed-alike : (u : ℕ → Option Registration) (lists : List (ℕ × List ℕ)) (ls ls' ps ps' : List (List ℕ)) (some : List ℕ) (there there' : ℕ → Bool)
+pub indexed-alike : (u : ℕ → Option Registration) (ls ls' ps ps' : List (List ℕ)) (some : List ℕ) (there there' : ℕ → Bool)
     → ((i : ℕ) → slice_index_or ls' i [] ≡ slice_index_or ls i []) → ((i : ℕ) → slice_index_or ps' i [] ≡ slice_index_or ps i []) → ((i : ℕ) → there i ≡ true → there' i ≡ true)
-    → IsIndexed u lists ls ps some there → IsIndexed u lists ls' ps' some there'
-indexed-alike u lists ls ls' ps ps' some there there' same1 same2 more ix = record {
-  placed = ix.placed;
-  placed_once = ix.placed_once;
+    → IsIndexed u ls ps some there → IsIndexed u ls' ps' some there'
+indexed-alike u ls ls' ps ps' some there there' same1 same2 more ix = record {
   lasting = λ i k. ap (among k) (same1 i) ∙ ix.lasting i k;
   passing = λ i k. ap (among k) (same2 i) ∙ ix.passing i k;
   lasting_once = λ i k. subst (λ keys. hits k keys ≤ 1) (sym (same1 i)) (ix.lasting_once i k);
@@ -217,11 +201,9 @@ indexed-alike u lists ls ls' ps ps' some there there' same1 same2 more ix = reco
 }
 
 -- everybody is notified
-pub indexed-notified : (u v : ℕ → Option Registration) (lists lists' : List (ℕ × List ℕ)) (ls ps ps' : List (List ℕ)) (some some' : List ℕ) (there : ℕ → Bool) → IsIndexed u lists ls ps some there → Placed v lists' → PlacedOnce lists' → ((k : ℕ) → v k ≡ left_by Transient (u k))
-    → Owned passes_for v ps' → ((o : ℕ) → slice_index_or ps' o [] ≡ []) → some' ≡ [] → IsIndexed v lists' ls ps' some' there
-indexed-notified u v lists lists' ls ps ps' some some' there ix placed placed_once left owned none gone = record {
-  placed = placed;
-  placed_once = placed_once;
+pub indexed-notified : (u v : ℕ → Option Registration) (ls ps ps' : List (List ℕ)) (some some' : List ℕ) (there : ℕ → Bool) → IsIndexed u ls ps some there → ((k : ℕ) → v k ≡ left_by Transient (u k))
+    → Owned passes_for v ps' → ((o : ℕ) → slice_index_or ps' o [] ≡ []) → some' ≡ [] → IsIndexed v ls ps' some' there
+indexed-notified u v ls ps ps' some some' there ix left owned none gone = record {
   lasting = λ i k. ix.lasting i k ∙ sym (ap (lasts_for i) (left k) ∙ stays i (u k));
   passing = owned;
   lasting_once = ix.lasting_once;

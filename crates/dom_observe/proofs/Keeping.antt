@@ -1,12 +1,10 @@
 -- What the code keeps goes with its steps.
-use Rattle.std.proofs.Common.{◌≡◌, ℕ, zero, suc, ◌==◌, Bool, true, false, if◌then◌else◌, List, [], ◌∷◌, ◌++◌, length, map, filter, Option, None, Some, refl, ap, sym, ◌∙◌, subst, cond, nat_eq, slice_index_or, slice_set, filter_map, flat_map, is_some}
-use Rattle.std.specs.{Map.keys_of, Map.lookup, List.IsDistinct, List.AllByRecursion, List.cons_option, Option.option_map_or}
+use Rattle.std.proofs.Common.{arith, ◌≡◌, ℕ, zero, suc, ◌==◌, Bool, true, false, if◌then◌else◌, List, [], ◌∷◌, ◌++◌, length, map, filter, Option, None, Some, refl, ap, sym, ◌∙◌, subst, cond, nat_eq, slice_index_or, slice_set, filter_map, flat_map, is_some}
+use Rattle.std.specs.{Map.lookup, List.AllByRecursion, List.cons_option, Option.option_map_or}
 use Rattle.std.proofs.lemmas.{List.Elements.filter_map-append, List.Elements.filter-append, Bool.true≢false}
-use Rattle.slab.specs.Slab.{Slab}
 use Rattle.dom_model.specs.Definitions.{Registration, registered_on, Record}
 use Rattle.dom_model.proofs.PlainLists.Numbers.{same_or, same, apart}
-use Rattle.dom_observe.specs.declared.registration.Registration as held
-use Rattle.dom_observe.specs.{declared.registration.Ended.Ended, Once.once, Keys.Keys, Watchers.on, Registrations.at, Registrations.found, Registrations.listed, Registrations.spares, Registrations.left_by, Registrations.is_live, Registrations.Stands, Registrations.StandsOn, Registrations.AllStand, Registrations.HaveKeys, Registrations.deep_at, Kept.registered_nodes, Kept.has_queue, Kept.IsKept}
+use Rattle.dom_observe.specs.{declared.registration.Ended.Ended, Once.once, Watchers.on, Registrations.Registered, Registrations.at, Registrations.found, Registrations.spares, Registrations.left_by, Registrations.is_live, Registrations.Stands, Registrations.StandsOn, Registrations.AllStand, Registrations.HaveKeys, Registrations.deep_at, Kept.registered_nodes, Kept.has_queue, Kept.AreRegistered, Kept.IsKept}
 use Rattle.dom_observe.proofs.{Once.once-none, QueueLists.has-more, QueueLists.has-set, Tables.all_imply, Tables.all_append, Tables.all_filter}
 
 -- what a function makes of each list, and of no list nothing
@@ -18,8 +16,8 @@ on-map f nothing n (e ∷ es) = go (n == e.0) (on-map f nothing n es)
     go true i = refl
     go false i = i
 
-pub on-registered_nodes : (table : Slab held.Registration) (n : ℕ) (es : List (ℕ × Keys)) → on n (registered_nodes table es) ≡ found table (on n (listed es))
-on-registered_nodes table n es = on-map (found table) refl n (listed es)
+pub on-registered_nodes : (r : Registered) (n : ℕ) → on n (registered_nodes r) ≡ found r (on n r.lists)
+on-registered_nodes r n = on-map (found r) refl n r.lists
 
 -- as many observers at least are there
 pub stand-alike : (u : ℕ → Option Registration) (there there' : ℕ → Bool) (lists : List (ℕ × List ℕ)) → ((o : ℕ) → there o ≡ true → there' o ≡ true) → AllStand u there lists → AllStand u there' lists
@@ -27,26 +25,24 @@ stand-alike u there there' lists more all n =
     all_imply (StandsOn u there n) (StandsOn u there' n)
     (λ k s. record { registration = s.registration; is = s.is; observer = more s.registration.observer s.observer; node = s.node }) (on n lists) (all n)
 
-module _ (table : Slab held.Registration) (entries : List (ℕ × Keys)) (queues : List (Option (List Record))) (pending : List ℕ)
-    (kept : IsKept table entries queues pending) where
+module _ (r : Registered) (queues : List (Option (List Record))) (pending : List ℕ) (kept : IsKept r queues pending) where
   -- other queues: of as many observers at least
-  pub kept_queues : (queues' : List (Option (List Record))) → ((o : ℕ) → has_queue queues o ≡ true → has_queue queues' o ≡ true) → IsKept table entries queues' pending
+  pub kept_queues : (queues' : List (Option (List Record))) → ((o : ℕ) → has_queue queues o ≡ true → has_queue queues' o ≡ true) → IsKept r queues' pending
   kept_queues queues' more = record {
-    unique = kept.unique;
-    stand = stand-alike (at table) (has_queue queues) (has_queue queues') (listed entries) more kept.stand;
-    full = kept.full;
+    are = kept.are;
+    stand = stand-alike (at r) (has_queue queues) (has_queue queues') r.lists more kept.stand;
     there = all_imply (λ o. has_queue queues o ≡ true) (λ o. has_queue queues' o ≡ true) more pending kept.there;
   }
 
-  pub kept-made : IsKept table entries (queues ++ Some [] ∷ []) pending
+  pub kept-made : IsKept r (queues ++ Some [] ∷ []) pending
   kept-made = kept_queues (queues ++ Some [] ∷ []) (has-more queues)
 
-  pub kept-emptied : (i : ℕ) → has_queue queues i ≡ true → IsKept table entries (slice_set queues i (Some [])) pending
+  pub kept-emptied : (i : ℕ) → has_queue queues i ≡ true → IsKept r (slice_set queues i (Some [])) pending
   kept-emptied i there = kept_queues (slice_set queues i (Some [])) (λ o held_there. has-set queues i there [] o ∙ held_there)
 
-  -- another table
-  pub kept_table : (table' : Slab held.Registration) (entries' : List (ℕ × Keys)) → IsDistinct nat_eq (keys_of entries') → AllStand (at table') (has_queue queues) (listed entries') → HaveKeys (listed entries') → IsKept table' entries' queues pending
-  kept_table table' entries' unique stand full = record { unique = unique; stand = stand; full = full; there = kept.there }
+  -- other registrations
+  pub kept-others : (r' : Registered) → AreRegistered r' → AllStand (at r') (has_queue queues) r'.lists → IsKept r' queues pending
+  kept-others r' are stand = record { are = are; stand = stand; there = kept.there }
 
 -- a step ends registrations, and the keys under which nothing is left go
 module _ (u v : ℕ → Option Registration) (ended : Ended) (lists lists' : List (ℕ × List ℕ))
@@ -124,24 +120,30 @@ nobody rs h = go rs (λ n. once-none (registered_on n rs) (h n))
           | apart ne t ↦ absurd (ne refl)
         ]
 
--- where no node has a registration, none is listed
-pub none_listed : (table : Slab held.Registration) (entries : List (ℕ × Keys)) (there : ℕ → Bool) → AllStand (at table) there (listed entries) → HaveKeys (listed entries)
-    → ((n : ℕ) → on n (registered_nodes table entries) ≡ []) → length entries ≡ 0
-none_listed table [] there stand full none = refl
-none_listed table (e ∷ es) there stand full none = absurd (go e.1.items refl)
+pub none_in : (r : Registered) → (length r.lists == 0) ≡ true → (rs : List Registration) → ((n : ℕ) → on n (registered_nodes r) ≡ once (registered_on n rs)) → rs ≡ []
+none_in r empty rs shown = nobody rs (λ n. sym (shown n) ∙ on-registered_nodes r n ∙ ap (filter_map (at r)) (bare r.lists empty n))
   where
-    first : lookup (nat_eq e.0) (listed (e ∷ es)) ≡ Some e.1.items
+    bare : (lists : List (ℕ × List ℕ)) → (length lists == 0) ≡ true → (n : ℕ) → on n lists ≡ []
+    bare [] e n = refl
+    bare (l ∷ lists) e n = elim (same_or (length (l ∷ lists)) 0) [ same d t ↦ absurd (omega (arith, d)) | apart ne t ↦ absurd (true≢false (sym e ∙ t)) ]
+
+-- where no node has a registration, none is listed
+pub none_listed : (u : ℕ → Option Registration) (lists : List (ℕ × List ℕ)) (there : ℕ → Bool) → AllStand u there lists → HaveKeys lists → ((n : ℕ) → filter_map u (on n lists) ≡ []) → length lists ≡ 0
+none_listed u [] there stand full none = refl
+none_listed u (e ∷ es) there stand full none = absurd (go e.1 refl)
+  where
+    first : lookup (nat_eq e.0) (e ∷ es) ≡ Some e.1
     first = elim (same_or e.0 e.0) [ same d t ↦ rw t refl | apart ne t ↦ absurd (ne refl) ]
 
-    here : on e.0 (listed (e ∷ es)) ≡ e.1.items
+    here : on e.0 (e ∷ es) ≡ e.1
     here = elim (same_or e.0 e.0) [ same d t ↦ rw t refl | apart ne t ↦ absurd (ne refl) ]
 
-    go : (keys : List ℕ) → e.1.items ≡ keys → ⊥
-    go [] is = full e.0 e.1.items first is
+    go : (keys : List ℕ) → e.1 ≡ keys → ⊥
+    go [] is = full e.0 e.1 first is
     go (k ∷ keys) is =
-        let all = subst (AllByRecursion (StandsOn (at table) there e.0)) (here ∙ is) (stand e.0) in
-        let gone : filter_map (at table) (k ∷ keys) ≡ [] = ap (filter_map (at table)) (sym (here ∙ is)) ∙ sym (on-registered_nodes table e.0 (e ∷ es)) ∙ none e.0 in
-        let some : all.0.registration ∷ filter_map (at table) keys ≡ [] = ap (λ o. cons_option o (filter_map (at table) keys)) (sym all.0.is) ∙ gone in
+        let all = subst (AllByRecursion (StandsOn u there e.0)) (here ∙ is) (stand e.0) in
+        let gone : filter_map u (k ∷ keys) ≡ [] = ap (filter_map u) (sym (here ∙ is)) ∙ none e.0 in
+        let some : all.0.registration ∷ filter_map u keys ≡ [] = ap (λ o. cons_option o (filter_map u keys)) (sym all.0.is) ∙ gone in
         cc some
 
 -- those with subtree

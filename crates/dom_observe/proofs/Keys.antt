@@ -4,7 +4,7 @@ use Rattle.std.specs.Map.{lookup, set_value, keys_of}
 use Rattle.indexmap.specs.IndexMap.{insert_entry}
 use Rattle.dom_model.specs.Definitions.{among}
 use Rattle.dom_model.proofs.PlainLists.Numbers.{Same, same_or, same, apart}
-use Rattle.dom_observe.specs.{Keys.Keys, Watchers.on, Registrations.listed, Registrations.HaveKeys}
+use Rattle.dom_observe.specs.{Keys.Keys, Watchers.on, Registrations.listed, Registrations.HaveKeys, Registrations.KeysLeft}
 
 -- a look-up finds what is among the numbers
 pub some-lookup : {A : Type 0} (n : ℕ) (es : List (ℕ × A)) → is_some (lookup (nat_eq n) es) ≡ among n (keys_of es)
@@ -139,40 +139,57 @@ some_key (x ∷ xs) ys key e none = let k : x ∷ (xs ++ key ∷ []) ≡ [] = sy
 
 -- keys are taken out of those of a node, which stays listed
 module _ (k : ℕ) (stays : ℕ → Bool) (es : List (ℕ × Keys)) (v w : Keys) (there : lookup (nat_eq k) es ≡ Some v) (taken : w.items ≡ filter stays v.items) where
-  pub taken-on : (n : ℕ) → on n (listed (set_value (nat_eq k) es w)) ≡ (if n == k then filter stays (on n (listed es)) else on n (listed es))
+  taken-on : (n : ℕ) → on n (listed (set_value (nat_eq k) es w)) ≡ (if n == k then filter stays (on n (listed es)) else on n (listed es))
   taken-on n = on-looked n (listed (set_value (nat_eq k) es w)) ∙ ap keys_in (looked-set n k es v w there) ∙ go (same_or n k)
     where
       go : Same n k → keys_in (if n == k then Some w.items else lookup (nat_eq n) (listed es)) ≡ (if n == k then filter stays (on n (listed es)) else on n (listed es))
       go (same e t) = rw t (taken ∙ sym (ap (filter stays) (ap (λ m. on m (listed es)) e ∙ on-lookup k es ∙ ap items_in there)))
       go (apart ne t) = rw t (sym (on-looked n (listed es)))
 
-  pub taken-others : (n : ℕ) → (n ≡ k → ⊥) → lookup (nat_eq n) (listed (set_value (nat_eq k) es w)) ≡ lookup (nat_eq n) (listed es)
+  taken-others : (n : ℕ) → (n ≡ k → ⊥) → lookup (nat_eq n) (listed (set_value (nat_eq k) es w)) ≡ lookup (nat_eq n) (listed es)
   taken-others n ne = looked-set n k es v w there ∙ elim (same_or n k) [ same e t ↦ absurd (ne e) | apart _ t ↦ rw t refl ]
 
   self_looked : lookup (nat_eq k) (listed (set_value (nat_eq k) es w)) ≡ Some w.items
   self_looked = looked-set k k es v w there ∙ elim (same_or k k) [ same e t ↦ rw t refl | apart ne t ↦ absurd (ne refl) ]
 
-  pub taken-bare : (length w.items == 0) ≡ true → on k (listed (set_value (nat_eq k) es w)) ≡ []
+  taken-bare : (length w.items == 0) ≡ true → on k (listed (set_value (nat_eq k) es w)) ≡ []
   taken-bare empty = on-looked k (listed (set_value (nat_eq k) es w)) ∙ ap keys_in self_looked ∙ nothing w.items empty
     where
       nothing : (xs : List ℕ) → (length xs == 0) ≡ true → xs ≡ []
       nothing [] z = refl
       nothing (x ∷ xs) z = elim (same_or (length (x ∷ xs)) 0) [ same e t ↦ absurd (omega arith) | apart ne t ↦ let d : true ≡ false = sym z ∙ t in cc d ]
 
-  pub taken-some : (length w.items == 0) ≡ false → (keys : List ℕ) → lookup (nat_eq k) (listed (set_value (nat_eq k) es w)) ≡ Some keys → keys ≡ [] → ⊥
+  taken-some : (length w.items == 0) ≡ false → (keys : List ℕ) → lookup (nat_eq k) (listed (set_value (nat_eq k) es w)) ≡ Some keys → keys ≡ [] → ⊥
   taken-some full keys found none =
       let d : w.items ≡ keys = (let e : Some w.items ≡ Some keys = sym self_looked ∙ found in cc e) in
       let e : true ≡ false = sym (ap (λ (xs : List ℕ). length xs == 0) (d ∙ none)) ∙ full in
       cc e
 
+  pub keys-left : (n : ℕ) → k ≡ n → (b : Bool) → b ≡ (length w.items == 0) → KeysLeft n stays (listed es) (listed (set_value (nat_eq k) es w)) b
+  keys-left n is b empty =
+      subst (λ m. KeysLeft m stays (listed es) (listed (set_value (nat_eq k) es w)) b) is
+      (record { kept = taken-on; others = taken-others; bare = λ yes. taken-bare (sym empty ∙ yes); some = λ no. taken-some (sym empty ∙ no) })
+
 -- a node without an entry
-pub taken-absent : (k : ℕ) (stays : ℕ → Bool) (es : List (ℕ × Keys)) → lookup (nat_eq k) es ≡ None → (n : ℕ) → on n (listed es) ≡ (if n == k then filter stays (on n (listed es)) else on n (listed es))
-taken-absent k stays es none n = elim (same_or n k) [
-  | same e t ↦
-      let bare : on n (listed es) ≡ [] = ap (λ m. on m (listed es)) e ∙ on-lookup k es ∙ ap items_in none in
-      rw t (bare ∙ sym (ap (filter stays) bare))
-  | apart ne t ↦ rw t refl
-]
+pub keys-absent : (k : ℕ) (stays : ℕ → Bool) (es : List (ℕ × Keys)) → lookup (nat_eq k) es ≡ None → (n : ℕ) → k ≡ n → KeysLeft n stays (listed es) (listed es) false
+keys-absent k stays es none n is = subst (λ m. KeysLeft m stays (listed es) (listed es) false) is (record {
+  kept = kept;
+  others = λ m ne. refl;
+  bare = λ yes. cc yes;
+  some = λ no keys found empty. let d : None ≡ Some keys = sym (looked-listed k es ∙ ap (option_map (λ (v : Keys). v.items)) none) ∙ found in cc d;
+})
+  where
+    kept : (m : ℕ) → on m (listed es) ≡ (if m == k then filter stays (on m (listed es)) else on m (listed es))
+    kept m = elim (same_or m k) [
+      | same e t ↦
+          let bare : on m (listed es) ≡ [] = ap (λ j. on j (listed es)) e ∙ on-lookup k es ∙ ap items_in none in
+          rw t (bare ∙ sym (ap (filter stays) bare))
+      | apart ne t ↦ rw t refl
+    ]
+
+-- the keys that an entry has are those of its node
+pub keys-of_entry : (k : ℕ) (es : List (ℕ × Keys)) (v : Keys) → Some v ≡ lookup (nat_eq k) es → (n : ℕ) → k ≡ n → v.items ≡ on n (listed es)
+keys-of_entry k es v there n is = ap items_in there ∙ sym (on-lookup k es) ∙ ap (λ m. on m (listed es)) is
 
 -- a node that was left without keys goes
 module _ (k : ℕ) (es es' : List (ℕ × Keys)) (gone : (n : ℕ) → lookup (nat_eq n) es' ≡ (if k == n then None else lookup (nat_eq n) es)) where

@@ -35,6 +35,7 @@ pub mod QueuesCounted
 pub mod Quiet
 pub mod Refusing
 pub mod Registered
+pub mod Registering
 pub mod Releasing
 pub mod Removals
 pub mod Rosters

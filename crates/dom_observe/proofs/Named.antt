@@ -2,11 +2,9 @@
 use Rattle.std.proofs.Common.{◌≡◌, ℕ, suc, ◌+◌, ◌==◌, Bool, true, false, ◌||◌, if◌then◌else◌, List, [], ◌∷◌, ◌++◌, length, filter, refl, ap, sym, ◌∙◌, nat_eq, arith, cond, Option, unwrap_or, flat_map}
 use Rattle.std.specs.{Map.keys_of, List.list_any, List.IsDistinct, List.AllByRecursion}
 use Rattle.std.proofs.lemmas.{List.Folds.list_any-append, Bool.or_parts, Bool.or_from}
-use Rattle.slab.specs.Slab.{Slab}
 use Rattle.dom_model.specs.Definitions.{Registration, Observing, Record, registered_on, queue_of, nodes_of_registration, nodes_of_record, queues_from, queued_records, observed_nodes}
 use Rattle.dom_model.proofs.PlainLists.{Numbers.Same, Numbers.same_or, Numbers.same, Numbers.apart, Searches.alike}
-use Rattle.dom_observe.specs.declared.registration.Registration as held
-use Rattle.dom_observe.specs.{Once.once, Keys.Keys, Watchers.on, Watchers.records_at, Kept.registered_nodes}
+use Rattle.dom_observe.specs.{Once.once, Watchers.on, Watchers.records_at}
 use Rattle.dom_observe.proofs.Once.{any-once}
 
 -- a search in the lists that a function makes
@@ -88,11 +86,6 @@ queues-waiting x (place ∷ places) (q ∷ qs) o e h =
   where
     later : (i : ℕ) → suc i + o ≡ i + suc o
     later i = omega arith
-
-module _ (table : Slab held.Registration) where
-  pub keys-registered_nodes : (es : List (ℕ × Keys)) → keys_of (registered_nodes table es) ≡ keys_of es
-  keys-registered_nodes [] = refl
-  keys-registered_nodes (e ∷ es) = ap (λ ks. e.0 ∷ ks) (keys-registered_nodes es)
 
 -- the nodes that are named, in the order of the definitions
 pub any-observed : (p : ℕ → Bool) (x : Observing) → list_any p (observed_nodes x)

@@ -128,8 +128,7 @@ module _ (e : Ending) where
         go (apart ne t) = let g = rw t at h in done-still (u0 k) (done p g k m) (more k)
 
   -- what ends on one node has gone
-  module _ (u v : ℕ → Option Registration) (lists lists' : List (ℕ × List ℕ)) (node : ℕ) (placed : Placed u lists)
-      (left : (k : ℕ) → v k ≡ (if among k (on node lists) then left_after e (u k) else u k)) (kept : (n : ℕ) → on n lists' ≡ (if n == node then filter (is_live v) (on n lists) else on n lists)) where
+  module _ (u v : ℕ → Option Registration) (lists : List (ℕ × List ℕ)) (node : ℕ) (placed : Placed u lists) (left : (k : ℕ) → v k ≡ (if among k (on node lists) then left_after e (u k) else u k)) where
     pub on-between : (k : ℕ) → Between e (u k) (v k)
     on-between k = between-by (left k) (between-if (among k (on node lists)) (u k))
 
@@ -139,8 +138,8 @@ module _ (e : Ending) where
     pub on-done : (k : ℕ) → ending_node e (u k) ≡ Some node → v k ≡ left_after e (u k)
     on-done k some = left k ∙ ap (λ b. if b then left_after e (u k) else u k) (placed node k ∙ ends-here (u k) node some)
 
-    pub on-swept : (n : ℕ) → on n lists' ≡ filter (is_live v) (on n lists)
-    on-swept n = kept n ∙ go (same_or n node)
+    pub on-swept : (lists' : List (ℕ × List ℕ)) → ((n : ℕ) → on n lists' ≡ (if n == node then filter (is_live v) (on n lists) else on n lists)) → (n : ℕ) → on n lists' ≡ filter (is_live v) (on n lists)
+    on-swept lists' kept n = kept n ∙ go (same_or n node)
       where
         elsewhere : (n ≡ node → ⊥) → (p : Option Registration) → is_on n p ≡ true → is_on node p ≡ false
         elsewhere ne None h = refl

@@ -1,10 +1,10 @@
 -- The keys of an observer's transient registrations stand by the nodes that these come from, as registrations come in and end.
-use Rattle.std.proofs.Common.{◌≡◌, ◌≢◌, ℕ, zero, suc, ◌+◌, ◌-◌, ◌<◌, ◌≤◌, ◌==◌, Bool, true, false, not, ◌&&◌, if◌then◌else◌, List, [], ◌∷◌, ◌++◌, length, filter, take, drop, Option, option_map, None, Some, refl, ap, sym, ◌∙◌, subst, cond, ◌⊎◌, inl, inr, ltb, leb, arith, is_none, is_some, slice_index_or, slice_set}
+use Rattle.std.proofs.Common.{◌≡◌, ◌≢◌, ℕ, zero, suc, ◌+◌, ◌<◌, ◌≤◌, ◌==◌, Bool, true, false, if◌then◌else◌, List, [], ◌∷◌, length, filter, take, drop, Option, option_map, None, Some, refl, ap, sym, ◌∙◌, subst, cond, ◌⊎◌, inl, inr, ltb, leb, arith, slice_index_or, slice_set}
 use Rattle.std.specs.{Option.option_map_or, List.AllByRecursion, List.insert, List.remove, List.Sorted.IsNonDecreasingBy, List.Sorted.IsPartitionPoint}
 use Rattle.std.proofs.lemmas.{Bool.true≢false, Bool.ltb-true, Bool.ltb-false, Bool.leb-true, Bool.leb-false, List.get_or-set_same, List.get_or-set_other}
-use Rattle.dom_model.specs.Definitions.{hits, among, is_number, Options, Registration}
+use Rattle.dom_model.specs.Definitions.{hits, among, Options, Registration}
 use Rattle.dom_model.proofs.PlainLists.{Numbers.Same, Numbers.same_or, Numbers.same, Numbers.apart, Heads.among-first}
-use Rattle.dom_observe.specs.Registrations.{is_live, passes_for, Owned, NewKey, origin, origin_at, with_new_options, ByOrigin, Ordered, IsFirstFrom, IsPast}
+use Rattle.dom_observe.specs.Registrations.{passes_for, Owned, NewKey, origin, origin_at, with_new_options, ByOrigin, Ordered, IsFirstFrom, IsPast}
 use Rattle.dom_observe.proofs.{Tables.all_at, Tables.all_imply, Turns.all_among, Turns.all_filter}
 use Rattle.dom_model.proofs.MutationObservers.Queues.{among-later}
 

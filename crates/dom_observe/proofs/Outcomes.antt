@@ -22,9 +22,9 @@ pub at_err : {A E : Type 0} (r : Result A E) {P : Type 0} → P → OnErr r P
 at_err (Ok x) h = tt
 at_err (Err e) h = h
 
-pub by_errors : {A E : Type 0} (r : Result A E) {P O B Q : Type 0} → OnErr r P → OnErr r O → OnErr r B → (P → O → B → Q) → OnErr r Q
-by_errors (Ok x) h o b f = h
-by_errors (Err e) h o b f = f h o b
+pub both_err : {A E : Type 0} (r : Result A E) {P O Q : Type 0} → OnErr r P → OnErr r O → (P → O → Q) → OnErr r Q
+both_err (Ok x) h o f = h
+both_err (Err e) h o f = f h o
 
 pub by_one : {A E : Type 0} (r : Result A E) {P B Q : Type 0} → OnOk r P → OnErr r B → (P → Q) → (B → Q) → Q
 by_one (Ok x) h b f g = f h
@@ -37,10 +37,6 @@ by_both (Err e) h o b f g = g b
 pub by_outcome : {A E : Type 0} (r : Result A E) {P B C Q : Type 0} → OnOk r P → OnErr r B → OnErr r C → (P → Q) → (B → C → Q) → Q
 by_outcome (Ok x) h b c f g = f h
 by_outcome (Err e) h b c f g = g b c
-
-pub by_two : {A E : Type 0} (r : Result A E) {P O B C D Q : Type 0} → OnOk r P → OnOk r O → OnErr r B → OnErr r C → OnErr r D → (P → O → Q) → (B → C → D → Q) → Q
-by_two (Ok x) h o b c d f g = f h o
-by_two (Err e) h o b c d f g = g b c d
 
 -- a search that may have no answer, and one that then has it
 pub by_either : (first : Option Bool) (P : Type 0) (result truth : Bool) → MatchOption first P (λ any. result ≡ any) → IfSome first (λ any. any ≡ truth) → (P → result ≡ truth) → result ≡ truth

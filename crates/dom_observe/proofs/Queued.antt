@@ -2,10 +2,8 @@
 use Rattle.std.proofs.Common.{◌≡◌, ℕ, ◌==◌, Bool, true, false, ◌&&◌, ◌||◌, if◌then◌else◌, cond, List, [], ◌∷◌, ◌++◌, map, filter, Option, None, Some, refl, ap, sym, ◌∙◌, subst, filter_map, flat_map, option_to_list}
 use Rattle.std.specs.{List.AllByRecursion, List.list_any, Map.keys_of}
 use Rattle.std.proofs.lemmas.Bool.{true≢false}
-use Rattle.slab.specs.Slab.{Slab}
 use Rattle.dom_model.specs.Definitions.{among, Registration, Mutation, registered_on, standing_on, Record, interests, observers_of, asks_old_value, record_for, with_last, with_all_last}
-use Rattle.dom_observe.specs.declared.registration.Registration as held
-use Rattle.dom_observe.specs.{Once.once, Keys.Keys, Watchers.on, Registrations.at, Registrations.listed, Registrations.Stands, Registrations.AllStand, Kept.has_queue, Kept.AllThere, Kept.IsKept, Telling.listeners, Telling.asked_by, Telling.flag_of, Telling.delivered}
+use Rattle.dom_observe.specs.{Once.once, Watchers.on, Registrations.Registered, Registrations.at, Registrations.Stands, Registrations.AllStand, Kept.has_queue, Kept.AllThere, Kept.IsKept, Telling.listeners, Telling.asked_by, Telling.flag_of, Telling.delivered}
 use Rattle.dom_observe.proofs.{Keeping.stand-alike, Keeping.all_flat, Keeping.stands_of, Keeping.found_standing, Hearing.listeners-interested, Hearing.told-flag, Hearing.keys-pairs, Hearing.delivered-standing, Hearing.all_last-there, Hearing.flag-none, Hearing.last-there, Hearing.stay-last, Once.walk, Once.walk-standing, Once.any-standing, Tables.all_imply}
 
 pub standing_on-none : (ns : List ℕ) → standing_on ns [] ≡ []
@@ -33,14 +31,13 @@ unheard p ls old new pended off = flag-none p ls (go (among p (keys_of ls)) refl
     go true e = absurd (true≢false (sym (subst (λ ns. among p ns ≡ true) (sym pended) (all_last-there p old (keys_of ls) e)) ∙ off))
     go false e = refl
 
-module _ (table : Slab held.Registration) (entries : List (ℕ × Keys)) (queues : List (Option (List Record))) (pending : List ℕ)
-    (kept : IsKept table entries queues pending) (queues' : List (Option (List Record))) (pending' : List ℕ) (same : (o : ℕ) → has_queue queues' o ≡ has_queue queues o)
+module _ (reg : Registered) (queues : List (Option (List Record))) (pending : List ℕ)
+    (kept : IsKept reg queues pending) (queues' : List (Option (List Record))) (pending' : List ℕ) (same : (o : ℕ) → has_queue queues' o ≡ has_queue queues o)
     (there : AllThere (has_queue queues) pending') where
-  pub kept-queued : IsKept table entries queues' pending'
+  pub kept-queued : IsKept reg queues' pending'
   kept-queued = record {
-    unique = kept.unique;
-    stand = stand-alike (at table) (has_queue queues) (has_queue queues') (listed entries) (λ o held_there. same o ∙ held_there) kept.stand;
-    full = kept.full;
+    are = kept.are;
+    stand = stand-alike (at reg) (has_queue queues) (has_queue queues') reg.lists (λ o held_there. same o ∙ held_there) kept.stand;
     there = all_imply (λ o. has_queue queues o ≡ true) (λ o. has_queue queues' o ≡ true) (λ o held_there. same o ∙ held_there) pending' there;
   }
 

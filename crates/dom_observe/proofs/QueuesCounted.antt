@@ -10,7 +10,7 @@ abbrev one : {A : Type 0} → Option A → ℕ
 one o = cond (is_some o) 1 0
 
 -- two lists with the same places taken have as many taken
-same-taken : {A B : Type 0} (xs : List (Option A)) (ys : List (Option B)) → length xs ≡ length ys → ((i : ℕ) → is_some (slice_index_or xs i None) ≡ is_some (slice_index_or ys i None)) → count_by is_some xs ≡ count_by is_some ys
+pub same-taken : {A B : Type 0} (xs : List (Option A)) (ys : List (Option B)) → length xs ≡ length ys → ((i : ℕ) → is_some (slice_index_or xs i None) ≡ is_some (slice_index_or ys i None)) → count_by is_some xs ≡ count_by is_some ys
 same-taken [] [] long same = refl
 same-taken [] (y ∷ ys) long same = absurd (omega (arith, long))
 same-taken (x ∷ xs) [] long same = absurd (omega (arith, long))

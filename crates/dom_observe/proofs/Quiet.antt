@@ -2,12 +2,10 @@
 use Rattle.std.proofs.Common.{◌≡◌, ℕ, ◌<◌, ◌==◌, Bool, false, List, [], ◌∷◌, ◌++◌, length, refl, ap, sym, ◌∙◌, subst, arith, filter_map, flat_map, filter, Option}
 use Rattle.std.specs.List.{AllByRecursion, list_any}
 use Rattle.std.proofs.lemmas.Bool.{true≢false, or_parts}
-use Rattle.slab.specs.Slab.{Slab}
 use Rattle.dom_model.specs.Definitions.{hits, among, Registration, if_any, registered_on, standing_on, Record}
 use Rattle.dom_model.proofs.PlainLists.Numbers.{same_or, same, apart}
 use Rattle.dom_model.proofs.Forests.Climbing.{hits-first}
-use Rattle.dom_observe.specs.declared.registration.Registration as held
-use Rattle.dom_observe.specs.{Held.named, Held.NamesNoneOf, Naming.names_one, Naming.NamesNone, Naming.TellsNone, Once.once, Keys.Keys, Watchers.Watchers, Watchers.on, Registrations.at, Registrations.listed, Registrations.StandsOn, Registrations.AllStand, Registrations.deep_at, Kept.registered_nodes}
+use Rattle.dom_observe.specs.{Held.named, Held.NamesNoneOf, Naming.names_one, Naming.NamesNone, Naming.TellsNone, Once.once, Watchers.Watchers, Watchers.on, Registrations.Registered, Registrations.at, Registrations.StandsOn, Registrations.AllStand, Registrations.deep_at, Kept.registered_nodes}
 use Rattle.dom_observe.proofs.{Holding.none-named, Keeping.on-registered_nodes, Once.once-none}
 use Rattle.dom_model.proofs.RangesAndContents.{RangesElsewhere.among-any, ListsByParts.flat-none}
 
@@ -34,18 +32,18 @@ each-none f (m ∷ ns) e n h =
       | apart ne t ↦ each-none f ns (no_second (f m) (flat_map f ns) e) n (let k = rw t at h in omega arith)
     ]
 
-module _ (table : Slab held.Registration) (entries : List (ℕ × Keys)) (there : ℕ → Bool) (all : AllStand (at table) there (listed entries)) where
-  module _ (queues : List (Option (List Record))) (pending : List ℕ) (o : Watchers) (is : record { nodes = registered_nodes table entries; queues = queues; pending = pending } ≡ o) where
+module _ (reg : Registered) (there : ℕ → Bool) (all : AllStand (at reg) there reg.lists) where
+  module _ (queues : List (Option (List Record))) (pending : List ℕ) (o : Watchers) (is : record { nodes = registered_nodes reg; queues = queues; pending = pending } ≡ o) where
     -- a node that is not named has no keys
-    no_keys : (n : ℕ) → among n (named o) ≡ false → on n (listed entries) ≡ []
-    no_keys n unnamed = go (on n (listed entries)) (all n) (names.0 n)
+    no_keys : (n : ℕ) → among n (named o) ≡ false → on n reg.lists ≡ []
+    no_keys n unnamed = go (on n reg.lists) (all n) (names.0 n)
       where
-        names : NamesNone (λ m. m == n) (at table) (listed entries) × TellsNone (λ m. m == n) queues
+        names : NamesNone (λ m. m == n) (at reg) reg.lists × TellsNone (λ m. m == n) queues
         names =
-            none-named table entries queues pending (λ m. m == n)
+            none-named reg queues pending (λ m. m == n)
             (ap (λ (w : Watchers). list_any (λ m. m == n) (named w)) is ∙ sym (among-any n (named o)) ∙ unnamed)
 
-        go : (keys : List ℕ) → AllByRecursion (StandsOn (at table) there n) keys → AllByRecursion (λ k. names_one (λ m. m == n) (at table k) ≡ false) keys → keys ≡ []
+        go : (keys : List ℕ) → AllByRecursion (StandsOn (at reg) there n) keys → AllByRecursion (λ k. names_one (λ m. m == n) (at reg k) ≡ false) keys → keys ≡ []
         go [] h e = refl
         go (k ∷ keys) h e =
             let r = h.0.registration in
@@ -54,19 +52,19 @@ module _ (table : Slab held.Registration) (entries : List (ℕ × Keys)) (there 
             elim (same_or r.node n) [ same _ t ↦ absurd (true≢false (sym t ∙ apart_from.0)) | apart ne _ ↦ absurd (ne h.0.node) ]
 
     module _ (ns : List ℕ) (unnamed : NamesNoneOf ns o) where
-      pub none-stand : flat_map (λ n. on n (listed entries)) ns ≡ []
-      none-stand = flat-none (λ n. on n (listed entries)) ns (λ n k. no_keys n (unnamed n k))
+      pub none-stand : flat_map (λ n. on n reg.lists) ns ≡ []
+      none-stand = flat-none (λ n. on n reg.lists) ns (λ n k. no_keys n (unnamed n k))
 
-      pub none-deep : flat_map (λ n. filter (deep_at (at table)) (on n (listed entries))) ns ≡ []
-      none-deep = flat-none (λ n. filter (deep_at (at table)) (on n (listed entries))) ns (λ n k. ap (filter (deep_at (at table))) (no_keys n (unnamed n k)))
+      pub none-deep : flat_map (λ n. filter (deep_at (at reg)) (on n reg.lists)) ns ≡ []
+      none-deep = flat-none (λ n. filter (deep_at (at reg)) (on n reg.lists)) ns (λ n k. ap (filter (deep_at (at reg))) (no_keys n (unnamed n k)))
 
 -- where no key stands, no registration does
-pub none-standing : (table : Slab held.Registration) (entries : List (ℕ × Keys)) (rs : List Registration) → ((n : ℕ) → on n (registered_nodes table entries) ≡ once (registered_on n rs)) → (ns : List ℕ) → flat_map (λ n. on n (listed entries)) ns ≡ [] → standing_on ns rs ≡ []
-none-standing table entries rs shown ns e = go ns (each-none (λ n. on n (listed entries)) ns e)
+pub none-standing : (reg : Registered) (rs : List Registration) → ((n : ℕ) → on n (registered_nodes reg) ≡ once (registered_on n rs)) → (ns : List ℕ) → flat_map (λ n. on n reg.lists) ns ≡ [] → standing_on ns rs ≡ []
+none-standing reg rs shown ns e = go ns (each-none (λ n. on n reg.lists) ns e)
   where
-    here : (n : ℕ) → on n (listed entries) ≡ [] → registered_on n rs ≡ []
-    here n z = once-none (registered_on n rs) (sym (shown n) ∙ on-registered_nodes table n entries ∙ ap (filter_map (at table)) z)
+    here : (n : ℕ) → on n reg.lists ≡ [] → registered_on n rs ≡ []
+    here n z = once-none (registered_on n rs) (sym (shown n) ∙ on-registered_nodes reg n ∙ ap (filter_map (at reg)) z)
 
-    go : (ms : List ℕ) → ((n : ℕ) → 0 < hits n ms → on n (listed entries) ≡ []) → standing_on ms rs ≡ []
+    go : (ms : List ℕ) → ((n : ℕ) → 0 < hits n ms → on n reg.lists ≡ []) → standing_on ms rs ≡ []
     go [] h = refl
     go (m ∷ ms) h = rw (here m (h m (hits-first m ms)), go ms (λ n k. h n (omega arith))) refl

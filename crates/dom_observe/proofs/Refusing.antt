@@ -1,11 +1,9 @@
 -- What is left half-way: lists that begin as they were, and queues with a record more at most.
 use Rattle.std.proofs.Common.{◌≡◌, ◌≢◌, ℕ, ◌==◌, Bool, true, false, not, ◌&&◌, if◌then◌else◌, List, [], ◌∷◌, ◌++◌, Option, Some, None, refl, ap, sym, ◌∙◌, subst, append-nil, append_assoc}
 use Rattle.std.specs.List.{list_any}
-use Rattle.slab.specs.Slab.{Slab}
 use Rattle.dom_model.specs.Definitions.{among, with_last, with_all_last, Registration, Mutation, Record, is_transient_from, record_with, transient_of}
 use Rattle.dom_model.proofs.PlainLists.Numbers.{same_or, same, apart}
-use Rattle.dom_observe.specs.declared.registration.Registration as held
-use Rattle.dom_observe.specs.{Keys.Keys, Watchers.Watchers, Watchers.on, Watchers.records_at, Kept.registered_nodes, Registrations.found, Registrations.listed, Registrations.origin, Registrations.with_transient, Registrations.with_transients_of, Registrations.with_added_transients, Refused.IsFront, Refused.GetsAtMostOne, Refused.IsPartlyQueued, Refused.IsPartlyLeft, Refused.IsPartlyRemoved, Telling.delivered}
+use Rattle.dom_observe.specs.{Watchers.Watchers, Watchers.on, Watchers.records_at, Kept.registered_nodes, Registrations.Registered, Registrations.found, Registrations.origin, Registrations.with_transient, Registrations.with_transients_of, Registrations.with_added_transients, Refused.IsFront, Refused.GetsAtMostOne, Refused.IsPartlyQueued, Refused.IsPartlyLeft, Refused.IsPartlyRemoved, Telling.delivered}
 use Rattle.dom_observe.proofs.Keeping.{on-registered_nodes}
 
 module _ {A : Type 0} where
@@ -88,11 +86,11 @@ module _ (old new : Watchers) (e : new ≡ old) where
     queues = λ i. gets-none m (records_at old.queues i) (records_at new.queues i) (ap (λ (o : Watchers). records_at o.queues i) e);
   }
 
-module _ (table : Slab held.Registration) (entries : List (ℕ × Keys)) (queues : List (Option (List Record))) (pending : List ℕ) (old : Watchers)
-    (is : record { nodes = registered_nodes table entries; queues = queues; pending = pending } ≡ old) where
+module _ (reg : Registered) (queues : List (Option (List Record))) (pending : List ℕ) (old : Watchers)
+    (is : record { nodes = registered_nodes reg; queues = queues; pending = pending } ≡ old) where
   -- some are told
   pub partly-queued : (m : Mutation) (queues' : List (Option (List Record))) (pending' : List ℕ) → IsFront pending pending' → ((i : ℕ) → GetsAtMostOne m (records_at queues i) (records_at queues' i))
-      → IsPartlyQueued m old (record { nodes = registered_nodes table entries; queues = queues'; pending = pending' })
+      → IsPartlyQueued m old (record { nodes = registered_nodes reg; queues = queues'; pending = pending' })
   partly-queued m queues' pending' front each = record {
     nodes = ap (λ (o : Watchers). o.nodes) is;
     pending = (front.0, front.1 ∙ ap (λ (o : Watchers). o.pending ++ front.0) is);
@@ -100,19 +98,18 @@ module _ (table : Slab held.Registration) (entries : List (ℕ × Keys)) (queues
   }
 
   -- some transient registrations came in
-  module _ (table' : Slab held.Registration) (entries' : List (ℕ × Keys)) (node : ℕ)
-      (front : IsFront (found table (on node (listed entries))) (found table' (on node (listed entries'))))
-      (elsewhere : (n : ℕ) → n ≢ node → found table' (on n (listed entries')) ≡ found table (on n (listed entries))) where
-    before : (n : ℕ) → found table (on n (listed entries)) ≡ on n old.nodes
-    before n = sym (on-registered_nodes table n entries) ∙ ap (λ (o : Watchers). on n o.nodes) is
+  module _ (reg' : Registered) (node : ℕ) (front : IsFront (found reg (on node reg.lists)) (found reg' (on node reg'.lists)))
+      (elsewhere : (n : ℕ) → n ≢ node → found reg' (on n reg'.lists) ≡ found reg (on n reg.lists)) where
+    before : (n : ℕ) → found reg (on n reg.lists) ≡ on n old.nodes
+    before n = sym (on-registered_nodes reg n) ∙ ap (λ (o : Watchers). on n o.nodes) is
 
-    here : IsFront (on node old.nodes) (on node (registered_nodes table' entries'))
-    here = (front.0, on-registered_nodes table' node entries' ∙ front.1 ∙ ap (λ rs. rs ++ front.0) (before node))
+    here : IsFront (on node old.nodes) (on node (registered_nodes reg'))
+    here = (front.0, on-registered_nodes reg' node ∙ front.1 ∙ ap (λ rs. rs ++ front.0) (before node))
 
-    others : (n : ℕ) → n ≢ node → on n (registered_nodes table' entries') ≡ on n old.nodes
-    others n ne = on-registered_nodes table' n entries' ∙ elsewhere n ne ∙ before n
+    others : (n : ℕ) → n ≢ node → on n (registered_nodes reg') ≡ on n old.nodes
+    others n ne = on-registered_nodes reg' n ∙ elsewhere n ne ∙ before n
 
-    pub partly-left : (queues' : List (Option (List Record))) → queues' ≡ queues → IsPartlyLeft node old (record { nodes = registered_nodes table' entries'; queues = queues'; pending = pending })
+    pub partly-left : (queues' : List (Option (List Record))) → queues' ≡ queues → IsPartlyLeft node old (record { nodes = registered_nodes reg'; queues = queues'; pending = pending })
     partly-left queues' same_queues = record {
       here = here;
       others = others;
@@ -121,7 +118,7 @@ module _ (table : Slab held.Registration) (entries : List (ℕ × Keys)) (queues
     }
 
     pub partly-removed : (m : Mutation) (queues' : List (Option (List Record))) (pending' : List ℕ) → IsFront pending pending' → ((i : ℕ) → GetsAtMostOne m (records_at queues i) (records_at queues' i))
-        → IsPartlyRemoved node m old (record { nodes = registered_nodes table' entries'; queues = queues'; pending = pending' })
+        → IsPartlyRemoved node m old (record { nodes = registered_nodes reg'; queues = queues'; pending = pending' })
     partly-removed m queues' pending' more each = record {
       here = here;
       others = others;

@@ -2,11 +2,10 @@
 use Rattle.std.proofs.Common.{◌≡◌, ℕ, zero, suc, ◌==◌, Bool, true, false, not, ◌||◌, List, [], ◌∷◌, length, filter, filter_map, count_by, Option, None, Some, is_some, option_map, refl, ap, sym, ◌∙◌, subst, cond, arith, slice_index_or}
 use Rattle.std.specs.{List.AllByRecursion, List.IsDistinct, List.list_any, List.cons_option, Cmp.IsEquivalence}
 use Rattle.std.proofs.lemmas.{Bool.true≢false, List.Sums.sum_by-cons, Map.Made.length-le_from_is_member}
-use Rattle.slab.specs.Slab.{Slab, slab_len}
 use Rattle.dom_model.specs.Definitions.{among, Registration, registered_on}
 use Rattle.dom_model.proofs.PlainLists.Numbers.{Same, same_or, same, apart}
 use Rattle.dom_observe.specs.declared.registration.Registration as held
-use Rattle.dom_observe.specs.{Once.same_registration, Once.once, Keys.Keys, Watchers.on, Registrations.plain, Registrations.at, Registrations.found, Registrations.listed, Registrations.is_on, Registrations.Placed, Kept.registered_nodes}
+use Rattle.dom_observe.specs.{Once.same_registration, Once.once, Watchers.on, Registrations.Registered, Registrations.plain, Registrations.at, Registrations.found, Registrations.is_on, Registrations.Placed, Kept.registered_nodes}
 use Rattle.dom_observe.proofs.{Distinct.distinct-none, Distinct.distinct-more, Distinct.distinct-first, Distinct.distinct-rest, Distinct.all-none, Keeping.on-registered_nodes, Once.same-is, Once.same-itself, Once.apart_from, Once.any-once, Sounding.any_found}
 use Rattle.dom_model.proofs.Forests.Below.{at_itself}
 
@@ -143,29 +142,28 @@ apart-keys u (j ∷ keys) k m r a b p q d = go (same_or j k) (same_or j m) (apar
     go (apart ne t) (same g s) rest = let there = rw t at p in absurd (twice k (ap u g ∙ b) a there)
     go (apart ne t) (apart nf s) rest = let first = rw t at p in let second = rw s at q in rest first second (behind (u j) d)
 
--- a slab has as many registrations as values
+-- as many registrations stand as rows that have one
 length-standing : (ss : List (Option held.Registration)) → length (filter_map (option_map plain) ss) ≡ count_by is_some ss
 length-standing [] = refl
-length-standing (None ∷ ss) = omega (arith, length-standing ss, sum_by-cons (λ o. cond (is_some o) 1 0) None ss)
-length-standing (Some s ∷ ss) = omega (arith, length-standing ss, sum_by-cons (λ o. cond (is_some o) 1 0) (Some s) ss)
+length-standing (None ∷ ss) = omega (arith, length-standing ss, sum_by-cons (λ (o : Option held.Registration). cond (is_some o) 1 0) None ss)
+length-standing (Some s ∷ ss) = omega (arith, length-standing ss, sum_by-cons (λ (o : Option held.Registration). cond (is_some o) 1 0) (Some s) ss)
 
-module _ (table : Slab held.Registration) (entries : List (ℕ × Keys)) (placed : Placed (at table) (listed entries)) (rs : List Registration)
-    (by_node : (n : ℕ) → on n (registered_nodes table entries) ≡ once (registered_on n rs)) where
+module _ (reg : Registered) (placed : Placed (at reg) reg.lists) (rs : List Registration) (by_node : (n : ℕ) → on n (registered_nodes reg) ≡ once (registered_on n rs)) where
   abbrev standing : List Registration
-  standing = filter_map (option_map plain) table.slots
+  standing = filter_map (option_map plain) reg.rows
 
-  found-on : (n : ℕ) → found table (on n (listed entries)) ≡ once (registered_on n rs)
-  found-on n = sym (on-registered_nodes table n entries) ∙ by_node n
+  found-on : (n : ℕ) → found reg (on n reg.lists) ≡ once (registered_on n rs)
+  found-on n = sym (on-registered_nodes reg n) ∙ by_node n
 
   -- a key is among those of its node
-  there : (k : ℕ) (r : Registration) → at table k ≡ Some r → among k (on r.node (listed entries)) ≡ true
+  there : (k : ℕ) (r : Registration) → at reg k ≡ Some r → among k (on r.node reg.lists) ≡ true
   there k r is = placed r.node k ∙ ap (is_on r.node) is ∙ at_itself r.node
 
-  one-key : (i j : ℕ) (r : Registration) → at table i ≡ Some r → at table j ≡ Some r → i ≡ j
-  one-key i j r a b = apart-keys (at table) (on r.node (listed entries)) i j r a b (there i r a) (there j r b) (subst (IsDistinct same_registration) (sym (found-on r.node)) (once-distinct (registered_on r.node rs)))
+  one-key : (i j : ℕ) (r : Registration) → at reg i ≡ Some r → at reg j ≡ Some r → i ≡ j
+  one-key i j r a b = apart-keys (at reg) (on r.node reg.lists) i j r a b (there i r a) (there j r b) (subst (IsDistinct same_registration) (sym (found-on r.node)) (once-distinct (registered_on r.node rs)))
 
   -- what is found on its node is left of all
-  among-left : (q : Registration) → list_any (same_registration q) (found table (on q.node (listed entries))) ≡ list_any (same_registration q) (once rs)
+  among-left : (q : Registration) → list_any (same_registration q) (found reg (on q.node reg.lists)) ≡ list_any (same_registration q) (once rs)
   among-left q =
       ap (list_any (same_registration q)) (found-on q.node)
       ∙ any-once (same_registration q) (registered_on q.node rs)
@@ -174,16 +172,16 @@ module _ (table : Slab held.Registration) (entries : List (ℕ × Keys)) (placed
 
   left-of-standing : (q : Registration) → list_any (same_registration q) standing ≡ true → list_any (same_registration q) (once rs) ≡ true
   left-of-standing q h =
-      let p = at-member (option_map plain) table.slots None q h in
-      sym (among-left q) ∙ any_found (at table) (same_registration q) p.0 q p.1 (same-itself q) (on q.node (listed entries)) (there p.0 q p.1)
+      let p = at-member (option_map plain) reg.rows None q h in
+      sym (among-left q) ∙ any_found (at reg) (same_registration q) p.0 q p.1 (same-itself q) (on q.node reg.lists) (there p.0 q p.1)
 
   standing-of-left : (q : Registration) → list_any (same_registration q) (once rs) ≡ true → list_any (same_registration q) standing ≡ true
   standing-of-left q h =
-      let p = at-member (at table) (on q.node (listed entries)) 0 q (among-left q ∙ h) in
-      member-at (option_map plain) table.slots (slice_index_or (on q.node (listed entries)) p.0 0) None q refl p.1
+      let p = at-member (at reg) (on q.node reg.lists) 0 q (among-left q ∙ h) in
+      member-at (option_map plain) reg.rows (slice_index_or (on q.node reg.lists) p.0 0) None q refl p.1
 
-  pub registrations-counted : slab_len table ≡ length (once rs)
+  pub registrations-counted : count_by is_some reg.rows ≡ length (once rs)
   registrations-counted =
-      let few = length-le_from_is_member same-equivalence standing (once rs) (distinct-places (option_map plain) table.slots None one-key) left-of-standing in
+      let few = length-le_from_is_member same-equivalence standing (once rs) (distinct-places (option_map plain) reg.rows None one-key) left-of-standing in
       let many = length-le_from_is_member same-equivalence (once rs) standing (once-distinct rs) standing-of-left in
-      omega (arith, few, many, length-standing table.slots)
+      omega (arith, few, many, length-standing reg.rows)

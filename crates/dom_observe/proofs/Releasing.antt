@@ -1,12 +1,10 @@
 -- An observer is released: it goes from the list of those that are pending, and from those that may have transient registrations.
-use Rattle.std.proofs.Common.{◌≡◌, ℕ, ◌==◌, Bool, true, false, if◌then◌else◌, cond, List, [], ◌∷◌, refl, ap, sym, ◌∙◌, nat_eq, ◌⊎◌, inl, inr, slice_set, Option, None, filter, not}
-use Rattle.std.specs.{List.IsDistinct, List.list_any, Map.keys_of, Set.remove_key}
+use Rattle.std.proofs.Common.{◌≡◌, ℕ, ◌==◌, Bool, true, false, if◌then◌else◌, cond, List, [], ◌∷◌, refl, ap, sym, ◌∙◌, nat_eq, ◌⊎◌, inl, inr, slice_set, Option, None, not}
+use Rattle.std.specs.{List.list_any, Set.remove_key}
 use Rattle.std.proofs.lemmas.Bool.{true≢false, or_parts}
-use Rattle.slab.specs.Slab.{Slab}
 use Rattle.dom_model.specs.Definitions.{among, left_out, Registration, Record}
 use Rattle.dom_model.proofs.PlainLists.Numbers.{Same, same_or, same, apart}
-use Rattle.dom_observe.specs.declared.registration.Registration as held
-use Rattle.dom_observe.specs.{declared.registration.Ended.TheVariants.Of, Keys.Keys, Watchers.on, Registrations.at, Registrations.listed, Registrations.left_by, Registrations.is_live, Registrations.HaveKeys, Kept.has_queue, Kept.AllThere, Kept.IsKept}
+use Rattle.dom_observe.specs.{declared.registration.Ended.TheVariants.Of, Registrations.Registered, Registrations.at, Registrations.left_by, Registrations.Swept, Kept.has_queue, Kept.AllThere, Kept.AreRegistered, Kept.IsKept}
 use Rattle.dom_observe.proofs.{Hearing.swapped, Hearing.among-list_any, Keeping.stand-left, QueueLists.has-gone}
 
 -- The list without it.
@@ -95,14 +93,11 @@ module _ (o : ℕ) (old new : List ℕ) (taken : (p : ℕ) → list_any (nat_eq 
 pub others-there : (queues : List (Option (List Record))) (o p : ℕ) → (p ≡ o → ⊥) → has_queue queues p ≡ true → has_queue (slice_set queues o None) p ≡ true
 others-there queues o p ne held_there = has-gone queues o p ∙ elim (same_or p o) [ same e t ↦ absurd (ne e) | apart _ t ↦ rw t held_there ]
 
-module _ (table : Slab held.Registration) (entries : List (ℕ × Keys)) (queues : List (Option (List Record))) (pending : List ℕ) (kept : IsKept table entries queues pending)
-    (table' : Slab held.Registration) (entries' : List (ℕ × Keys)) (o : ℕ) (left : (k : ℕ) → at table' k ≡ left_by (Of o) (at table k))
-    (swept : (n : ℕ) → on n (listed entries') ≡ filter (is_live (at table')) (on n (listed entries))) where
-  pub kept-released : IsDistinct nat_eq (keys_of entries') → HaveKeys (listed entries') → IsKept table' entries' (slice_set queues o None) (left_out o pending)
-  kept-released unique full = record {
-    unique = unique;
-    stand = stand-left (at table) (at table') (Of o) (listed entries) (listed entries') left swept (has_queue queues) (has_queue (slice_set queues o None)) (λ r stays held_there. others-there queues o r.observer (other r stays) held_there) kept.stand;
-    full = full;
+module _ (reg : Registered) (queues : List (Option (List Record))) (pending : List ℕ) (kept : IsKept reg queues pending) (reg' : Registered) (o : ℕ) (left : (k : ℕ) → at reg' k ≡ left_by (Of o) (at reg k)) (swept : Swept reg reg') where
+  pub kept-released : AreRegistered reg' → IsKept reg' (slice_set queues o None) (left_out o pending)
+  kept-released are = record {
+    are = are;
+    stand = stand-left (at reg) (at reg') (Of o) reg.lists reg'.lists left swept (has_queue queues) (has_queue (slice_set queues o None)) (λ r stays held_there. others-there queues o r.observer (other r stays) held_there) kept.stand;
     there = there-others (has_queue queues) (has_queue (slice_set queues o None)) o pending (others-there queues o) kept.there;
   }
     where

@@ -1,15 +1,13 @@
 -- A node that left its parent gets transient registrations: what stands above is the same before and after, and it is told of the mutation.
-use Rattle.std.proofs.Common.{◌≡◌, ℕ, ◌==◌, if◌then◌else◌, Bool, true, false, List, [], ◌∷◌, ◌++◌, map, Option, refl, ap, sym, ◌∙◌, subst, append-nil, flat_map, filter, nat_eq}
-use Rattle.std.specs.{List.AllByRecursion, List.IsDistinct, List.cons_option, Map.keys_of, Option.option_and_then}
+use Rattle.std.proofs.Common.{◌≡◌, ℕ, ◌==◌, if◌then◌else◌, Bool, true, false, List, [], ◌∷◌, ◌++◌, map, Option, refl, ap, sym, ◌∙◌, subst, append-nil, flat_map, filter}
+use Rattle.std.specs.{List.AllByRecursion, List.cons_option, Option.option_and_then}
 use Rattle.std.proofs.lemmas.Bool.{true≢false}
-use Rattle.slab.specs.Slab.{Slab}
 use Rattle.dom_model.specs.declared.RecordType.{RecordType}
 use Rattle.dom_model.specs.Definitions.{among, Registration, Mutation, Observing, registered_on, standing_on, transient_of, with_transients, Record, interests}
 use Rattle.dom_model.proofs.MutationObservers.NodeRegistrations.{registrations-transients}
 use Rattle.dom_model.proofs.PlainLists.Numbers.{same_or, same, apart}
-use Rattle.dom_observe.specs.declared.registration.Registration as held
-use Rattle.dom_observe.specs.{Keys.Keys, Registrations.at, Registrations.listed, Registrations.is_live, Registrations.AllLive, Registrations.Stands, Registrations.AllStand, Registrations.HaveKeys, Naming.names_one, Naming.NamesNone, Kept.has_queue, Kept.IsKept, Removed.removed_below, Telling.listener_of, Telling.listeners, Watchers.Watchers, Watchers.Watches, Watchers.on}
-use Rattle.dom_observe.proofs.{Keeping.all_flat, Keeping.kept_table, Tables.live_of_stands, Watching.watches-unheard, Watching.watches-unstood}
+use Rattle.dom_observe.specs.{Registrations.Registered, Registrations.at, Registrations.is_live, Registrations.AllLive, Registrations.Stands, Registrations.AllStand, Naming.names_one, Naming.NamesNone, Kept.has_queue, Kept.AreRegistered, Kept.IsKept, Removed.removed_below, Telling.listener_of, Telling.listeners, Watchers.Watchers, Watchers.Watches, Watchers.on}
+use Rattle.dom_observe.proofs.{Keeping.all_flat, Keeping.kept-others, Tables.live_of_stands, Watching.watches-unheard, Watching.watches-unstood}
 
 -- What stands under some keys stays there.
 
@@ -35,12 +33,10 @@ module _ (u : ℕ → Option Registration) (lists : List (ℕ × List ℕ)) (ns 
   pub standing-unnamed : (p : ℕ → Bool) → NamesNone p u lists → AllByRecursion (λ k. names_one p (u k) ≡ false) keys
   standing-unnamed p none = subst (AllByRecursion (λ k. names_one p (u k) ≡ false)) (sym is) (all_flat (λ k. names_one p (u k) ≡ false) lists none ns)
 
--- what is kept, with another table and the same queues
-pub kept-left : (table : Slab held.Registration) (entries : List (ℕ × Keys)) (queues : List (Option (List Record))) (pending : List ℕ) → IsKept table entries queues pending
-    → (table' : Slab held.Registration) (entries' : List (ℕ × Keys)) (queues' : List (Option (List Record))) → queues' ≡ queues → IsDistinct nat_eq (keys_of entries') → AllStand (at table') (has_queue queues) (listed entries') → HaveKeys (listed entries')
-    → IsKept table' entries' queues' pending
-kept-left table entries queues pending kept table' entries' queues' same_queues unique stand full =
-    subst (λ q. IsKept table' entries' q pending) (sym same_queues) (kept_table table entries queues pending kept table' entries' unique stand full)
+-- what is kept, with other registrations and the same queues
+pub kept-left : (reg : Registered) (queues : List (Option (List Record))) (pending : List ℕ) → IsKept reg queues pending
+    → (reg' : Registered) (queues' : List (Option (List Record))) → queues' ≡ queues → AreRegistered reg' → AllStand (at reg') (has_queue queues) reg'.lists → IsKept reg' queues' pending
+kept-left reg queues pending kept reg' queues' same_queues are stand = subst (λ q. IsKept reg' q pending) (sym same_queues) (kept-others reg queues pending kept reg' are stand)
 
 -- No other node gets a transient registration.
 

@@ -2,11 +2,9 @@
 use Rattle.std.proofs.Common.{◌≡◌, ◌≢◌, ℕ, Bool, true, false, ◌&&◌, ◌||◌, List, [], ◌∷◌, filter_map, Option, option_map, None, Some, refl, ap, sym, ◌∙◌, subst, nat_eq, ◌==◌, unwrap_or}
 use Rattle.std.specs.{Option.option_map_or, List.AllByRecursion, List.IsDistinct, List.list_any, List.cons_option, Map.lookup}
 use Rattle.std.proofs.lemmas.{Bool.true≢false, Map.Made.keys_of-map_values, Map.Made.lookup-map_values}
-use Rattle.slab.specs.Slab.{Slab}
 use Rattle.dom_model.specs.Definitions.{among, Registration, Record, is_registered}
 use Rattle.dom_model.proofs.PlainLists.Numbers.{Same, same_or, same, apart}
-use Rattle.dom_observe.specs.declared.registration.Registration as held
-use Rattle.dom_observe.specs.{Once.same_options, Once.same_registration, Keys.Keys, Watchers.Watchers, Watchers.on, Registrations.at, Registrations.found, Registrations.listed, Registrations.origin, Registrations.is_on, Registrations.StandsOn, Registrations.Placed, Registrations.HaveSources, Registrations.Agree, Kept.registered_nodes, Kept.has_queue, Kept.IsKept, Kept.PlacedOnce, Sound.IsThere, Sound.HasSource, Sound.IsSound}
+use Rattle.dom_observe.specs.{Once.same_options, Once.same_registration, Watchers.Watchers, Watchers.on, Registrations.Registered, Registrations.at, Registrations.found, Registrations.origin, Registrations.is_on, Registrations.StandsOn, Registrations.HaveSources, Registrations.Agree, Kept.registered_nodes, Kept.has_queue, Kept.IsKept, Sound.IsThere, Sound.HasSource, Sound.IsSound}
 use Rattle.dom_observe.proofs.{Distinct.distinct-keys, Keeping.on-registered_nodes, Keys.keys_in, Keys.on-looked, Once.options-itself, Sources.own-shape}
 use Rattle.dom_model.proofs.Forests.Below.{at_itself}
 
@@ -33,49 +31,48 @@ any_found u p key s is on (k ∷ keys) there = go (same_or k key) (u k) refl (an
     go (apart ne t) None f rest = let w = rw t at there in rest w
     go (apart ne t) (Some r) f rest = let w = rw t at there in ap (λ b. p r || b) (rest w) ∙ or_true (p r)
 
-module _ (table : Slab held.Registration) (entries : List (ℕ × Keys)) (queues : List (Option (List Record))) (pending : List ℕ)
-    (kept : IsKept table entries queues pending) (placed : Placed (at table) (listed entries)) (placed_once : PlacedOnce (listed entries)) (have : HaveSources (at table)) (agree : Agree (at table)) where
+module _ (reg : Registered) (queues : List (Option (List Record))) (pending : List ℕ) (kept : IsKept reg queues pending) (have : HaveSources (at reg)) (agree : Agree (at reg)) where
   abbrev seen : Watchers
-  seen = record { nodes = registered_nodes table entries; queues = queues; pending = pending }
+  seen = record { nodes = registered_nodes reg; queues = queues; pending = pending }
 
-  all_on : (n : ℕ) (P : Registration → Type 0) → ((k : ℕ) (r : Registration) → StandsOn (at table) (has_queue queues) n k → at table k ≡ Some r → P r) → AllByRecursion P (on n (registered_nodes table entries))
-  all_on n P each = subst (AllByRecursion P) (sym (on-registered_nodes table n entries)) (all_found (at table) P (StandsOn (at table) (has_queue queues) n) each (on n (listed entries)) (kept.stand n))
+  all_on : (n : ℕ) (P : Registration → Type 0) → ((k : ℕ) (r : Registration) → StandsOn (at reg) (has_queue queues) n k → at reg k ≡ Some r → P r) → AllByRecursion P (on n (registered_nodes reg))
+  all_on n P each = subst (AllByRecursion P) (sym (on-registered_nodes reg n)) (all_found (at reg) P (StandsOn (at reg) (has_queue queues) n) each (on n reg.lists) (kept.stand n))
 
-  its_own : (n k : ℕ) (r : Registration) → (s : StandsOn (at table) (has_queue queues) n k) → at table k ≡ Some r → s.registration ≡ r
+  its_own : (n k : ℕ) (r : Registration) → (s : StandsOn (at reg) (has_queue queues) n k) → at reg k ≡ Some r → s.registration ≡ r
   its_own n k r s is = let d : Some s.registration ≡ Some r = sym s.is ∙ is in cc d
 
-  has_source : (k : ℕ) (r : Registration) → at table k ≡ Some r → HasSource seen r
+  has_source : (k : ℕ) (r : Registration) → at reg k ≡ Some r → HasSource seen r
   has_source k r is m from =
       let o = have k r m is from in
-      let s = own-shape r.observer m (at table o.key) o.own in
-      let there : among o.key (on m (listed entries)) ≡ true = placed m o.key ∙ ap (is_on m) s.1 ∙ ap (λ n. n == m) s.3 ∙ at_itself m in
+      let s = own-shape r.observer m (at reg o.key) o.own in
+      let there : among o.key (on m reg.lists) ≡ true = kept.are.placed m o.key ∙ ap (is_on m) s.1 ∙ ap (λ n. n == m) s.3 ∙ at_itself m in
       let mine : origin r ≡ m = ap (λ q. unwrap_or q r.node) from in
       let its : origin s.0 ≡ m = ap (λ q. unwrap_or q s.0.node) s.4 ∙ s.3 in
       let alike : r.options ≡ s.0.options = agree.alike k r is ∙ ap (agree.options r.observer) (mine ∙ sym its) ∙ ap (λ i. agree.options i (origin s.0)) (sym s.2) ∙ sym (agree.alike o.key s.0 s.1) in
       let own : is_registered r.observer m s.0 ≡ true = ap (λ p. option_map_or (is_registered r.observer m) p false) (sym s.1) ∙ o.own in
       let passes : (is_registered r.observer m s.0 && same_options s.0.options r.options) ≡ true = ap (λ b. b && same_options s.0.options r.options) own ∙ ap (same_options s.0.options) alike ∙ options-itself s.0.options in
-      ap (list_any (λ t. is_registered r.observer m t && same_options t.options r.options)) (on-registered_nodes table m entries)
-      ∙ any_found (at table) (λ t. is_registered r.observer m t && same_options t.options r.options) o.key s.0 s.1 passes (on m (listed entries)) there
+      ap (list_any (λ t. is_registered r.observer m t && same_options t.options r.options)) (on-registered_nodes reg m)
+      ∙ any_found (at reg) (λ t. is_registered r.observer m t && same_options t.options r.options) o.key s.0 s.1 passes (on m reg.lists) there
 
   -- a node that is listed has a registration
-  is_filled : (n : ℕ) → lookup (nat_eq n) (registered_nodes table entries) ≢ Some []
-  is_filled n h = go (lookup (nat_eq n) (listed entries)) refl (sym (lookup-map_values (found table) (nat_eq n) (listed entries)) ∙ h)
+  is_filled : (n : ℕ) → lookup (nat_eq n) (registered_nodes reg) ≢ Some []
+  is_filled n h = go (lookup (nat_eq n) reg.lists) refl (sym (lookup-map_values (found reg) (nat_eq n) reg.lists) ∙ h)
     where
-      go : (p : Option (List ℕ)) → lookup (nat_eq n) (listed entries) ≡ p → option_map (found table) p ≡ Some [] → ⊥
+      go : (p : Option (List ℕ)) → lookup (nat_eq n) reg.lists ≡ p → option_map (found reg) p ≡ Some [] → ⊥
       go None e f = cc f
-      go (Some keys) e f = by keys e (kept.full n keys e) (subst (AllByRecursion (StandsOn (at table) (has_queue queues) n)) (on-looked n (listed entries) ∙ ap keys_in e) (kept.stand n)) (let d : found table keys ≡ [] = cc f in d)
+      go (Some keys) e f = by keys e (kept.are.full n keys e) (subst (AllByRecursion (StandsOn (at reg) (has_queue queues) n)) (on-looked n reg.lists ∙ ap keys_in e) (kept.stand n)) (let d : found reg keys ≡ [] = cc f in d)
         where
-          by : (ks : List ℕ) → lookup (nat_eq n) (listed entries) ≡ Some ks → ks ≢ [] → AllByRecursion (StandsOn (at table) (has_queue queues) n) ks → filter_map (at table) ks ≡ [] → ⊥
+          by : (ks : List ℕ) → lookup (nat_eq n) reg.lists ≡ Some ks → ks ≢ [] → AllByRecursion (StandsOn (at reg) (has_queue queues) n) ks → filter_map (at reg) ks ≡ [] → ⊥
           by [] e some all none = some refl
-          by (k ∷ ks) e some all none = let d : all.0.registration ∷ filter_map (at table) ks ≡ [] = ap (λ o. cons_option o (filter_map (at table) ks)) (sym all.0.is) ∙ none in cc d
+          by (k ∷ ks) e some all none = let d : all.0.registration ∷ filter_map (at reg) ks ≡ [] = ap (λ o. cons_option o (filter_map (at reg) ks)) (sym all.0.is) ∙ none in cc d
 
   pub seen-sound : IsSound seen
   seen-sound = record {
-    listed = subst (IsDistinct nat_eq) (sym (keys_of-map_values (found table) (listed entries) ∙ keys_of-map_values (λ (l : Keys). l.items) entries)) kept.unique;
+    listed = subst (IsDistinct nat_eq) (sym (keys_of-map_values (found reg) reg.lists)) kept.are.unique;
     filled = is_filled;
     here = λ n. all_on n (λ r. r.node ≡ n) (λ k r s is. subst (λ (t : Registration). t.node ≡ n) (its_own n k r s is) s.node);
     observers = λ n. all_on n (IsThere seen) (λ k r s is. subst (IsThere seen) (its_own n k r s is) s.observer);
     sources = λ n. all_on n (HasSource seen) (λ k r s is. has_source k r is);
-    apart = λ n. subst (IsDistinct same_registration) (sym (on-registered_nodes table n entries)) (distinct-keys (at table) (λ k j r e f. agree.one k j r r e f refl refl refl) (on n (listed entries)) (placed_once n));
+    apart = λ n. subst (IsDistinct same_registration) (sym (on-registered_nodes reg n)) (distinct-keys (at reg) (λ k j r e f. agree.one k j r r e f refl refl refl) (on n reg.lists) (kept.are.once n));
     pending = kept.there;
   }

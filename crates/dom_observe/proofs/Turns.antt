@@ -5,7 +5,7 @@ use Rattle.std.proofs.lemmas.Bool.{true≢false, ltb-true, ltb-false}
 use Rattle.slab.specs.Slab.{Slab, get}
 use Rattle.dom_model.specs.Definitions.{among}
 use Rattle.dom_model.proofs.PlainLists.{Numbers.Same, Numbers.same_or, Numbers.same, Numbers.apart, Heads.among-first}
-use Rattle.dom_observe.specs.{declared.registration.Registration.Registration, Watchers.on, Registrations.plain, Registrations.at, Registrations.is_live, Registrations.is_on, Registrations.Placed, Turns.turn_at, Turns.Rises, Turns.Rising, Turns.Fewer}
+use Rattle.dom_observe.specs.{declared.registration.Registration.Registration, Watchers.on, Registrations.plain, Registrations.in_table, Registrations.is_live, Registrations.is_on, Registrations.Placed, Turns.turn_at, Turns.Rises, Turns.Rising, Turns.Fewer}
 use Rattle.dom_observe.proofs.{EndedOnes.filter_all, EndedOnes.among-filter, EndedOnes.at-get, Tables.all_at}
 use Rattle.dom_model.proofs.MutationObservers.Queues.{among-later}
 
@@ -137,7 +137,7 @@ turns-slots a b same_slots k = ap (λ (slots : List (Option Registration)). opti
 pub fewer-one : (a b : Slab Registration) (key : ℕ) → get b key ≡ None → ((k : ℕ) → k ≢ key → get b k ≡ get a k) → Fewer a b
 fewer-one a b key gone others k = elim (same_or k key) [ same e t ↦ inr (ap (get b) e ∙ gone) | apart ne t ↦ inl (others k ne) ]
 
-pub one-left : (a b : Slab Registration) (key : ℕ) → get b key ≡ None → ((k : ℕ) → k ≢ key → get b k ≡ get a k) → (k : ℕ) → at b k ≡ (if k == key then None else at a k)
+pub one-left : (a b : Slab Registration) (key : ℕ) → get b key ≡ None → ((k : ℕ) → k ≢ key → get b k ≡ get a k) → (k : ℕ) → in_table b k ≡ (if k == key then None else in_table a k)
 one-left a b key gone others k = elim (same_or k key) [
   | same e t ↦ rw t (ap (λ o. option_map plain o) (ap (get b) e ∙ gone))
   | apart ne t ↦ rw t (ap (λ o. option_map plain o) (others k ne))
@@ -145,13 +145,13 @@ one-left a b key gone others k = elim (same_or k key) [
 
 module _ (old new : Slab Registration) (lists lists' : List (ℕ × List ℕ)) where
   -- registrations end, with their keys
-  pub rising-swept : Fewer old new → ((n : ℕ) → on n lists' ≡ filter (is_live (at new)) (on n lists)) → Rising old lists → Rising new lists'
+  pub rising-swept : Fewer old new → ((n : ℕ) → on n lists' ≡ filter (is_live (in_table new)) (on n lists)) → Rising old.slots lists → Rising new.slots lists'
   rising-swept fewer swept rising n =
       subst (Rises (turn_at new)) (sym (swept n))
       (rises-same (turn_at old) (turn_at new) (filter live (on n lists)) alike (rises-filter (turn_at old) live (on n lists) (rising n)))
     where
       live : ℕ → Bool
-      live = is_live (at new)
+      live = is_live (in_table new)
 
       right : (a b : Bool) → (a && b) ≡ true → b ≡ true
       right true b h = h
@@ -160,7 +160,7 @@ module _ (old new : Slab Registration) (lists lists' : List (ℕ × List ℕ)) w
       alike : (k : ℕ) → among k (filter live (on n lists)) ≡ true → turn_at new k ≡ turn_at old k
       alike k m = go (fewer k)
         where
-          alive : is_live (at new) k ≡ true
+          alive : is_live (in_table new) k ≡ true
           alive = right (among k (on n lists)) (live k) (sym (among-filter live k (on n lists)) ∙ m)
 
           go : (get new k ≡ get old k) ⊎ (get new k ≡ None) → turn_at new k ≡ turn_at old k
@@ -168,8 +168,8 @@ module _ (old new : Slab Registration) (lists lists' : List (ℕ × List ℕ)) w
           go (inr e) = absurd (true≢false (sym alive ∙ ap (λ o. is_some (option_map plain o)) e))
 
   -- a registration comes in that is later than those of its node
-  pub rising-added : (node key : ℕ) → ((n : ℕ) → on n lists' ≡ on n lists ++ (if n == node then key ∷ [] else [])) → at old key ≡ None → ((k : ℕ) → among k (on node lists) ≡ true → turn_at old k < turn_at new key)
-      → ((k : ℕ) → k ≢ key → turn_at new k ≡ turn_at old k) → Placed (at old) lists → Rising old lists → Rising new lists'
+  pub rising-added : (node key : ℕ) → ((n : ℕ) → on n lists' ≡ on n lists ++ (if n == node then key ∷ [] else [])) → in_table old key ≡ None → ((k : ℕ) → among k (on node lists) ≡ true → turn_at old k < turn_at new key)
+      → ((k : ℕ) → k ≢ key → turn_at new k ≡ turn_at old k) → Placed (in_table old) lists → Rising old.slots lists → Rising new.slots lists'
   rising-added node key keys vacant late others placed rising n = subst (Rises (turn_at new)) (sym (keys n)) (go (same_or n node))
     where
       absent : (m : ℕ) → among key (on m lists) ≡ false
@@ -186,7 +186,7 @@ module _ (old new : Slab Registration) (lists lists' : List (ℕ × List ℕ)) w
       go (apart ne t) = rw t (subst (Rises (turn_at new)) (sym (append-nil (on n lists))) as_before)
 
   -- the same turns and the same keys
-  pub rising-same : ((k : ℕ) → turn_at new k ≡ turn_at old k) → ((n : ℕ) → on n lists' ≡ on n lists) → Rising old lists → Rising new lists'
+  pub rising-same : ((k : ℕ) → turn_at new k ≡ turn_at old k) → ((n : ℕ) → on n lists' ≡ on n lists) → Rising old.slots lists → Rising new.slots lists'
   rising-same alike keys rising n = subst (Rises (turn_at new)) (sym (keys n)) (rises-same (turn_at old) (turn_at new) (on n lists) (λ k m. alike k) (rising n))
 
 -- a turn behind the last is behind all

@@ -1,5 +1,5 @@
--- The registrations in the code's table, as those of the definitions.
-use Rattle.std.specs.Prelude.{◌≡◌, ◌≢◌, ◌⊎◌, [], ◌∷◌, ◌++◌, ℕ, ◌==◌, ◌<◌, ◌≤◌, ⊤, Bool, not, ◌&&◌, ◌||◌, List, map, filter_map, take, drop, Option, option_map, None, Some, is_none, is_some, slice_index_or, unwrap_or, nat_eq, if◌then◌else◌, false, true}
+-- The registrations in the code's table, as those of the definitions, by their keys and by the nodes that they stand on.
+use Rattle.std.specs.Prelude.{◌≡◌, ◌≢◌, ◌⊎◌, [], ◌∷◌, ◌++◌, ℕ, ◌==◌, ◌<◌, ◌≤◌, ⊤, Bool, not, ◌&&◌, ◌||◌, List, map, filter, filter_map, take, drop, Option, option_map, None, Some, is_none, is_some, slice_index_or, unwrap_or, nat_eq, if◌then◌else◌, false, true}
 use Rattle.std.specs.Option.{option_map_or}
 use Rattle.std.specs.List.{AllByRecursion, insert, list_any}
 use Rattle.std.specs.Map.{lookup}
@@ -32,17 +32,30 @@ spares (Of o) r = not (r.observer == o)
 spares (From o n) r = not (is_transient_from o n r)
 spares (TransientOf o) r = not (is_transient_of o r)
 
+-- by key what is registered, as the code keeps it, none where a key was given up; and by node the keys of the registrations on it, in their order
+pub record Registered : Type 0 where
+  pub rows : List (Option Registration)
+  pub lists : List (ℕ × List ℕ)
+
 -- the registration under a key
-abbrev pub at : Slab Registration → ℕ → Option model.Registration
-at slab key = option_map plain (get slab key)
+abbrev pub at : Registered → ℕ → Option model.Registration
+at r key = option_map plain (slice_index_or r.rows key None)
 
 -- the registrations under keys, in their order
-abbrev pub found : Slab Registration → List ℕ → List model.Registration
-found slab keys = filter_map (at slab) keys
+abbrev pub found : Registered → List ℕ → List model.Registration
+found r keys = filter_map (at r) keys
+
+-- the same in the code's table
+abbrev pub in_table : Slab Registration → ℕ → Option model.Registration
+in_table table key = option_map plain (get table key)
 
 -- the keys that each node has
 abbrev pub listed : List (ℕ × Keys) → List (ℕ × List ℕ)
 listed entries = map (λ e. (e.0, e.1.items)) entries
+
+-- what a table and the keys of nodes stand for
+abbrev pub registered : Slab Registration → List (ℕ × Keys) → Registered
+registered table entries = record { rows = table.slots; lists = listed entries }
 
 -- what a step leaves of what stood under a key
 abbrev pub left_by : Ended → Option model.Registration → Option model.Registration
@@ -85,6 +98,17 @@ AllStand under there lists = (n : ℕ) → AllByRecursion (StandsOn under there 
 -- each node that is listed has a key
 abbrev pub HaveKeys : List (ℕ × List ℕ) → Type 0
 HaveKeys lists = (n : ℕ) (keys : List ℕ) → lookup (nat_eq n) lists ≡ Some keys → keys ≢ []
+
+-- a node has those of its keys that stay, and the others have theirs; and it is told whether the node is left without any
+pub record KeysLeft (n : ℕ) (stays : ℕ → Bool) (lists lists' : List (ℕ × List ℕ)) (is_bare : Bool) : Type 0 where
+  pub kept : (m : ℕ) → on m lists' ≡ (if m == n then filter stays (on m lists) else on m lists)
+  pub others : (m : ℕ) → m ≢ n → lookup (nat_eq m) lists' ≡ lookup (nat_eq m) lists
+  pub bare : is_bare ≡ true → on n lists' ≡ []
+  pub some : is_bare ≡ false → (keys : List ℕ) → lookup (nat_eq n) lists' ≡ Some keys → keys ≢ []
+
+-- each node has its keys under which something is left
+abbrev pub Swept : Registered → Registered → Type 0
+Swept old new = (n : ℕ) → on n new.lists ≡ filter (is_live (at new)) (on n old.lists)
 
 -- what stands under a key is a registration on the node; a lasting one of the observer; a transient one of it
 abbrev pub is_on : ℕ → Option model.Registration → Bool

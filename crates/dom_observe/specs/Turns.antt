@@ -1,5 +1,5 @@
 -- The turns of registrations: on each node, those that came in later have the higher ones.
-use Rattle.std.specs.Prelude.{◌≡◌, ℕ, ◌<◌, ◌⊎◌, List, [], ◌∷◌, None, ⊤}
+use Rattle.std.specs.Prelude.{◌≡◌, ℕ, ◌<◌, ◌⊎◌, List, [], ◌∷◌, Option, None, ⊤, slice_index_or}
 use Rattle.std.specs.Option.{option_map_or}
 use Rattle.std.specs.List.{AllByRecursion}
 use Rattle.slab.specs.Slab.{Slab, get}
@@ -16,8 +16,8 @@ Rises turn [] = ⊤
 Rises turn (k ∷ keys) = AllByRecursion (λ j. turn k < turn j) keys × Rises turn keys
 
 -- so it is with the keys of each node
-abbrev pub Rising : Slab Registration → List (ℕ × List ℕ) → Type 0
-Rising table lists = (n : ℕ) → Rises (turn_at table) (on n lists)
+abbrev pub Rising : List (Option Registration) → List (ℕ × List ℕ) → Type 0
+Rising slots lists = (n : ℕ) → Rises (λ k. option_map_or (λ (r : Registration). r.turn) (slice_index_or slots k None) 0) (on n lists)
 
 -- what stood under each key still stands there, or nothing does
 abbrev pub Fewer : Slab Registration → Slab Registration → Type 0

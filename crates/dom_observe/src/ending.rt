@@ -1,29 +1,32 @@
 //! Registrations that end, each with its key among those of its node.
 
-ghost use Rattle.std.specs.Prelude.{◌≡◌, ◌≢◌, ℕ, ◌≤◌, ◌==◌, Bool, not, [], List, length, filter, Some, None, nat_eq, if◌then◌else◌, true, false, slice_index_or, slice_set};
+ghost use Rattle.std.specs.Prelude.{◌≡◌, ◌≢◌, ℕ, ◌==◌, not, [], List, length, filter, Some, None, nat_eq, option_map, if◌then◌else◌, true, false, slice_set};
+ghost use Rattle.std.specs.Option.{option_copied};
 ghost use Rattle.std.specs.Map.{lookup};
 ghost use Rattle.indexmap.specs.IndexMap.{IsUnique};
 ghost use Rattle.dom_model.specs.PlainLists.Lists.{among};
 ghost use Rattle.dom_observe.specs.Watchers.{on};
-ghost use Rattle.dom_observe.specs.Registrations.{at, listed, is_live, is_on, left_by, left_after, of_kind, AllLive, Between, ending_node, lasts_for, passes_for, Placed, Owned, HaveKeys, ByOrigin};
+ghost use Rattle.dom_observe.specs.Registrations.{plain, at, in_table, listed, is_live, left_by, left_after, of_kind, AllLive, Between, ending_node, lasts_for, passes_for, Owned, HaveKeys, KeysLeft, ByOrigin, Swept};
 ghost use Rattle.dom_observe.specs.Kept.{AllThere, HaveNone};
-ghost use Rattle.dom_observe.specs.Turns.{turn_at, Rises, Rising, Fewer};
+ghost use Rattle.dom_observe.specs.Turns.{turn_at, Rises, Fewer};
 ghost use Rattle.dom_observe.specs.Roster.{lasting_by, passing_by, queues_by, is_there, passing_at};
 
 use crate::node_keys::NodeKeys;
 use crate::observer_id::ObserverId;
 use crate::registration::{Ended, Ending, Lifetime, Registration};
+use crate::registrations::Registrations;
 use crate::roster::{Observer, Roster};
-use crate::table::{cut, place_from, place_of, place_past, prune};
+use crate::table::{cut, place_of};
 use dom_tree::NodeId;
 use indexmap::{IndexMap, IndexSet};
 use slab::Slab;
 
-// The node of the registration under a key, where it ends.
-fn ending_node(table: &Slab<Registration>, key: usize, ending: &Ending) -> Option<NodeId>
-    ensures { result ≡ ending_node ending.now (at table.now key) }
+// The node of what stands under a key, where that ends.
+fn ending_node(registration: Option<&Registration>, ending: &Ending) -> Option<NodeId>
+    ensures { result
+        ≡ ending_node ending.now (option_map plain (option_copied registration.entry)) }
 {
-    match table.get(key) {
+    match registration {
         Some(registration) if ending.ends(registration) => Some(registration.node),
         _ => None,
     }
@@ -31,19 +34,19 @@ fn ending_node(table: &Slab<Registration>, key: usize, ending: &Ending) -> Optio
 
 // Takes out the registration under a key, where it ends.
 fn take_out(table: &mut Slab<Registration>, key: usize, ending: &Ending)
-    ensures left { (k : ℕ) → at table.new k ≡ (if k == key
-        then left_after ending.now (at table.old k) else at table.old k) }
+    ensures left { (k : ℕ) → in_table table.new k ≡ (if k == key
+        then left_after ending.now (in_table table.old k) else in_table table.old k) }
     ensures fewer { Fewer table.old table.new }
 {
-    if ending_node(table, key, ending).is_some() {
+    if ending_node(table.get(key), ending).is_some() {
         let _ = table.try_remove(key);
     }
 }
 
 // Takes out those under several keys that end.
 fn take_out_each(table: &mut Slab<Registration>, keys: &[usize], ending: &Ending)
-    ensures left { (k : ℕ) → at table.new k ≡ (if among k keys.now
-        then left_after ending.now (at table.old k) else at table.old k) }
+    ensures left { (k : ℕ) → in_table table.new k ≡ (if among k keys.now
+        then left_after ending.now (in_table table.old k) else in_table table.old k) }
     ensures fewer { Fewer table.old table.new }
 {
     for key in keys {
@@ -53,10 +56,10 @@ fn take_out_each(table: &mut Slab<Registration>, keys: &[usize], ending: &Ending
 
 // Takes out those under a node's keys that end, with their keys, and answers whether none is left.
 fn end_keys(table: &mut Slab<Registration>, keys: &mut NodeKeys, ending: &Ending) -> bool
-    ensures left { (k : ℕ) → at table.new k ≡ (if among k keys.old.items
-        then left_after ending.now (at table.old k) else at table.old k) }
+    ensures left { (k : ℕ) → in_table table.new k ≡ (if among k keys.old.items
+        then left_after ending.now (in_table table.old k) else in_table table.old k) }
     ensures fewer { Fewer table.old table.new }
-    ensures kept { keys.new.items ≡ filter (is_live (at table.new)) keys.old.items }
+    ensures kept { keys.new.items ≡ filter (is_live (in_table table.new)) keys.old.items }
     ensures bare { result ≡ (length keys.new.items == 0) }
 {
     take_out_each(table, keys.as_slice(), ending);
@@ -65,25 +68,19 @@ fn end_keys(table: &mut Slab<Registration>, keys: &mut NodeKeys, ending: &Ending
 }
 
 // The same of a node.
-fn end_keys_on(
+pub(crate) fn end_keys_on(
     table: &mut Slab<Registration>,
     nodes: &mut IndexMap<u32, NodeKeys>,
     node: NodeId,
     ending: &Ending,
 ) -> bool
     requires { IsUnique nat_eq nodes.old }
-    ensures left { (k : ℕ) → at table.new k
+    ensures left { (k : ℕ) → in_table table.new k
         ≡ (if among k (on node (listed nodes.old.entries))
-        then left_after ending.now (at table.old k) else at table.old k) }
+        then left_after ending.now (in_table table.old k) else in_table table.old k) }
     ensures fewer { Fewer table.old table.new }
-    ensures kept { (n : ℕ) → on n (listed nodes.new.entries)
-        ≡ (if n == node then filter (is_live (at table.new)) (on n (listed nodes.old.entries))
-        else on n (listed nodes.old.entries)) }
-    ensures others { (n : ℕ) → n ≢ node → lookup (nat_eq n) (listed nodes.new.entries)
-        ≡ lookup (nat_eq n) (listed nodes.old.entries) }
-    ensures bare { result ≡ true → on node (listed nodes.new.entries) ≡ [] }
-    ensures some { result ≡ false → (keys : List ℕ) →
-        lookup (nat_eq node) (listed nodes.new.entries) ≡ Some keys → keys ≢ [] }
+    ensures keys { KeysLeft node (is_live (in_table table.new)) (listed nodes.old.entries)
+        (listed nodes.new.entries) result }
     ensures unique { IsUnique nat_eq nodes.new }
 {
     match nodes.get_mut(&node.number()) {
@@ -92,63 +89,15 @@ fn end_keys_on(
     }
 }
 
-// Takes out the registrations on a node that end, with their keys, and the node with the last.
-fn end_on(
-    table: &mut Slab<Registration>,
-    nodes: &mut IndexMap<u32, NodeKeys>,
-    node: NodeId,
-    ending: &Ending,
-)
-    requires { IsUnique nat_eq nodes.old }
-    ensures left { (k : ℕ) → at table.new k
-        ≡ (if among k (on node (listed nodes.old.entries))
-        then left_after ending.now (at table.old k) else at table.old k) }
-    ensures fewer { Fewer table.old table.new }
-    ensures kept { (n : ℕ) → on n (listed nodes.new.entries)
-        ≡ (if n == node then filter (is_live (at table.new)) (on n (listed nodes.old.entries))
-        else on n (listed nodes.old.entries)) }
-    ensures full { HaveKeys (listed nodes.old.entries) → HaveKeys (listed nodes.new.entries) }
-    ensures unique { IsUnique nat_eq nodes.new }
-{
-    if end_keys_on(table, nodes, node, ending) {
-        let _ = nodes.swap_remove(&node.number());
-    }
-}
-
-// Takes out the registrations under several keys that end, and on their nodes the others that do. Each node's keys are gone through once.
-fn end_among(
-    table: &mut Slab<Registration>,
-    nodes: &mut IndexMap<u32, NodeKeys>,
-    keys: &[usize],
-    ending: &Ending,
-)
-    requires unique { IsUnique nat_eq nodes.old }
-    requires placed { Placed (at table.old) (listed nodes.old.entries) }
-    ensures between { (k : ℕ) → Between ending.now (at table.old k) (at table.new k) }
-    ensures done { (k : ℕ) → among k keys.now ≡ true
-        → at table.new k ≡ left_after ending.now (at table.old k) }
-    ensures fewer { Fewer table.old table.new }
-    ensures swept { (n : ℕ) → on n (listed nodes.new.entries)
-        ≡ filter (is_live (at table.new)) (on n (listed nodes.old.entries)) }
-    ensures placed { Placed (at table.new) (listed nodes.new.entries) }
-    ensures full { HaveKeys (listed nodes.old.entries) → HaveKeys (listed nodes.new.entries) }
-    ensures unique { IsUnique nat_eq nodes.new }
-{
-    for key in keys {
-        if let Some(node) = ending_node(table, *key, ending) {
-            end_on(table, nodes, node, ending);
-        }
-    }
-}
-
 // Takes out the registration under one of a node's keys, with its key, and answers whether none is left.
 fn end_key(table: &mut Slab<Registration>, keys: &mut NodeKeys, key: usize) -> bool
     requires rising { Rises (turn_at table.old) keys.old.items }
-    requires live { AllLive (at table.old) keys.old.items }
+    requires live { AllLive (in_table table.old) keys.old.items }
     requires there { among key keys.old.items ≡ true }
-    ensures left { (k : ℕ) → at table.new k ≡ (if k == key then None else at table.old k) }
+    ensures left { (k : ℕ) → in_table table.new k
+        ≡ (if k == key then None else in_table table.old k) }
     ensures fewer { Fewer table.old table.new }
-    ensures kept { keys.new.items ≡ filter (is_live (at table.new)) keys.old.items }
+    ensures kept { keys.new.items ≡ filter (is_live (in_table table.new)) keys.old.items }
     ensures bare { result ≡ (length keys.new.items == 0) }
 {
     let place = place_of(table, keys.as_slice(), key);
@@ -158,7 +107,7 @@ fn end_key(table: &mut Slab<Registration>, keys: &mut NodeKeys, key: usize) -> b
 }
 
 // The same of a key of a node.
-fn end_key_on(
+pub(crate) fn end_key_on(
     table: &mut Slab<Registration>,
     nodes: &mut IndexMap<u32, NodeKeys>,
     node: NodeId,
@@ -166,18 +115,13 @@ fn end_key_on(
 ) -> bool
     requires unique { IsUnique nat_eq nodes.old }
     requires rising { Rises (turn_at table.old) (on node (listed nodes.old.entries)) }
-    requires live { AllLive (at table.old) (on node (listed nodes.old.entries)) }
+    requires live { AllLive (in_table table.old) (on node (listed nodes.old.entries)) }
     requires there { among key (on node (listed nodes.old.entries)) ≡ true }
-    ensures left { (k : ℕ) → at table.new k ≡ (if k == key then None else at table.old k) }
+    ensures left { (k : ℕ) → in_table table.new k
+        ≡ (if k == key then None else in_table table.old k) }
     ensures fewer { Fewer table.old table.new }
-    ensures kept { (n : ℕ) → on n (listed nodes.new.entries)
-        ≡ (if n == node then filter (is_live (at table.new)) (on n (listed nodes.old.entries))
-        else on n (listed nodes.old.entries)) }
-    ensures others { (n : ℕ) → n ≢ node → lookup (nat_eq n) (listed nodes.new.entries)
-        ≡ lookup (nat_eq n) (listed nodes.old.entries) }
-    ensures bare { result ≡ true → on node (listed nodes.new.entries) ≡ [] }
-    ensures some { result ≡ false → (keys : List ℕ) →
-        lookup (nat_eq node) (listed nodes.new.entries) ≡ Some keys → keys ≢ [] }
+    ensures keys { KeysLeft node (is_live (in_table table.new)) (listed nodes.old.entries)
+        (listed nodes.new.entries) result }
     ensures unique { IsUnique nat_eq nodes.new }
 {
     match nodes.get_mut(&node.number()) {
@@ -186,185 +130,150 @@ fn end_key_on(
     }
 }
 
-// Takes out the registration on a node that is under a key, with the key, and the node with the last. The other keys of the node are not gone through.
-fn end_one(
-    table: &mut Slab<Registration>,
-    nodes: &mut IndexMap<u32, NodeKeys>,
-    node: NodeId,
-    key: usize,
-)
+// Takes out a node that is left without keys.
+pub(crate) fn leave_out(nodes: &mut IndexMap<u32, NodeKeys>, node: NodeId, is_bare: bool)
     requires unique { IsUnique nat_eq nodes.old }
-    requires placed { Placed (at table.old) (listed nodes.old.entries) }
-    requires rising { Rising table.old (listed nodes.old.entries) }
-    requires there { is_on node (at table.old key) ≡ true }
-    ensures left { (k : ℕ) → at table.new k ≡ (if k == key then None else at table.old k) }
-    ensures fewer { Fewer table.old table.new }
-    ensures swept { (n : ℕ) → on n (listed nodes.new.entries)
-        ≡ filter (is_live (at table.new)) (on n (listed nodes.old.entries)) }
-    ensures full { HaveKeys (listed nodes.old.entries) → HaveKeys (listed nodes.new.entries) }
+    requires bare { is_bare ≡ true → on node (listed nodes.old.entries) ≡ [] }
+    requires some { is_bare ≡ false → (keys : List ℕ) →
+        lookup (nat_eq node) (listed nodes.old.entries) ≡ Some keys → keys ≢ [] }
+    ensures kept { (n : ℕ) → on n (listed nodes.new.entries) ≡ on n (listed nodes.old.entries) }
+    ensures full { (lists : List (ℕ × List ℕ)) → HaveKeys lists → ((n : ℕ) → n ≢ node →
+        lookup (nat_eq n) (listed nodes.old.entries) ≡ lookup (nat_eq n) lists) →
+        HaveKeys (listed nodes.new.entries) }
     ensures unique { IsUnique nat_eq nodes.new }
 {
-    if end_key_on(table, nodes, node, key) {
+    if is_bare {
         let _ = nodes.swap_remove(&node.number());
     }
 }
 
-// Takes out the registrations under several keys that end, one by one.
-fn end_each(
-    table: &mut Slab<Registration>,
-    nodes: &mut IndexMap<u32, NodeKeys>,
-    keys: &[usize],
-    ending: &Ending,
-)
-    requires unique { IsUnique nat_eq nodes.old }
-    requires placed { Placed (at table.old) (listed nodes.old.entries) }
-    requires rising { Rising table.old (listed nodes.old.entries) }
-    ensures between { (k : ℕ) → Between ending.now (at table.old k) (at table.new k) }
-    ensures done { (k : ℕ) → among k keys.now ≡ true
-        → at table.new k ≡ left_after ending.now (at table.old k) }
-    ensures fewer { Fewer table.old table.new }
-    ensures swept { (n : ℕ) → on n (listed nodes.new.entries)
-        ≡ filter (is_live (at table.new)) (on n (listed nodes.old.entries)) }
-    ensures placed { Placed (at table.new) (listed nodes.new.entries) }
-    ensures full { HaveKeys (listed nodes.old.entries) → HaveKeys (listed nodes.new.entries) }
-    ensures unique { IsUnique nat_eq nodes.new }
-{
-    for key in keys {
-        if let Some(node) = ending_node(table, *key, ending) {
-            end_one(table, nodes, node, *key);
+impl Registrations {
+    // Takes out those under several keys that end, and on their nodes the others that do. Each node's keys are gone through once.
+    fn end_among(&mut self, keys: &[usize], ending: &Ending)
+        ensures between { (k : ℕ) → Between ending.now (at self.old k) (at self.new k) }
+        ensures done { (k : ℕ) → among k keys.now ≡ true
+            → at self.new k ≡ left_after ending.now (at self.old k) }
+        ensures swept { Swept self.old self.new }
+    {
+        self.sound();
+        for key in keys {
+            self.sound();
+            if let Some(node) = ending_node(self.get(*key), ending) {
+                self.end_on(node, ending);
+            }
         }
     }
-}
 
-// Ends registrations of an observer by its keys, and leaves it the keys of those that stay.
-pub(crate) fn end_own(
-    table: &mut Slab<Registration>,
-    nodes: &mut IndexMap<u32, NodeKeys>,
-    keys: &mut Vec<usize>,
-    ending: &Ending,
-)
-    requires unique { IsUnique nat_eq nodes.old }
-    requires placed { Placed (at table.old) (listed nodes.old.entries) }
-    requires rising { Rising table.old (listed nodes.old.entries) }
-    requires owned { (k : ℕ) → among k keys.old.items
-        ≡ of_kind ending.now.lifetime ending.now.observer (at table.old k) }
-    ensures left { (k : ℕ) → at table.new k ≡ (if among k keys.old.items
-        then left_by ending.now.ended (at table.old k) else at table.old k) }
-    ensures fewer { Fewer table.old table.new }
-    ensures swept { (n : ℕ) → on n (listed nodes.new.entries)
-        ≡ filter (is_live (at table.new)) (on n (listed nodes.old.entries)) }
-    ensures keys { keys.new.items ≡ filter (is_live (at table.new)) keys.old.items }
-    ensures placed { Placed (at table.new) (listed nodes.new.entries) }
-    ensures full { HaveKeys (listed nodes.old.entries) → HaveKeys (listed nodes.new.entries) }
-    ensures unique { IsUnique nat_eq nodes.new }
-{
-    end_each(table, nodes, keys.as_slice(), ending);
-    prune(table, keys);
-}
-
-// Ends the transient registrations of an observer that come from a node, by its keys, which stand by where theirs come from. The others are not gone through.
-pub(crate) fn end_from(
-    table: &mut Slab<Registration>,
-    nodes: &mut IndexMap<u32, NodeKeys>,
-    keys: &mut Vec<usize>,
-    observer: ObserverId,
-    node: NodeId,
-)
-    requires unique { IsUnique nat_eq nodes.old }
-    requires placed { Placed (at table.old) (listed nodes.old.entries) }
-    requires rising { Rising table.old (listed nodes.old.entries) }
-    requires owned { (k : ℕ) → among k keys.old.items ≡ passes_for observer (at table.old k) }
-    requires ordered { ByOrigin (at table.old) keys.old.items }
-    ensures left { (k : ℕ) → at table.new k ≡ (if among k keys.old.items
-        then left_by (Ended.From observer node) (at table.old k) else at table.old k) }
-    ensures fewer { Fewer table.old table.new }
-    ensures swept { (n : ℕ) → on n (listed nodes.new.entries)
-        ≡ filter (is_live (at table.new)) (on n (listed nodes.old.entries)) }
-    ensures keys { keys.new.items ≡ filter (is_live (at table.new)) keys.old.items }
-    ensures placed { Placed (at table.new) (listed nodes.new.entries) }
-    ensures full { HaveKeys (listed nodes.old.entries) → HaveKeys (listed nodes.new.entries) }
-    ensures unique { IsUnique nat_eq nodes.new }
-{
-    let ending = Ending {
-        observer: Some(observer),
-        lifetime: Lifetime::Passing,
-        ended: Ended::From(observer, node),
-    };
-    let first = place_from(table, keys.as_slice(), node);
-    let end = first + place_past(table, &keys[first..], node);
-    end_each(table, nodes, &keys[first..end], &ending);
-    cut(keys, first, end);
-}
-
-// Ends all registrations of an observer: those that last, and then its transient ones.
-pub(crate) fn end_all(
-    table: &mut Slab<Registration>,
-    nodes: &mut IndexMap<u32, NodeKeys>,
-    kept: &mut Observer,
-    observer: ObserverId,
-)
-    requires unique { IsUnique nat_eq nodes.old }
-    requires placed { Placed (at table.old) (listed nodes.old.entries) }
-    requires rising { Rising table.old (listed nodes.old.entries) }
-    requires lasting { (k : ℕ) → among k kept.old.lasting.items
-        ≡ lasts_for observer (at table.old k) }
-    requires passing { (k : ℕ) → among k kept.old.passing.items
-        ≡ passes_for observer (at table.old k) }
-    ensures left { (k : ℕ) → at table.new k ≡ left_by (Ended.Of observer) (at table.old k) }
-    ensures fewer { Fewer table.old table.new }
-    ensures swept { (n : ℕ) → on n (listed nodes.new.entries)
-        ≡ filter (is_live (at table.new)) (on n (listed nodes.old.entries)) }
-    ensures lasting { kept.new.lasting.items ≡ [] }
-    ensures passing { kept.new.passing.items ≡ [] }
-    ensures queue { kept.new.queue ≡ kept.old.queue }
-    ensures placed { Placed (at table.new) (listed nodes.new.entries) }
-    ensures full { HaveKeys (listed nodes.old.entries) → HaveKeys (listed nodes.new.entries) }
-    ensures unique { IsUnique nat_eq nodes.new }
-{
-    let lasting = Ending {
-        observer: Some(observer),
-        lifetime: Lifetime::Lasting,
-        ended: Ended::Of(observer),
-    };
-    end_own(table, nodes, &mut kept.lasting, &lasting);
-    let passing = Ending {
-        observer: Some(observer),
-        lifetime: Lifetime::Passing,
-        ended: Ended::Of(observer),
-    };
-    end_own(table, nodes, &mut kept.passing, &passing);
-}
-
-// Takes out every transient registration, by the keys that several observers have of theirs.
-fn end_passing(
-    table: &mut Slab<Registration>,
-    nodes: &mut IndexMap<u32, NodeKeys>,
-    roster: &Roster,
-    fleeting: &IndexSet<ObserverId>,
-)
-    requires unique { IsUnique nat_eq nodes.old }
-    requires placed { Placed (at table.old) (listed nodes.old.entries) }
-    requires there { AllThere (is_there roster.now) fleeting.now.keys }
-    requires owned { Owned passes_for (at table.old) (passing_by roster.now) }
-    requires all { HaveNone fleeting.now.keys (passing_by roster.now) }
-    ensures left { (k : ℕ) → at table.new k ≡ left_by Ended.Transient (at table.old k) }
-    ensures fewer { Fewer table.old table.new }
-    ensures swept { (n : ℕ) → on n (listed nodes.new.entries)
-        ≡ filter (is_live (at table.new)) (on n (listed nodes.old.entries)) }
-    ensures placed { Placed (at table.new) (listed nodes.new.entries) }
-    ensures full { HaveKeys (listed nodes.old.entries) → HaveKeys (listed nodes.new.entries) }
-    ensures unique { IsUnique nat_eq nodes.new }
-{
-    let ending = Ending {
-        observer: None,
-        lifetime: Lifetime::Passing,
-        ended: Ended::Transient,
-    };
-    for index in 0..fleeting.len() {
-        if let Some(observer) = fleeting.get_index(index) {
-            let kept = roster.get(*observer);
-            end_among(table, nodes, kept.passing.as_slice(), &ending);
+    // Takes out those under several keys that end, one by one.
+    fn end_each(&mut self, keys: &[usize], ending: &Ending)
+        ensures between { (k : ℕ) → Between ending.now (at self.old k) (at self.new k) }
+        ensures done { (k : ℕ) → among k keys.now ≡ true
+            → at self.new k ≡ left_after ending.now (at self.old k) }
+        ensures swept { Swept self.old self.new }
+    {
+        self.sound();
+        for key in keys {
+            if let Some(node) = ending_node(self.get(*key), ending) {
+                self.end_one(node, *key);
+            }
         }
+    }
+
+    // Ends those of an observer by its keys, and leaves it the keys of those that stay.
+    pub(crate) fn end_own(&mut self, keys: &mut Vec<usize>, ending: &Ending)
+        requires { (k : ℕ) → among k keys.old.items
+            ≡ of_kind ending.now.lifetime ending.now.observer (at self.old k) }
+        ensures left { (k : ℕ) → at self.new k ≡ (if among k keys.old.items
+            then left_by ending.now.ended (at self.old k) else at self.old k) }
+        ensures swept { Swept self.old self.new }
+        ensures keys { keys.new.items ≡ filter (is_live (at self.new)) keys.old.items }
+    {
+        self.end_each(keys.as_slice(), ending);
+        self.prune(keys);
+    }
+
+    // Ends the transient ones of an observer that come from a node, by its keys, which stand by where theirs come from. The others are not gone through.
+    pub(crate) fn end_from(&mut self, keys: &mut Vec<usize>, observer: ObserverId, node: NodeId)
+        requires owned { (k : ℕ) → among k keys.old.items ≡ passes_for observer (at self.old k) }
+        requires ordered { ByOrigin (at self.old) keys.old.items }
+        ensures left { (k : ℕ) → at self.new k ≡ (if among k keys.old.items
+            then left_by (Ended.From observer node) (at self.old k) else at self.old k) }
+        ensures swept { Swept self.old self.new }
+        ensures keys { keys.new.items ≡ filter (is_live (at self.new)) keys.old.items }
+    {
+        let ending = Ending {
+            observer: Some(observer),
+            lifetime: Lifetime::Passing,
+            ended: Ended::From(observer, node),
+        };
+        let first = self.place_from(keys.as_slice(), node);
+        let end = first + self.place_past(&keys[first..], node);
+        self.end_each(&keys[first..end], &ending);
+        cut(keys, first, end);
+    }
+
+    // Ends all of an observer: those that last, and then its transient ones.
+    pub(crate) fn end_all(&mut self, kept: &mut Observer, observer: ObserverId)
+        requires lasting { (k : ℕ) → among k kept.old.lasting.items
+            ≡ lasts_for observer (at self.old k) }
+        requires passing { (k : ℕ) → among k kept.old.passing.items
+            ≡ passes_for observer (at self.old k) }
+        ensures left { (k : ℕ) → at self.new k ≡ left_by (Ended.Of observer) (at self.old k) }
+        ensures swept { Swept self.old self.new }
+        ensures lasting { kept.new.lasting.items ≡ [] }
+        ensures passing { kept.new.passing.items ≡ [] }
+        ensures queue { kept.new.queue ≡ kept.old.queue }
+    {
+        let lasting = Ending {
+            observer: Some(observer),
+            lifetime: Lifetime::Lasting,
+            ended: Ended::Of(observer),
+        };
+        self.end_own(&mut kept.lasting, &lasting);
+        let passing = Ending {
+            observer: Some(observer),
+            lifetime: Lifetime::Passing,
+            ended: Ended::Of(observer),
+        };
+        self.end_own(&mut kept.passing, &passing);
+    }
+
+    // Takes out every transient one, by the keys that several observers have of theirs.
+    fn end_passing(&mut self, roster: &Roster, fleeting: &IndexSet<ObserverId>)
+        requires there { AllThere (is_there roster.now) fleeting.now.keys }
+        requires owned { Owned passes_for (at self.old) (passing_by roster.now) }
+        requires all { HaveNone fleeting.now.keys (passing_by roster.now) }
+        ensures left { (k : ℕ) → at self.new k ≡ left_by Ended.Transient (at self.old k) }
+        ensures swept { Swept self.old self.new }
+    {
+        self.sound();
+        let ending = Ending {
+            observer: None,
+            lifetime: Lifetime::Passing,
+            ended: Ended::Transient,
+        };
+        for index in 0..fleeting.len() {
+            if let Some(observer) = fleeting.get_index(index) {
+                let kept = roster.get(*observer);
+                self.end_among(kept.passing.as_slice(), &ending);
+            }
+        }
+    }
+
+    // Ends every transient one, where several observers are those that have any.
+    pub(crate) fn end_transients(&mut self, roster: &mut Roster, fleeting: &IndexSet<ObserverId>)
+        requires there { AllThere (is_there roster.old) fleeting.now.keys }
+        requires owned { Owned passes_for (at self.old) (passing_by roster.old) }
+        requires all { HaveNone fleeting.now.keys (passing_by roster.old) }
+        ensures left { (k : ℕ) → at self.new k ≡ left_by Ended.Transient (at self.old k) }
+        ensures swept { Swept self.old self.new }
+        ensures none { (o : ℕ) → passing_at roster.new o ≡ [] }
+        ensures owned { Owned passes_for (at self.new) (passing_by roster.new) }
+        ensures lasting { lasting_by roster.new ≡ lasting_by roster.old }
+        ensures queues { queues_by roster.new ≡ queues_by roster.old }
+    {
+        self.end_passing(roster, fleeting);
+        forget_all_passing(roster, fleeting);
     }
 }
 
@@ -392,32 +301,4 @@ fn forget_all_passing(roster: &mut Roster, fleeting: &IndexSet<ObserverId>)
             forget_passing(roster, *observer);
         }
     }
-}
-
-// Ends every transient registration, where several observers are those that have any.
-pub(crate) fn end_transients(
-    table: &mut Slab<Registration>,
-    nodes: &mut IndexMap<u32, NodeKeys>,
-    roster: &mut Roster,
-    fleeting: &IndexSet<ObserverId>,
-)
-    requires unique { IsUnique nat_eq nodes.old }
-    requires placed { Placed (at table.old) (listed nodes.old.entries) }
-    requires there { AllThere (is_there roster.old) fleeting.now.keys }
-    requires owned { Owned passes_for (at table.old) (passing_by roster.old) }
-    requires all { HaveNone fleeting.now.keys (passing_by roster.old) }
-    ensures left { (k : ℕ) → at table.new k ≡ left_by Ended.Transient (at table.old k) }
-    ensures fewer { Fewer table.old table.new }
-    ensures swept { (n : ℕ) → on n (listed nodes.new.entries)
-        ≡ filter (is_live (at table.new)) (on n (listed nodes.old.entries)) }
-    ensures none { (o : ℕ) → passing_at roster.new o ≡ [] }
-    ensures owned { Owned passes_for (at table.new) (passing_by roster.new) }
-    ensures lasting { lasting_by roster.new ≡ lasting_by roster.old }
-    ensures queues { queues_by roster.new ≡ queues_by roster.old }
-    ensures placed { Placed (at table.new) (listed nodes.new.entries) }
-    ensures full { HaveKeys (listed nodes.old.entries) → HaveKeys (listed nodes.new.entries) }
-    ensures unique { IsUnique nat_eq nodes.new }
-{
-    end_passing(table, nodes, roster, fleeting);
-    forget_all_passing(roster, fleeting);
 }

@@ -15,12 +15,13 @@ mod queue;
 mod queues;
 mod record;
 mod registration;
+mod registrations;
 mod roster;
 mod table;
 mod telling;
 
 pub use dom_model::RecordType;
-pub use observer_id::ObserverId;
+pub use observer_id::{ObserverId, OfObserver};
 pub use observers::Observers;
 pub use options::{Options, RawOptions, settle};
 pub use record::{Mutation, Record};

@@ -9,46 +9,23 @@ ghost use Rattle.dom_model.specs.MutationAlgorithms.Discarding.{nodes_of_record}
 ghost use Rattle.dom_observe.specs.Kept.{AllThere};
 ghost use Rattle.dom_observe.specs.Roster.{is_there, records_of};
 
-use crate::node_keys::NodeKeys;
 use crate::observer_id::ObserverId;
+use crate::registrations::Registrations;
 use crate::roster::Roster;
 use dom_tree::{NodeId, Tree};
-use indexmap::{IndexMap, IndexSet};
-
-// Whether a node has keys.
-fn has_keys(nodes: &IndexMap<u32, NodeKeys>, node: NodeId) -> bool
-    ensures { result ≡ among node (keys_of nodes.now.entries) }
-{
-    nodes.contains_key(&node.number())
-}
-
-// Whether a node with keys stands inside another. It asks each of these.
-fn has_keys_inside<X>(tree: &Tree<X>, top: NodeId, nodes: &IndexMap<u32, NodeKeys>) -> bool
-    ensures { result ≡ list_any (λ m. among m (inclusive_descendants tree.now.forest top))
-        (keys_of nodes.now.entries) }
-{
-    nodes
-        .keys()
-        .any(|number| tree.is_inside(top, NodeId::new(*number)))
-}
-
-// The node with keys in a place of the table, as long as there is one.
-fn node_at(nodes: &IndexMap<u32, NodeKeys>, index: usize) -> Option<NodeId> {
-    let (number, _) = nodes.get_index(index)?;
-    Some(NodeId::new(*number))
-}
+use indexmap::IndexSet;
 
 // Whether a registration stands on a node inside another.
 //
 // It walks the nodes inside, or climbs from each node with a registration where that takes fewer steps.
-pub(crate) fn is_named<X>(tree: &Tree<X>, top: NodeId, nodes: &IndexMap<u32, NodeKeys>) -> bool
+pub(crate) fn is_named<X>(tree: &Tree<X>, top: NodeId, registrations: &Registrations) -> bool
     requires { HasNode tree.now.forest top }
     ensures { result ≡ list_any (λ m. among m (inclusive_descendants tree.now.forest top))
-        (keys_of nodes.now.entries) }
+        (keys_of registrations.now.lists) }
 {
-    let steps = tree.steps_inside(top, |index| node_at(nodes, index));
-    tree.any_inside(top, steps, |node| has_keys(nodes, node))
-        .unwrap_or_else(|| has_keys_inside(tree, top, nodes))
+    let steps = tree.steps_inside(top, |index| registrations.node_at(index));
+    tree.any_inside(top, steps, |node| registrations.stand_on(node))
+        .unwrap_or_else(|| registrations.stand_inside(tree, top))
 }
 
 // Whether a record that waits for one of some observers names a node inside.

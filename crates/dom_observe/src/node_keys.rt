@@ -3,7 +3,7 @@
 ghost use Rattle.std.specs.Prelude.{◌≡◌, ℕ, ◌<◌, ◌==◌, ◌++◌, [], ◌∷◌, length, remove, filter, IfOk, OnOk, OnErr, nat_eq, if◌then◌else◌};
 ghost use Rattle.indexmap.specs.IndexMap.{IsUnique};
 ghost use Rattle.dom_observe.specs.Watchers.{on};
-ghost use Rattle.dom_observe.specs.Registrations.{at, is_live, listed, HaveKeys};
+ghost use Rattle.dom_observe.specs.Registrations.{in_table, is_live, listed, HaveKeys};
 
 use crate::registration::Registration;
 use crate::table::{cut, prune};
@@ -84,7 +84,7 @@ impl NodeKeys {
 
     /// Takes out the keys under which nothing is left.
     pub(crate) fn prune(&mut self, table: &Slab<Registration>)
-        ensures { self.new.items ≡ filter (is_live (at table.now)) self.old.items }
+        ensures { self.new.items ≡ filter (is_live (in_table table.now)) self.old.items }
     {
         cut(&mut self.all, 0, self.passed);
         self.passed = 0;
@@ -99,17 +99,6 @@ impl NodeKeys {
             cut(&mut self.all, 0, self.passed);
             self.passed = 0;
         }
-    }
-}
-
-// The keys of a node.
-#[inline(always)]
-pub(crate) fn keys_on(nodes: &IndexMap<u32, NodeKeys>, node: NodeId) -> &[usize]
-    ensures { result.now ≡ on node (listed nodes.now.entries) }
-{
-    match nodes.get(&node.number()) {
-        Some(keys) => keys.as_slice(),
-        None => &[],
     }
 }
 

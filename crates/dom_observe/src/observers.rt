@@ -16,23 +16,20 @@ ghost use Rattle.dom_observe.specs.Removed.{removed_below};
 ghost use Rattle.dom_observe.specs.Sound.{IsSound};
 ghost use Rattle.dom_observe.specs.Watchers.{queue_in, records_at, registrations_in, Watches, Steps, Answers};
 
-use crate::adding::{add, add_transients, find_standing, find_standing_deep};
-use crate::ending::{end_all, end_from, end_own, end_transients};
+use crate::adding::{add_transients, find_standing, find_standing_deep};
 use crate::filter::Asked;
 use crate::naming::{is_named, is_told};
-use crate::node_keys::{NodeKeys, keys_on};
 use crate::notifying::gather;
 use crate::observer_id::ObserverId;
 use crate::options::Options;
 use crate::queues::{catch_up_each, take_from};
 use crate::record::{Mutation, Record};
 use crate::registration::{Ended, Ending, Lifetime, Registration};
+use crate::registrations::Registrations;
 use crate::roster::Roster;
-use crate::table::{own_key, set_options};
 use crate::telling::tell;
 use dom_tree::{NodeId, Tree};
-use indexmap::{IndexMap, IndexSet};
-use slab::Slab;
+use indexmap::IndexSet;
 use std::alloc::{AllocError, Global};
 use std::marker::Model;
 use std::rc::Rc;
@@ -43,9 +40,7 @@ use std::rc::Rc;
 /// observer that was released. Room for the registrations that stand above a node is kept from one change to the next.
 #[derive(Drop)]
 pub struct Observers {
-    table: Slab<Registration>,
-    // the keys of the registrations on a node; no entry where there is none
-    nodes: IndexMap<u32, NodeKeys>,
+    registrations: Registrations,
     // what is kept of each observer
     roster: Roster,
     // the observers that may have transient registrations
@@ -63,21 +58,19 @@ impl Model for Observers {
 
     ghost Value = { Watchers };
 
-    ghost use Rattle.dom_observe.specs.Registrations.{at, listed, HaveSources, Agree};
+    ghost use Rattle.dom_observe.specs.Registrations.{at, HaveSources, Agree};
     ghost use Rattle.dom_observe.specs.Kept.{registered_nodes, has_queue, IsKept, IsIndexed, IsAwaited};
     ghost use Rattle.dom_observe.specs.Roster.{lasting_by, passing_by, queues_by};
-    ghost use Rattle.dom_observe.specs.Turns.{Rising};
 
     ghost view = { λ o. record {
-      nodes = registered_nodes o.table o.nodes.entries;
+      nodes = registered_nodes o.registrations;
       queues = queues_by o.roster;
       pending = o.pending.keys;
     } };
 
-    ghost invariant = { λ o. IsKept o.table o.nodes.entries (queues_by o.roster) o.pending.keys
-        × IsIndexed (at o.table) (listed o.nodes.entries) (lasting_by o.roster) (passing_by o.roster) o.fleeting.keys (has_queue (queues_by o.roster))
-        × HaveSources (at o.table) × Agree (at o.table) × IsAwaited (queues_by o.roster) o.pending.keys o.untold.keys
-        × Rising o.table (listed o.nodes.entries) };
+    ghost invariant = { λ o. IsKept o.registrations (queues_by o.roster) o.pending.keys
+        × IsIndexed (at o.registrations) (lasting_by o.roster) (passing_by o.roster) o.fleeting.keys (has_queue (queues_by o.roster))
+        × HaveSources (at o.registrations) × Agree (at o.registrations) × IsAwaited (queues_by o.roster) o.pending.keys o.untold.keys };
 }
 
 impl Observers {
@@ -85,9 +78,10 @@ impl Observers {
     pub fn new(alloc: Global) -> Observers
         ensures { result ≡ record { nodes = []; queues = []; pending = [] } }
     {
+        let registrations = Registrations::new(alloc);
+        registrations.sound();
         Observers {
-            table: Slab::new(alloc),
-            nodes: IndexMap::new(alloc),
+            registrations,
             roster: Roster::new(alloc),
             fleeting: IndexSet::new(alloc),
             pending: IndexSet::new(alloc),
@@ -116,7 +110,7 @@ impl Observers {
     pub fn sound(&self)
         ensures { IsSound self.now }
     {
-        let _ = &self.table;
+        let _ = &self.registrations;
     }
 
     /// How many observers were made, with those that were released.
@@ -139,7 +133,7 @@ impl Observers {
         ensures watched { Answers (λ x. length (once x.registrations)) self.now result }
         ensures own { result ≡ registrations_in self.now }
     {
-        self.table.len()
+        self.registrations.len()
     }
 
     /// Whether there is such an observer: it was made, and not released.
@@ -156,7 +150,7 @@ impl Observers {
             result ≡ true }
         ensures own { result ≡ (length self.now.nodes == 0) }
     {
-        self.nodes.is_empty()
+        self.registrations.is_empty()
     }
 
     /// The observer at an index of the pending list.
@@ -199,24 +193,14 @@ impl Observers {
         ensures names { NamesOnly (node ∷ []) self.old self.new }
         ensures made { SameObservers self.old self.new }
     {
-        let own = own_key(
-            &self.table,
-            keys_on(&self.nodes, node),
-            self.roster.get(observer).lasting.as_slice(),
-            observer,
-            node,
-        );
-        match own {
+        let lasting = self.roster.get(observer).lasting.as_slice();
+        match self.registrations.own_key(lasting, observer, node) {
             Some(key) => {
                 let kept = self.roster.get_mut(observer);
-                end_from(
-                    &mut self.table,
-                    &mut self.nodes,
-                    &mut kept.passing,
-                    observer,
-                    node,
-                );
-                set_options(&mut self.table, key, options);
+                self.registrations
+                    .end_from(&mut kept.passing, observer, node);
+                self.registrations.set_options(key, options);
+                self.registrations.sound();
                 Ok(())
             }
             None => {
@@ -229,14 +213,11 @@ impl Observers {
                 };
                 let kept = self.roster.get_mut(observer);
                 let place = kept.lasting.len();
-                add(
-                    &mut self.table,
-                    &mut self.nodes,
-                    &mut kept.lasting,
-                    place,
-                    registration,
-                    self.alloc,
-                )
+                let added = self
+                    .registrations
+                    .add(&mut kept.lasting, place, registration, self.alloc);
+                self.registrations.sound();
+                added
             }
         }
     }
@@ -249,7 +230,8 @@ impl Observers {
         ensures made { SameObservers self.old self.new }
     {
         let kept = self.roster.get_mut(observer);
-        end_all(&mut self.table, &mut self.nodes, kept, observer);
+        self.registrations.end_all(kept, observer);
+        self.registrations.sound();
         let _ = kept.queue.take(self.alloc);
     }
 
@@ -261,7 +243,8 @@ impl Observers {
         ensures made { self.new.queues ≡ slice_set self.old.queues observer None }
     {
         let kept = self.roster.get_mut(observer);
-        end_all(&mut self.table, &mut self.nodes, kept, observer);
+        self.registrations.end_all(kept, observer);
+        self.registrations.sound();
         self.pending.shift_remove(&observer);
         self.fleeting.swap_remove(&observer);
         self.untold.swap_remove(&observer);
@@ -304,13 +287,12 @@ impl Observers {
         ensures quiet { NamesNoneOf (ancestors parent tree.now.forest) self.old →
             self.new ≡ self.old }
     {
-        find_standing_deep(&self.table, &self.nodes, tree, parent, &mut self.standing)?;
+        find_standing_deep(&self.registrations, tree, parent, &mut self.standing)?;
         if self.standing.is_empty() {
             return Ok(());
         }
         add_transients(
-            &mut self.table,
-            &mut self.nodes,
+            &mut self.registrations,
             &mut self.roster,
             &mut self.fleeting,
             self.standing.as_slice(),
@@ -335,15 +317,16 @@ impl Observers {
         ensures quiet { NamesNoneOf (ancestors mutation.now.target tree.now.forest) self.old →
             self.new ≡ self.old }
     {
-        if self.nodes.is_empty() {
+        if self.registrations.is_empty() {
             return Ok(());
         }
-        find_standing(&self.nodes, tree, mutation.target, &mut self.standing)?;
+        let target = mutation.target;
+        find_standing(&self.registrations, tree, target, &mut self.standing)?;
         if self.standing.is_empty() {
             return Ok(());
         }
         tell(
-            &self.table,
+            &self.registrations,
             self.standing.as_slice(),
             &mut self.roster,
             &mut self.pending,
@@ -378,13 +361,12 @@ impl Observers {
             return Ok(());
         }
         let parent = mutation.target;
-        find_standing(&self.nodes, tree, parent, &mut self.standing)?;
+        find_standing(&self.registrations, tree, parent, &mut self.standing)?;
         if self.standing.is_empty() {
             return Ok(());
         }
         add_transients(
-            &mut self.table,
-            &mut self.nodes,
+            &mut self.registrations,
             &mut self.roster,
             &mut self.fleeting,
             self.standing.as_slice(),
@@ -392,7 +374,7 @@ impl Observers {
             self.alloc,
         )?;
         tell(
-            &self.table,
+            &self.registrations,
             self.standing.as_slice(),
             &mut self.roster,
             &mut self.pending,
@@ -416,12 +398,9 @@ impl Observers {
     {
         let told = gather(&self.pending, &mut self.roster, self.alloc)?;
         self.pending.clear();
-        end_transients(
-            &mut self.table,
-            &mut self.nodes,
-            &mut self.roster,
-            &self.fleeting,
-        );
+        self.registrations
+            .end_transients(&mut self.roster, &self.fleeting);
+        self.registrations.sound();
         self.fleeting.clear();
         Ok(told)
     }
@@ -460,7 +439,8 @@ impl Observers {
             lifetime: Lifetime::Passing,
             ended: Ended::TransientOf(observer),
         };
-        end_own(&mut self.table, &mut self.nodes, &mut kept.passing, &ending);
+        self.registrations.end_own(&mut kept.passing, &ending);
+        self.registrations.sound();
         self.untold.swap_remove(&observer);
         kept.queue.take(self.alloc)
     }
@@ -491,7 +471,7 @@ impl Observers {
         ensures named { result ≡ list_any (λ m. among m (inclusive_descendants tree.now.forest top))
             (named self.now) }
     {
-        is_named(tree, top, &self.nodes)
+        is_named(tree, top, &self.registrations)
             || is_told(tree, top, &self.roster, &self.pending, &self.untold)
     }
 }

@@ -7,11 +7,9 @@ ghost use Rattle.dom_observe.specs.Registrations.{at, from_at};
 ghost use Rattle.dom_observe.specs.Origins.{same_origin, Notes, NotesIfAny, AlsoNotes};
 
 use crate::observer_id::ObserverId;
-use crate::registration::Registration;
-use crate::table::is_from;
+use crate::registrations::Registrations;
 use dom_tree::NodeId;
 use indexmap::IndexSet;
-use slab::Slab;
 use std::alloc::{AllocError, Global};
 
 // Up to so many questions are answered by going through the keys of the node.
@@ -43,51 +41,67 @@ pub(crate) struct Origins {
 }
 
 // The origin of the transient registration under a key.
-fn origin_at(table: &Slab<Registration>, key: usize) -> Option<Origin>
+fn origin_at(registrations: &Registrations, key: usize) -> Option<Origin>
     ensures { (origin : Origin) → option_map_or (same_origin origin) result false
-        ≡ from_at (at table.now) origin.observer origin.node key }
+        ≡ from_at (at registrations.now) origin.observer origin.node key }
 {
-    let registration = table.get(key)?;
+    let registration = registrations.get(key)?;
     let source = registration.source?;
     Some(Origin::new(registration.observer, source))
 }
 
 // Notes the origins of the transient registrations under the keys.
 fn note_all(
-    table: &Slab<Registration>,
+    registrations: &Registrations,
     own: &[usize],
     alloc: Global,
 ) -> Result<IndexSet<Origin>, AllocError>
-    ensures { IfOk result (λ noted. Notes (at table.now) own.now noted) }
+    ensures { IfOk result (λ noted. Notes (at registrations.now) own.now noted) }
 {
     let mut noted = IndexSet::new(alloc);
     for key in own {
-        if let Some(origin) = origin_at(table, *key) {
+        if let Some(origin) = origin_at(registrations, *key) {
             noted.insert(origin)?;
         }
     }
     Ok(noted)
 }
 
-// Whether a transient registration of an observer that comes from a node is under one of the keys.
-fn has_from(table: &Slab<Registration>, keys: &[usize], observer: ObserverId, node: NodeId) -> bool
-    ensures { result ≡ list_any (from_at (at table.now) observer node) keys.now }
+// Whether a transient registration of an observer that comes from a node is under the key.
+fn is_from(registrations: &Registrations, key: usize, observer: ObserverId, node: NodeId) -> bool
+    ensures { result ≡ from_at (at registrations.now) observer node key }
 {
-    keys.iter().any(|key| is_from(table, *key, observer, node))
+    match registrations.get(key) {
+        Some(registration) => registration.is_from(observer, node),
+        None => false,
+    }
+}
+
+// The same under one of several keys.
+fn has_from(
+    registrations: &Registrations,
+    keys: &[usize],
+    observer: ObserverId,
+    node: NodeId,
+) -> bool
+    ensures { result ≡ list_any (from_at (at registrations.now) observer node) keys.now }
+{
+    keys.iter()
+        .any(|key| is_from(registrations, *key, observer, node))
 }
 
 impl Origins {
     // Those under the keys of a node, of which so many are asked for.
     pub(crate) fn new(
-        table: &Slab<Registration>,
+        registrations: &Registrations,
         own: &[usize],
         asked: usize,
         alloc: Global,
     ) -> Result<Origins, AllocError>
-        ensures { IfOk result (λ origins. NotesIfAny (at table.now) own.now origins.noted) }
+        ensures { IfOk result (λ origins. NotesIfAny (at registrations.now) own.now origins.noted) }
     {
         let noted = if asked > FEW {
-            Some(note_all(table, own, alloc)?)
+            Some(note_all(registrations, own, alloc)?)
         } else {
             None
         };
@@ -97,17 +111,17 @@ impl Origins {
     // Whether a transient registration of an observer that comes from a node is among them.
     pub(crate) fn has(
         &self,
-        table: &Slab<Registration>,
+        registrations: &Registrations,
         own: &[usize],
         observer: ObserverId,
         node: NodeId,
     ) -> bool
-        requires { NotesIfAny (at table.now) own.now self.now.noted }
-        ensures { result ≡ list_any (from_at (at table.now) observer node) own.now }
+        requires { NotesIfAny (at registrations.now) own.now self.now.noted }
+        ensures { result ≡ list_any (from_at (at registrations.now) observer node) own.now }
     {
         match &self.noted {
             Some(noted) => noted.contains(&Origin::new(observer, node)),
-            None => has_from(table, own, observer, node),
+            None => has_from(registrations, own, observer, node),
         }
     }
 

@@ -2,13 +2,12 @@
 
 ghost use Rattle.std.specs.Prelude.{◌≡◌, ◌<◌, ◌++◌, ◌∷◌, [], length, count_by, Some, None, IsSome, is_some, IfOk, OnOk, OnErr, slice_set};
 ghost use Rattle.std.specs.Borrow.{sem};
-ghost use Rattle.dom_slots.specs.Slotted.{slot_at};
 ghost use Rattle.dom_observe.specs.Roster.{observer_at, keys_by, queues_by};
 ghost use Rattle.dom_observe.specs.Lending.{lends_observer};
 
 use crate::observer_id::ObserverId;
 use crate::queue::Queue;
-use dom_slots::Slots;
+use dom_slots::Slotted;
 use std::alloc::{AllocError, Global};
 use std::marker::Model;
 
@@ -39,28 +38,17 @@ impl Observer {
 // The observers by their numbers. One that is released takes no memory any more.
 #[derive(Drop)]
 pub struct Roster {
-    slots: Slots,
-    observers: Vec<Observer>,
+    kept: Slotted<Observer>,
 }
 
 impl Model for Roster {
-    ghost use Rattle.std.specs.Prelude.{◌≡◌, List, Option, length};
+    ghost use Rattle.std.specs.Prelude.{List, Option};
     ghost use Rattle.dom_slots.specs.Slotted.{by_slot};
     ghost use Rattle.dom_observe.specs.declared.roster.Observer.{Observer};
 
     ghost Value = { List (Option Observer) };
 
-    ghost view = { λ r. by_slot r.slots.slots r.observers.items };
-
-    ghost invariant = { λ r. length r.observers.items ≡ length r.slots.numbers };
-}
-
-// The slot of an observer.
-fn slot_of(slots: &Slots, observer: ObserverId) -> usize
-    requires { IsSome (slot_at slots.now.slots observer) }
-    ensures { slot_at slots.now.slots observer ≡ Some result }
-{
-    slots.slot(observer.number()).unwrap()
+    ghost view = { λ r. by_slot r.kept.slots r.kept.items };
 }
 
 impl Roster {
@@ -69,8 +57,7 @@ impl Roster {
         ensures { result ≡ [] }
     {
         Roster {
-            slots: Slots::new(alloc),
-            observers: Vec::new(alloc),
+            kept: Slotted::new(alloc),
         }
     }
 
@@ -78,23 +65,21 @@ impl Roster {
     pub fn made(&self) -> usize
         ensures { result ≡ length self.now }
     {
-        self.slots.made() as usize
+        self.kept.made() as usize
     }
 
     // How many are there.
     pub fn count(&self) -> usize
         ensures { result ≡ count_by is_some self.now }
     {
-        self.slots.sound();
-        self.slots.count()
+        self.kept.count()
     }
 
     // Whether an observer is there.
     pub fn holds(&self, observer: ObserverId) -> bool
         ensures { result ≡ is_some (observer_at self.now observer) }
     {
-        self.slots.sound();
-        self.slots.slot(observer.number()).is_some()
+        self.kept.holds(observer.number())
     }
 
     // What is kept of an observer.
@@ -102,9 +87,7 @@ impl Roster {
         requires { IsSome (observer_at self.now observer) }
         ensures { observer_at self.now observer ≡ Some result.now }
     {
-        self.slots.sound();
-        let slot = slot_of(&self.slots, observer);
-        &self.observers[slot]
+        self.kept.get(observer.number()).unwrap()
     }
 
     // The same, to be changed.
@@ -113,9 +96,9 @@ impl Roster {
         ensures* writes_back { sem 𝓛 (lends_observer self.entry observer result) }
         ensures value { observer_at self.old observer ≡ Some result.now }
     {
-        self.slots.sound();
-        let slot = slot_of(&self.slots, observer);
-        &mut self.observers[slot]
+        self.kept.sound();
+        let slot = self.kept.slot(observer.number()).unwrap();
+        self.kept.in_slot_mut(slot)
     }
 
     // Makes an observer, with no registration and no record.
@@ -126,11 +109,8 @@ impl Roster {
         ensures queues { OnOk result (queues_by self.new ≡ queues_by self.old ++ Some [] ∷ []) }
         ensures err { OnErr result (self.new ≡ self.old) }
     {
-        self.slots.sound();
-        self.slots.reserve(1)?;
-        self.observers.reserve(1)?;
-        let number = self.slots.push_reserved();
-        self.observers.push_reserved(Observer::new(alloc));
+        self.kept.reserve(1)?;
+        let number = self.kept.push_reserved(Observer::new(alloc));
         Ok(ObserverId::new(number))
     }
 
@@ -139,8 +119,6 @@ impl Roster {
         requires { IsSome (observer_at self.old observer) }
         ensures { self.new ≡ slice_set self.old observer None }
     {
-        self.slots.sound();
-        let slot = self.slots.release(observer.number());
-        self.observers.swap_remove(slot);
+        self.kept.release(observer.number());
     }
 }

@@ -17,23 +17,23 @@ ghost use Rattle.dom_observe.specs.Telling.{listener_under, listeners, listeners
 
 use crate::observer_id::ObserverId;
 use crate::record::{Mutation, Record};
-use crate::registration::{Question, Registration};
+use crate::registration::Question;
+use crate::registrations::Registrations;
 use crate::roster::Roster;
 use indexmap::{IndexMap, IndexSet};
-use slab::Slab;
 use std::alloc::{AllocError, Global};
 
 // The observer that a registration under a key makes interested, and whether it asks for the old value.
 #[inline(always)]
 fn listener_at(
-    table: &Slab<Registration>,
+    registrations: &Registrations,
     key: usize,
     question: &Question<'_>,
 ) -> Option<(ObserverId, bool)>
-    ensures { result ≡ listener_under (at table.now) question.now.what question.now.target
+    ensures { result ≡ listener_under (at registrations.now) question.now.what question.now.target
         (text_of question.now.name) key }
 {
-    match table.get(key) {
+    match registrations.get(key) {
         Some(registration) if registration.concerns(question) => Some((
             registration.observer,
             registration.options.asks_old_value(question.what),
@@ -74,19 +74,19 @@ fn joined(
 
 // The observer that the registrations under the keys make interested, and whether it asks for the old value; none where there are several, or there is none.
 fn only_listener(
-    table: &Slab<Registration>,
+    registrations: &Registrations,
     standing: &[usize],
     question: &Question<'_>,
 ) -> Option<(ObserverId, bool)>
     ensures only { IfSome result (λ only. IsOnly only
-        (listeners (at table.now) question.now.what question.now.target (text_of question.now.name)
+        (listeners (at registrations.now) question.now.what question.now.target (text_of question.now.name)
         standing.now)) }
     ensures known { IfSome result (λ only. (p : ℕ → Bool) →
-        AllByRecursion (Stands (at table.now) p) standing.now → p only.0 ≡ true) }
+        AllByRecursion (Stands (at registrations.now) p) standing.now → p only.0 ≡ true) }
 {
     let mut only = None;
     for key in standing {
-        if let Some(listener) = listener_at(table, *key, question) {
+        if let Some(listener) = listener_at(registrations, *key, question) {
             only = Some(joined(only, listener)?);
         }
     }
@@ -113,30 +113,30 @@ pub(crate) fn pend(
 
 // The observers that the registrations under the keys make interested, which become pending in their order.
 fn listen(
-    table: &Slab<Registration>,
+    registrations: &Registrations,
     standing: &[usize],
     question: &Question<'_>,
     pending: &mut IndexSet<ObserverId>,
     alloc: Global,
 ) -> Result<IndexMap<u32, bool>, AllocError>
     ensures heard { IfOk result (λ heard. (p : ℕ) →
-        get nat_eq heard p ≡ flag_of p (listeners (at table.now) question.now.what
+        get nat_eq heard p ≡ flag_of p (listeners (at registrations.now) question.now.what
         question.now.target (text_of question.now.name) standing.now)) }
     ensures pending { OnOk result (pending.new.keys
-        ≡ with_all_last pending.old.keys (keys_of (listeners (at table.now) question.now.what
+        ≡ with_all_last pending.old.keys (keys_of (listeners (at registrations.now) question.now.what
         question.now.target (text_of question.now.name) standing.now))) }
     ensures stay { (p : ℕ) → among p pending.old.keys ≡ true → among p pending.new.keys ≡ true }
     ensures front { IsFront pending.old.keys pending.new.keys }
-    ensures there { (p : ℕ → Bool) → AllByRecursion (Stands (at table.now) p) standing.now →
+    ensures there { (p : ℕ → Bool) → AllByRecursion (Stands (at registrations.now) p) standing.now →
         AllThere p pending.old.keys → AllThere p pending.new.keys }
     ensures known { IfOk result (λ heard. (p : ℕ → Bool) →
-        AllByRecursion (Stands (at table.now) p) standing.now →
+        AllByRecursion (Stands (at registrations.now) p) standing.now →
         AllThere p (keys_of heard.entries)) }
     ensures unique { IfOk result (IsUnique nat_eq) }
 {
     let mut heard = IndexMap::new(alloc);
     for key in standing {
-        if let Some(listener) = listener_at(table, *key, question) {
+        if let Some(listener) = listener_at(registrations, *key, question) {
             pend(pending, listener.0)?;
             note(&mut heard, listener.0, listener.1)?;
         }
@@ -220,23 +220,23 @@ fn tell_each(
 //
 // One observer alone, as in most changes, is found by going through them, with no map of who listens.
 pub(crate) fn tell(
-    table: &Slab<Registration>,
+    registrations: &Registrations,
     standing: &[usize],
     roster: &mut Roster,
     pending: &mut IndexSet<ObserverId>,
     mutation: &Mutation<'_>,
     alloc: Global,
 ) -> Result<(), AllocError>
-    requires { AllByRecursion (Stands (at table.now) (is_there roster.old)) standing.now }
+    requires { AllByRecursion (Stands (at registrations.now) (is_there roster.old)) standing.now }
     ensures told { OnOk result ((p : ℕ) → records_of roster.new p
         ≡ records_of roster.old p ++ delivered mutation.now
-        (flag_of p (listeners_to (at table.now) mutation.now standing.now))) }
+        (flag_of p (listeners_to (at registrations.now) mutation.now standing.now))) }
     ensures pending { OnOk result (pending.new.keys
-        ≡ with_all_last pending.old.keys (keys_of (listeners_to (at table.now) mutation.now
+        ≡ with_all_last pending.old.keys (keys_of (listeners_to (at registrations.now) mutation.now
         standing.now))) }
     ensures stay { (p : ℕ) → among p pending.old.keys ≡ true → among p pending.new.keys ≡ true }
     ensures front { IsFront pending.old.keys pending.new.keys }
-    ensures there { (p : ℕ → Bool) → AllByRecursion (Stands (at table.now) p) standing.now →
+    ensures there { (p : ℕ → Bool) → AllByRecursion (Stands (at registrations.now) p) standing.now →
         AllThere p pending.old.keys → AllThere p pending.new.keys }
     ensures others { (p : ℕ) → among p pending.new.keys ≡ false →
         records_of roster.new p ≡ records_of roster.old p }
@@ -247,9 +247,9 @@ pub(crate) fn tell(
     ensures keys { keys_by roster.new ≡ keys_by roster.old }
 {
     let question = mutation.question();
-    if let Some(listener) = only_listener(table, standing, &question) {
+    if let Some(listener) = only_listener(registrations, standing, &question) {
         return tell_one(roster, pending, listener, mutation, alloc);
     }
-    let heard = listen(table, standing, &question, pending, alloc)?;
+    let heard = listen(registrations, standing, &question, pending, alloc)?;
     tell_each(roster, &heard, mutation, alloc)
 }

@@ -1,12 +1,12 @@
 -- How many ends of static ranges stand in a node, as ranges come and go; and the ranges by number asked as those by slot are.
-use Rattle.std.proofs.Common.{◌≡◌, ℕ, ◌+◌, ◌-◌, ◌^◌, ◌<◌, ◌≤◌, ◌==◌, nat_lt, Bool, true, false, ◌||◌, if◌then◌else◌, List, [], ◌∷◌, ◌++◌, length, filter_map, sum_by, count_by, swap_remove, slice_index_or, Option, Some, None, is_some, refl, sym, ap, ◌∙◌, ⊎_elim, arith, flat_map}
+use Rattle.std.proofs.Common.{◌≡◌, ℕ, ◌+◌, ◌^◌, ◌<◌, ◌≤◌, ◌==◌, nat_lt, Bool, true, false, ◌||◌, if◌then◌else◌, List, [], ◌∷◌, ◌++◌, length, filter_map, sum_by, swap_remove, slice_get, slice_index_or, Option, Some, None, refl, sym, ap, ◌∙◌, ⊎_elim, arith, flat_map}
 use Rattle.std.specs.List.{list_any}
-use Rattle.std.proofs.lemmas.{Bool.cases_Bool, Bool.lt-ltb, Grind.flat_map-append, List.length_push, List.Folds.list_any-append, List.Sums.sum_by-cons, List.Sums.count_by-le-length, List.Sums.sum_by-swap_remove, List.Sorted.list_any-IsPermutation}
+use Rattle.std.proofs.lemmas.{Bool.cases_Bool, Bool.lt-ltb, Grind.flat_map-append, List.Folds.list_any-append, List.Sums.sum_by-cons, List.Sums.sum_by-swap_remove, List.Sorted.list_any-IsPermutation, Option.slice_get_within, Option.get_or_from_slice_get}
 use Rattle.dom_model.specs.Definitions.{among, hits, Range, nodes_of_range, nodes_unless_released}
 use Rattle.dom_model.proofs.Forests.Climbing.{hits-append, hits-first, among-hits, not_among-hits}
 use Rattle.dom_model.proofs.RangesAndContents.RangesElsewhere.{among-any}
-use Rattle.dom_slots.specs.Slotted.{by_slot, Fit}
-use Rattle.dom_slots.proofs.{Live.live-by_slot, Places.length-swap_remove}
+use Rattle.dom_slots.specs.Slotted.{by_slot, IsSlotted}
+use Rattle.dom_slots.proofs.Live.{live-by_slot, items_few}
 use Rattle.dom_ranges.specs.StaticEnds.{ends_in, count_in, with_end, AreKept}
 
 -- 1 where the node is that one
@@ -40,22 +40,23 @@ ends-few n [] = omega arith
 ends-few n (r ∷ rs) = omega (arith, ends-few n rs, one_at-few n r.start.node, one_at-few n r.end.node)
 
 -- no more ends are counted than numbers with 32 bits have
-pub counts-few : (slots : List (Option ℕ)) {numbers : List ℕ} {rs : List Range} {counts : List (ℕ × ℕ)} → AreKept numbers rs counts → count_by is_some slots ≡ length numbers → length slots ≤ 2 ^ 32 → (n : ℕ) → count_in counts n ≤ 2 ^ 33
-counts-few slots {numbers} {rs} kept live few n = omega (arith, kept.counted n, ends-few n rs, kept.long, live, few, count_by-le-length is_some slots)
+pub counts-few : {slots : List (Option ℕ)} {rs : List Range} {counts : List (ℕ × ℕ)} → IsSlotted slots rs → AreKept rs counts → length slots ≤ 2 ^ 32 → (n : ℕ) → count_in counts n ≤ 2 ^ 33
+counts-few {slots} {rs} s kept few n = omega (arith, kept.counted n, ends-few n rs, items_few s, few)
 
 -- ranges with their counts, as one comes and as one goes
-module _ {numbers : List ℕ} {rs : List Range} {counts : List (ℕ × ℕ)} (kept : AreKept numbers rs counts) where
-  pub kept-made : (r : Range) (m i j : ℕ) (numbers' : List ℕ) (rs' : List Range) (first second : List (ℕ × ℕ)) → i ≡ r.start.node → j ≡ r.end.node → ((n : ℕ) → count_in first n ≡ with_end i counts n) → ((n : ℕ) → count_in second n ≡ with_end j first n)
-      → numbers' ≡ numbers ++ m ∷ [] → rs' ≡ rs ++ r ∷ [] → AreKept numbers' rs' second
-  kept-made r m i j numbers' rs' first second start end one two numbered pushed = record {
-    long = ap length pushed ∙ omega (arith, length_push rs r, length_push numbers m, ap length numbered, kept.long);
+module _ {rs : List Range} {counts : List (ℕ × ℕ)} (kept : AreKept rs counts) where
+  pub kept-made : (r : Range) (i j : ℕ) (rs' : List Range) (first second : List (ℕ × ℕ)) → i ≡ r.start.node → j ≡ r.end.node → ((n : ℕ) → count_in first n ≡ with_end i counts n) → ((n : ℕ) → count_in second n ≡ with_end j first n)
+      → rs' ≡ rs ++ r ∷ [] → AreKept rs' second
+  kept-made r i j rs' first second start end one two pushed = record {
     counted = λ n. omega (arith, one n, two n, kept.counted n, ap (λ xs. ends_in xs n) pushed, ends-pushed n rs r, ap (one_at n) start, ap (one_at n) end);
   }
 
   -- the range in a slot, and what is counted once its ends are taken out one after another
-  module _ (k : ℕ) (r : Range) (lt : k < length rs) (at : r ≡ slice_index_or rs k r) where
+  module _ (k : ℕ) (r : Range) (at : slice_get rs k ≡ Some r) where
     apart : (n : ℕ) → count_in counts n ≡ ends_in (swap_remove rs k r) n + ends_of n r
-    apart n = kept.counted n ∙ sym (ends-removed n rs k r lt) ∙ ap (λ x. ends_in (swap_remove rs k r) n + ends_of n x) (sym at)
+    apart n =
+        kept.counted n ∙ sym (ends-removed n rs k r (slice_get_within rs k r at))
+        ∙ ap (λ x. ends_in (swap_remove rs k r) n + ends_of n x) (get_or_from_slice_get rs k r r at)
 
     pub start-counted : (i : ℕ) → i ≡ r.start.node → 0 < count_in counts i
     start-counted i start = rw start (omega (arith, apart r.start.node, hits-first r.start.node (r.end.node ∷ [])))
@@ -63,15 +64,11 @@ module _ {numbers : List ℕ} {rs : List Range} {counts : List (ℕ × ℕ)} (ke
     pub end-counted : (i j : ℕ) (first : List (ℕ × ℕ)) → i ≡ r.start.node → j ≡ r.end.node → ((n : ℕ) → count_in counts n ≡ with_end i first n) → 0 < count_in first j
     end-counted i j first start end one = omega (arith, one j, apart j, ap (one_at j) start, ap (one_at j) (sym end), hits-first j [])
 
-    pub kept-released : (i j d : ℕ) (numbers' : List ℕ) (rs' : List Range) (first second : List (ℕ × ℕ)) → i ≡ r.start.node → j ≡ r.end.node → ((n : ℕ) → count_in counts n ≡ with_end i first n) → ((n : ℕ) → count_in first n ≡ with_end j second n)
-        → numbers' ≡ swap_remove numbers k d → rs' ≡ swap_remove rs k r → AreKept numbers' rs' second
-    kept-released i j d numbers' rs' first second start end one two numbered removed =
-        let count : length rs - 1 + 1 ≡ length rs = omega (arith, lt) in
-        let same : length rs - 1 + 1 ≡ length numbers = count ∙ kept.long in
-        record {
-          long = ap length removed ∙ length-swap_remove rs (length rs - 1) count k r ∙ sym (ap length numbered ∙ length-swap_remove numbers (length rs - 1) same k d);
-          counted = λ n. omega (arith, one n, two n, apart n, ap (λ xs. ends_in xs n) removed, ap (one_at n) start, ap (one_at n) end);
-        }
+    pub kept-released : (i j : ℕ) (rs' : List Range) (first second : List (ℕ × ℕ)) → i ≡ r.start.node → j ≡ r.end.node → ((n : ℕ) → count_in counts n ≡ with_end i first n) → ((n : ℕ) → count_in first n ≡ with_end j second n)
+        → rs' ≡ swap_remove rs k r → AreKept rs' second
+    kept-released i j rs' first second start end one two removed = record {
+      counted = λ n. omega (arith, one n, two n, apart n, ap (λ xs. ends_in xs n) removed, ap (one_at n) start, ap (one_at n) end);
+    }
 
 -- the ranges by number asked as those by slot
 module _ {A : Type 0} (p : ℕ → Bool) (nodes : A → List ℕ) where
@@ -84,21 +81,19 @@ module _ {A : Type 0} (p : ℕ → Bool) (nodes : A → List ℕ) where
   any-live (None ∷ es) = any-live es
   any-live (Some x ∷ es) = list_any-append p (nodes x) (flat_map (nodes_unless_released nodes) es) ∙ ap (λ b. list_any p (nodes x) || b) (any-live es)
 
-  pub any-by_slot : {slots : List (Option ℕ)} {numbers : List ℕ} → Fit slots numbers → (items : List A) → length items ≡ length numbers
-      → list_any p (flat_map nodes items) ≡ list_any p (flat_map (nodes_unless_released nodes) (by_slot slots items))
-  any-by_slot {slots} fit items long =
+  pub any-by_slot : {slots : List (Option ℕ)} {items : List A} → IsSlotted slots items → list_any p (flat_map nodes items) ≡ list_any p (flat_map (nodes_unless_released nodes) (by_slot slots items))
+  any-by_slot {slots} {items} s =
       any-each items
-      ∙ sym (list_any-IsPermutation (λ x. list_any p (nodes x)) (filter_map (λ e. e) (by_slot slots items)) items (live-by_slot fit items long))
+      ∙ sym (list_any-IsPermutation (λ x. list_any p (nodes x)) (filter_map (λ e. e) (by_slot slots items)) items (live-by_slot s))
       ∙ sym (any-live (by_slot slots items))
 
 -- a node is named where an end is counted there
-pub named-counted : {slots : List (Option ℕ)} {numbers : List ℕ} {rs : List Range} {counts : List (ℕ × ℕ)} → Fit slots numbers → AreKept numbers rs counts → (n : ℕ)
-    → nat_lt 0 (count_in counts n) ≡ among n (flat_map (nodes_unless_released nodes_of_range) (by_slot slots rs))
-named-counted {slots} {numbers} {rs} fit kept n =
+pub named-counted : {slots : List (Option ℕ)} {rs : List Range} {counts : List (ℕ × ℕ)} → IsSlotted slots rs → AreKept rs counts → (n : ℕ) → nat_lt 0 (count_in counts n) ≡ among n (flat_map (nodes_unless_released nodes_of_range) (by_slot slots rs))
+named-counted {slots} {rs} s kept n =
     ap (nat_lt 0) (kept.counted n)
     ∙ named n (flat_map nodes_of_range rs)
     ∙ among-any n (flat_map nodes_of_range rs)
-    ∙ any-by_slot (λ m. m == n) nodes_of_range fit rs kept.long
+    ∙ any-by_slot (λ m. m == n) nodes_of_range s
     ∙ sym (among-any n (flat_map (nodes_unless_released nodes_of_range) (by_slot slots rs)))
   where
     named : (m : ℕ) (ms : List ℕ) → nat_lt 0 (hits m ms) ≡ among m ms

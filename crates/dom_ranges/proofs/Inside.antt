@@ -1,5 +1,5 @@
 -- Walks through the nodes inside a node that forget each, or gather the ends that stand there.
-use Rattle.std.proofs.Common.{◌≡◌, ℕ, ◌+◌, ◌-◌, ◌^◌, ◌≤◌, ◌<◌, ◌==◌, nat_lt, nat_le, ◌&&◌, true, false, Bool, if◌then◌else◌, List, [], ◌∷◌, set, Option, Some, None, IfSome, refl, sym, ap, subst, ◌∙◌, ⊎_elim, arith}
+use Rattle.std.proofs.Common.{◌≡◌, ℕ, ◌+◌, ◌-◌, ◌^◌, ◌≤◌, ◌<◌, ◌==◌, nat_lt, nat_le, ◌&&◌, true, false, Bool, if◌then◌else◌, List, [], ◌∷◌, set, Option, Some, None, IfSome, slice_index_or, refl, sym, ap, subst, ◌∙◌, ⊎_elim, arith}
 use Rattle.std.specs.List.{list_any, flat_map}
 use Rattle.std.proofs.lemmas.{Bool.cases_Bool, Bool.cases_eq, Bool.false≢true, Bool.eq-eqb, Bool.ne_eqb, Bool.Decides.nat_tests}
 use Rattle.std.proofs.Math.Path.{fun_ext}
@@ -9,7 +9,7 @@ use Rattle.dom_model.proofs.Forests.{Climbing.hits-among, Climbing.hits-not_amon
 use Rattle.dom_model.proofs.BoundaryPoints.PointOrder.{map_ranges-twice}
 use Rattle.dom_model.proofs.Soundness.SoundPlacing.{map_ranges-same}
 use Rattle.dom_model.proofs.RangesAndContents.RangesElsewhere.{removal-elsewhere}
-use Rattle.dom_ranges.specs.{Chained.uncovered, Chained.on_node, Tables.RangeTable, Tables.live_nodes, Tables.moved_in}
+use Rattle.dom_ranges.specs.Tables.{RangeTable, FitsMoved, OffsetsFit, live_nodes, uncovered, moved_in, on_node}
 use Rattle.dom_model.proofs.TokenText.Contents.ExtractedAsDeleted.{splice-node}
 
 -- ranges moved twice
@@ -166,8 +166,16 @@ removed-all inside parent index p =
     let b : among (after_splice parent index 1 0 p).node inside ≡ false = ap (λ m. among m inside) n ∙ a in
     ap (λ (v : Bool). if v then record { node = parent; offset = index } else after_splice parent index 1 0 p) b ∙ sym (removed-outside inside parent index p a)) (cases_Bool (among p.node inside))
 
-pub close-fits : (parent index : ℕ) (p : Point) → p.offset < 2 ^ 64 → (after_splice parent index 1 0 p).offset < 2 ^ 64
+close-fits : (parent index : ℕ) (p : Point) → p.offset < 2 ^ 64 → (after_splice parent index 1 0 p).offset < 2 ^ 64
 close-fits parent index p h = rw (removal-splice parent index p) (⊎_elim (λ (a : ((p.node == parent) && nat_lt index p.offset) ≡ true). rw a (omega arith)) (λ (a : ((p.node == parent) && nat_lt index p.offset) ≡ false). rw a h) (cases_Bool ((p.node == parent) && nat_lt index p.offset)))
+
+-- no offset grows where a child leaves
+pub closed-fit : (parent index : ℕ) (rs : List (Option Range)) → OffsetsFit (after_splice parent index 1 0) rs
+closed-fit parent index rs k d within = each (slice_index_or rs k d)
+  where
+    each : (o : Option Range) → IfSome o (FitsMoved (after_splice parent index 1 0))
+    each None = tt
+    each (Some r) = record { start = close-fits parent index r.start; end = close-fits parent index r.end }
 
 -- the ranges, once the node has left: where no end stands inside it, where none stands in its parent either, where there is none at all, and else
 module _ (v : RangeTable) (inside : List ℕ) (parent index : ℕ) where

@@ -1,10 +1,7 @@
-pub mod Chained
 pub mod Covers
 pub mod Ends
-pub mod EndsAsked
 pub mod EndsCounted
 pub mod Inside
-pub mod Making
 pub mod Marking
 pub mod MarkingJoined
 pub mod MarkingSet
@@ -12,8 +9,4 @@ pub mod MarkingSetters
 pub mod MarkingSeveral
 pub mod Moving
 pub mod Pairs
-pub mod Slots
-pub mod Standing
-pub mod StandingCovered
-pub mod Steps
-pub mod Walking
+pub mod Tables

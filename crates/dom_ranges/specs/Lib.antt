@@ -1,5 +1,4 @@
-pub mod Chained
-pub mod Kept
+pub mod Ends
 pub mod Markers
 pub mod Shifting
 pub mod StaticEnds

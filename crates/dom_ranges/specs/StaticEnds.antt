@@ -1,5 +1,5 @@
 -- How many ends of static ranges stand in each node, and what is kept of them. DOM Standard, "Interface StaticRange".
-use Rattle.std.specs.Prelude.{◌≡◌, ℕ, ◌+◌, ◌==◌, nat_eq, if◌then◌else◌, List, length, flat_map, Option, Some}
+use Rattle.std.specs.Prelude.{◌≡◌, ℕ, ◌+◌, ◌==◌, nat_eq, if◌then◌else◌, List, flat_map, Option, Some}
 use Rattle.std.specs.Map.{lookup, count_at}
 use Rattle.dom_model.specs.Worlds.World.{Range}
 use Rattle.dom_model.specs.PlainLists.Lists.{hits}
@@ -30,7 +30,6 @@ AreCounts counts = (n : ℕ) → kept_of counts n ≡ Some 0 → ⊥
 abbrev pub ends_in : List Range → ℕ → ℕ
 ends_in ranges n = hits n (flat_map nodes_of_range ranges)
 
--- what static ranges keep: a range for each slot, and for each node how many of their ends stand in it
-pub record AreKept (numbers : List ℕ) (ranges : List Range) (counts : List (ℕ × ℕ)) : Type 0 where
-  pub long : length ranges ≡ length numbers
+-- what static ranges keep: for each node how many of their ends stand in it
+pub record AreKept (ranges : List Range) (counts : List (ℕ × ℕ)) : Type 0 where
   pub counted : (n : ℕ) → count_in counts n ≡ ends_in ranges n

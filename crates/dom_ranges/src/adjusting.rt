@@ -4,9 +4,9 @@
 ghost use Rattle.std.specs.Prelude.{◌≡◌, ◌<◌, ◌^◌, IfSome, IsSomeAnd};
 ghost use Rattle.dom_model.specs.Forests.Forest.{HasNode, parent_of, index_of, inclusive_descendants};
 ghost use Rattle.dom_model.specs.BoundaryPoints.Points.{after_gap, after_splice, after_split, after_merge, after_removal, map_ranges};
-ghost use Rattle.dom_ranges.specs.Tables.{IsCovered, OffsetsFit, moved_in};
-ghost use Rattle.dom_ranges.specs.Chained.{on_node};
+ghost use Rattle.dom_ranges.specs.Tables.{IsCovered, OffsetsFit, moved_in, on_node};
 
+use crate::chains;
 use crate::ranges::Ranges;
 use crate::shift::Shift;
 use dom_point::Point;
@@ -21,13 +21,7 @@ impl Ranges {
               self.old.ranges;
         } }
     {
-        let shift = Shift::Splice {
-            inside: parent,
-            at,
-            count: 0,
-            added: count,
-        };
-        self.chains.shift(parent, &shift);
+        self.spliced(parent, at, 0, count);
     }
 
     /// In the data of a node `added` units take the place of `count` at the offset `at`.
@@ -38,13 +32,15 @@ impl Ranges {
               (after_splice node at count added) self.old.ranges;
         } }
     {
+        self.slots.sound();
+        self.chains.sound();
         let shift = Shift::Splice {
             inside: node,
             at,
             count,
             added,
         };
-        self.chains.shift(node, &shift);
+        chains::shift(&mut self.chains, node, &shift);
     }
 
     /// A Text, the child of the parent at the index, was split at an offset: what was beyond stands in the new Text behind it.
@@ -57,6 +53,8 @@ impl Ranges {
               (after_split node at new parent index) self.old.ranges;
         } }
     {
+        self.slots.sound();
+        self.chains.sound();
         let shift = Shift::Split {
             text: node,
             at,
@@ -64,7 +62,7 @@ impl Ranges {
             parent,
             index,
         };
-        self.chains.shift_both(parent, node, &shift);
+        chains::shift_both(&mut self.chains, parent, node, &shift);
     }
 
     /// A Text, the child of the parent at the index, is joined to another, which had `base` units before.
@@ -76,6 +74,8 @@ impl Ranges {
               (after_merge from into base parent index) self.old.ranges;
         } }
     {
+        self.slots.sound();
+        self.chains.sound();
         let shift = Shift::Merge {
             from,
             into,
@@ -84,26 +84,10 @@ impl Ranges {
             index,
         };
         if into == from {
-            self.chains.shift_both(from, parent, &shift);
+            chains::shift_both(&mut self.chains, from, parent, &shift);
         } else {
-            self.chains.shift_both(parent, from, &shift);
+            chains::shift_both(&mut self.chains, parent, from, &shift);
         }
-    }
-
-    // The points of a parent close up behind a child that leaves it.
-    fn close_up(&mut self, parent: NodeId, index: usize)
-        ensures { self.new ≡ record self.old {
-          ranges = map_ranges (after_splice parent index 1 0)
-              self.old.ranges;
-        } }
-    {
-        let shift = Shift::Splice {
-            inside: parent,
-            at: index,
-            count: 1,
-            added: 0,
-        };
-        self.chains.shift(parent, &shift);
     }
 
     // All ends in a node go to one point.
@@ -115,7 +99,7 @@ impl Ranges {
               self.old.ranges;
         } }
     {
-        self.chains.shift(node, &Shift::Gather { to });
+        chains::shift(&mut self.chains, node, &Shift::Gather { to });
     }
 
     // The same of all ends inside a node. It asks each end.
@@ -126,7 +110,7 @@ impl Ranges {
               (moved_in (inclusive_descendants tree.now.forest top) to) self.old.ranges;
         } }
     {
-        self.chains.gather(tree, top, to);
+        chains::gather(&mut self.chains, tree, top, to);
     }
 
     // All ends inside a node go to one point. It walks so many nodes inside, and where there are more it asks each end.
@@ -171,7 +155,7 @@ impl Ranges {
             return;
         }
         let index = tree.index(node);
-        self.close_up(parent, index);
+        self.spliced(parent, index, 1, 0);
         if inside {
             self.gather(
                 tree,

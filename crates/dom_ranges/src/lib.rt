@@ -2,7 +2,6 @@
 #![tactic(auto)]
 
 mod adjusting;
-mod asking;
 mod chains;
 mod counts;
 pub mod laws;
@@ -12,6 +11,6 @@ mod setting;
 mod shift;
 mod statics;
 
-pub use numbers::RangeId;
+pub use numbers::{OfRange, RangeId};
 pub use ranges::Ranges;
-pub use statics::{StaticId, Statics};
+pub use statics::{OfStatic, StaticId, Statics};

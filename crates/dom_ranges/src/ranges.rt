@@ -5,45 +5,36 @@ ghost use Rattle.std.specs.List.{list_any};
 ghost use Rattle.dom_model.specs.PlainLists.Lists.{among};
 ghost use Rattle.dom_model.specs.Forests.Forest.{HasNode, inclusive_descendants};
 ghost use Rattle.dom_model.specs.Worlds.World.{Range};
-ghost use Rattle.dom_ranges.specs.Chained.{covers, covered_to, uncovered};
-ghost use Rattle.dom_ranges.specs.Tables.{IsCovered, AreCovered, range_in, with_range, without_range, slot_at, live_nodes, IsRangeIn};
+ghost use Rattle.dom_ranges.specs.Tables.{covers, covered_to, uncovered, IsCovered, AreCovered, range_in, with_range, without_range, live_nodes, IsRangeIn};
 
-use crate::chains::Chains;
-use crate::numbers::{RangeId, RangeSlot, SlotCell};
-use dom_pages::Pages;
+use crate::chains::{self, Ends};
+use crate::numbers::RangeId;
 use dom_point::Point;
+use dom_slots::Slots;
 use dom_tree::{Body, NodeId, Tree};
 use std::alloc::{AllocError, Global};
 use std::marker::Model;
 
 /// The live ranges of a session (DOM Standard, "Live ranges"), with their ends found by node.
 ///
-/// A number leads to a slot, which has the two ends, for as long as its range is live, and a slot leads back to its number. Where a range is
-/// released the one in the last slot comes into its slot, so each slot has a live range. The pages of the slots give their memory back where
-/// no range is live.
+/// A number leads to a slot for as long as its range is live. The range in slot `s` starts at end `2 * s` and ends at the next. Where a range
+/// is released the one in the last slot comes into its slot, so each slot has a live range.
 #[derive(Drop)]
 pub struct Ranges {
-    pub(crate) chains: Chains,
-    slots: Pages<RangeSlot, SlotCell>,
-    numbers: Vec<RangeId>,
+    pub(crate) chains: Ends,
+    pub(crate) slots: Slots,
 }
 
 impl Model for Ranges {
-    ghost use Rattle.dom_ranges.specs.Chained.{cover_of, points_of};
-    ghost use Rattle.dom_ranges.specs.Tables.{RangeTable, paired, by_slot, IsInOrder};
+    ghost use Rattle.std.specs.Prelude.{◌≡◌, ◌*◌, length};
+    ghost use Rattle.dom_ranges.specs.Ends.{table_of};
+    ghost use Rattle.dom_ranges.specs.Tables.{RangeTable};
 
     ghost Value = { RangeTable };
 
-    ghost view = { λ a. record { ranges = by_slot (paired (points_of a.chains.table.items)) a.slots.items; covered = cover_of a.chains.heads.items } };
+    ghost view = { λ a. table_of a.slots.slots a.chains };
 
-    ghost invariant = { λ a. IsInOrder a.chains.table.items a.chains.heads.items a.slots.items a.numbers.items };
-}
-
-// The slot of a number, where it has one.
-fn slot_of(slots: &Pages<RangeSlot, SlotCell>, r: RangeId) -> Option<RangeSlot>
-    ensures { result ≡ slot_at slots.now.items r }
-{
-    slots.get(r.number() as usize)
+    ghost invariant = { λ a. length a.chains.items ≡ 2 * length a.slots.numbers };
 }
 
 impl Ranges {
@@ -52,9 +43,8 @@ impl Ranges {
         ensures { result ≡ record { ranges = []; covered = [] } }
     {
         Ranges {
-            chains: Chains::new(alloc),
-            slots: Pages::new(alloc),
-            numbers: Vec::new(alloc),
+            chains: Ends::new(alloc),
+            slots: Slots::new(alloc),
         }
     }
 
@@ -72,7 +62,7 @@ impl Ranges {
     pub fn is_covered(&self, node: NodeId) -> bool
         ensures { result ≡ covers self.now.covered node }
     {
-        self.chains.is_covered(node)
+        self.chains.is_covered(node.number())
     }
 
     // Gives back what was kept for ends in a node.
@@ -80,7 +70,8 @@ impl Ranges {
         requires { among node (live_nodes self.old) ≡ false }
         ensures { self.new ≡ record self.old { covered = slice_set self.old.covered node false } }
     {
-        self.chains.forget(node);
+        self.slots.sound();
+        self.chains.forget(node.number());
     }
 
     /// Gives back what was kept for ends in the nodes of a tree that is about to go.
@@ -125,35 +116,35 @@ impl Ranges {
     {
         // only what is asked of the two points names the tree
         let _ = tree;
+        self.slots.sound();
         self.slots.reserve(1)?;
-        self.numbers.reserve(1)?;
-        self.chains.add(start, end)?;
-        let r = RangeId::new(self.slots.len() as u32);
-        self.slots
-            .push_reserved(RangeSlot::new(self.numbers.len() as u32));
-        self.numbers.push_reserved(r);
-        Ok(r)
+        self.chains.reserve(2)?;
+        chains::push_reserved(&mut self.chains, start);
+        chains::push_reserved(&mut self.chains, end);
+        Ok(RangeId::new(self.slots.push_reserved()))
     }
 
     /// How many ranges were ever made.
     pub fn made(&self) -> u64
         ensures { result ≡ length self.now.ranges }
     {
-        self.slots.len() as u64
+        self.slots.made()
     }
 
     /// How many ranges are live, in constant time: there is one slot to each, so this tells how much memory their ends take.
     pub fn count(&self) -> usize
         ensures { result ≡ count_by is_some self.now.ranges }
     {
-        self.numbers.len()
+        self.slots.sound();
+        self.slots.count()
     }
 
     /// Whether there is such a range, and it was not released.
     pub fn holds(&self, r: RangeId) -> bool
         ensures { result ≡ is_some (range_in self.now r) }
     {
-        slot_of(&self.slots, r).is_some()
+        self.slots.sound();
+        self.slots.slot(r.number()).is_some()
     }
 
     /// Where a range starts, and where it ends.
@@ -163,9 +154,12 @@ impl Ranges {
         ensures start_covered { IsCovered self.now result.0.node }
         ensures end_covered { IsCovered self.now result.1.node }
     {
-        let slot = slot_of(&self.slots, r).unwrap();
-        let start = self.chains.point(slot.start());
-        let end = self.chains.point(slot.end());
+        self.slots.sound();
+        self.chains.sound();
+        let slot = self.slots.slot(r.number()).unwrap();
+        let first = 2 * slot;
+        let start = chains::point(&self.chains, first);
+        let end = chains::point(&self.chains, first + 1);
         (start, end)
     }
 
@@ -174,13 +168,12 @@ impl Ranges {
         requires { IsSome (range_in self.old r) }
         ensures { self.new ≡ without_range r self.old }
     {
-        let slot = slot_of(&self.slots, r).unwrap();
-        let last = self.numbers.len() - 1;
-        let moved = self.numbers[last];
-        self.chains.swap_remove(slot, RangeSlot::new(last as u32));
-        self.slots.set(moved.number() as usize, slot);
-        self.slots.clear(r.number() as usize);
-        self.numbers.swap_remove(slot.index());
+        self.slots.sound();
+        self.chains.sound();
+        let slot = self.slots.release(r.number());
+        let first = 2 * slot;
+        self.chains.swap_remove(first + 1);
+        self.chains.swap_remove(first);
     }
 
     // Moves both ends of a range.
@@ -190,16 +183,20 @@ impl Ranges {
         requires end_covered { IsCovered self.old end.node }
         ensures { self.new ≡ with_range r (record { start = start; end = end }) self.old }
     {
-        let slot = slot_of(&self.slots, r).unwrap();
-        self.chains.place(slot.start(), start);
-        self.chains.place(slot.end(), end);
+        self.slots.sound();
+        self.chains.sound();
+        let slot = self.slots.slot(r.number()).unwrap();
+        let first = 2 * slot;
+        chains::place(&mut self.chains, first, start);
+        chains::place(&mut self.chains, first + 1, end);
     }
 
     /// Whether an end of a live range stands in a node.
     pub fn stands_in(&self, node: NodeId) -> bool
         ensures { result ≡ among node (live_nodes self.now) }
     {
-        self.chains.stands_in(node)
+        self.slots.sound();
+        self.chains.has(node.number())
     }
 
     /// A law: it does nothing, and its contract tells what holds of all live ranges at any time.
@@ -210,14 +207,15 @@ impl Ranges {
         ensures covered { AreCovered self.now }
         ensures few { count_by is_some self.now.ranges ≤ 2 ^ 32 }
     {
-        let _ = &self.chains;
+        self.slots.sound();
+        self.chains.sound();
     }
 
     // Whether no range is live.
     pub(crate) fn is_idle(&self) -> bool
         ensures { result ≡ true → live_nodes self.now ≡ [] }
     {
-        self.numbers.is_empty()
+        self.count() == 0
     }
 
     // So many nodes inside are asked for the ends that stand in them, before each end is asked for its node instead: the way that ends first
@@ -225,7 +223,7 @@ impl Ranges {
     pub(crate) fn steps<X>(&self, tree: &Tree<X>, top: NodeId) -> usize
         requires { HasNode tree.now.forest top }
     {
-        tree.steps_inside(top, |index| self.chains.node(index))
+        tree.steps_inside(top, |index| chains::node(&self.chains, index))
     }
 
     /// Whether an end of a live range stands inside a node.
@@ -248,9 +246,10 @@ impl Ranges {
         if self.is_idle() {
             return false;
         }
+        self.slots.sound();
         match tree.any_inside(top, steps, |node| self.stands_in(node)) {
             Some(answer) => answer,
-            None => self.chains.refer(tree, top),
+            None => chains::refer(&self.chains, tree, top),
         }
     }
 }

@@ -2,8 +2,10 @@
 
 ghost use Rattle.std.specs.Prelude.{◌≡◌, ◌^◌, ◌<◌};
 ghost use Rattle.dom_model.specs.BoundaryPoints.Points.{after_split, after_merge};
-ghost use Rattle.dom_ranges.specs.Shifting.{shifted, spliced_offset};
+ghost use Rattle.dom_ranges.specs.Ends.{moved_end};
+ghost use Rattle.dom_ranges.specs.Shifting.{shifted, spliced_offset, FitsMovedEnd};
 
+use dom_chains::Change;
 use dom_point::Point;
 use dom_tree::NodeId;
 
@@ -39,9 +41,23 @@ pub(crate) enum Shift {
     },
 }
 
+impl Change<usize> for Shift {
+    ghost changed = { λ s. moved_end (shifted s) };
+
+    ghost CanTake = { λ s. FitsMovedEnd (shifted s) };
+
+    fn apply(&self, key: u32, item: usize) -> (u32, usize) {
+        let Point { node, offset } = self.moved(Point {
+            node: NodeId::new(key),
+            offset: item,
+        });
+        (node.number(), offset)
+    }
+}
+
 impl Shift {
-    /// Where a point goes.
-    pub(crate) fn apply(&self, point: Point) -> Point
+    // Where a point goes.
+    fn moved(&self, point: Point) -> Point
         requires { point.offset < 2 ^ 64 → (shifted self.now point).offset < 2 ^ 64 }
         ensures { result ≡ shifted self.now point }
     {

@@ -13,46 +13,20 @@ ghost use Rattle.dom_pages.specs.Numbered.{item_at};
 ghost use Rattle.dom_ranges.specs.Tables.{refused};
 
 use crate::counts::EndCounts;
+use dom_ids::Id;
 use dom_kinds::{DomError, Kind};
 use dom_point::{Point, found_before, same_root};
-use dom_slots::Slots;
+use dom_slots::Slotted;
 use dom_tree::{Body, NodeId, Tree};
 use std::alloc::{AllocError, Global};
 use std::marker::Model;
 
+/// The kind of a [`StaticId`].
+#[derive(Clone, Copy, Debug, PartialEq, Eq, Hash, Drop)]
+pub struct OfStatic;
+
 /// The number by which callers name a static range: the first that is made has 0, and no number is used again.
-#[derive(Clone, Copy, Debug, PartialEq, Eq)]
-pub struct StaticId {
-    number: u32,
-}
-
-impl Model for StaticId {
-    ghost use Rattle.std.specs.Prelude.{ℕ, ◌<◌, ◌^◌};
-
-    ghost Value = { ℕ };
-
-    ghost view = { λ u. u.number };
-
-    ghost invariant = { λ u. u.number < 2 ^ 32 };
-
-    ghost inverse = { λ n. record { number = n } };
-}
-
-impl StaticId {
-    /// The id of a number, whether or not there is such a range.
-    pub fn new(number: u32) -> StaticId
-        ensures { result ≡ number }
-    {
-        StaticId { number }
-    }
-
-    /// The number itself.
-    pub fn number(self) -> u32
-        ensures { result ≡ self }
-    {
-        self.number
-    }
-}
+pub type StaticId = Id<OfStatic>;
 
 /// Two points that no change of the tree moves.
 #[derive(Clone, Copy, Drop)]
@@ -73,14 +47,10 @@ impl Model for StaticRange {
 
 /// The static ranges of a session.
 ///
-/// A number leads to a slot, which has the range, until it is released: then the range in the last slot comes into its slot. So the slots have
-/// the ranges that were not released and no others.
+/// Beside them it is counted how many of their ends stand in each node.
 #[derive(Drop)]
 pub struct Statics {
-    slots: Slots,
-    // the ranges by slot
-    table: Vec<StaticRange>,
-    // how many of their ends stand in each node
+    ranges: Slotted<StaticRange>,
     counts: EndCounts,
 }
 
@@ -92,9 +62,9 @@ impl Model for Statics {
 
     ghost Value = { List (Option Range) };
 
-    ghost view = { λ a. by_slot a.slots.slots a.table.items };
+    ghost view = { λ a. by_slot a.ranges.slots a.ranges.items };
 
-    ghost invariant = { λ a. AreKept a.slots.numbers a.table.items a.counts.counts };
+    ghost invariant = { λ a. AreKept a.ranges.items a.counts.counts };
 }
 
 impl Statics {
@@ -103,8 +73,7 @@ impl Statics {
         ensures { result ≡ [] }
     {
         Statics {
-            slots: Slots::new(alloc),
-            table: Vec::new(alloc),
+            ranges: Slotted::new(alloc),
             counts: EndCounts::new(alloc),
         }
     }
@@ -129,44 +98,41 @@ impl Statics {
             ++ Some (record { start = start; end = end }) ∷ []) }
         ensures unchanged { OnErr result (self.new ≡ self.old) }
     {
-        self.slots.sound();
-        self.slots.reserve(1)?;
-        self.table.reserve(1)?;
+        self.ranges.sound();
+        self.ranges.reserve(1)?;
         self.counts.reserve(2)?;
         self.counts.add(start.node);
         self.counts.add(end.node);
-        self.table.push_reserved(StaticRange { start, end });
-        Ok(StaticId::new(self.slots.push_reserved()))
+        let number = self.ranges.push_reserved(StaticRange { start, end });
+        Ok(StaticId::new(number))
     }
 
     /// How many were ever made.
     pub fn made(&self) -> u64
         ensures { result ≡ length self.now }
     {
-        self.slots.made()
+        self.ranges.made()
     }
 
     /// How many there are, without those that were released, in constant time.
     pub fn count(&self) -> usize
         ensures { result ≡ count_by is_some self.now }
     {
-        self.slots.sound();
-        self.slots.count()
+        self.ranges.count()
     }
 
     // The range of a number; none where it was released, or was never given out.
     fn range(&self, u: StaticId) -> Option<StaticRange>
         ensures { result ≡ item_at self.now u }
     {
-        let slot = self.slots.slot(u.number())?;
-        self.table.get(slot).copied()
+        self.ranges.get(u.number()).copied()
     }
 
     /// Whether there is such a static range, and it was not released.
     pub fn holds(&self, u: StaticId) -> bool
         ensures { result ≡ is_some (item_at self.now u) }
     {
-        self.range(u).is_some()
+        self.ranges.holds(u.number())
     }
 
     /// Where a static range starts, and where it ends.
@@ -183,9 +149,7 @@ impl Statics {
         requires { IsSome (item_at self.old u) }
         ensures { self.new ≡ slice_set self.old u None }
     {
-        self.slots.sound();
-        let slot = self.slots.release(u.number());
-        let StaticRange { start, end } = self.table.swap_remove(slot);
+        let (_, StaticRange { start, end }) = self.ranges.release(u.number());
         self.counts.take(start.node);
         self.counts.take(end.node);
     }
@@ -212,17 +176,17 @@ impl Statics {
         ensures { result ≡ list_any (λ m. among m (inclusive_descendants tree.now.forest top))
             (flat_map (nodes_unless_released nodes_of_range) self.now) }
     {
-        self.slots.sound();
+        self.ranges.sound();
         let steps = tree.steps_inside(top, |index| self.node(index));
         match tree.any_inside(top, steps, |node| self.names(node)) {
             Some(answer) => answer,
-            None => refer(&self.table, tree, top),
+            None => refer(self.ranges.items(), tree, top),
         }
     }
 
     // The node of an end, of the two of the range in each slot; none past the last.
     fn node(&self, index: usize) -> Option<NodeId> {
-        let range = self.table.get(index / 2)?;
+        let range = self.ranges.items().get(index / 2)?;
         if index % 2 == 0 {
             Some(range.start.node)
         } else {
@@ -234,7 +198,7 @@ impl Statics {
     fn names(&self, node: NodeId) -> bool
         ensures { result ≡ among node (flat_map (nodes_unless_released nodes_of_range) self.now) }
     {
-        self.slots.sound();
+        self.ranges.sound();
         self.counts.stands_in(node)
     }
 }

@@ -110,7 +110,6 @@ pub(crate) fn has_attribute(world: &World, element: NodeId, name: &str) -> Reply
 /// Removes an attribute of an element, where it is there.
 pub(crate) fn remove_attribute(
     world: &mut World,
-    alloc: Global,
     element: NodeId,
     name: &str,
 ) -> Result<Reply, AllocError>
@@ -122,7 +121,7 @@ pub(crate) fn remove_attribute(
     if let Some(reply) = kind_refusal(world, element, Kind::Element) {
         return Ok(reply);
     }
-    dom_data::remove_attribute(world, alloc, element, name)?;
+    dom_data::remove_attribute(world, element, name)?;
     Ok(Reply::Brief(Brief::Nothing))
 }
 
@@ -204,7 +203,6 @@ pub(crate) fn change_attributes(
         Attributes::HasAttribute(element, name) => Ok(has_attribute(world, element, name.as_str())),
         Attributes::RemoveAttribute(element, name) => remove_attribute(
             world,
-            alloc,
             element,
             name.as_str(),
         ),

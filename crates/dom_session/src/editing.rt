@@ -127,7 +127,6 @@ pub(crate) fn replace_child(
 /// Takes a child out of a parent.
 pub(crate) fn remove_child(
     world: &mut World,
-    alloc: Global,
     parent: NodeId,
     child: NodeId,
 ) -> Result<Brief, AllocError>
@@ -139,14 +138,14 @@ pub(crate) fn remove_child(
     if !world.tree.holds(parent) || !world.tree.holds(child) {
         return Ok(Brief::Own(OwnError::NoSuchObject));
     }
-    match world.remove_child(alloc, parent, child) {
+    match world.remove_child(parent, child) {
         Ok(()) => Ok(Brief::Number(child.number())),
         Err(refusal) => brief_to(refusal),
     }
 }
 
 /// Takes a node out of its parent, where it has one.
-pub(crate) fn remove(world: &mut World, alloc: Global, node: NodeId) -> Result<Brief, AllocError>
+pub(crate) fn remove(world: &mut World, node: NodeId) -> Result<Brief, AllocError>
     requires shown { IsShown world.old }
     ensures step { IfOk result (λ reply. (b : Bounds) →
         IsStep world.old world.new b (Remove node) (reply_of reply)) }
@@ -158,7 +157,7 @@ pub(crate) fn remove(world: &mut World, alloc: Global, node: NodeId) -> Result<B
     if !is_child_node(world.tree.label(node).kind) {
         return Ok(Brief::Dom(DomError::TypeError));
     }
-    world.remove(alloc, node)?;
+    world.remove(node)?;
     Ok(Brief::Nothing)
 }
 
@@ -189,7 +188,6 @@ pub(crate) fn replace_children(
 /// Takes a node out of its parent, into a document.
 pub(crate) fn adopt_node(
     world: &mut World,
-    alloc: Global,
     document: NodeId,
     node: NodeId,
 ) -> Result<Brief, AllocError>
@@ -204,7 +202,7 @@ pub(crate) fn adopt_node(
     if !world.tree.is_of_kind(document, Kind::Document) {
         return Ok(Brief::Dom(DomError::TypeError));
     }
-    match world.adopt(alloc, document, node) {
+    match world.adopt(document, node) {
         Ok(()) => Ok(Brief::Number(node.number())),
         Err(refusal) => brief_to(refusal),
     }
@@ -243,12 +241,12 @@ pub(crate) fn edit_tree(
             world, alloc, parent, node, child,
         ),
         Editing::AppendChild(parent, node) => append_child(world, alloc, parent, node),
-        Editing::AdoptNode(document, node) => adopt_node(world, alloc, document, node),
+        Editing::AdoptNode(document, node) => adopt_node(world, document, node),
         Editing::ReplaceChild(parent, node, child) => replace_child(
             world, alloc, parent, node, child,
         ),
-        Editing::RemoveChild(parent, child) => remove_child(world, alloc, parent, child),
-        Editing::Remove(node) => remove(world, alloc, node),
+        Editing::RemoveChild(parent, child) => remove_child(world, parent, child),
+        Editing::Remove(node) => remove(world, node),
         Editing::ReplaceChildren(parent, node) => replace_children(world, alloc, parent, node),
         Editing::Discard(top) => Ok(discard(world, top)),
     }

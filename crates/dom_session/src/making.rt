@@ -46,11 +46,7 @@ fn refusal(world: &World, numbers: u64, document: NodeId) -> Option<Brief>
 }
 
 /// Makes a Document.
-pub(crate) fn new_document(
-    world: &mut World,
-    numbers: u64,
-    alloc: Global,
-) -> Result<Brief, AllocError>
+pub(crate) fn new_document(world: &mut World, numbers: u64) -> Result<Brief, AllocError>
     requires numbers { numbers ≤ 4294967295 }
     requires shown { IsShown world.old }
     ensures step { IfOk result (λ reply. IsStep world.old world.new (numbered numbers) NewDocument
@@ -60,7 +56,7 @@ pub(crate) fn new_document(
     if numbers <= world.tree.made() {
         return Ok(Brief::Own(OwnError::Limit));
     }
-    let id = world.make(alloc, document_label(), Content::nothing(), None)?;
+    let id = world.make(document_label(), Content::nothing(), None)?;
     Ok(Brief::Number(id.number()))
 }
 
@@ -86,7 +82,7 @@ pub(crate) fn create_element(
         return Ok(Brief::Dom(DomError::InvalidCharacterError));
     }
     let label = Label::named(alloc, Kind::Element, name)?;
-    let id = world.make(alloc, label, Content::nothing(), Some(document))?;
+    let id = world.make(label, Content::nothing(), Some(document))?;
     Ok(Brief::Number(id.number()))
 }
 
@@ -109,7 +105,7 @@ pub(crate) fn create_text(
         return Ok(reply);
     }
     let body = Content::of_text(alloc, text)?;
-    let id = world.make(alloc, Label::nameless(Kind::Text), body, Some(document))?;
+    let id = world.make(Label::nameless(Kind::Text), body, Some(document))?;
     Ok(Brief::Number(id.number()))
 }
 
@@ -131,7 +127,7 @@ pub(crate) fn create_comment(
         return Ok(reply);
     }
     let body = Content::of_text(alloc, text)?;
-    let id = world.make(alloc, Label::nameless(Kind::Comment), body, Some(document))?;
+    let id = world.make(Label::nameless(Kind::Comment), body, Some(document))?;
     Ok(Brief::Number(id.number()))
 }
 
@@ -175,7 +171,7 @@ pub(crate) fn create_instruction(
     }
     let label = Label::named(alloc, Kind::ProcessingInstruction, target.as_str())?;
     let body = Content::of_text(alloc, text)?;
-    let id = world.make(alloc, label, body, Some(document))?;
+    let id = world.make(label, body, Some(document))?;
     Ok(Brief::Number(id.number()))
 }
 
@@ -203,7 +199,7 @@ pub(crate) fn create_doctype(
         return Ok(Brief::Dom(DomError::InvalidCharacterError));
     }
     let label = Label::doctype(alloc, name, public_id, system_id)?;
-    let id = world.make(alloc, label, Content::nothing(), Some(document))?;
+    let id = world.make(label, Content::nothing(), Some(document))?;
     Ok(Brief::Number(id.number()))
 }
 
@@ -211,7 +207,6 @@ pub(crate) fn create_doctype(
 pub(crate) fn create_fragment(
     world: &mut World,
     numbers: u64,
-    alloc: Global,
     document: NodeId,
 ) -> Result<Brief, AllocError>
     requires numbers { numbers ≤ 4294967295 }
@@ -224,7 +219,7 @@ pub(crate) fn create_fragment(
         return Ok(reply);
     }
     let label = Label::nameless(Kind::DocumentFragment);
-    let id = world.make(alloc, label, Content::nothing(), Some(document))?;
+    let id = world.make(label, Content::nothing(), Some(document))?;
     Ok(Brief::Number(id.number()))
 }
 
@@ -242,7 +237,7 @@ pub(crate) fn make_nodes(
     ensures left { OnErr result (IsKept world.old world.new) }
 {
     match command {
-        Making::NewDocument => new_document(world, numbers, alloc),
+        Making::NewDocument => new_document(world, numbers),
         Making::CreateElement(document, name) => create_element(
             world,
             numbers,
@@ -260,6 +255,6 @@ pub(crate) fn make_nodes(
         Making::CreateDoctype(document, name, public_id, system_id) => create_doctype(
             world, numbers, alloc, document, name, public_id, system_id,
         ),
-        Making::CreateFragment(document) => create_fragment(world, numbers, alloc, document),
+        Making::CreateFragment(document) => create_fragment(world, numbers, document),
     }
 }

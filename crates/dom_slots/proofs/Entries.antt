@@ -1,8 +1,8 @@
 -- What is kept by slot, as it is by number: for whoever keeps items in a list by slot, and is seen as the list of entries by number.
-use Rattle.std.proofs.Common.{◌≡◌, ℕ, zero, suc, ◌+◌, ◌-◌, ◌<◌, List, [], ◌∷◌, ◌++◌, length, map, swap_remove, Option, Some, None, is_some, option_map, option_and_then, slice_get, slice_index_or, slice_set, refl, ap, sym, ◌∙◌, ⊎_elim, arith, length-set, get_or-set_same, get_or-set_other}
-use Rattle.std.proofs.lemmas.{Bool.cases_eq, List.ext_get_or, List.length-map, List.map_push, Option.slice_get-map}
+use Rattle.std.proofs.Common.{◌≡◌, ℕ, zero, suc, ◌+◌, ◌-◌, ◌<◌, List, [], ◌∷◌, ◌++◌, length, map, swap_remove, Option, Some, None, IsSome, IfSome, is_some, option_map, option_and_then, slice_get, slice_index_or, slice_set, refl, ap, sym, ◌∙◌, ⊎_elim, arith, length-set, get_or-set_same, get_or-set_other}
+use Rattle.std.proofs.lemmas.{Bool.cases_eq, Bool.false≢true, List.ext_get_or, List.length-map, List.map_push, Option.slice_get-map}
 use Rattle.dom_pages.specs.Numbered.{item_at}
-use Rattle.dom_slots.specs.Slotted.{slot_at, slots_left, by_slot, Fit}
+use Rattle.dom_slots.specs.Slotted.{slot_at, slots_left, by_slot, IsSlotted}
 use Rattle.dom_slots.proofs.{Fitting.slot_within, Fitting.given_out, Fitting.ends, Fitting.mover_at, Fitting.ahead, Fitting.slot_at-released, Fitting.slot_at-mover, Fitting.slot_at-other, Fitting.elsewhere, Fitting.before_last, Places.slice_get-append_left, Places.slice_get_push, Places.slice_get-set_same, Places.slice_get-set_other, Places.slice_get_some, Places.slice_get-swap_remove_same, Places.slice_get-swap_remove_other}
 
 module _ {T : Type 0} where
@@ -15,6 +15,17 @@ module _ {T : Type 0} where
   item_at-by_slot [] items n = refl
   item_at-by_slot (slot ∷ slots) items zero = refl
   item_at-by_slot (slot ∷ slots) items (suc n) = item_at-by_slot slots items n
+
+  pub item_in_slot : (slots : List (Option ℕ)) (items : List T) (n k : ℕ) → slot_at slots n ≡ Some k → item_at (by_slot slots items) n ≡ slice_get items k
+  item_in_slot slots items n k at = item_at-by_slot slots items n ∙ ap (option_and_then (slice_get items)) at
+
+  -- a number that has an entry has a slot
+  pub has_slot : (slots : List (Option ℕ)) (items : List T) (n : ℕ) → IsSome (item_at (by_slot slots items) n) → IsSome (slot_at slots n)
+  has_slot slots items n some = go (slot_at slots n) (ap is_some (sym (item_at-by_slot slots items n)) ∙ some)
+    where
+      go : (slot : Option ℕ) → IsSome (option_and_then (slice_get items) slot) → IsSome slot
+      go None h = absurd (false≢true h)
+      go (Some k) h = refl
 
   -- items that are the same in each slot that a number has
   pub by_slot-same : (slots : List (Option ℕ)) (items others : List T) → ((n k : ℕ) → slot_at slots n ≡ Some k → slice_get others k ≡ slice_get items k) → by_slot slots others ≡ by_slot slots items
@@ -36,9 +47,16 @@ module _ {T U : Type 0} (f : T → U) where
       ∙ ap (λ es. option_map f (option_and_then (slice_get items) slot) ∷ es) (by_slot-map slots items)
 
 -- an item for each slot
-module _ {slots : List (Option ℕ)} {numbers : List ℕ} (fit : Fit slots numbers) {T : Type 0} (items : List T) (long : length items ≡ length numbers) where
+module _ {T : Type 0} {slots : List (Option ℕ)} {items : List T} (s : IsSlotted slots items) where
   pub item_within : (n k : ℕ) → slot_at slots n ≡ Some k → k < length items
-  item_within n k at = omega (arith, slot_within fit n k at, long)
+  item_within n k at = omega (arith, slot_within s.fit n k at, s.long)
+
+  pub slot_within_items : (n : ℕ) → IfSome (slot_at slots n) (λ k. k < length items)
+  slot_within_items n = go (slot_at slots n) refl
+    where
+      go : (slot : Option ℕ) → slot_at slots n ≡ slot → IfSome slot (λ k. k < length items)
+      go None at = tt
+      go (Some k) at = item_within n k at
 
   -- a number has an entry exactly where it has a slot
   pub is_some-by_slot : (n : ℕ) → is_some (item_at (by_slot slots items) n) ≡ is_some (slot_at slots n)
@@ -49,11 +67,11 @@ module _ {slots : List (Option ℕ)} {numbers : List ℕ} (fit : Fit slots numbe
       go (Some k) at = slice_get_some items k (item_within n k at)
 
   -- an item with the next number
-  pub by_slot-pushed : (x : T) → by_slot (slots ++ Some (length numbers) ∷ []) (items ++ x ∷ []) ≡ by_slot slots items ++ Some x ∷ []
+  pub by_slot-pushed : (x : T) → by_slot (slots ++ Some (length items) ∷ []) (items ++ x ∷ []) ≡ by_slot slots items ++ Some x ∷ []
   by_slot-pushed x =
-      map_push (option_and_then (slice_get (items ++ x ∷ []))) slots (Some (length numbers))
-      ∙ ap (λ es. es ++ slice_get (items ++ x ∷ []) (length numbers) ∷ []) (by_slot-same slots items (items ++ x ∷ []) (λ n k at. slice_get-append_left items (x ∷ []) k (item_within n k at)))
-      ∙ ap (λ e. by_slot slots items ++ e ∷ []) (slice_get_push items x (length numbers) (sym long))
+      map_push (option_and_then (slice_get (items ++ x ∷ []))) slots (Some (length items))
+      ∙ ap (λ es. es ++ slice_get (items ++ x ∷ []) (length items) ∷ []) (by_slot-same slots items (items ++ x ∷ []) (λ n k at. slice_get-append_left items (x ∷ []) k (item_within n k at)))
+      ∙ ap (λ e. by_slot slots items ++ e ∷ []) (slice_get_push items x (length items) refl)
 
   module _ (n k : ℕ) (at : slot_at slots n ≡ Some k) where
     -- one of the entries written: what is read there, and elsewhere
@@ -83,10 +101,10 @@ module _ {slots : List (Option ℕ)} {numbers : List ℕ} (fit : Fit slots numbe
       where
         beside : (q : ℕ) → (q ≡ n → ⊥) → (slot : Option ℕ) → slot_at slots q ≡ slot → option_and_then (slice_get (slice_set items k x)) slot ≡ option_and_then (slice_get items) slot
         beside q apart None e = refl
-        beside q apart (Some j) e = slice_get-set_other items k j x (elsewhere fit n k at q j apart e)
+        beside q apart (Some j) e = slice_get-set_other items k j x (elsewhere s.fit n k at q j apart e)
 
     -- the number released, and its item taken out of the slot: the last item comes into it
-    pub by_slot-released : (d : T) → by_slot (slots_left n numbers slots) (swap_remove items k d) ≡ slice_set (by_slot slots items) n None
+    pub by_slot-released : (d : T) → by_slot (slots_left n s.numbers slots) (swap_remove items k d) ≡ slice_set (by_slot slots items) n None
     by_slot-released d =
         ext_get_or None (by_slot left kept) (slice_set (by_slot slots items) n None)
         (length-by_slot left kept ∙ long_left ∙ sym (written_length None))
@@ -94,40 +112,40 @@ module _ {slots : List (Option ℕ)} {numbers : List ℕ} (fit : Fit slots numbe
         item_at-by_slot left kept q
         ∙ ⊎_elim
         (λ (same : q ≡ n).
-        ap (option_and_then (slice_get kept)) (ap (slot_at left) same ∙ slot_at-released fit n k at)
+        ap (option_and_then (slice_get kept)) (ap (slot_at left) same ∙ slot_at-released s.fit n k at)
         ∙ sym (ap (λ j. slice_index_or (slice_set (by_slot slots items) n None) j None) same ∙ written_at None))
         (λ (apart : q ≡ n → ⊥). beside q apart ∙ sym (written_beside None q apart))
         (cases_eq q n))
       where
         left : List (Option ℕ)
-        left = slots_left n numbers slots
+        left = slots_left n s.numbers slots
 
         kept : List T
         kept = swap_remove items k d
 
         last : ℕ
-        last = length numbers - 1
+        last = length s.numbers - 1
 
         mover : ℕ
-        mover = slice_index_or numbers last n
+        mover = slice_index_or s.numbers last n
 
         long_left : length left ≡ length slots
         long_left = length-set (slice_set slots mover (slot_at slots n)) n None ∙ length-set slots mover (slot_at slots n)
 
         count : last + 1 ≡ length items
-        count = ends fit n k at ∙ sym long
+        count = ends s.fit n k at ∙ sym s.long
 
         other : (q : ℕ) → (q ≡ n → ⊥) → (q ≡ mover → ⊥) → (slot : Option ℕ) → slot_at slots q ≡ slot → option_and_then (slice_get kept) slot ≡ option_and_then (slice_get items) slot
         other q apart ne None e = refl
-        other q apart ne (Some j) e = slice_get-swap_remove_other items last count k j d (before_last fit n k at q j ne e) (elsewhere fit n k at q j apart e)
+        other q apart ne (Some j) e = slice_get-swap_remove_other items last count k j d (before_last s.fit n k at q j ne e) (elsewhere s.fit n k at q j apart e)
 
         beside : (q : ℕ) → (q ≡ n → ⊥) → option_and_then (slice_get kept) (slot_at left q) ≡ option_and_then (slice_get items) (slot_at slots q)
         beside q apart =
             ⊎_elim
             (λ (moved : q ≡ mover).
             let two : (mover ≡ n → ⊥) = λ same. apart (moved ∙ same) in
-            ap (option_and_then (slice_get kept)) (ap (slot_at left) moved ∙ slot_at-mover fit n k at two)
-            ∙ slice_get-swap_remove_same items last count k d (ahead fit n k at two)
-            ∙ sym (ap (option_and_then (slice_get items)) (ap (slot_at slots) moved ∙ mover_at fit n k at)))
-            (λ (ne : q ≡ mover → ⊥). ap (option_and_then (slice_get kept)) (slot_at-other fit n k at q apart ne) ∙ other q apart ne (slot_at slots q) refl)
+            ap (option_and_then (slice_get kept)) (ap (slot_at left) moved ∙ slot_at-mover s.fit n k at two)
+            ∙ slice_get-swap_remove_same items last count k d (ahead s.fit n k at two)
+            ∙ sym (ap (option_and_then (slice_get items)) (ap (slot_at slots) moved ∙ mover_at s.fit n k at)))
+            (λ (ne : q ≡ mover → ⊥). ap (option_and_then (slice_get kept)) (slot_at-other s.fit n k at q apart ne) ∙ other q apart ne (slot_at slots q) refl)
             (cases_eq q mover)

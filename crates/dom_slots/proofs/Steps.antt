@@ -1,18 +1,18 @@
 -- What the code does to its table and its list, as the slots and the numbers have it.
 use Rattle.std.proofs.Common.{◌≡◌, ℕ, ◌-◌, ◌<◌, ◌≤◌, List, [], ◌∷◌, ◌++◌, length, take, swap_remove, Option, Some, None, is_some, slice_index_or, slice_set, ap, sym, subst, ◌∙◌, arith, length-set}
 use Rattle.std.proofs.lemmas.{List.get_or_default, List.length_push, List.Sums.count_by-le-length}
-use Rattle.dom_slots.specs.Slotted.{slot_at, slots_left, Fit, IsSlotted}
+use Rattle.dom_slots.specs.Slotted.{slot_at, slots_left, Fit, IsSlotTable}
 use Rattle.dom_slots.proofs.{Fitting.slot_within, Fitting.Fit-pushed, Fitting.Fit-released, Live.count_by-slots}
 
-module _ {slots : List (Option ℕ)} {numbers : List ℕ} (i : IsSlotted slots numbers) where
+module _ {slots : List (Option ℕ)} {numbers : List ℕ} (i : IsSlotTable slots numbers) where
   -- no more numbers are live than were given out
   pub live_few : length numbers ≤ length slots
   live_few = omega (arith, count_by-slots i.fit, count_by-le-length is_some slots)
 
   -- the next number and its slot, as they were counted
-  pub IsSlotted-pushed : (slot number : ℕ) (slots' : List (Option ℕ)) (numbers' : List ℕ) → slot ≡ length numbers → number ≡ length slots → length slots < 4294967296
-      → slots' ≡ slots ++ Some slot ∷ [] → numbers' ≡ numbers ++ number ∷ [] → IsSlotted slots' numbers'
-  IsSlotted-pushed slot number slots' numbers' e f few with_slot with_number =
+  pub IsSlotTable-pushed : (slot number : ℕ) (slots' : List (Option ℕ)) (numbers' : List ℕ) → slot ≡ length numbers → number ≡ length slots → length slots < 4294967296
+      → slots' ≡ slots ++ Some slot ∷ [] → numbers' ≡ numbers ++ number ∷ [] → IsSlotTable slots' numbers'
+  IsSlotTable-pushed slot number slots' numbers' e f few with_slot with_number =
       let slots_are : slots' ≡ slots ++ Some (length numbers) ∷ [] = with_slot ∙ ap (λ k. slots ++ Some k ∷ []) e in
       let numbers_are : numbers' ≡ numbers ++ length slots ∷ [] = with_number ∙ ap (λ n. numbers ++ n ∷ []) f in
       record {
@@ -38,8 +38,8 @@ module _ {slots : List (Option ℕ)} {numbers : List ℕ} (i : IsSlotted slots n
         let same = get_or_default numbers (length numbers - 1) r n (omega (arith, slot_within i.fit n k at)) in
         ap (λ m. take (length numbers - 1) (slice_set numbers k m)) same
 
-    pub IsSlotted-released : (r : ℕ) (slots' : List (Option ℕ)) (numbers' : List ℕ) → slots' ≡ slice_set (slice_set slots last (Some k)) n None → numbers' ≡ swap_remove numbers k r → IsSlotted slots' numbers'
-    IsSlotted-released r slots' numbers' written removed =
+    pub IsSlotTable-released : (r : ℕ) (slots' : List (Option ℕ)) (numbers' : List ℕ) → slots' ≡ slice_set (slice_set slots last (Some k)) n None → numbers' ≡ swap_remove numbers k r → IsSlotTable slots' numbers'
+    IsSlotTable-released r slots' numbers' written removed =
         let slots_are = slots_are_left slots' written in
         let numbers_are : numbers' ≡ swap_remove numbers k n = removed ∙ numbers_are_left r in
         record {

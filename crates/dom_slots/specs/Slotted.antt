@@ -3,9 +3,15 @@ use Rattle.std.specs.Prelude.{◌≡◌, ℕ, ◌-◌, ◌≤◌, min, List, len
 
 -- for each number that was given out its slot, none where it was released; for each slot the number that lies there; and how many more
 -- numbers have room
-pub record Slotted : Type 0 where
+pub record SlotTable : Type 0 where
   pub slots : List (Option ℕ)
   pub numbers : List ℕ
+  pub room : ℕ
+
+-- the same of items that have numbers: for each slot the item that lies there
+pub record SlottedItems (T : Type 0) : Type 0 where
+  pub slots : List (Option ℕ)
+  pub items : List T
   pub room : ℕ
 
 -- the slot of a number; none where it was released, or was never given out
@@ -18,9 +24,15 @@ pub record Fit (slots : List (Option ℕ)) (numbers : List ℕ) : Type 0 where
   pub has : (n k : ℕ) → slice_get numbers k ≡ Some n → slot_at slots n ≡ Some k
 
 -- what is true of all slots and numbers: they fit, and 32 bits can tell the numbers apart
-pub record IsSlotted (slots : List (Option ℕ)) (numbers : List ℕ) : Type 0 where
+pub record IsSlotTable (slots : List (Option ℕ)) (numbers : List ℕ) : Type 0 where
   pub fit : Fit slots numbers
   pub few : length slots ≤ 4294967296
+
+-- what is true of all slots and items: an item lies in the slot of each number, each item in that of one number
+pub record IsSlotted {T : Type 0} (slots : List (Option ℕ)) (items : List T) : Type 0 where
+  pub numbers : List ℕ
+  pub fit : Fit slots numbers
+  pub long : length items ≡ length numbers
 
 -- how many more numbers have room: in the pages, in the list of numbers, and in 32 bits
 abbrev pub room_of : ℕ → ℕ → ℕ → ℕ

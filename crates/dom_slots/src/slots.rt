@@ -22,9 +22,9 @@ pub struct Slots {
 
 impl Model for Slots {
     ghost use Rattle.std.specs.Prelude.{◌-◌, length, vec_capacity};
-    ghost use Rattle.dom_slots.specs.Slotted.{Slotted, room_of, IsSlotted};
+    ghost use Rattle.dom_slots.specs.Slotted.{SlotTable, room_of, IsSlotTable};
 
-    ghost Value = { Slotted };
+    ghost Value = { SlotTable };
 
     ghost view = { λ a. record {
       slots = a.slots.items;
@@ -32,7 +32,7 @@ impl Model for Slots {
       room = room_of a.slots.room (vec_capacity a.numbers - length a.numbers.items) (length a.slots.items);
     } };
 
-    ghost invariant = { λ a. IsSlotted a.slots.items a.numbers.items };
+    ghost invariant = { λ a. IsSlotTable a.slots.items a.numbers.items };
 }
 
 impl Slots {

@@ -4,21 +4,12 @@ use Rattle.dom_model.specs.declared.{Verdict.Verdict, Verdict.TheVariants.Accept
 use Rattle.dom_model.specs.Definitions.{Forest, Grove, HasNode, size, parent_of, IsForest, Filter, verdict_on, Stand, at, leaving, ended, at_or, come_to, up_to_parent}
 use Rattle.dom_model.proofs.Traversal.WalksEnd.{Leads-here, LeadsOn-at, LeadsOn-leaving}
 use Rattle.dom_traverse.specs.{declared.course.Side.Side, declared.course.Side.TheVariants.First, declared.course.Side.TheVariants.Last, declared.course.Course.Course, Courses.child_on, Courses.sibling_on, Courses.way_into, Courses.blocks, Courses.stops, Courses.come_up_to, Courses.past_in, Courses.course_step, Courses.LeadsTo, Courses.GoesOnTo}
-use Rattle.dom_traverse.proofs.Neighbors.{first-there, last-there, next-there, previous-there}
+use Rattle.dom_traverse.proofs.Neighbors.{first-there, last-there}
 
 module _ {X : Type 0} {g : Grove X} (s : IsForest g) where
   pub child_on-there : (side : Side) (n m : ℕ) → HasNode g.forest n → child_on side g.forest n ≡ Some m → HasNode g.forest m
   child_on-there First n m h e = first-there s n m e
   child_on-there Last n m h e = last-there s n m h e
-
-  pub sibling_on-there : (side : Side) (n m : ℕ) → HasNode g.forest n → sibling_on side g.forest n ≡ Some m → HasNode g.forest m
-  sibling_on-there First n m h e = next-there s n m e
-  sibling_on-there Last n m h e = previous-there s n m h e
-
-  pub entered-there : (side : Side) (n m : ℕ) (v : Verdict) → HasNode g.forest n → way_into v (child_on side g.forest n) ≡ Some m → HasNode g.forest m
-  entered-there side n m Accept h e = absurd (cc e)
-  entered-there side n m Skip h e = child_on-there side n m h e
-  entered-there side n m Reject h e = absurd (cc e)
 
 come_into : (v : Verdict) (n : ℕ) (child : Option ℕ) (onwards : Stand) → v ≢ Accept → come_to v n child onwards ≡ at_or (way_into v child) onwards
 come_into Accept n child onwards h = absurd (h refl)

@@ -1,17 +1,6 @@
 -- What was read or written of an item, told by its number.
-use Rattle.std.proofs.Common.{◌≡◌, ℕ, ◌<◌, List, length, get_or, set, map, take, drop, ◌++◌, ◌+◌, [], ◌∷◌, slice_get, Option, Some, IfSome, sym, ap, ◌∙◌, subst, arith, length-append, length-drop}
+use Rattle.std.proofs.Common.{◌≡◌, ℕ, ◌<◌, List, length, get_or, set, map, take, drop, ◌++◌, ◌+◌, [], ◌∷◌, slice_get, Option, IfSome, ap, ◌∙◌, subst, arith, length-append, length-drop}
 use Rattle.std.proofs.lemmas.{List.length-map, List.length-take, List.get_or_default, List.Edits.map_over_more, Option.slice_get-get_or}
-
--- what holds of the item that was read holds of the one by that number
-module _ {A : Type 0} (is view : List A) (same : is ≡ view) (id e : ℕ) (q : id ≡ e) (within : e < length view) (x : A) (read : x ≡ get_or is id x) where
-  at-number : slice_get view e ≡ Some x
-  at-number = slice_get-get_or view e x within ∙ ap Some (sym (read ∙ ap (λ l. get_or l id x) same ∙ ap (λ k. get_or view k x) q))
-
-  pub told-at : (P : A → Type 0) → P x → IfSome (slice_get view e) P
-  told-at P p = subst (λ (o : Option A). IfSome o P) (sym at-number) p
-
-  pub written-at : (move : A → A) (y : A) → y ≡ move x → IfSome (slice_get view e) (λ i. set is id y ≡ set view e (move i))
-  written-at move y h = told-at (λ i. set is id y ≡ set view e (move i)) (ap (λ is. set is id y) same ∙ ap (λ k. set view k y) q ∙ ap (set view e) h)
 
 -- one element more is written by a step
 pub over-more : {A : Type 0} (step : A → A) (xs ys zs : List A) (k : ℕ) → k < length xs → ys ≡ map step (take k xs) ++ drop k xs → IfSome (slice_get ys k) (λ x. zs ≡ set ys k (step x)) → zs ≡ map step (take (k + 1) xs) ++ drop (k + 1) xs

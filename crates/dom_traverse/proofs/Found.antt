@@ -1,13 +1,12 @@
 -- Items that are found by their roots and by where they stand.
-use Rattle.std.proofs.Common.{◌≡◌, ℕ, zero, suc, ◌+◌, ◌-◌, ◌<◌, ◌≤◌, ◌==◌, nat_eq, true, false, ◌||◌, if◌then◌else◌, List, [], ◌∷◌, ◌++◌, length, map, get_or, set, swap_remove, Option, Some, None, is_some, ◌⊎◌, inl, inr, refl, sym, ap, ◌∙◌, ⊎_elim, arith, length-set, length-append}
+use Rattle.std.proofs.Common.{◌≡◌, ℕ, zero, suc, ◌+◌, ◌-◌, ◌<◌, ◌≤◌, ◌==◌, nat_eq, true, false, ◌||◌, if◌then◌else◌, List, [], ◌∷◌, ◌++◌, length, map, set, swap_remove, Option, Some, None, is_some, slice_get, inl, refl, sym, ap, ◌∙◌, ⊎_elim, arith}
 use Rattle.std.specs.{List.list_any, List.flat_map, Option.IsSome, Option.unwrap_or, Map.lookup}
-use Rattle.std.proofs.lemmas.{Bool.cases_Bool, Bool.cases_eq, Bool.eq-eqb, Bool.ne_eqb, Bool.or_right, List.map-set, List.map-append, List.set-get_or, List.get_or-map, List.length-map}
-use Rattle.dom_model.specs.Definitions.{hits, among, is_number, Iterator, Walker, walker_moved}
+use Rattle.std.proofs.lemmas.{Bool.cases_Bool, Bool.cases_eq, Bool.eq-eqb, Bool.ne_eqb, Bool.or_right, List.map-set, List.map-append, List.set-get_or, List.get_or-map, List.length-map, Option.get_or_from_slice_get, Option.slice_get_within}
+use Rattle.dom_model.specs.Definitions.{hits, among, is_number, Walker, walker_moved}
 use Rattle.dom_model.proofs.Forests.Climbing.{hits-append, among-hits, not_among-hits}
-use Rattle.dom_slots.proofs.Places.{length-swap_remove}
 use Rattle.indexmap.specs.IndexMap.{IndexMap, get}
-use Rattle.dom_traverse.specs.{Naming.if_counted, Naming.count_at, Naming.Recounts, Naming.AreNames, Naming.AreFound, Naming.IteratorsFound, GivingWay.GaveWay, Whereabouts.node_in, Whereabouts.StandOrWait}
-use Rattle.dom_traverse.proofs.{CatchingUp.all-stand, CatchingUp.caught_up-end, CatchingUp.stand-written, CatchingUp.stand-kept, CatchingUp.stand-more, CatchingUp.stand-fewer, Swapped.map-swap_remove, Swapped.hits-le-length, Swapped.hits-swap_remove}
+use Rattle.dom_traverse.specs.{Naming.named_by, Naming.if_counted, Naming.count_at, Naming.Recounts, Naming.AreNames, Naming.AreFound, Whereabouts.node_in, Whereabouts.StandOrWait}
+use Rattle.dom_traverse.proofs.{CatchingUp.caught_up-end, CatchingUp.stand-written, CatchingUp.stand-more, CatchingUp.stand-fewer, Swapped.map-swap_remove, Swapped.hits-le-length, Swapped.hits-swap_remove}
 
 -- what a count that is kept tells
 counted-number : (k : ℕ) → unwrap_or (if_counted k) 0 ≡ k
@@ -24,7 +23,7 @@ counted-among n ns =
     (λ (a : among n ns ≡ false). ap (λ k. is_some (if_counted k)) (not_among-hits n ns a) ∙ sym a) (cases_Bool (among n ns))
 
 module _ {A : Type 0} (root at : A → ℕ) where
-  nodes-named : (xs : List A) (n : ℕ) → among n (flat_map (λ x. root x ∷ at x ∷ []) xs) ≡ (among n (map root xs) || list_any (λ o. is_number o n) (map (λ x. Some (at x)) xs))
+  nodes-named : (xs : List A) (n : ℕ) → among n (flat_map (named_by root at) xs) ≡ (among n (map root xs) || list_any (λ o. is_number o n) (map (λ x. Some (at x)) xs))
   nodes-named [] n = refl
   nodes-named (x ∷ xs) n =
       ⊎_elim (λ (a : (root x == n) ≡ true). rw a refl)
@@ -32,7 +31,7 @@ module _ {A : Type 0} (root at : A → ℕ) where
       ⊎_elim (λ (b : (at x == n) ≡ true). rw (a, b) (sym (or_right (among n (map root xs)) true refl))) (λ (b : (at x == n) ≡ false). rw (a, b) (nodes-named xs n)) (cases_Bool (at x == n))) (cases_Bool (root x == n))
 
   module _ {S : Type 0} (xs : List A) (roots : IndexMap ℕ ℕ S) (standing : List (Option ℕ)) (are : AreFound root at xs roots standing) where
-    pub found-names : ((e : ℕ) → e < length standing → IsSome (node_in standing e)) → AreNames roots standing (flat_map (λ x. root x ∷ at x ∷ []) xs)
+    pub found-names : ((e : ℕ) → e < length standing → IsSome (node_in standing e)) → AreNames roots standing (flat_map (named_by root at) xs)
     found-names all n =
         nodes-named xs n ∙ ap (λ b. b || list_any (λ o. is_number o n) (map (λ x. Some (at x)) xs)) (sym (ap is_some (are.counted n) ∙ counted-among n (map root xs)))
         ∙ ap (λ ns. is_some (get nat_eq roots n) || list_any (λ o. is_number o n) ns) (sym (caught_up-end at xs standing are.stand all))
@@ -44,32 +43,38 @@ module _ {A : Type 0} (root at : A → ℕ) where
     pub found-few : (roots0 : IndexMap ℕ ℕ S) (n : ℕ) → roots0.entries ≡ roots.entries → count_at roots0 n ≤ length xs
     found-few roots0 n same = omega (arith, ap (λ es. unwrap_or (lookup (nat_eq n) es) 0) same, found-count n, hits-le-length n (map root xs), length-map xs root)
 
-    -- all that wait have come to stand
-    pub found-caught_up : (standing' : List (Option ℕ)) → standing' ≡ map (λ x. Some (at x)) xs → AreFound root at xs roots standing'
-    found-caught_up standing' h = record { stand = all-stand at xs standing' h; counted = are.counted; few = are.few }
+    -- each has moved
+    module _ (change : A → A) (keeps : (x : A) → root (change x) ≡ root x) where
+      roots-kept : (ys : List A) → map root (map change ys) ≡ map root ys
+      roots-kept [] = refl
+      roots-kept (y ∷ ys) = ap (λ r. r ∷ map root (map change ys)) (keeps y) ∙ ap (λ rs. root y ∷ rs) (roots-kept ys)
+
+      pub found-each : (xs' : List A) (standing' : List (Option ℕ)) → xs' ≡ map change xs → StandOrWait at xs' standing' → AreFound root at xs' roots standing'
+      found-each xs' standing' each stand = record {
+        stand = stand;
+        counted = λ n. are.counted n ∙ ap (λ ns. if_counted (hits n ns)) (sym (ap (map root) each ∙ roots-kept xs));
+      }
 
     -- an item has moved
-    module _ (id : ℕ) (x y : A) (within : id < length xs) (is : x ≡ get_or xs id x) (same : root y ≡ root x) where
+    module _ (id : ℕ) (x y : A) (lies : slice_get xs id ≡ Some x) (same : root y ≡ root x) where
+      within : id < length xs
+      within = slice_get_within xs id x lies
+
       found-moved : (standing' : List (Option ℕ)) → StandOrWait at (set xs id y) standing' → AreFound root at (set xs id y) roots standing'
       found-moved standing' stand = record {
         stand = stand;
         counted = λ n. are.counted n ∙ ap (λ ns. if_counted (hits n ns)) (sym roots-same);
-        few = omega (arith, are.few, length-set xs id y);
       }
         where
           roots-same : map root (set xs id y) ≡ map root xs
           roots-same =
               map-set root xs id y
-              ∙ ap (set (map root xs) id) (same ∙ ap root is ∙ sym (get_or-map root xs id x 0 within))
+              ∙ ap (set (map root xs) id) (same ∙ sym (ap root (get_or_from_slice_get xs id x x lies)) ∙ sym (get_or-map root xs id x 0 within))
               ∙ set-get_or (map root xs) id 0
 
       -- and waits from then on
       pub found-left : (standing' : List (Option ℕ)) → standing' ≡ set standing id None → AreFound root at (set xs id y) roots standing'
       found-left standing' h = found-moved standing' (stand-written at xs standing are.stand id y None standing' within (inl refl) h)
-
-      -- or it has stayed
-      pub found-kept : at y ≡ at x → AreFound root at (set xs id y) roots standing
-      found-kept there = found-moved standing (stand-kept at xs standing are.stand id x y within is there)
 
     -- the counts of roots, where a node has one more or one fewer
     recounted : (roots0 roots1 : IndexMap ℕ ℕ S) (r count : ℕ) (ns : List ℕ) → roots0.entries ≡ roots.entries → Recounts roots0 roots1 r count → count ≡ hits r ns → ((n : ℕ) → (r ≡ n → ⊥) → hits n (map root xs) ≡ hits n ns)
@@ -80,12 +85,11 @@ module _ {A : Type 0} (root at : A → ℕ) where
         (λ (ne : r ≡ n → ⊥). rw (ne_eqb r n ne) (ap (lookup (nat_eq n)) same ∙ are.counted n ∙ ap if_counted (elsewhere n ne))) (cases_eq r n)
 
     -- one more item
-    pub found-more : (xs' : List A) (roots0 roots1 : IndexMap ℕ ℕ S) (standing' : List (Option ℕ)) (x : A) (r : ℕ) → length xs < 4294967295 → roots0.entries ≡ roots.entries → root x ≡ r → at x ≡ r
+    pub found-more : (xs' : List A) (roots0 roots1 : IndexMap ℕ ℕ S) (standing' : List (Option ℕ)) (x : A) (r : ℕ) → roots0.entries ≡ roots.entries → root x ≡ r → at x ≡ r
         → Recounts roots0 roots1 r (count_at roots0 r + 1) → standing' ≡ standing ++ Some r ∷ [] → xs' ≡ xs ++ x ∷ [] → AreFound root at xs' roots1 standing'
-    found-more xs' roots0 roots1 standing' x r room same p q told h pushed = record {
+    found-more xs' roots0 roots1 standing' x r same p q told h pushed = record {
       stand = stand-more at xs standing are.stand xs' standing' x r q h pushed;
       counted = λ n. recounted roots0 roots1 r (count_at roots0 r + 1) (map root xs ++ r ∷ []) same told here elsewhere n ∙ ap (λ ns. if_counted (hits n ns)) with-root;
-      few = omega (arith, room, ap length pushed, length-append xs (x ∷ []));
     }
       where
         with-root : map root xs ++ r ∷ [] ≡ map root xs'
@@ -102,12 +106,15 @@ module _ {A : Type 0} (root at : A → ℕ) where
             omega (arith, hits-append n (map root xs) (r ∷ []), none)
 
     -- an item taken out; the last came into its place
-    module _ (k : ℕ) (x : A) (within : k < length xs) (is : x ≡ get_or xs k x) where
+    module _ (k : ℕ) (x : A) (lies : slice_get xs k ≡ Some x) where
+      inside : k < length xs
+      inside = slice_get_within xs k x lies
+
       root-left : (n : ℕ) → hits n (map root (swap_remove xs k x)) + (if root x == n then 1 else 0) ≡ hits n (map root xs)
       root-left n =
-          ap (λ ns. hits n ns + (if root x == n then 1 else 0)) (map-swap_remove root xs k x (root x) within)
-          ∙ ap (λ m. hits n (swap_remove (map root xs) k (root x)) + (if m == n then 1 else 0)) (ap root is ∙ sym (get_or-map root xs k x (root x) within))
-          ∙ hits-swap_remove n (map root xs) k (root x) (omega (arith, length-map xs root, within))
+          ap (λ ns. hits n ns + (if root x == n then 1 else 0)) (map-swap_remove root xs k x (root x) inside)
+          ∙ ap (λ m. hits n (swap_remove (map root xs) k (root x)) + (if m == n then 1 else 0)) (sym (ap root (get_or_from_slice_get xs k x x lies)) ∙ sym (get_or-map root xs k x (root x) inside))
+          ∙ hits-swap_remove n (map root xs) k (root x) (omega (arith, length-map xs root, inside))
 
       here-left : hits (root x) (map root (swap_remove xs k x)) + 1 ≡ hits (root x) (map root xs)
       here-left = ap (λ b. hits (root x) (map root (swap_remove xs k x)) + (if b then 1 else 0)) (sym (eq-eqb (root x) (root x) refl)) ∙ root-left (root x)
@@ -119,11 +126,10 @@ module _ {A : Type 0} (root at : A → ℕ) where
         pub found-fewer : (xs' : List A) (roots1 : IndexMap ℕ ℕ S) (standing' : List (Option ℕ)) → Recounts roots roots1 r (count_at roots r - 1) → standing' ≡ swap_remove standing k None → xs' ≡ swap_remove xs k x
             → AreFound root at xs' roots1 standing'
         found-fewer xs' roots1 standing' told h removed = record {
-          stand = stand-fewer at xs standing are.stand k x xs' standing' within h removed;
+          stand = stand-fewer at xs standing are.stand k x xs' standing' inside h removed;
           counted = λ n.
               recounted roots roots1 r (count_at roots r - 1) (map root (swap_remove xs k x)) refl told here elsewhere n
               ∙ ap (λ ys. if_counted (hits n (map root ys))) (sym removed);
-          few = omega (arith, are.few, ap length removed, length-swap_remove xs (length xs - 1) (omega (arith, within)) k x);
         }
           where
             here : count_at roots r - 1 ≡ hits r (map root (swap_remove xs k x))
@@ -133,32 +139,6 @@ module _ {A : Type 0} (root at : A → ℕ) where
             elsewhere n ne =
                 let other : (root x == n) ≡ false = ne_eqb (root x) n (λ q. ne (its ∙ q)) in
                 omega (arith, root-left n, ap (λ b. hits n (map root (swap_remove xs k x)) + (if b then 1 else 0)) other)
-
--- iterators that gave way have their roots
-roots-kept : (step : Iterator → Iterator) → ((i : Iterator) → (step i).root ≡ i.root) → (old new : List Iterator) → length new ≡ length old
-    → ((k : ℕ) (i : Iterator) → k < length old → (get_or new k i ≡ step (get_or old k i)) ⊎ (get_or new k i ≡ get_or old k i)) → map (λ (i : Iterator). i.root) new ≡ map (λ (i : Iterator). i.root) old
-roots-kept step keeps [] [] l h = refl
-roots-kept step keeps [] (y ∷ new) l h = absurd (omega arith)
-roots-kept step keeps (x ∷ old) [] l h = absurd (omega arith)
-roots-kept step keeps (x ∷ old) (y ∷ new) l h =
-    let first : y.root ≡ x.root = one (h 0 x (omega arith)) in
-    ap (λ r. r ∷ map (λ (i : Iterator). i.root) new) first ∙ ap (λ rs. x.root ∷ rs) (roots-kept step keeps old new (omega arith) (λ k i w. h (suc k) i (omega arith)))
-  where
-    one : (y ≡ step x) ⊎ (y ≡ x) → y.root ≡ x.root
-    one (inl e) = ap (λ (i : Iterator). i.root) e ∙ keeps x
-    one (inr e) = ap (λ (i : Iterator). i.root) e
-
-pub found-gave : {S : Type 0} (step : Iterator → Iterator) (here : ℕ) (old new : List Iterator) (roots : IndexMap ℕ ℕ S) (standing standing' : List (Option ℕ)) → ((i : Iterator) → (step i).root ≡ i.root) → IteratorsFound old roots standing → GaveWay step here old new
-    → StandOrWait (λ (i : Iterator). i.reference) new standing' → IteratorsFound new roots standing'
-found-gave step here old new roots standing standing' keeps are gave h = record {
-  stand = h;
-  counted = λ n. are.counted n ∙ ap (λ ns. if_counted (hits n ns)) (sym (roots-kept step keeps old new gave.long (λ k i w. kind (gave.each k i w))));
-  few = omega (arith, are.few, gave.long);
-}
-  where
-    kind : {P Q R : Type 0} → P ⊎ (Q × R) → P ⊎ Q
-    kind (inl p) = inl p
-    kind (inr q) = inr q.0
 
 pub moved-walker_root : (found : Option ℕ) (k : Walker) → (walker_moved found k).root ≡ k.root
 moved-walker_root None k = refl

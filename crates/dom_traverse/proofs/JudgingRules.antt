@@ -45,13 +45,6 @@ module _ (r : FilterRule) (rs : List FilterRule) (name : List ℕ) where
       by_test true = refl
       by_test false = ap (λ b. if b then r.verdict else ruled rs name) h
 
-  pub ruled-by-star : bytes_eq r.name (codes "*") ≡ true → ruled (r ∷ rs) name ≡ r.verdict
-  ruled-by-star h = by_test (bytes_eq r.name name)
-    where
-      by_test : (t : Bool) → (if t || bytes_eq r.name (codes "*") then r.verdict else ruled rs name) ≡ r.verdict
-      by_test true = refl
-      by_test false = ap (λ b. if b then r.verdict else ruled rs name) h
-
 -- the rule that is next
 module _ (rules : List FilterRule) (i : ℕ) (r : FilterRule) (name : List ℕ) (within : i < length rules) (is : r ≡ get_or rules i r) where
   next : ruled (drop i rules) name ≡ ruled (r ∷ drop (i + 1) rules) name
@@ -60,6 +53,3 @@ module _ (rules : List FilterRule) (i : ℕ) (r : FilterRule) (name : List ℕ) 
 
   pub rule-passed : bytes_eq r.name (codes "*") ≡ false → ruled (drop i rules) name ≡ (if bytes_eq r.name name then r.verdict else ruled (drop (i + 1) rules) name)
   rule-passed h = next ∙ ruled-here r (drop (i + 1) rules) name h
-
-  pub rule-for-all : bytes_eq r.name (codes "*") ≡ true → ruled (drop i rules) name ≡ r.verdict
-  rule-for-all h = next ∙ ruled-by-star r (drop (i + 1) rules) name h

@@ -1,6 +1,5 @@
-pub mod Asking
 pub mod BySlot
-pub mod Chained
+pub mod CatchingUp
 pub mod CourseSteps
 pub mod Descendants
 pub mod Exiting
@@ -9,13 +8,8 @@ pub mod Found
 pub mod JudgingRules
 pub mod Leaving
 pub mod LeavingInside
-pub mod ListsBeside
 pub mod Neighbors
 pub mod PassedTrees
-pub mod Referring
-pub mod SeatSteps
-pub mod SeatsFreed
-pub mod CatchingUp
 pub mod Spots
 pub mod Spreading
 pub mod Stances

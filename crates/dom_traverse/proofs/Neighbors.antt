@@ -1,7 +1,7 @@
 -- The nodes beside, under and over a node are there.
 use Rattle.std.proofs.Common.{◌≡◌, ℕ, ◌<◌, Option, Some, None}
 use Rattle.dom_model.specs.Definitions.{hits, head_of, last_of, after, list_under, Grove, HasNode, entry_in, children_of, parent_of, next_of, previous_of, IsForest}
-use Rattle.dom_model.proofs.Forests.{Entries.HasNode-occurs, Indices.child-there, PutBack.hits-head_of, PutBack.hits-after, Above.above, Siblings.index-step, TreeOrder.Ending.last-down}
+use Rattle.dom_model.proofs.Forests.{Entries.HasNode-occurs, Indices.child-there, PutBack.hits-head_of, PutBack.hits-after, Siblings.index-step, TreeOrder.Ending.last-down}
 
 module _ {X : Type 0} {g : Grove X} (s : IsForest g) where
   child : (m p : ℕ) → 0 < hits m (children_of g.forest p) → HasNode g.forest m
@@ -22,6 +22,3 @@ module _ {X : Type 0} {g : Grove X} (s : IsForest g) where
 
   pub previous-there : (n m : ℕ) → HasNode g.forest n → previous_of g.forest n ≡ Some m → HasNode g.forest m
   previous-there n m h e = (index-step s n m h e).1.1
-
-  pub parent-there : (n m : ℕ) → HasNode g.forest n → parent_of g.forest n ≡ Some m → HasNode g.forest m
-  parent-there n m h e = (above s n m h e).there

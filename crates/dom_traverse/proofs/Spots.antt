@@ -8,9 +8,6 @@ module _ {X : Type 0} {B : Type 0} {a t : Grove X} (e : a ≡ t) (q : Grove X �
   pub told : b ≡ q a → q t ≡ b
   told h = ap q (sym e) ∙ sym h
 
-  pub told_back : q t ≡ b → q a ≡ b
-  told_back h = ap q e ∙ h
-
 -- what holds of one holds of each
 pub for-one : {A : Type 0} (P : A → Type 0) (x : A) → P x → ForSome (Some x) P
 for-one P x h y e = (let d : x ≡ y = cc e in subst P d h)

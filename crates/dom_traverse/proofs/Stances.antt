@@ -1,8 +1,8 @@
 -- What an iterator's place tells, and when a root loses its reference.
 use Rattle.std.proofs.Common.{◌≡◌, ℕ, true, ◌∙◌, ◌<◌, subst}
-use Rattle.dom_model.specs.Definitions.{hits, among, Forest, HasNode, ancestors, inclusive_descendants, Content, Iterator, Walker, IsIterator, IsWalker}
+use Rattle.dom_model.specs.Definitions.{hits, among, Forest, HasNode, ancestors, inclusive_descendants, Iterator}
 use Rattle.dom_model.proofs.Forests.{Totals.IsOnce, Climbing.among-hits}
-use Rattle.dom_traverse.specs.Standing.{StandsInside, StandsThere}
+use Rattle.dom_traverse.specs.Standing.{StandsInside}
 use Rattle.dom_traverse.proofs.Descendants.{among-inside, hits-inside, inside-there}
 
 module _ {X : Type 0} (f : Forest X) (o : IsOnce f) where
@@ -19,10 +19,3 @@ module _ {X : Type 0} (f : Forest X) (o : IsOnce f) where
         root = subst (HasNode f) d h;
         inside = subst (λ n. 0 < hits i.reference (inclusive_descendants f n)) d (subst (λ n. 0 < hits n (inclusive_descendants f root)) e (among-hits reference (inclusive_descendants f root) (among-inside f o reference root ∙ u)));
       }
-
--- what a sound world says of its iterators and its walkers
-pub sound-inside : (f : Forest Content) (i : Iterator) → IsIterator f i → StandsInside f i
-sound-inside f i h = record { root = h.root; inside = h.inside }
-
-pub sound-there : (f : Forest Content) (w : Walker) → IsWalker f w → StandsThere f w
-sound-there f w h = record { root = h.root; current = h.current }

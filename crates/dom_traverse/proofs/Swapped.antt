@@ -1,31 +1,13 @@
 -- Lists of which an item went, and the last came into its place.
-use Rattle.std.proofs.Common.{◌≡◌, ℕ, ◌+◌, ◌-◌, ◌<◌, ◌≤◌, ◌==◌, if◌then◌else◌, List, [], ◌∷◌, length, map, take, set, get_or, swap_remove, sum_by, refl, sym, ap, ◌∙◌, arith, get_or-take, get_or-set_same, get_or-set_other}
-use Rattle.std.proofs.lemmas.{List.take-map, List.map-set, List.get_or-map, List.get_or_default, List.length-map, List.Sums.sum_by-swap_remove, List.Sums.sum_by-cons, List.Sums.count_by-le-length}
+use Rattle.std.proofs.Common.{◌≡◌, ℕ, ◌+◌, ◌-◌, ◌<◌, ◌≤◌, ◌==◌, if◌then◌else◌, List, [], ◌∷◌, length, map, take, set, get_or, swap_remove, sum_by, refl, sym, ap, ◌∙◌, arith}
+use Rattle.std.proofs.lemmas.{List.take-map, List.map-set, List.get_or-map, List.length-map, List.Sums.sum_by-swap_remove, List.Sums.sum_by-cons, List.Sums.count_by-le-length}
 use Rattle.dom_model.specs.Definitions.{hits}
-
--- what is read of an empty list is read of no other
-pub swap_remove-any : {A : Type 0} (xs : List A) (k : ℕ) (d e : A) → k < length xs → swap_remove xs k d ≡ swap_remove xs k e
-swap_remove-any xs k d e lt = ap (λ x. take (length xs - 1) (set xs k x)) (get_or_default xs (length xs - 1) d e (omega (arith, lt)))
 
 pub map-swap_remove : {A B : Type 0} (f : A → B) (xs : List A) (k : ℕ) (d : A) (e : B) → k < length xs → map f (swap_remove xs k d) ≡ swap_remove (map f xs) k e
 map-swap_remove f xs k d e lt =
     sym (take-map f (length xs - 1) (set xs k (get_or xs (length xs - 1) d)))
     ∙ ap (take (length xs - 1)) (map-set f xs k (get_or xs (length xs - 1) d) ∙ ap (set (map f xs) k) (sym (get_or-map f xs (length xs - 1) d e (omega (arith, lt)))))
     ∙ ap (λ l. take (l - 1) (set (map f xs) k (get_or (map f xs) (l - 1) e))) (sym (length-map xs f))
-
--- what is read once an item went: the last in its place, the others where they were
-module _ {A : Type 0} (xs : List A) (k : ℕ) where
-  pub swapped-here : (d e : A) → k < length xs - 1 → get_or (swap_remove xs k d) k e ≡ get_or xs (length xs - 1) e
-  swapped-here d e l =
-      let last = get_or xs (length xs - 1) d in
-      get_or-take (length xs - 1) (set xs k last) k e l
-      ∙ get_or-set_same xs k last e (omega (arith, l))
-      ∙ get_or_default xs (length xs - 1) d e (omega (arith, l))
-
-  pub swapped-other : (j : ℕ) (d e : A) → (j ≡ k → ⊥) → j < length xs - 1 → get_or (swap_remove xs k d) j e ≡ get_or xs j e
-  swapped-other j d e other l =
-      let last = get_or xs (length xs - 1) d in
-      get_or-take (length xs - 1) (set xs k last) j e l ∙ get_or-set_other xs k j last e other
 
 -- how often a number stands in a list, as a sum
 hits-sum : (n : ℕ) (ns : List ℕ) → hits n ns ≡ sum_by (λ m. if m == n then 1 else 0) ns

@@ -58,11 +58,6 @@ module _ {X : Type 0} (f : Forest X) (o : IsOnce f) (filter : Filter) (root curr
       (Walks-agree (previous_sibling_step f filter root current) (course_step f filter (record { root = root; current = current; side = Last; limit = Accepted })) previous_sibling_steps (4 * size f) (leaving current) (found_by_steps (sibling_move Last) f filter root current)
       (Walks-found (previous_sibling-walks f o filter root current there off) (sym (sibling_steps-mirrored f o filter root current))))
 
-  -- at the root there is nothing beside it
-  pub sibling-root : (side : Side) → (current == root) ≡ true → None ≡ found_by_steps (sibling_move side) f filter root current
-  sibling-root First h = rw h refl
-  sibling-root Last h = rw h refl
-
   pub following-walks : Walks (course_step f filter (record { root = root; current = current; side = First; limit = Root })) (4 * size f) (at_or (head_of (children_of f current)) (leaving current)) (next_by_steps f filter root current)
   following-walks = Walks-agree (next_step f filter root current) (course_step f filter (record { root = root; current = current; side = First; limit = Root })) next_steps (4 * size f) (at_or (head_of (children_of f current)) (leaving current)) (next_by_steps f filter root current) (next-walks f o filter root current there)
 

@@ -1,10 +1,11 @@
--- Iterators found by their references, and how they give way before a node is removed.
-use Rattle.std.specs.Prelude.{◌≡◌, ℕ, ◌<◌, ◌==◌, if◌then◌else◌, List, length, map, slice_index_or, Option, Some, ◌⊎◌}
+-- How iterators give way before a node is removed.
+use Rattle.std.specs.Prelude.{◌≡◌, ℕ, ◌<◌, ◌==◌, if◌then◌else◌, List, length, slice_index_or, Option, ◌⊎◌}
 use Rattle.dom_model.specs.Worlds.World.{Iterator}
+use Rattle.dom_traverse.specs.Whereabouts.{StandOrWait}
 
--- the reference nodes
-abbrev pub references_of : List Iterator → List (Option ℕ)
-references_of is = map (λ (i : Iterator). Some i.reference) is
+-- each iterator stands at its reference, or waits
+abbrev pub StandAtReferences : List Iterator → List (Option ℕ) → Type 0
+StandAtReferences is references = StandOrWait (λ (i : Iterator). i.reference) is references
 
 -- an iterator that has its reference at a node takes a step, and another stays
 abbrev pub stepped_at : ℕ → (Iterator → Iterator) → Iterator → Iterator

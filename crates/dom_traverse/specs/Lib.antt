@@ -4,7 +4,5 @@ pub mod Exits
 pub mod GivingWay
 pub mod Judging
 pub mod Naming
-pub mod Placing
-pub mod Seats
 pub mod Standing
 pub mod Whereabouts

@@ -1,10 +1,13 @@
 -- Items that name two nodes each: a root, which stays, and a node at which they stand, once they do not wait.
-use Rattle.std.specs.Prelude.{◌≡◌, ℕ, zero, suc, ◌≤◌, ◌==◌, nat_eq, Bool, ◌||◌, if◌then◌else◌, List, length, map, Option, Some, None, is_some, unwrap_or}
+use Rattle.std.specs.Prelude.{◌≡◌, ℕ, zero, suc, ◌==◌, nat_eq, Bool, ◌||◌, if◌then◌else◌, List, [], ◌∷◌, map, Option, Some, None, is_some, unwrap_or}
 use Rattle.std.specs.List.{list_any}
 use Rattle.dom_model.specs.PlainLists.Lists.{hits, among, is_number}
-use Rattle.dom_model.specs.Worlds.World.{Iterator, Walker}
 use Rattle.indexmap.specs.IndexMap.{IndexMap, get}
 use Rattle.dom_traverse.specs.Whereabouts.{StandOrWait}
+
+-- the nodes that an item names
+abbrev pub named_by : {A : Type 0} → (A → ℕ) → (A → ℕ) → A → List ℕ
+named_by root at x = root x ∷ at x ∷ []
 
 -- a count that is kept; none where there is nothing to count
 abbrev pub if_counted : ℕ → Option ℕ
@@ -28,14 +31,7 @@ module _ {S : Type 0} where
   abbrev pub AreNames : IndexMap ℕ ℕ S → List (Option ℕ) → List ℕ → Type 0
   AreNames roots standing ns = (n : ℕ) → among n ns ≡ is_named roots standing n
 
-  -- the roots of items and where they stand, but for those that wait; there are no more items than numbers tell apart
+  -- the roots of items and where they stand, but for those that wait
   pub record AreFound {A : Type 0} (root at : A → ℕ) (xs : List A) (roots : IndexMap ℕ ℕ S) (standing : List (Option ℕ)) : Type 0 where
     pub stand : StandOrWait at xs standing
     pub counted : (n : ℕ) → get nat_eq roots n ≡ if_counted (hits n (map root xs))
-    pub few : length xs ≤ 4294967295
-
-  abbrev pub IteratorsFound : List Iterator → IndexMap ℕ ℕ S → List (Option ℕ) → Type 0
-  IteratorsFound is roots standing = AreFound (λ (i : Iterator). i.root) (λ (i : Iterator). i.reference) is roots standing
-
-  abbrev pub WalkersFound : List Walker → IndexMap ℕ ℕ S → List (Option ℕ) → Type 0
-  WalkersFound ks roots standing = AreFound (λ (k : Walker). k.root) (λ (k : Walker). k.current) ks roots standing

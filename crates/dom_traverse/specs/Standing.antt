@@ -7,6 +7,9 @@ use Rattle.dom_model.specs.Worlds.World.{Iterator, Walker}
 use Rattle.dom_model.specs.Traversal.Walks.{walk_found, walker_moved}
 
 -- an iterator, or a walker, by its number; none where the number was not given out, or was released
+abbrev pub item_in : {A : Type 0} → List (Option A) → ℕ → Option A
+item_in items id = slice_index_or items id None
+
 abbrev pub iterator_in : List (Option Iterator) → ℕ → Option Iterator
 iterator_in is id = slice_index_or is id None
 

@@ -1,25 +1,83 @@
-//! How the node iterators at a node give way before it leaves with a tree, and come to stand elsewhere.
+//! How node iterators give way before a node leaves with its tree.
 
-ghost use Rattle.std.specs.Prelude.{◌≡◌, true};
+ghost use Rattle.std.specs.Prelude.{◌≡◌, ◌<◌, length, map, slice_get, slice_set, IfSome, true};
 ghost use Rattle.std.specs.Option.{ForSome};
 ghost use Rattle.dom_model.specs.PlainLists.Lists.{among};
 ghost use Rattle.dom_model.specs.Forests.Forest.{HasNode, inclusive_descendants};
 ghost use Rattle.dom_model.specs.MutationAlgorithms.PreRemoval.{pre_removed};
-ghost use Rattle.dom_model.specs.Worlds.World.{Iterator};
 ghost use Rattle.dom_traverse.specs.Exits.{IsExit};
-ghost use Rattle.dom_traverse.specs.GivingWay.{references_of, GaveWay};
-ghost use Rattle.dom_traverse.specs.Whereabouts.{StandOrWait};
+ghost use Rattle.dom_traverse.specs.GivingWay.{StandAtReferences, GaveWay};
 
 use crate::exit::Exit;
+use crate::inside::has_few_inside;
 use crate::iterator::NodeIterator;
+use crate::located::catch_up;
 use crate::whereabouts::Whereabouts;
+use dom_slots::Slotted;
 use dom_tree::{NodeId, Tree};
 
-// The pre-removing steps for `node` of the iterators whose reference is `here`, inside it. They wait from then on, as do those that share
-// the place, so that the walk meets each once; those stay, and are asked for their reference alone. Where those of a root go is found once
-// for all that follow one another.
-pub(crate) fn give_way<X>(
-    iterators: &mut [NodeIterator],
+// The reference of an iterator; none past the last.
+fn reference(iterators: &[NodeIterator], index: usize) -> Option<NodeId> {
+    let iterator = iterators.get(index)?;
+    Some(iterator.reference)
+}
+
+// The pre-removing steps of every iterator, before a node is taken from its parent. It walks the nodes inside, or climbs from each
+// reference where that takes fewer steps.
+pub(crate) fn removing<X>(
+    iterators: &mut Slotted<NodeIterator>,
+    references: &mut Whereabouts,
+    tree: &Tree<X>,
+    node: NodeId,
+)
+    requires held { HasNode tree.now.forest node }
+    requires stand { StandAtReferences iterators.old.items references.old }
+    ensures removed { iterators.new.items
+        ≡ map (pre_removed tree.now.forest node) iterators.old.items }
+    ensures slots { iterators.new.slots ≡ iterators.old.slots }
+    ensures stand { StandAtReferences iterators.new.items references.new }
+{
+    let items = iterators.items();
+    let steps = tree.steps_inside(node, |index| reference(items, index));
+    if has_few_inside(tree, node, steps) {
+        removing_inside(iterators, references, tree, node);
+    } else {
+        removing_each(iterators, references, tree, node);
+    }
+}
+
+// The same, by the iterators at each node inside.
+fn removing_inside<X>(
+    iterators: &mut Slotted<NodeIterator>,
+    references: &mut Whereabouts,
+    tree: &Tree<X>,
+    node: NodeId,
+)
+    requires held { HasNode tree.now.forest node }
+    requires stand { StandAtReferences iterators.old.items references.old }
+    ensures removed { iterators.new.items
+        ≡ map (pre_removed tree.now.forest node) iterators.old.items }
+    ensures slots { iterators.new.slots ≡ iterators.old.slots }
+    ensures stand { StandAtReferences iterators.new.items references.new }
+{
+    tree.sound();
+    let mut here = node;
+    let mut last = None;
+    loop {
+        last = give_way(iterators, references, tree, node, here, last);
+        let Some(next) = tree.next_inside(node, here) else {
+            return;
+        };
+        here = next;
+    }
+}
+
+// The pre-removing steps of the iterators whose reference is `here`, inside the node, and of others that are found with them. First those
+// that wait come to stand: all that stepped, or those that gave way at the node before. Those that are found wait from then on, so that the
+// walk meets each once; one that only shares the place stays, and is asked for its reference alone. Where those of a root go is found once for
+// all that follow one another.
+fn give_way<X>(
+    iterators: &mut Slotted<NodeIterator>,
     references: &mut Whereabouts,
     tree: &Tree<X>,
     node: NodeId,
@@ -29,27 +87,68 @@ pub(crate) fn give_way<X>(
     requires held { HasNode tree.now.forest node }
     requires inside { among here (inclusive_descendants tree.now.forest node) ≡ true }
     requires found { ForSome last (IsExit tree.now.forest node) }
-    requires stand { references.old ≡ references_of iterators.old }
-    ensures gave { GaveWay (pre_removed tree.now.forest node) here iterators.old iterators.new }
-    ensures stand { StandOrWait (λ (i : Iterator). i.reference) iterators.new references.new }
+    requires stand { StandAtReferences iterators.old.items references.old }
+    ensures gave { GaveWay (pre_removed tree.now.forest node) here iterators.old.items
+        iterators.new.items }
+    ensures slots { iterators.new.slots ≡ iterators.old.slots }
+    ensures stand { StandAtReferences iterators.new.items references.new }
     ensures found { ForSome result (IsExit tree.now.forest node) }
 {
+    catch_up(iterators.items(), references);
     let mut last = last;
-    while let Some(id) = references.first(here) {
-        let iterator = &mut iterators[id as usize];
+    while let Some(slot) = references.first(here) {
+        let iterator = iterators.in_slot_mut(slot);
         last = iterator.removing_at(tree, node, here, last);
-        references.leave(id);
+        references.leave(slot);
     }
     last
 }
 
-// Those that wait come to stand at their references.
-pub(crate) fn catch_up(iterators: &[NodeIterator], references: &mut Whereabouts)
-    requires { StandOrWait (λ (i : Iterator). i.reference) iterators.now references.old }
-    ensures { references.new ≡ references_of iterators.now }
+// The pre-removing steps of every iterator, one after another.
+fn removing_each<X>(
+    iterators: &mut Slotted<NodeIterator>,
+    references: &mut Whereabouts,
+    tree: &Tree<X>,
+    node: NodeId,
+)
+    requires held { HasNode tree.now.forest node }
+    requires stand { StandAtReferences iterators.old.items references.old }
+    ensures removed { iterators.new.items
+        ≡ map (pre_removed tree.now.forest node) iterators.old.items }
+    ensures slots { iterators.new.slots ≡ iterators.old.slots }
+    ensures stand { StandAtReferences iterators.new.items references.new }
 {
-    while let Some(id) = references.waiting() {
-        let iterator = &iterators[id as usize];
-        references.set(id, iterator.reference);
+    let mut last = None;
+    for slot in 0..iterators.count() {
+        last = step_off(iterators, references, tree, node, slot, last);
     }
+}
+
+// The pre-removing steps of one iterator.
+fn step_off<X>(
+    iterators: &mut Slotted<NodeIterator>,
+    references: &mut Whereabouts,
+    tree: &Tree<X>,
+    node: NodeId,
+    slot: usize,
+    last: Option<Exit>,
+) -> Option<Exit>
+    requires held { HasNode tree.now.forest node }
+    requires there { slot < length iterators.old.items }
+    requires found { ForSome last (IsExit tree.now.forest node) }
+    requires stand { StandAtReferences iterators.old.items references.old }
+    ensures stepped { IfSome (slice_get iterators.old.items slot) (λ i. iterators.new.items
+        ≡ slice_set iterators.old.items slot (pre_removed tree.now.forest node i)) }
+    ensures slots { iterators.new.slots ≡ iterators.old.slots }
+    ensures stand { StandAtReferences iterators.new.items references.new }
+    ensures found { ForSome result (IsExit tree.now.forest node) }
+{
+    tree.sound();
+    let iterator = iterators.in_slot_mut(slot);
+    let stood = iterator.reference;
+    let last = iterator.removing(tree, node, last);
+    if iterator.reference != stood {
+        references.leave(slot);
+    }
+    last
 }

@@ -1,10 +1,8 @@
 //! One node iterator (DOM Standard, "Interface NodeIterator").
 
 ghost use Rattle.std.specs.Prelude.{◌≡◌, true, find, reverse};
-ghost use Rattle.std.specs.List.{list_any};
 ghost use Rattle.std.specs.Option.{ForSome};
 ghost use Rattle.dom_model.specs.PlainLists.Lists.{among, up_to, past};
-ghost use Rattle.dom_model.specs.MutationAlgorithms.Discarding.{nodes_of_iterator};
 ghost use Rattle.dom_model.specs.Forests.Forest.{HasNode, ancestors, inclusive_descendants};
 ghost use Rattle.dom_model.specs.Traversal.Filters.{accepts};
 ghost use Rattle.dom_model.specs.Traversal.Iterators.{next_found, previous_found, moved_to_next, moved_to_previous};
@@ -16,6 +14,7 @@ ghost use Rattle.dom_traverse.specs.Standing.{StandsInside};
 use crate::exit::Exit;
 use crate::inside::previous_inside;
 use crate::judge::Judge;
+use crate::standing::Standing;
 use dom_tree::{NodeId, Tree};
 use std::marker::Model;
 
@@ -34,6 +33,20 @@ impl Model for NodeIterator {
     ghost Value = { Iterator };
 
     ghost view = { λ i. record { root = i.root; reference = i.reference; before = i.before; filter = i.filter } };
+}
+
+impl Standing for NodeIterator {
+    ghost root_of = { λ i. i.root };
+
+    ghost node_of = { λ i. i.reference };
+
+    fn root(&self) -> NodeId {
+        self.root
+    }
+
+    fn node(&self) -> NodeId {
+        self.reference
+    }
 }
 
 // The first accepted node that follows `node` inside the root.
@@ -194,14 +207,5 @@ impl NodeIterator {
         if let Some(preceding) = exit.preceding {
             self.reference = preceding;
         }
-    }
-
-    // Whether the root or the reference is an inclusive descendant of a node.
-    pub fn stands_in<X>(&self, tree: &Tree<X>, top: NodeId) -> bool
-        requires { HasNode tree.now.forest top }
-        ensures { result ≡ list_any (λ m. among m (inclusive_descendants tree.now.forest top))
-            (nodes_of_iterator self.now) }
-    {
-        tree.is_inside(top, self.root) || tree.is_inside(top, self.reference)
     }
 }

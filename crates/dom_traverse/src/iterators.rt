@@ -1,6 +1,6 @@
 //! The node iterators of a session, by number (DOM Standard, "Interface NodeIterator").
 
-ghost use Rattle.std.specs.Prelude.{◌≡◌, ℕ, ◌<◌, [], ◌∷◌, ◌++◌, length, count_by, Some, None, IsSome, is_some, IfSome, IfOk, OnOk, OnErr};
+ghost use Rattle.std.specs.Prelude.{◌≡◌, ℕ, ◌<◌, [], ◌∷◌, ◌++◌, length, count_by, Some, IsSome, is_some, IfSome, IfOk, OnOk, OnErr};
 ghost use Rattle.std.specs.List.{list_any, flat_map};
 ghost use Rattle.std.specs.Option.{ForSome};
 ghost use Rattle.dom_model.specs.PlainLists.Lists.{among};
@@ -11,46 +11,21 @@ ghost use Rattle.dom_model.specs.MutationAlgorithms.Discarding.{nodes_unless_rel
 ghost use Rattle.dom_traverse.specs.Standing.{iterator_in, IteratorBecomes, released, StandsInside};
 
 use crate::filter::Filter;
-use crate::iterators_by_slot::IteratorsBySlot;
-use crate::live::slot_of;
-use dom_slots::Slots;
+use crate::giving_way::removing;
+use crate::iterator::NodeIterator;
+use crate::judge::Judge;
+use crate::located::{Located, slot_of};
+use dom_ids::Id;
 use dom_tree::{NodeId, Tree};
 use std::alloc::{AllocError, Global};
 use std::marker::Model;
 
+/// The kind of an [`IteratorId`].
+#[derive(Clone, Copy, Debug, PartialEq, Eq, Hash, Drop)]
+pub struct OfIterator;
+
 /// The number by which callers name an iterator: the first that is made has 0, and no number is used again.
-#[derive(Clone, Copy, Debug, PartialEq, Eq)]
-pub struct IteratorId {
-    number: u32,
-}
-
-impl Model for IteratorId {
-    ghost use Rattle.std.specs.Prelude.{ℕ, ◌<◌, ◌^◌};
-
-    ghost Value = { ℕ };
-
-    ghost view = { λ i. i.number };
-
-    ghost invariant = { λ i. i.number < 2 ^ 32 };
-
-    ghost inverse = { λ n. record { number = n } };
-}
-
-impl IteratorId {
-    /// The id of a number, whether or not there is such an iterator.
-    pub fn new(number: u32) -> IteratorId
-        ensures { result ≡ number }
-    {
-        IteratorId { number }
-    }
-
-    /// The number itself.
-    pub fn number(self) -> u32
-        ensures { result ≡ self }
-    {
-        self.number
-    }
-}
+pub type IteratorId = Id<OfIterator>;
 
 /// Node iterators, each over the inclusive descendants of its root.
 ///
@@ -58,20 +33,17 @@ impl IteratorId {
 /// slot, so memory is kept for no more iterators than were there at once.
 #[derive(Drop)]
 pub struct NodeIterators {
-    slots: Slots,
-    iterators: IteratorsBySlot,
+    // each stands at its reference
+    located: Located<NodeIterator>,
 }
 
 impl Model for NodeIterators {
-    ghost use Rattle.std.specs.Prelude.{◌≡◌, List, length, Option};
+    ghost use Rattle.std.specs.Prelude.{List, Option};
     ghost use Rattle.dom_model.specs.Worlds.World.{Iterator};
-    ghost use Rattle.dom_slots.specs.Slotted.{by_slot};
 
     ghost Value = { List (Option Iterator) };
 
-    ghost view = { λ i. by_slot i.slots.slots i.iterators };
-
-    ghost invariant = { λ i. length i.iterators ≡ length i.slots.numbers };
+    ghost view = { λ i. i.located };
 }
 
 impl NodeIterators {
@@ -80,8 +52,7 @@ impl NodeIterators {
         ensures { result ≡ [] }
     {
         NodeIterators {
-            slots: Slots::new(alloc),
-            iterators: IteratorsBySlot::new(alloc),
+            located: Located::new(alloc),
         }
     }
 
@@ -92,33 +63,35 @@ impl NodeIterators {
         ensures made { OnOk result (self.new ≡ self.old ++ Some (new_iterator root filter) ∷ []) }
         ensures unchanged { OnErr result (self.new ≡ self.old) }
     {
-        self.slots.sound();
-        self.slots.reserve(1)?;
-        self.iterators.make(root, filter)?;
-        Ok(IteratorId::new(self.slots.push_reserved()))
+        let filter = Judge::new(self.located.allocator(), filter)?;
+        let number = self.located.add(NodeIterator {
+            root,
+            reference: root,
+            before: true,
+            filter,
+        })?;
+        Ok(IteratorId::new(number))
     }
 
     /// How many iterators were ever made.
     pub fn made(&self) -> u64
         ensures { result ≡ length self.now }
     {
-        self.slots.made()
+        self.located.made()
     }
 
     /// How many iterators there are, without those that were released, in constant time.
     pub fn count(&self) -> usize
         ensures { result ≡ count_by is_some self.now }
     {
-        self.slots.sound();
-        self.slots.count()
+        self.located.count()
     }
 
     /// Whether there is such an iterator, and it was not released.
     pub fn holds(&self, id: IteratorId) -> bool
         ensures { result ≡ is_some (iterator_in self.now id) }
     {
-        self.slots.sound();
-        self.slots.slot(id.number()).is_some()
+        self.located.holds(id.number())
     }
 
     /// `root`, `referenceNode` and `pointerBeforeReferenceNode`.
@@ -126,8 +99,8 @@ impl NodeIterators {
         requires { IsSome (iterator_in self.now id) }
         ensures { IfSome (iterator_in self.now id) (λ i. result ≡ (i.root, i.reference, i.before)) }
     {
-        let slot = slot_of(&self.slots, id.number());
-        self.iterators.state(slot)
+        let iterator = self.located.get(id.number());
+        (iterator.root, iterator.reference, iterator.before)
     }
 
     /// `nextNode()`.
@@ -138,8 +111,12 @@ impl NodeIterators {
             ≡ next_found tree.now.forest i) }
         ensures moved { IteratorBecomes id (moved_to_next tree.now.forest) self.old self.new }
     {
-        let slot = slot_of(&self.slots, id.number());
-        self.iterators.next(tree, slot)
+        let located = &mut self.located;
+        let slot = slot_of(&located.items, id.number());
+        let iterator = located.items.in_slot_mut(slot);
+        let found = iterator.next(tree);
+        located.whereabouts.leave(slot);
+        found
     }
 
     /// `previousNode()`.
@@ -150,8 +127,12 @@ impl NodeIterators {
             ≡ previous_found tree.now.forest i) }
         ensures moved { IteratorBecomes id (moved_to_previous tree.now.forest) self.old self.new }
     {
-        let slot = slot_of(&self.slots, id.number());
-        self.iterators.previous(tree, slot)
+        let located = &mut self.located;
+        let slot = slot_of(&located.items, id.number());
+        let iterator = located.items.in_slot_mut(slot);
+        let found = iterator.previous(tree);
+        located.whereabouts.leave(slot);
+        found
     }
 
     /// Releases an iterator: no removal moves it any more, and it names no node. It takes no memory.
@@ -159,9 +140,7 @@ impl NodeIterators {
         requires { IsSome (iterator_in self.old id) }
         ensures { self.new ≡ released id self.old }
     {
-        self.slots.sound();
-        let slot = self.slots.release(id.number());
-        self.iterators.swap_remove(slot);
+        self.located.release(id.number());
     }
 
     /// The pre-removing steps of every iterator, before a node is taken from its parent.
@@ -171,7 +150,8 @@ impl NodeIterators {
         requires { HasNode tree.now.forest node }
         ensures { self.new ≡ pre_removed_all tree.now.forest node self.old }
     {
-        self.iterators.removing(tree, node);
+        let located = &mut self.located;
+        removing(&mut located.items, &mut located.whereabouts, tree, node);
     }
 
     /// Lets `refers` find by the nodes inside what stands there: each iterator that stepped is put at its reference.
@@ -181,7 +161,7 @@ impl NodeIterators {
     pub fn catch_up(&mut self)
         ensures { self.new ≡ self.old }
     {
-        self.iterators.catch_up();
+        self.located.catch_up();
     }
 
     /// Whether some iterator has its root or its reference among the inclusive descendants of a node.
@@ -192,7 +172,6 @@ impl NodeIterators {
         ensures { result ≡ list_any (λ m. among m (inclusive_descendants tree.now.forest top))
             (flat_map (nodes_unless_released nodes_of_iterator) self.now) }
     {
-        self.slots.sound();
-        self.iterators.refers(tree, top)
+        self.located.refers(tree, top)
     }
 }

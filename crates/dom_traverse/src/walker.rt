@@ -1,15 +1,12 @@
 //! One tree walker (DOM Standard, "Interface TreeWalker").
 
 ghost use Rattle.std.specs.Prelude.{◌≡◌};
-ghost use Rattle.std.specs.List.{list_any};
-ghost use Rattle.dom_model.specs.PlainLists.Lists.{among};
-ghost use Rattle.dom_model.specs.Forests.Forest.{HasNode, inclusive_descendants};
 ghost use Rattle.dom_model.specs.Traversal.Walks.{walk_found, walker_moved};
-ghost use Rattle.dom_model.specs.MutationAlgorithms.Discarding.{nodes_of_walker};
 ghost use Rattle.dom_traverse.specs.Standing.{StandsThere};
 
 use crate::course::Side;
 use crate::judge::Judge;
+use crate::standing::Standing;
 use crate::walks;
 use dom_model::Move;
 use dom_tree::{NodeId, Tree};
@@ -29,6 +26,20 @@ impl Model for TreeWalker {
     ghost Value = { Walker };
 
     ghost view = { λ w. record { root = w.root; current = w.current; filter = w.filter } };
+}
+
+impl Standing for TreeWalker {
+    ghost root_of = { λ w. w.root };
+
+    ghost node_of = { λ w. w.current };
+
+    fn root(&self) -> NodeId {
+        self.root
+    }
+
+    fn node(&self) -> NodeId {
+        self.current
+    }
 }
 
 impl TreeWalker {
@@ -61,14 +72,5 @@ impl TreeWalker {
             Move::PreviousNode => walks::previous_node(tree, filter, root, current),
             Move::NextNode => walks::next_node(tree, filter, root, current),
         }
-    }
-
-    // Whether the root or the current node is an inclusive descendant of a node.
-    pub fn stands_in<X>(&self, tree: &Tree<X>, top: NodeId) -> bool
-        requires { HasNode tree.now.forest top }
-        ensures { result ≡ list_any (λ m. among m (inclusive_descendants tree.now.forest top))
-            (nodes_of_walker self.now) }
-    {
-        tree.is_inside(top, self.root) || tree.is_inside(top, self.current)
     }
 }

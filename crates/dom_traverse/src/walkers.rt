@@ -1,6 +1,6 @@
 //! The tree walkers of a session, by number (DOM Standard, "Interface TreeWalker").
 
-ghost use Rattle.std.specs.Prelude.{◌≡◌, ℕ, ◌<◌, [], ◌∷◌, ◌++◌, length, count_by, Some, None, IsSome, is_some, IfSome, IfOk, OnOk, OnErr};
+ghost use Rattle.std.specs.Prelude.{◌≡◌, ℕ, ◌<◌, [], ◌∷◌, ◌++◌, length, count_by, Some, IsSome, is_some, IfSome, IfOk, OnOk, OnErr};
 ghost use Rattle.std.specs.List.{list_any, flat_map};
 ghost use Rattle.std.specs.Option.{ForSome};
 ghost use Rattle.dom_model.specs.PlainLists.Lists.{among};
@@ -10,47 +10,21 @@ ghost use Rattle.dom_model.specs.MutationAlgorithms.Discarding.{nodes_unless_rel
 ghost use Rattle.dom_traverse.specs.Standing.{walker_in, WalkerBecomes, with_current, moved_by, released, StandsThere};
 
 use crate::filter::Filter;
-use crate::live::slot_of;
-use crate::walkers_by_slot::WalkersBySlot;
+use crate::judge::Judge;
+use crate::located::{Located, slot_of};
+use crate::walker::TreeWalker;
+use dom_ids::Id;
 use dom_model::Move;
-use dom_slots::Slots;
 use dom_tree::{NodeId, Tree};
 use std::alloc::{AllocError, Global};
 use std::marker::Model;
 
+/// The kind of a [`WalkerId`].
+#[derive(Clone, Copy, Debug, PartialEq, Eq, Hash, Drop)]
+pub struct OfWalker;
+
 /// The number by which callers name a walker: the first that is made has 0, and no number is used again.
-#[derive(Clone, Copy, Debug, PartialEq, Eq)]
-pub struct WalkerId {
-    number: u32,
-}
-
-impl Model for WalkerId {
-    ghost use Rattle.std.specs.Prelude.{ℕ, ◌<◌, ◌^◌};
-
-    ghost Value = { ℕ };
-
-    ghost view = { λ w. w.number };
-
-    ghost invariant = { λ w. w.number < 2 ^ 32 };
-
-    ghost inverse = { λ n. record { number = n } };
-}
-
-impl WalkerId {
-    /// The id of a number, whether or not there is such a walker.
-    pub fn new(number: u32) -> WalkerId
-        ensures { result ≡ number }
-    {
-        WalkerId { number }
-    }
-
-    /// The number itself.
-    pub fn number(self) -> u32
-        ensures { result ≡ self }
-    {
-        self.number
-    }
-}
+pub type WalkerId = Id<OfWalker>;
 
 /// Tree walkers. Removing a node does not adjust them.
 ///
@@ -58,20 +32,17 @@ impl WalkerId {
 /// so memory is kept for no more walkers than were there at once.
 #[derive(Drop)]
 pub struct Walkers {
-    slots: Slots,
-    walkers: WalkersBySlot,
+    // each stands at its current node
+    located: Located<TreeWalker>,
 }
 
 impl Model for Walkers {
-    ghost use Rattle.std.specs.Prelude.{◌≡◌, List, length, Option};
+    ghost use Rattle.std.specs.Prelude.{List, Option};
     ghost use Rattle.dom_model.specs.Worlds.World.{Walker};
-    ghost use Rattle.dom_slots.specs.Slotted.{by_slot};
 
     ghost Value = { List (Option Walker) };
 
-    ghost view = { λ w. by_slot w.slots.slots w.walkers };
-
-    ghost invariant = { λ w. length w.walkers ≡ length w.slots.numbers };
+    ghost view = { λ w. w.located };
 }
 
 impl Walkers {
@@ -80,8 +51,7 @@ impl Walkers {
         ensures { result ≡ [] }
     {
         Walkers {
-            slots: Slots::new(alloc),
-            walkers: WalkersBySlot::new(alloc),
+            located: Located::new(alloc),
         }
     }
 
@@ -92,33 +62,34 @@ impl Walkers {
         ensures made { OnOk result (self.new ≡ self.old ++ Some (new_walker root filter) ∷ []) }
         ensures unchanged { OnErr result (self.new ≡ self.old) }
     {
-        self.slots.sound();
-        self.slots.reserve(1)?;
-        self.walkers.make(root, filter)?;
-        Ok(WalkerId::new(self.slots.push_reserved()))
+        let filter = Judge::new(self.located.allocator(), filter)?;
+        let number = self.located.add(TreeWalker {
+            root,
+            current: root,
+            filter,
+        })?;
+        Ok(WalkerId::new(number))
     }
 
     /// How many walkers were ever made.
     pub fn made(&self) -> u64
         ensures { result ≡ length self.now }
     {
-        self.slots.made()
+        self.located.made()
     }
 
     /// How many walkers there are, without those that were released, in constant time.
     pub fn count(&self) -> usize
         ensures { result ≡ count_by is_some self.now }
     {
-        self.slots.sound();
-        self.slots.count()
+        self.located.count()
     }
 
     /// Whether there is such a walker, and it was not released.
     pub fn holds(&self, id: WalkerId) -> bool
         ensures { result ≡ is_some (walker_in self.now id) }
     {
-        self.slots.sound();
-        self.slots.slot(id.number()).is_some()
+        self.located.holds(id.number())
     }
 
     /// `root` and `currentNode`.
@@ -126,8 +97,8 @@ impl Walkers {
         requires { IsSome (walker_in self.now id) }
         ensures { IfSome (walker_in self.now id) (λ w. result ≡ (w.root, w.current)) }
     {
-        let slot = slot_of(&self.slots, id.number());
-        self.walkers.state(slot)
+        let walker = self.located.get(id.number());
+        (walker.root, walker.current)
     }
 
     /// Sets `currentNode`; it may stand outside the root.
@@ -135,8 +106,11 @@ impl Walkers {
         requires { IsSome (walker_in self.old id) }
         ensures { WalkerBecomes id (with_current node) self.old self.new }
     {
-        let slot = slot_of(&self.slots, id.number());
-        self.walkers.set_current(slot, node);
+        let located = &mut self.located;
+        let slot = slot_of(&located.items, id.number());
+        let walker = located.items.in_slot_mut(slot);
+        walker.current = node;
+        located.whereabouts.leave(slot);
     }
 
     /// Makes one of the seven moves: to the node that it finds, where there is one.
@@ -147,8 +121,12 @@ impl Walkers {
             ≡ walk_found way tree.now.forest w) }
         ensures moved { WalkerBecomes id (moved_by way tree.now.forest) self.old self.new }
     {
-        let slot = slot_of(&self.slots, id.number());
-        self.walkers.step(tree, slot, way)
+        let located = &mut self.located;
+        let slot = slot_of(&located.items, id.number());
+        let walker = located.items.in_slot_mut(slot);
+        let found = walker.step(tree, way);
+        located.whereabouts.leave(slot);
+        found
     }
 
     /// Releases a walker: it names no node any more. It takes no memory.
@@ -156,9 +134,7 @@ impl Walkers {
         requires { IsSome (walker_in self.old id) }
         ensures { self.new ≡ released id self.old }
     {
-        self.slots.sound();
-        let slot = self.slots.release(id.number());
-        self.walkers.swap_remove(slot);
+        self.located.release(id.number());
     }
 
     /// Lets `refers` find by the nodes inside what stands there: each walker that moved is put at its current node.
@@ -167,7 +143,7 @@ impl Walkers {
     pub fn catch_up(&mut self)
         ensures { self.new ≡ self.old }
     {
-        self.walkers.catch_up();
+        self.located.catch_up();
     }
 
     /// Whether some walker has its root or its current node among the inclusive descendants of a node.
@@ -178,7 +154,6 @@ impl Walkers {
         ensures { result ≡ list_any (λ m. among m (inclusive_descendants tree.now.forest top))
             (flat_map (nodes_unless_released nodes_of_walker) self.now) }
     {
-        self.slots.sound();
-        self.walkers.refers(tree, top)
+        self.located.refers(tree, top)
     }
 }

@@ -1,11 +1,11 @@
 //! Items by number, found by the node at which each stands. The numbers lie without gaps.
 
-ghost use Rattle.std.specs.Prelude.{◌≡◌, ℕ, ◌+◌, ◌<◌, ◌≤◌, [], ◌∷◌, ◌++◌, ◌^◌, length, slice_set, swap_remove, Some, None, IsSome, IfSome, IfNone, IfOk, OnOk, OnErr};
+ghost use Rattle.std.specs.Prelude.{◌≡◌, ℕ, ◌+◌, ◌<◌, ◌≤◌, [], ◌∷◌, ◌++◌, length, slice_set, swap_remove, Some, None, IsSome, IfSome, IfNone, IfOk, OnOk, OnErr};
 ghost use Rattle.std.specs.List.{list_any};
 ghost use Rattle.dom_model.specs.PlainLists.Lists.{is_number};
-ghost use Rattle.dom_traverse.specs.Whereabouts.{node_in, place_of, spread_over};
+ghost use Rattle.dom_traverse.specs.Whereabouts.{node_in, place_of, AreSpread};
 
-use crate::places::Places;
+use dom_chains::{Chains, HeadsInList};
 use dom_tree::NodeId;
 use std::alloc::{AllocError, Global};
 use std::marker::Model;
@@ -18,29 +18,30 @@ use std::marker::Model;
 // there are, and no memory.
 #[derive(Drop)]
 pub(crate) struct Whereabouts {
-    nodes: Vec<Option<u32>>,
-    places: Places,
+    // the nodes, by their places
+    chains: Chains<Option<u32>, HeadsInList>,
 }
 
 impl Model for Whereabouts {
     ghost use Rattle.std.specs.Prelude.{ℕ, List, Option};
-    ghost use Rattle.dom_traverse.specs.Whereabouts.{AreSpread};
+    ghost use Rattle.dom_traverse.specs.Whereabouts.{nodes_of, AreSpread};
 
     ghost Value = { List (Option ℕ) };
 
-    ghost view = { λ w. w.nodes.items };
+    ghost view = { λ w. nodes_of w.chains.items };
 
-    ghost invariant = { λ w. AreSpread w.nodes.items w.places };
+    ghost invariant = { λ w. AreSpread (nodes_of w.chains.items) w.chains };
 }
 
 // The place for a node among so many; the first is for items that wait.
-fn place_of(count: usize, node: Option<u32>) -> usize
-    requires { 1 < count }
+fn place_of(count: usize, node: Option<u32>) -> u32
+    requires some { 1 < count }
+    requires told { count ≤ 4294967296 }
     ensures place { result ≡ place_of count node }
     ensures there { result < count }
 {
     match node {
-        Some(node) => 1 + node as usize % (count - 1),
+        Some(node) => (1 + node as usize % (count - 1)) as u32,
         None => 0,
     }
 }
@@ -51,8 +52,7 @@ impl Whereabouts {
         ensures { result ≡ [] }
     {
         Whereabouts {
-            nodes: Vec::new(alloc),
-            places: Places::new(alloc),
+            chains: Chains::<Option<u32>, HeadsInList>::new(alloc),
         }
     }
 
@@ -60,50 +60,54 @@ impl Whereabouts {
     pub(crate) fn names(&self, node: NodeId) -> bool
         ensures { result ≡ list_any (λ o. is_number o node) self.now }
     {
-        if self.nodes.is_empty() {
+        if self.chains.count() == 0 {
             return false;
         }
-        let number = node.number();
-        let place = place_of(self.places.count(), Some(number));
-        self.places.has(place, &self.nodes, number)
+        let number = Some(node.number());
+        let place = place_of(self.chains.key_count(), number);
+        self.chains.any_at(place, |stood| stood == number)
     }
 
     // Some item that stands at the node or shares its place, and none only where no item stands at the node.
-    pub(crate) fn first(&self, node: NodeId) -> Option<u32>
+    pub(crate) fn first(&self, node: NodeId) -> Option<usize>
         ensures some { IfSome result (λ id. IsSome (node_in self.now id)) }
         ensures none { IfNone result ((e : ℕ) → node_in self.now e ≡ Some node → ⊥) }
     {
-        if self.nodes.is_empty() {
+        if self.chains.count() == 0 {
             return None;
         }
-        self.places
-            .first(place_of(self.places.count(), Some(node.number())))
+        let place = place_of(self.chains.key_count(), Some(node.number()));
+        self.chains.first(place)
     }
 
     // Some item that waits.
-    pub(crate) fn waiting(&self) -> Option<u32>
+    pub(crate) fn waiting(&self) -> Option<usize>
         ensures within { IfSome result (λ id. id < length self.now) }
         ensures some { IfSome result (λ id. node_in self.now id ≡ None) }
         ensures none { IfNone result ((e : ℕ) → e < length self.now → IsSome (node_in self.now e)) }
     {
-        if self.nodes.is_empty() {
-            return None;
-        }
-        self.places.first(0)
+        self.chains.first(0)
+    }
+
+    // The node at which an item stands.
+    fn node(&self, id: usize) -> Option<u32>
+        ensures { result ≡ node_in self.now id }
+    {
+        let (_, node) = self.chains.get(id)?;
+        node
     }
 
     // Moves an item to a node, or lets it wait.
-    fn write(&mut self, id: u32, node: Option<u32>)
+    fn write(&mut self, id: usize, node: Option<u32>)
         requires { id < length self.old }
         ensures { self.new ≡ slice_set self.old id node }
     {
-        let place = place_of(self.places.count(), node);
-        self.places.place(id, place);
-        self.nodes[id as usize] = node;
+        let place = place_of(self.chains.key_count(), node);
+        self.chains.place(id, place, node);
     }
 
     // Moves an item to a node.
-    pub(crate) fn set(&mut self, id: u32, node: NodeId)
+    pub(crate) fn set(&mut self, id: usize, node: NodeId)
         requires { id < length self.old }
         ensures { self.new ≡ slice_set self.old id (Some node) }
     {
@@ -111,52 +115,52 @@ impl Whereabouts {
     }
 
     // Lets an item wait from then on, where it does not wait yet.
-    pub(crate) fn leave(&mut self, id: u32)
+    pub(crate) fn leave(&mut self, id: usize)
         requires { id < length self.old }
         ensures { self.new ≡ slice_set self.old id None }
     {
-        if self.nodes[id as usize].is_some() {
+        if self.node(id).is_some() {
             self.write(id, None);
         }
     }
 
     // Takes an item out. The last item gets its number.
-    pub(crate) fn swap_remove(&mut self, id: u32)
-        requires within { id < length self.old }
-        requires few { length self.old ≤ 2 ^ 32 }
+    pub(crate) fn swap_remove(&mut self, id: usize)
+        requires { id < length self.old }
         ensures { self.new ≡ swap_remove self.old id None }
     {
-        self.places.swap_remove(id);
-        self.nodes.swap_remove(id as usize);
+        self.chains.swap_remove(id);
     }
 
     // Adds an item, which gets the next number.
-    pub(crate) fn add(&mut self, node: NodeId) -> Result<(), AllocError>
+    pub(crate) fn add(&mut self, alloc: Global, node: NodeId) -> Result<(), AllocError>
         requires { length self.old < 4294967295 }
         ensures added { OnOk result (self.new ≡ self.old ++ Some node ∷ []) }
         ensures unchanged { OnErr result (self.new ≡ self.old) }
     {
-        self.nodes.reserve(1)?;
-        if self.places.count() < self.nodes.len() + 2 {
-            self.places = self.spread()?;
+        if self.chains.key_count() < self.chains.count() + 2 {
+            self.chains = self.spread(alloc)?;
         }
+        self.chains.reserve(1)?;
         let number = Some(node.number());
-        self.places.add(place_of(self.places.count(), number))?;
-        self.nodes.push_reserved(number);
+        let place = place_of(self.chains.key_count(), number);
+        self.chains.push_reserved(place, number);
         Ok(())
     }
 
     // The items over twice as many places, so that growth takes the same time for each item in the end, however many there are.
-    fn spread(&self) -> Result<Places, AllocError>
+    fn spread(&self, alloc: Global) -> Result<Chains<Option<u32>, HeadsInList>, AllocError>
         requires { length self.now < 4294967295 }
-        ensures placed { IfOk result (λ p. p.items ≡ spread_over p.count self.now) }
-        ensures room { IfOk result (λ p. length self.now + 2 ≤ p.count) }
+        ensures spread { IfOk result (AreSpread self.now) }
+        ensures room { IfOk result (λ c. length self.now + 2 ≤ length c.covered) }
     {
-        let count = 2 * self.nodes.len() + 2;
-        let mut places = Places::of(*self.nodes.allocator(), count)?;
-        for node in &self.nodes {
-            places.add(place_of(count, *node))?;
+        let count = (2 * self.chains.count() + 2).min(1 << 32);
+        let mut chains = Chains::of(alloc, count)?;
+        chains.reserve(self.chains.count() + 1)?;
+        for id in 0..self.chains.count() {
+            let node = self.node(id);
+            chains.push_reserved(place_of(count, node), node);
         }
-        Ok(places)
+        Ok(chains)
     }
 }

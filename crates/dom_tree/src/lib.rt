@@ -30,5 +30,5 @@ pub use at::At;
 pub use body::Body;
 pub use children::Children;
 pub use meeting::Meeting;
-pub use node_id::NodeId;
+pub use node_id::{NodeId, OfNode};
 pub use tree::Tree;

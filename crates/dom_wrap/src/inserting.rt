@@ -193,7 +193,7 @@ fn place(
 {
     // the checker covers no variable of this type that is passed by value twice
     let behind = reference;
-    world.remove(alloc, node)?;
+    world.remove(node)?;
     let offset = offset_past(world, parent, behind, node);
     world.insert_checked(alloc, parent, node, reference)?;
     end_if_collapsed(

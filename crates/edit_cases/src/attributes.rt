@@ -32,18 +32,12 @@ pub(crate) fn set(
 }
 
 /// Removes an attribute of an element.
-pub(crate) fn unset(
-    rt: &impl Abort,
-    world: &mut World,
-    alloc: Global,
-    node: u32,
-    key: &str,
-) -> Result<(), Refusal>
+pub(crate) fn unset(rt: &impl Abort, world: &mut World, node: u32, key: &str) -> Result<(), Refusal>
     requires { IsWhole world.old }
     ensures { IsWhole world.new }
 {
     let node = of_kind(rt, world, node, Kind::Element);
-    Ok(remove_attribute(world, alloc, node, key)?)
+    Ok(remove_attribute(world, node, key)?)
 }
 
 /// Adds an attribute of an element or removes it, and compares whether it is there then.

@@ -57,7 +57,6 @@ pub(crate) fn of_kind(rt: &impl Abort, world: &World, number: u32, kind: Kind) -
 pub(crate) fn make(
     rt: &impl Abort,
     world: &mut World,
-    alloc: Global,
     kind: Kind,
     content: Content,
 ) -> Result<NodeId, Refusal>
@@ -66,7 +65,7 @@ pub(crate) fn make(
 {
     let document = of_kind(rt, world, 0, Kind::Document);
     assert!(rt; world.tree.made() < 4294967295);
-    Ok(world.make(alloc, Label::nameless(kind), content, Some(document))?)
+    Ok(world.make(Label::nameless(kind), content, Some(document))?)
 }
 
 /// The same with that data.
@@ -82,21 +81,17 @@ pub(crate) fn make_with(
 {
     let text = Units::from_str(alloc, text)?;
     let content = Content::of_text(alloc, text)?;
-    make(rt, world, alloc, kind, content)
+    make(rt, world, kind, content)
 }
 
 /// Makes a document.
-pub(crate) fn make_document(
-    rt: &impl Abort,
-    world: &mut World,
-    alloc: Global,
-) -> Result<NodeId, Refusal>
+pub(crate) fn make_document(rt: &impl Abort, world: &mut World) -> Result<NodeId, Refusal>
     requires { IsWhole world.old }
     ensures { IsWhole world.new }
 {
     assert!(rt; world.tree.made() < 4294967295);
     let label = Label::nameless(Kind::Document);
-    Ok(world.make(alloc, label, Content::nothing(), None)?)
+    Ok(world.make(label, Content::nothing(), None)?)
 }
 
 /// Makes observer 0.

@@ -183,7 +183,6 @@ fn all_children_leave(rt: HostRuntime) -> Result<(), Fail> {
 pub(crate) fn remove_child(
     rt: &impl Abort,
     world: &mut World,
-    alloc: Global,
     parent: u32,
     child: u32,
 ) -> Result<(), Refusal>
@@ -192,7 +191,7 @@ pub(crate) fn remove_child(
 {
     let parent = held(rt, world, parent);
     let child = held(rt, world, child);
-    world.remove_child(alloc, parent, child)
+    world.remove_child(parent, child)
 }
 
 // The child has left where memory was wanting too.
@@ -216,17 +215,12 @@ fn a_child_leaves(rt: HostRuntime) -> Result<(), Fail> {
 }
 
 /// Takes a node out of its parent, which is not named.
-pub(crate) fn remove(
-    rt: &impl Abort,
-    world: &mut World,
-    alloc: Global,
-    node: u32,
-) -> Result<(), Refusal>
+pub(crate) fn remove(rt: &impl Abort, world: &mut World, node: u32) -> Result<(), Refusal>
     requires { IsWhole world.old }
     ensures { IsWhole world.new }
 {
     let node = held(rt, world, node);
-    Ok(world.remove(alloc, node)?)
+    Ok(world.remove(node)?)
 }
 
 // The same of Text 8. It comes in elsewhere, at the second try where a growth is refused.
@@ -303,7 +297,6 @@ fn all_children_are_replaced(rt: HostRuntime) -> Result<(), Fail> {
 pub(crate) fn adopt(
     rt: &impl Abort,
     world: &mut World,
-    alloc: Global,
     document: u32,
     node: u32,
 ) -> Result<(), Refusal>
@@ -312,7 +305,7 @@ pub(crate) fn adopt(
 {
     let document = of_kind(rt, world, document, Kind::Document);
     let node = held(rt, world, node);
-    world.adopt(alloc, document, node)
+    world.adopt(document, node)
 }
 
 // Element 3 goes into a second document, with the Text in it.

@@ -133,8 +133,8 @@ fn made(rt: &impl Abort, world: &mut World, alloc: Global, new: New) -> Result<N
 {
     match new {
         New::Make(kind, text) => make_with(rt, world, alloc, kind, text),
-        New::MakeBare(kind) => make(rt, world, alloc, kind, Content::nothing()),
-        New::MakeDocument => make_document(rt, world, alloc),
+        New::MakeBare(kind) => make(rt, world, kind, Content::nothing()),
+        New::MakeDocument => make_document(rt, world),
         New::Split(node, offset) => split_at(rt, world, alloc, node, offset),
         New::Clone(node, deep) => copied(rt, world, alloc, node, deep),
         New::Import(document, node) => imported(rt, world, alloc, document, node),
@@ -179,7 +179,7 @@ fn changed(
         Change::SetData(added) => set_units(rt, world, alloc, node, added),
         Change::Normalize => join(rt, world, alloc, node),
         Change::SetAttribute(key, value) => set(rt, world, alloc, node, key, value),
-        Change::RemoveAttribute(key) => unset(rt, world, alloc, node, key),
+        Change::RemoveAttribute(key) => unset(rt, world, node, key),
         Change::ToggleAttribute(key, on) => toggle(rt, world, alloc, node, key, on),
     }
 }
@@ -207,9 +207,9 @@ fn called(
         Call::Replace(parent, node, child) => replace(rt, world, alloc, parent, node, child),
         Call::ReplaceAll(parent, node) => replace_all(rt, world, alloc, parent, node),
         Call::Clear(parent) => clear(rt, world, alloc, parent),
-        Call::RemoveChild(parent, child) => remove_child(rt, world, alloc, parent, child),
-        Call::Remove(node) => remove(rt, world, alloc, node),
-        Call::Adopt(document, node) => adopt(rt, world, alloc, document, node),
+        Call::RemoveChild(parent, child) => remove_child(rt, world, parent, child),
+        Call::Remove(node) => remove(rt, world, node),
+        Call::Adopt(document, node) => adopt(rt, world, document, node),
         Call::Change(node, change) => changed(rt, world, alloc, node, change),
         Call::Select(first, last) => select(rt, world, first, last),
         Call::Delete => delete(rt, world, alloc),

@@ -5,6 +5,10 @@
 #[cfg(test)]
 mod attributes;
 #[cfg(test)]
+mod chains;
+#[cfg(test)]
+mod items;
+#[cfg(test)]
 mod kinds;
 #[cfg(test)]
 mod links;

@@ -3,7 +3,7 @@
 use dom_kinds::{Kind, Label};
 use dom_links::{Links, Slot};
 use dom_tree::{NodeId, Tree};
-use std::alloc::{AllocError, Global};
+use std::alloc::AllocError;
 use std::cell::Cell;
 use std::process::Abort;
 use std::rc::Rc;
@@ -68,7 +68,6 @@ fn each_value_is_dropped_once(rt: HostRuntime) -> Result<(), Fail> {
 // Makes an element with such a value, a document of its own.
 fn element(
     rt: &impl Abort,
-    alloc: Global,
     tree: &mut Tree<Counted>,
     drops: &Rc<Cell<u32>>,
 ) -> Result<NodeId, AllocError> {
@@ -81,16 +80,15 @@ fn element(
 // A root with two children is let go of, beside one that stays.
 fn let_go_of_three(
     rt: &impl Abort,
-    alloc: Global,
     tree: &mut Tree<Counted>,
     drops: &Rc<Cell<u32>>,
 ) -> Result<(), AllocError> {
-    let top = element(rt, alloc, tree, drops)?;
+    let top = element(rt, tree, drops)?;
     for _ in 0..2 {
-        let child = element(rt, alloc, tree, drops)?;
+        let child = element(rt, tree, drops)?;
         assert!(rt; put(tree, top, child, None));
     }
-    let _stays = element(rt, alloc, tree, drops)?;
+    let _stays = element(rt, tree, drops)?;
     assert!(rt; drops.get() == 0);
     assert!(rt; tree.holds(top));
     assert!(rt; !tree.refers(top));
@@ -103,7 +101,7 @@ fn let_go_of_three(
 fn each_node_s_value_is_dropped_once(rt: HostRuntime) -> Result<(), Fail> {
     let drops = Rc::new(rt.alloc(), Cell::new(0u32))?;
     let mut tree = Tree::new(rt.alloc());
-    let_go_of_three(&rt, rt.alloc(), &mut tree, &drops)?;
+    let_go_of_three(&rt, &mut tree, &drops)?;
     drop(tree);
     assert!(rt; drops.get() == 4);
     Ok(())

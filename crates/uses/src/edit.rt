@@ -26,7 +26,7 @@ pub fn put_element(alloc: Global, world: &mut World) -> Result<(), AllocError>
 {
     let document = NodeId::new(0);
     let label = Label::named(alloc, Kind::Element, "p")?;
-    let element = world.make(alloc, label, Content::nothing(), Some(document))?;
+    let element = world.make(label, Content::nothing(), Some(document))?;
     world.insert_checked(alloc, document, element, None)?;
     Ok(())
 }
@@ -52,7 +52,7 @@ pub fn put_text(alloc: Global, world: &mut World, text: &str) -> Result<(), Allo
     let element = NodeId::new(1);
     let label = Label::nameless(Kind::Text);
     let data = Content::of_text(alloc, Units::from_str(alloc, text)?)?;
-    let child = world.make(alloc, label, data, Some(document))?;
+    let child = world.make(label, data, Some(document))?;
     world.insert_checked(alloc, element, child, None)?;
     Ok(())
 }
@@ -86,13 +86,13 @@ pub fn append_text(
 {
     let label = Label::nameless(Kind::Text);
     let data = Content::of_text(alloc, Units::from_str(alloc, text)?)?;
-    let child = world.make(alloc, label, data, Some(document))?;
+    let child = world.make(label, data, Some(document))?;
     world.append(alloc, parent, child)?;
     Ok(child)
 }
 
 /// Where the ends of a live range stand that had all the data of the Text, once the Text is removed: in its parent, where it stood.
-pub fn remove_text(alloc: Global, world: &mut World) -> Result<(Point, Point), AllocError>
+pub fn remove_text(world: &mut World) -> Result<(Point, Point), AllocError>
     requires keeps { (text : List ℕ) × Keeps world.old (paragraph text) }
     requires whole { IsWhole world.old }
     ensures start { IfOk result (λ ends. ends.0 ≡ record { node = 1; offset = 0 }) }
@@ -105,7 +105,7 @@ pub fn remove_text(alloc: Global, world: &mut World) -> Result<(Point, Point), A
         offset: world.tree.length(node),
     };
     let range = world.ranges.make(&world.tree, start, end)?;
-    world.remove(alloc, node)?;
+    world.remove(node)?;
     Ok(world.ranges.ends(range))
 }
 
@@ -115,5 +115,5 @@ pub fn ends_after_removal(alloc: Global, text: &str) -> Result<(Point, Point), A
     ensures end { IfOk result (λ ends. ends.1 ≡ record { node = 1; offset = 0 }) }
 {
     let mut world = paragraph(alloc, text)?;
-    remove_text(alloc, &mut world)
+    remove_text(&mut world)
 }

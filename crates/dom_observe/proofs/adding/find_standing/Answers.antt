@@ -3,7 +3,7 @@ use Rattle.std.proofs.Common.{sym, ◌∙◌, ap, subst, append-nil, ◌++◌, [
 use Rattle.dom_model.specs.Definitions.{HasNode, ancestors}
 use Rattle.dom_model.proofs.Forests.{Entries.occurs-HasNode, Paths.root-path, Above.above, ToTheRoot.shorter}
 use Rattle.dom_tree.specs.Spots.{node_at}
-use Rattle.dom_observe.specs.{Watchers.on, Registrations.listed}
+use Rattle.dom_observe.specs.Watchers.{on}
 use Rattle.dom_observe.proofs.{Climbing.parent-told, Tables.climbed}
 use Rattle.dom_observe.proofs.adding.find_standing.Goals as goal
 
@@ -14,8 +14,8 @@ pub loop-here-init : goal.loop-here-init
 loop-here-init g c = record {
   tree = c.at-here.ensures.tree;
   there = subst (HasNode c.args.tree.now.forest) (sym c.at-here.ensures.node) c.requires;
-  so_far = ap (λ ks. ks ++ flat_map (λ n. on n (listed c.args.nodes.now.entries)) (ancestors c.at-here.result.node c.args.tree.now.forest)) c.clear.ensures.items
-      ∙ ap (λ m. flat_map (λ n. on n (listed c.args.nodes.now.entries)) (ancestors m c.args.tree.now.forest)) c.at-here.ensures.node;
+  so_far = ap (λ ks. ks ++ flat_map (λ n. on n c.args.registrations.now.lists) (ancestors c.at-here.result.node c.args.tree.now.forest)) c.clear.ensures.items
+      ∙ ap (λ m. flat_map (λ n. on n c.args.registrations.now.lists) (ancestors m c.args.tree.now.forest)) c.at-here.ensures.node;
 }
 
 pub loop-here-smaller : goal.loop-here-smaller
@@ -31,8 +31,8 @@ loop-here-preserved g c =
     record {
       tree = c.parent.ensures.tree c.in-Some.parent c.in-Some.is ∙ inv.tree;
       there = a.there;
-      so_far = climbed (λ n. on n (listed c.args.nodes.now.entries)) c.loop-here.keys.items c.keys_on.result.now c.push_all.new.keys.items _ c.loop-here.here.node (ancestors c.in-Some.parent.node c.args.tree.now.forest)
-          (ancestors c.loop-here.here.node c.args.tree.now.forest) a.path (c.keys_on.ensures ∙ ap (λ n. on n (listed c.args.nodes.now.entries)) c.number.ensures) c.in_ok-push_all.ensures inv.so_far;
+      so_far = climbed (λ n. on n c.args.registrations.now.lists) c.loop-here.keys.items c.keys_on.result.now c.push_all.new.keys.items _ c.loop-here.here.node (ancestors c.in-Some.parent.node c.args.tree.now.forest)
+          (ancestors c.loop-here.here.node c.args.tree.now.forest) a.path (c.keys_on.ensures ∙ ap (λ n. on n c.args.registrations.now.lists) c.number.ensures) c.in_ok-push_all.ensures inv.so_far;
     }
 
 pub returns-in-None : goal.returns-in-None
@@ -41,5 +41,5 @@ returns-in-None g c =
     let up = parent-told c.loop-here.here c.args.tree.now inv.tree c.parent.result c.parent.ensures.node ∙ ap node_at c.in-None.is in
     let p = root-path c.args.tree.now.forest c.sound.ensures.once c.loop-here.here.node (occurs-HasNode c.args.tree.now.forest c.loop-here.here.node inv.there) up in
     sym (append-nil c.push_all.new.keys.items)
-    ∙ climbed (λ n. on n (listed c.args.nodes.now.entries)) c.loop-here.keys.items c.keys_on.result.now c.push_all.new.keys.items _ c.loop-here.here.node []
-    (ancestors c.loop-here.here.node c.args.tree.now.forest) p (c.keys_on.ensures ∙ ap (λ n. on n (listed c.args.nodes.now.entries)) c.number.ensures) c.in_ok-push_all.ensures inv.so_far
+    ∙ climbed (λ n. on n c.args.registrations.now.lists) c.loop-here.keys.items c.keys_on.result.now c.push_all.new.keys.items _ c.loop-here.here.node []
+    (ancestors c.loop-here.here.node c.args.tree.now.forest) p (c.keys_on.ensures ∙ ap (λ n. on n c.args.registrations.now.lists) c.number.ensures) c.in_ok-push_all.ensures inv.so_far

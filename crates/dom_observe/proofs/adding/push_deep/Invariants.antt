@@ -4,4 +4,4 @@ use Rattle.dom_observe.specs.Registrations.{at, deep_at}
 use Rattle.dom_observe.proofs.adding.push_deep.Given as goal
 
 abbrev pub invariant-loop-key : goal.invariant-loop-key
-invariant-loop-key l = l.keys.items ≡ l.initial.keys.items ++ filter (deep_at (at l.table)) (take l.key-index l.own)
+invariant-loop-key l = l.keys.items ≡ l.initial.keys.items ++ filter (deep_at (at l.registrations)) (take l.key-index l.own)

@@ -1,6 +1,6 @@
 -- The key goes from its place, and what stood under it.
 use Rattle.std.proofs.Common.{◌==◌, not, filter, ap, sym, ◌∙◌, remove}
-use Rattle.dom_observe.specs.Registrations.{at}
+use Rattle.dom_observe.specs.Registrations.{in_table}
 use Rattle.dom_observe.proofs.{NodeByNode.one-kept, Turns.fewer-one, Turns.one-left}
 use Rattle.dom_observe.proofs.ending.end_key.Goals as goal
 
@@ -9,8 +9,8 @@ returns-clause-fewer c = fewer-one c.args.table.now c.try_remove.new.self c.args
 
 pub returns-clause-kept : goal.returns-clause-kept
 returns-clause-kept c =
-    let u = at c.args.table.now in
-    let v = at c.try_remove.new.self in
+    let u = in_table c.args.table.now in
+    let v = in_table c.try_remove.new.self in
     let keys = c.args.keys.now.items in
     let place = c.place_of-place.result in
     c.remove.ensures

@@ -1,37 +1,11 @@
 -- The node has the keys under which something is left.
-use Rattle.std.proofs.Common.{◌≡◌, ◌==◌, [], option_map, if◌then◌else◌, Some, None, filter, ap, sym, ◌∙◌, subst, nat_eq}
+use Rattle.std.proofs.Common.{◌≡◌, [], false, ap, sym, ◌∙◌, subst, nat_eq}
 use Rattle.std.specs.Map.{lookup}
 use Rattle.std.proofs.lemmas.Bool.{true≢false}
 use Rattle.dom_model.specs.Definitions.{among}
-use Rattle.dom_observe.specs.{Watchers.on, Registrations.at, Registrations.listed, Registrations.is_live, Registrations.AllLive, Turns.turn_at, Turns.Rises}
-use Rattle.dom_observe.proofs.Keys.{items_in, on-lookup, looked-listed, taken-on, taken-others, taken-bare, taken-some, taken-absent}
+use Rattle.dom_observe.specs.{Watchers.on, Registrations.in_table, Registrations.listed, Registrations.is_live, Registrations.AllLive, Registrations.KeysLeft, Turns.turn_at, Turns.Rises}
+use Rattle.dom_observe.proofs.Keys.{items_in, on-lookup, keys-left, keys-absent, keys-of_entry}
 use Rattle.dom_observe.proofs.ending.end_key_on.Goals as goal
-
-pub returns-in-Some-clause-kept : goal.returns-in-Some-clause-kept
-returns-in-Some-clause-kept c = λ n.
-    let written = c.get_mut.follows.holds c.end_key.new.keys in
-    ap (λ es. on n (listed es)) written.0
-    ∙ taken-on c.number.result (is_live (at c.end_key.new.table)) c.args.nodes.now.entries c.in-Some.keys.now c.end_key.new.keys (sym c.in-Some.ensures.value) c.end_key.ensures.kept n
-    ∙ ap (λ k. if n == k then filter (is_live (at c.end_key.new.table)) (on n (listed c.args.nodes.now.entries)) else on n (listed c.args.nodes.now.entries)) c.number.ensures
-
-pub returns-in-Some-clause-others : goal.returns-in-Some-clause-others
-returns-in-Some-clause-others c = λ n ne.
-    let written = c.get_mut.follows.holds c.end_key.new.keys in
-    ap (λ es. lookup (nat_eq n) (listed es)) written.0
-    ∙ taken-others c.number.result (is_live (at c.end_key.new.table)) c.args.nodes.now.entries c.in-Some.keys.now c.end_key.new.keys (sym c.in-Some.ensures.value) c.end_key.ensures.kept n (λ e. ne (e ∙ c.number.ensures))
-
-pub returns-in-Some-clause-bare : goal.returns-in-Some-clause-bare
-returns-in-Some-clause-bare c = λ yes.
-    let written = c.get_mut.follows.holds c.end_key.new.keys in
-    ap (λ k. on k (listed (c.get_mut.follows.lender c.end_key.new.keys).entries)) (sym c.number.ensures)
-    ∙ ap (λ es. on c.number.result (listed es)) written.0
-    ∙ taken-bare c.number.result (is_live (at c.end_key.new.table)) c.args.nodes.now.entries c.in-Some.keys.now c.end_key.new.keys (sym c.in-Some.ensures.value) c.end_key.ensures.kept (sym c.end_key.ensures.bare ∙ yes)
-
-pub returns-in-Some-clause-some : goal.returns-in-Some-clause-some
-returns-in-Some-clause-some c = λ no keys found.
-    let written = c.get_mut.follows.holds c.end_key.new.keys in
-    taken-some c.number.result (is_live (at c.end_key.new.table)) c.args.nodes.now.entries c.in-Some.keys.now c.end_key.new.keys (sym c.in-Some.ensures.value) c.end_key.ensures.kept (sym c.end_key.ensures.bare ∙ no) keys
-    (ap (λ es. lookup (nat_eq c.number.result) (listed es)) (sym written.0) ∙ ap (λ k. lookup (nat_eq k) (listed (c.get_mut.follows.lender c.end_key.new.keys).entries)) c.number.ensures ∙ found)
 
 -- a node with the key is listed
 pub returns-in-None-clause-left : goal.returns-in-None-clause-left
@@ -40,38 +14,30 @@ returns-in-None-clause-left c =
     on-lookup c.args.node c.args.nodes.now.entries ∙ ap (λ n. items_in (lookup (nat_eq n) c.args.nodes.now.entries)) (sym c.number.ensures) ∙ ap items_in (sym c.in-None.ensures.value) in
     absurd (true≢false (sym c.requires.there ∙ ap (among c.args.key) none))
 
-pub returns-in-None-clause-kept : goal.returns-in-None-clause-kept
-returns-in-None-clause-kept c = λ n.
-    let same = c.get_mut.follows.holds-at-none in
-    ap (λ m. on n (listed m.entries)) same
-    ∙ taken-absent c.number.result (is_live (at c.args.table.now)) c.args.nodes.now.entries (sym c.in-None.ensures.value) n
-    ∙ ap (λ k. if n == k then filter (is_live (at c.args.table.now)) (on n (listed c.args.nodes.now.entries)) else on n (listed c.args.nodes.now.entries)) c.number.ensures
+pub returns-in-Some-clause-keys : goal.returns-in-Some-clause-keys
+returns-in-Some-clause-keys c =
+    let stays = is_live (in_table c.end_key.new.table) in
+    let written = c.get_mut.follows.holds c.end_key.new.keys in
+    subst (λ es. KeysLeft c.args.node stays (listed c.args.nodes.now.entries) (listed es) c.end_key.result) (sym written.0)
+    (keys-left c.number.result stays c.args.nodes.now.entries c.in-Some.keys.now c.end_key.new.keys (sym c.in-Some.ensures.value) c.end_key.ensures.kept c.args.node c.number.ensures c.end_key.result c.end_key.ensures.bare)
 
-pub returns-in-None-clause-some : goal.returns-in-None-clause-some
-returns-in-None-clause-some c = λ no keys found.
-    let same = c.get_mut.follows.holds-at-none in
-    let none : lookup (nat_eq c.args.node) (listed c.get_mut.follows.lender-at-none.entries) ≡ None =
-    ap (λ m. lookup (nat_eq c.args.node) (listed m.entries)) same ∙ ap (λ k. lookup (nat_eq k) (listed c.args.nodes.now.entries)) (sym c.number.ensures)
-    ∙ looked-listed c.number.result c.args.nodes.now.entries ∙ ap (λ v. option_map (λ v. v.items) v) (sym c.in-None.ensures.value) in
-    let d : None ≡ Some keys = sym none ∙ found in
-    cc d
+pub returns-in-None-clause-keys : goal.returns-in-None-clause-keys
+returns-in-None-clause-keys c =
+    let stays = is_live (in_table c.args.table.now) in
+    subst (λ m. KeysLeft c.args.node stays (listed c.args.nodes.now.entries) (listed m.entries) false) (sym c.get_mut.follows.holds-at-none)
+    (keys-absent c.number.result stays c.args.nodes.now.entries (sym c.in-None.ensures.value) c.args.node c.number.ensures)
 
 -- the keys of the node
 
 pub end_key-requires-clause-rising : goal.end_key-requires-clause-rising
 end_key-requires-clause-rising c =
-    let had : c.in-Some.keys.now.items ≡ on c.args.node (listed c.args.nodes.now.entries) =
-    ap items_in c.in-Some.ensures.value ∙ ap (λ n. items_in (lookup (nat_eq n) c.args.nodes.now.entries)) c.number.ensures ∙ sym (on-lookup c.args.node c.args.nodes.now.entries) in
+    let had = keys-of_entry c.number.result c.args.nodes.now.entries c.in-Some.keys.now c.in-Some.ensures.value c.args.node c.number.ensures in
     subst (Rises (turn_at c.args.table.now)) (sym had) c.requires.rising
 
 pub end_key-requires-clause-live : goal.end_key-requires-clause-live
 end_key-requires-clause-live c =
-    let had : c.in-Some.keys.now.items ≡ on c.args.node (listed c.args.nodes.now.entries) =
-    ap items_in c.in-Some.ensures.value ∙ ap (λ n. items_in (lookup (nat_eq n) c.args.nodes.now.entries)) c.number.ensures ∙ sym (on-lookup c.args.node c.args.nodes.now.entries) in
-    subst (AllLive (at c.args.table.now)) (sym had) c.requires.live
+    let had = keys-of_entry c.number.result c.args.nodes.now.entries c.in-Some.keys.now c.in-Some.ensures.value c.args.node c.number.ensures in
+    subst (AllLive (in_table c.args.table.now)) (sym had) c.requires.live
 
 pub end_key-requires-clause-there : goal.end_key-requires-clause-there
-end_key-requires-clause-there c =
-    let had : c.in-Some.keys.now.items ≡ on c.args.node (listed c.args.nodes.now.entries) =
-    ap items_in c.in-Some.ensures.value ∙ ap (λ n. items_in (lookup (nat_eq n) c.args.nodes.now.entries)) c.number.ensures ∙ sym (on-lookup c.args.node c.args.nodes.now.entries) in
-    ap (among c.args.key) had ∙ c.requires.there
+end_key-requires-clause-there c = ap (among c.args.key) (keys-of_entry c.number.result c.args.nodes.now.entries c.in-Some.keys.now c.in-Some.ensures.value c.args.node c.number.ensures) ∙ c.requires.there

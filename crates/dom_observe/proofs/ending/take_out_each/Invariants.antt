@@ -1,11 +1,11 @@
 -- What stands under the first keys is gone through.
 use Rattle.std.proofs.Common.{◌≡◌, ℕ, if◌then◌else◌, take}
 use Rattle.dom_model.specs.Definitions.{among}
-use Rattle.dom_observe.specs.{Registrations.at, Registrations.left_after, Turns.Fewer}
+use Rattle.dom_observe.specs.{Registrations.in_table, Registrations.left_after, Turns.Fewer}
 use Rattle.dom_observe.proofs.ending.take_out_each.Given as goal
 
 abbrev pub invariant-loop-key : goal.invariant-loop-key
 invariant-loop-key l = record {
-  left : (k : ℕ) → at l.table k ≡ (if among k (take l.key-index l.keys) then left_after l.ending (at l.initial.table k) else at l.initial.table k);
+  left : (k : ℕ) → in_table l.table k ≡ (if among k (take l.key-index l.keys) then left_after l.ending (in_table l.initial.table k) else in_table l.initial.table k);
   fewer : Fewer l.initial.table l.table;
 }

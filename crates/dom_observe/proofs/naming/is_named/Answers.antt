@@ -9,5 +9,5 @@ use Rattle.dom_observe.proofs.naming.is_named.Goals as goal
 pub returns : goal.returns
 returns g c =
     by_either c.any_inside.result _ c.unwrap_or_else.result _ c.unwrap_or_else.ensures
-    (asked-found _ _ (keys_of c.args.nodes.now.entries) (c.any_inside.ensures.asked (λ m. among m (keys_of c.args.nodes.now.entries)) (λ n passes called. search (rules, of_calls))))
+    (asked-found _ _ (keys_of c.args.registrations.now.lists) (c.any_inside.ensures.asked (λ m. among m (keys_of c.args.registrations.now.lists)) (λ n passes called. search (rules, of_calls))))
     (λ called. search (rules, of_calls))

@@ -19,14 +19,14 @@ pub returns-in_err-note-clause-there : goal.returns-in_err-note-clause-there
 returns-in_err-note-clause-there c = λ there s b.
     let q = c.args.question.now in
     let l : ℕ × Bool = c.in-Some.listener in
-    let some : listener_under (at c.args.table.now) q.what q.target (text_of q.name) (slice_index_or c.args.standing.now c.loop-key.key-index 0) ≡ Some l = sym c.listener_at.ensures ∙ c.in-Some.is in
-    let lt = listener-there (at c.args.table.now) q.what q.target (text_of q.name) there _ l (all_at (Stands (at c.args.table.now) there) c.args.standing.now c.loop-key.key-index 0 s c.loop-key-test.true) some in
+    let some : listener_under (at c.args.registrations.now) q.what q.target (text_of q.name) (slice_index_or c.args.standing.now c.loop-key.key-index 0) ≡ Some l = sym c.listener_at.ensures ∙ c.in-Some.is in
+    let lt = listener-there (at c.args.registrations.now) q.what q.target (text_of q.name) there _ l (all_at (Stands (at c.args.registrations.now) there) c.args.standing.now c.loop-key.key-index 0 s c.loop-key-test.true) some in
     subst (AllThere there) (sym c.in_ok-pend.ensures.ok) (there-last there c.in-Some.listener.0 c.loop-key.pending.keys (c.loop-key.invariant.there there s b) lt)
 
 pub loop-key-preserved : goal.loop-key-preserved
 loop-key-preserved c =
     let q = c.args.question.now in
-    let u = at c.args.table.now in
+    let u = at c.args.registrations.now in
     let keys = c.args.standing.now in
     let i = c.loop-key.key-index in
     let inv = c.loop-key.invariant in
@@ -88,14 +88,14 @@ returns-clause-pending c = grind (arith, common_steps)
 pub returns-in_err-pend-clause-front : goal.returns-in_err-pend-clause-front
 returns-in_err-pend-clause-front c =
     let q = c.args.question.now in
-    let before = listeners (at c.args.table.now) q.what q.target (text_of q.name) (take c.loop-key.key-index c.args.standing.now) in
+    let before = listeners (at c.args.registrations.now) q.what q.target (text_of q.name) (take c.loop-key.key-index c.args.standing.now) in
     subst (IsFront c.args.pending.now.keys) (sym (c.in_err-pend.ensures.err ∙ c.loop-key.invariant.pending)) (front-all_last c.args.pending.now.keys (keys_of before))
 
 pub returns-in_err-note-clause-front : goal.returns-in_err-note-clause-front
 returns-in_err-note-clause-front c =
     let q = c.args.question.now in
     let o = c.in-Some.listener.0 in
-    let before = listeners (at c.args.table.now) q.what q.target (text_of q.name) (take c.loop-key.key-index c.args.standing.now) in
+    let before = listeners (at c.args.registrations.now) q.what q.target (text_of q.name) (take c.loop-key.key-index c.args.standing.now) in
     let front = subst (IsFront c.args.pending.now.keys) (sym c.loop-key.invariant.pending) (front-all_last c.args.pending.now.keys (keys_of before)) in
     subst (IsFront c.args.pending.now.keys) (sym c.in_ok-pend.ensures.ok)
     (front-trans c.args.pending.now.keys c.loop-key.pending.keys (with_last c.loop-key.pending.keys o) front (front-last c.loop-key.pending.keys o))
@@ -103,5 +103,5 @@ returns-in_err-note-clause-front c =
 pub returns-clause-front : goal.returns-clause-front
 returns-clause-front c =
     let q = c.args.question.now in
-    let before = listeners (at c.args.table.now) q.what q.target (text_of q.name) (take c.loop-key.key-index c.args.standing.now) in
+    let before = listeners (at c.args.registrations.now) q.what q.target (text_of q.name) (take c.loop-key.key-index c.args.standing.now) in
     subst (IsFront c.args.pending.now.keys) (sym c.loop-key.invariant.pending) (front-all_last c.args.pending.now.keys (keys_of before))

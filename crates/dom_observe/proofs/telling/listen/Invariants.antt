@@ -8,10 +8,10 @@ use Rattle.dom_observe.proofs.telling.listen.Given as goal
 
 abbrev pub invariant-loop-key : goal.invariant-loop-key
 invariant-loop-key l = record {
-  heard : (p : ℕ) → get nat_eq l.heard p ≡ flag_of p (listeners (at l.table) l.question.what l.question.target (text_of l.question.name) (take l.key-index l.standing));
-  pending : l.pending.keys ≡ with_all_last l.initial.pending.keys (keys_of (listeners (at l.table) l.question.what l.question.target (text_of l.question.name) (take l.key-index l.standing)));
+  heard : (p : ℕ) → get nat_eq l.heard p ≡ flag_of p (listeners (at l.registrations) l.question.what l.question.target (text_of l.question.name) (take l.key-index l.standing));
+  pending : l.pending.keys ≡ with_all_last l.initial.pending.keys (keys_of (listeners (at l.registrations) l.question.what l.question.target (text_of l.question.name) (take l.key-index l.standing)));
   stay : (p : ℕ) → among p l.initial.pending.keys ≡ true → among p l.pending.keys ≡ true;
-  there : (there : ℕ → Bool) → AllByRecursion (Stands (at l.table) there) l.standing → AllThere there l.initial.pending.keys → AllThere there l.pending.keys;
-  known : (there : ℕ → Bool) → AllByRecursion (Stands (at l.table) there) l.standing → AllThere there (keys_of l.heard.entries);
+  there : (there : ℕ → Bool) → AllByRecursion (Stands (at l.registrations) there) l.standing → AllThere there l.initial.pending.keys → AllThere there l.pending.keys;
+  known : (there : ℕ → Bool) → AllByRecursion (Stands (at l.registrations) there) l.standing → AllThere there (keys_of l.heard.entries);
   unique : IsUnique nat_eq l.heard;
 }

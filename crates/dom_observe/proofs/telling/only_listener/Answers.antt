@@ -11,7 +11,7 @@ loop-key-init c = record { alone = refl; known = tt }
 pub loop-key-preserved : goal.loop-key-preserved
 loop-key-preserved c =
     let q = c.args.question.now in
-    let u = at c.args.table.now in
+    let u = at c.args.registrations.now in
     let keys = c.args.standing.now in
     let i = c.loop-key.key-index in
     let inv = c.loop-key.invariant in
@@ -40,4 +40,4 @@ pub returns-clause-only : goal.returns-clause-only
 returns-clause-only c =
     let q = c.args.question.now in
     let whole = take_all c.loop-key.key-index c.args.standing.now (omega (arith, c.loop-key-test.false)) in
-    only-of c.loop-key.only _ (subst (λ keys. AreAlone c.loop-key.only (listeners (at c.args.table.now) q.what q.target (text_of q.name) keys)) whole c.loop-key.invariant.alone)
+    only-of c.loop-key.only _ (subst (λ keys. AreAlone c.loop-key.only (listeners (at c.args.registrations.now) q.what q.target (text_of q.name) keys)) whole c.loop-key.invariant.alone)

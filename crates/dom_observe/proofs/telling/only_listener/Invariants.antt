@@ -7,6 +7,6 @@ use Rattle.dom_observe.proofs.telling.only_listener.Given as goal
 
 abbrev pub invariant-loop-key : goal.invariant-loop-key
 invariant-loop-key l = record {
-  alone : AreAlone l.only (listeners (at l.table) l.question.what l.question.target (text_of l.question.name) (take l.key-index l.standing));
-  known : IfSome l.only (λ only. (p : ℕ → Bool) → AllByRecursion (Stands (at l.table) p) l.standing → p only.0 ≡ true);
+  alone : AreAlone l.only (listeners (at l.registrations) l.question.what l.question.target (text_of l.question.name) (take l.key-index l.standing));
+  known : IfSome l.only (λ only. (p : ℕ → Bool) → AllByRecursion (Stands (at l.registrations) p) l.standing → p only.0 ≡ true);
 }

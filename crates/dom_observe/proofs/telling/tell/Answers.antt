@@ -27,7 +27,7 @@ tell_each-requires-clause-there c = c.in_ok-heard.ensures.known (is_there c.args
 pub returns-clause-others : goal.returns-clause-others
 returns-clause-others c = λ p off.
     let q = c.question-question.result in
-    let ls = listeners (at c.args.table.now) q.what q.target (text_of q.name) c.args.standing.now in
+    let ls = listeners (at c.args.registrations.now) q.what q.target (text_of q.name) c.args.standing.now in
     c.tell_each.ensures.others p (c.in_ok-heard.ensures.heard p ∙ unheard p ls c.args.pending.now.keys c.listen.new.pending.keys c.in_ok-heard.ensures.pending off)
 
 pub returns-in_err-heard-clause-each : goal.returns-in_err-heard-clause-each

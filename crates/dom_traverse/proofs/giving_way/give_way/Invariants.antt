@@ -1,15 +1,17 @@
 -- Those that gave way wait, and the others stay.
+use Rattle.std.proofs.Common.{◌≡◌}
 use Rattle.std.specs.Option.{ForSome}
 use Rattle.dom_model.specs.Definitions.{pre_removed}
 use Rattle.dom_traverse.specs.{Exits.IsExit, GivingWay.stepped_at}
 use Rattle.dom_traverse.proofs.Leaving.{standing, AreLeaving}
 use Rattle.dom_traverse.proofs.giving_way.give_way.Given as goal
 
-abbrev pub invariant-loop-id : goal.invariant-loop-id
-invariant-loop-id g l = record {
-  leaving : AreLeaving (stepped_at l.here (pre_removed l.tree.forest l.node)) l.fn.iterators l.iterators l.references;
+abbrev pub invariant-loop-slot : goal.invariant-loop-slot
+invariant-loop-slot g l = record {
+  leaving : AreLeaving (stepped_at l.here (pre_removed l.tree.forest l.node)) l.fn.iterators.items l.iterators.items l.references;
+  slots : l.iterators.slots ≡ l.fn.iterators.slots;
   found : ForSome l.last (IsExit l.tree.forest l.node);
 }
 
-abbrev pub decreases-loop-id : goal.decreases-loop-id
-decreases-loop-id g l = standing l.references
+abbrev pub decreases-loop-slot : goal.decreases-loop-slot
+decreases-loop-slot g l = standing l.references

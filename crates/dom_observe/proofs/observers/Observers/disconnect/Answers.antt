@@ -1,8 +1,8 @@
 -- The observer's registrations go from every node, and its queue is emptied.
-use Rattle.dom_observe.proofs.{Awaiting.awaited-emptied, Agreeing.agree-ended, Holding.names-only, Holding.none-ended, Holding.tells-emptied, Holding.same-there, Keeping.on-registered_nodes, Keeping.kept-emptied, Keeping.kept_table, Keeping.found-ended, Keeping.stand-ended, Keyrings.indexed-lost, KeysOnce.placed_once-swept, QueueLists.has-set, Rosters.has-kept, Rosters.lasting-there, Rosters.passing-there, Rosters.lasting-set, Rosters.passing-set, Rosters.queues-set, Sources.sources-ended, Tables.all_imply, Watching.watches-filtered, Watching.watches-taken, Turns.rising-swept}
+use Rattle.dom_observe.proofs.{Awaiting.awaited-emptied, Agreeing.agree-ended, Holding.names-only, Holding.none-ended, Holding.tells-emptied, Holding.same-there, Keeping.on-registered_nodes, Keeping.kept-emptied, Keeping.kept-others, Keeping.found-ended, Keeping.stand-ended, Keyrings.indexed-lost, QueueLists.has-set, Rosters.has-kept, Rosters.lasting-there, Rosters.passing-there, Rosters.lasting-set, Rosters.passing-set, Rosters.queues-set, Sources.sources-ended, Tables.all_imply, Watching.watches-filtered, Watching.watches-taken}
 use Rattle.std.proofs.Common.{◌≡◌, ℕ, true, List, [], Option, Some, length, filter, ap, sym, ◌∙◌, subst, inr, slice_set}
 use Rattle.dom_model.specs.Definitions.{among, Record, disconnected}
-use Rattle.dom_observe.specs.{declared.registration.Ended.TheVariants.Of, declared.roster.Observer.Observer, Watchers.Watchers, Watchers.Watches, Watchers.on, Registrations.at, Registrations.listed, Registrations.is_live, Registrations.spares, Kept.registered_nodes, Kept.has_queue, Kept.AllThere, Kept.IsKept, Kept.IsAwaited, Roster.lasting_by, Roster.passing_by, Roster.queues_by, Naming.TellsNone}
+use Rattle.dom_observe.specs.{declared.registration.Ended.TheVariants.Of, declared.roster.Observer.Observer, Watchers.Watchers, Watchers.Watches, Watchers.on, Registrations.at, Registrations.spares, Kept.registered_nodes, Kept.has_queue, Kept.AllThere, Kept.IsKept, Kept.IsAwaited, Roster.lasting_by, Roster.passing_by, Roster.queues_by, Naming.TellsNone}
 use Rattle.std.proofs.lemmas.List.{length-set}
 use Rattle.dom_observe.proofs.observers.Observers.disconnect.Goals as goal
 
@@ -23,28 +23,26 @@ invariant_of-self c =
     let o = c.args.observer in
     let qs = queues_by a.roster in
     let held_there = subst (λ (w : Watchers). has_queue w.queues o ≡ true) (sym c.self.view_is) c.requires.held in
-    let u = at a.table in
-    let v = at c.end_all.new.table in
-    let lists = listed a.nodes.entries in
-    let lists' = listed c.end_all.new.nodes.entries in
+    let u = at a.registrations in
+    let v = at c.end_all.new.self in
+    let lists = a.registrations.lists in
+    let lists' = c.end_all.new.self.lists in
     let kept' : Observer = record c.end_all.new.kept { queue = c.take.new.self } in
     let roster' = slice_set a.roster o (Some kept') in
     let queues : queues_by roster' ≡ slice_set qs o (Some []) = queues-set a.roster o kept' ∙ ap (λ q. slice_set qs o (Some q)) c.take.ensures.emptied in
     let lasting : lasting_by roster' ≡ slice_set (lasting_by a.roster) o [] = lasting-set a.roster o kept' ∙ ap (slice_set (lasting_by a.roster) o) c.end_all.ensures.lasting in
     let passing : passing_by roster' ≡ slice_set (passing_by a.roster) o [] = passing-set a.roster o kept' ∙ ap (slice_set (passing_by a.roster) o) c.end_all.ensures.passing in
     let stand = stand-ended u v (Of o) lists lists' c.end_all.ensures.left c.end_all.ensures.swept (has_queue qs) c.self.invariant.0.stand in
-    let kept = kept_table a.table a.nodes.entries qs a.pending.keys c.self.invariant.0 c.end_all.new.table c.end_all.new.nodes.entries c.end_all.ensures.unique stand (c.end_all.ensures.full c.self.invariant.0.full) in
+    let kept = kept-others a.registrations qs a.pending.keys c.self.invariant.0 c.end_all.new.self c.sound.ensures stand in
     let known : AllThere (has_queue (queues_by roster')) a.fleeting.keys =
     subst (λ q. AllThere (has_queue q) a.fleeting.keys) (sym queues)
     (all_imply (λ p. has_queue qs p ≡ true) (λ p. has_queue (slice_set qs o (Some [])) p ≡ true) (λ p there. has-set qs o held_there [] p ∙ there) a.fleeting.keys c.self.invariant.1.known) in (
-      subst (λ q. IsKept c.end_all.new.table c.end_all.new.nodes.entries q a.pending.keys) (sym queues)
-          (kept-emptied c.end_all.new.table c.end_all.new.nodes.entries qs a.pending.keys kept o held_there),
-      indexed-lost u v lists lists' a.roster roster' a.fleeting.keys o c.self.invariant.1 held_there c.end_all.ensures.placed
-          (placed_once-swept lists lists' (is_live v) c.end_all.ensures.swept c.self.invariant.1.placed_once) c.end_all.ensures.left lasting passing a.fleeting.keys (λ p off. inr off) known,
+      subst (λ q. IsKept c.end_all.new.self q a.pending.keys) (sym queues)
+          (kept-emptied c.end_all.new.self qs a.pending.keys kept o held_there),
+      indexed-lost u v a.roster roster' a.fleeting.keys o c.self.invariant.1 held_there c.end_all.ensures.left lasting passing a.fleeting.keys (λ p off. inr off) known,
       sources-ended u v (Of o) c.end_all.ensures.left c.self.invariant.2,
       agree-ended u v (Of o) c.end_all.ensures.left c.self.invariant.3,
       subst (λ q. IsAwaited q a.pending.keys a.untold.keys) (sym queues) (awaited-emptied qs a.pending.keys a.untold.keys c.self.invariant.4 o held_there),
-      rising-swept c.self.inside.table c.end_all.new.table (listed c.self.inside.nodes.entries) (listed c.end_all.new.nodes.entries) c.end_all.ensures.fewer c.end_all.ensures.swept c.self.invariant.5,
     )
 
 pub returns-clause-ended : goal.returns-clause-ended
@@ -55,14 +53,14 @@ returns-clause-ended c = λ x w.
     let held_there = subst (λ (o : Watchers). has_queue o.queues i ≡ true) (sym c.self.view_is) c.requires.held in
     let kept' : Observer = record c.end_all.new.kept { queue = c.take.new.self } in
     let queues : queues_by (slice_set a.roster i (Some kept')) ≡ slice_set qs i (Some []) = queues-set a.roster i kept' ∙ ap (λ q. slice_set qs i (Some q)) c.take.ensures.emptied in
-    let nodes' = registered_nodes c.end_all.new.table c.end_all.new.nodes.entries in
-    let o : Watchers = record { nodes = registered_nodes a.table a.nodes.entries; queues = qs; pending = a.pending.keys } in
+    let nodes' = registered_nodes c.end_all.new.self in
+    let o : Watchers = record { nodes = registered_nodes a.registrations; queues = qs; pending = a.pending.keys } in
     let shown = subst (λ (o : Watchers). Watches o x) (sym c.self.view_is) w in
     let keep = spares (Of i) in
-    let left : (n : ℕ) → on n nodes' ≡ filter keep (on n (registered_nodes a.table a.nodes.entries)) = λ n.
-    on-registered_nodes c.end_all.new.table n c.end_all.new.nodes.entries
-    ∙ found-ended (at a.table) (at c.end_all.new.table) (Of i) (listed a.nodes.entries) (listed c.end_all.new.nodes.entries) c.end_all.ensures.left c.end_all.ensures.swept n
-    ∙ ap (filter keep) (sym (on-registered_nodes a.table n a.nodes.entries)) in
+    let left : (n : ℕ) → on n nodes' ≡ filter keep (on n (registered_nodes a.registrations)) = λ n.
+    on-registered_nodes c.end_all.new.self n
+    ∙ found-ended (at a.registrations) (at c.end_all.new.self) (Of i) a.registrations.lists c.end_all.new.self.lists c.end_all.ensures.left c.end_all.ensures.swept n
+    ∙ ap (filter keep) (sym (on-registered_nodes a.registrations n)) in
     let gone = watches-filtered o x shown keep nodes' left in
     subst (λ (q : List (Option (List Record))). Watches (record { nodes = nodes'; queues = q; pending = a.pending.keys }) (disconnected i x)) (sym queues)
     (watches-taken _ _ gone i held_there)
@@ -73,18 +71,18 @@ returns-clause-names c =
     let o = c.args.observer in
     let qs = queues_by a.roster in
     let held_there = subst (λ (w : Watchers). has_queue w.queues o ≡ true) (sym c.self.view_is) c.requires.held in
-    let u = at a.table in
-    let v = at c.end_all.new.table in
-    let lists = listed a.nodes.entries in
-    let lists' = listed c.end_all.new.nodes.entries in
+    let u = at a.registrations in
+    let v = at c.end_all.new.self in
+    let lists = a.registrations.lists in
+    let lists' = c.end_all.new.self.lists in
     let kept' : Observer = record c.end_all.new.kept { queue = c.take.new.self } in
     let roster' = slice_set a.roster o (Some kept') in
     let queues : queues_by roster' ≡ slice_set qs o (Some []) = queues-set a.roster o kept' ∙ ap (λ q. slice_set qs o (Some q)) c.take.ensures.emptied in
     let stand = stand-ended u v (Of o) lists lists' c.end_all.ensures.left c.end_all.ensures.swept (has_queue qs) c.self.invariant.0.stand in
-    let kept = kept_table a.table a.nodes.entries qs a.pending.keys c.self.invariant.0 c.end_all.new.table c.end_all.new.nodes.entries c.end_all.ensures.unique stand (c.end_all.ensures.full c.self.invariant.0.full) in
-    let emptied = subst (λ q. IsKept c.end_all.new.table c.end_all.new.nodes.entries q a.pending.keys) (sym queues)
-    (kept-emptied c.end_all.new.table c.end_all.new.nodes.entries qs a.pending.keys kept o held_there) in
-    names-only a.table a.nodes.entries qs a.pending.keys c.args.self.now c.self.view_is c.end_all.new.table c.end_all.new.nodes.entries (queues_by roster') a.pending.keys emptied []
+    let kept = kept-others a.registrations qs a.pending.keys c.self.invariant.0 c.end_all.new.self c.sound.ensures stand in
+    let emptied = subst (λ q. IsKept c.end_all.new.self q a.pending.keys) (sym queues)
+    (kept-emptied c.end_all.new.self qs a.pending.keys kept o held_there) in
+    names-only a.registrations qs a.pending.keys c.args.self.now c.self.view_is c.end_all.new.self (queues_by roster') a.pending.keys emptied []
     (λ p _ names tells. (none-ended p u v (Of o) lists lists' c.end_all.ensures.left c.end_all.ensures.swept names, subst (TellsNone p) (sym queues) (tells-emptied p qs o held_there tells)))
 
 pub returns-clause-made : goal.returns-clause-made
@@ -96,6 +94,6 @@ returns-clause-made c =
     let kept' : Observer = record c.end_all.new.kept { queue = c.take.new.self } in
     let roster' = slice_set a.roster o (Some kept') in
     let queues : queues_by roster' ≡ slice_set qs o (Some []) = queues-set a.roster o kept' ∙ ap (λ q. slice_set qs o (Some q)) c.take.ensures.emptied in
-    let new : Watchers = record { nodes = registered_nodes c.end_all.new.table c.end_all.new.nodes.entries; queues = queues_by roster'; pending = a.pending.keys } in
+    let new : Watchers = record { nodes = registered_nodes c.end_all.new.self; queues = queues_by roster'; pending = a.pending.keys } in
     same-there c.args.self.now new qs (ap (λ (w : Watchers). w.queues) c.self.view_is)
     (ap length queues ∙ length-set qs o (Some [])) (λ i. ap (λ q. has_queue q i) queues ∙ has-set qs o held_there [] i)

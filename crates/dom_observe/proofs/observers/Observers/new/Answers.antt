@@ -1,30 +1,39 @@
 -- Nothing stands under any key.
-use Rattle.std.proofs.Common.{◌≡◌, ℕ, zero, suc, false, [], Option, option_map, None, Some, refl, ap, sym, ◌∙◌, tests, rules, slice_index_or}
-use Rattle.slab.specs.Slab.{Slab}
+use Rattle.std.proofs.Common.{◌≡◌, ℕ, zero, suc, false, [], None, Some, refl, sym, ◌∙◌, subst, tests, rules}
 use Rattle.dom_model.specs.Worlds.World as model
-use Rattle.dom_observe.specs.declared.registration.Registration as held
-use Rattle.dom_observe.specs.Registrations.{plain, at, Agree}
+use Rattle.dom_observe.specs.{Kept.has_queue, Registrations.Registered, Registrations.at, Registrations.AllStand, Registrations.Agree, Roster.queues_by}
 use Rattle.dom_observe.proofs.observers.Observers.new.Goals as goal
 
 abbrev no_options : model.Options
 no_options = record { child_list = false; attributes = false; character_data = false; subtree = false; attribute_old_value = false; character_data_old_value = false; attribute_filter = None }
 
-agree-empty : (table : Slab held.Registration) → table.slots ≡ [] → Agree (at table)
-agree-empty table empty = record {
+abbrev none_registered : Registered
+none_registered = record { rows = []; lists = [] }
+
+nothing : (key : ℕ) → at none_registered key ≡ None
+nothing zero = refl
+nothing (suc key) = refl
+
+agree-empty : Agree (at none_registered)
+agree-empty = record {
   options = λ o n. no_options;
   alike = λ key r is. let d : None ≡ Some r = sym (nothing key) ∙ is in cc d;
   one = λ key other r t is there at_node by from. let d : None ≡ Some r = sym (nothing key) ∙ is in let no : ⊥ = cc d in absurd no;
 }
-  where
-    past : (key : ℕ) → slice_index_or {A = Option held.Registration} [] key None ≡ None
-    past zero = refl
-    past (suc key) = refl
-
-    nothing : (key : ℕ) → at table key ≡ None
-    nothing key = ap (λ slots. option_map plain (slice_index_or slots key None)) empty ∙ ap (option_map plain) (past key)
 
 pub invariant_of-result : goal.invariant_of-result
-invariant_of-result c = (search (tests, rules), search (tests, rules), search (tests, rules), agree-empty c.new.result c.new.ensures.empty, search (tests, rules), search (tests, rules))
+invariant_of-result c =
+    let none = sym c.new-registrations.ensures in (
+      record {
+        are = c.sound.ensures;
+        stand = subst (λ r. AllStand (at r) (has_queue (queues_by c.new.result)) r.lists) none (λ n. tt);
+        there = search (tests, rules);
+      },
+      search (tests, rules),
+      search (tests, rules),
+      subst (λ r. Agree (at r)) none agree-empty,
+      search (tests, rules),
+    )
 
 pub returns : goal.returns
 returns c = search (tests, rules)

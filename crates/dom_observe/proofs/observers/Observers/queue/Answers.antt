@@ -1,8 +1,8 @@
 -- Each observer that the mutation interests gets its record, and is pending.
 use Rattle.std.proofs.Common.{◌≡◌, ℕ, ◌==◌, true, List, [], ◌∷◌, ◌++◌, length, filter, refl, ap, sym, ◌∙◌, subst, arith, flat_map, filter_map}
 use Rattle.dom_model.specs.Definitions.{ancestors, Mutation, standing_on, registered_on, interests, observers_of, among, with_all_last}
-use Rattle.dom_observe.specs.{Once.once, Watchers.Watchers, Watchers.Watches, Watchers.records_at, Watchers.on, Registrations.at, Registrations.listed, Kept.registered_nodes, Kept.has_queue, Roster.queues_by, Telling.listeners, Held.nodes_of_mutation}
-use Rattle.dom_observe.proofs.{Awaiting.awaited-queued, Holding.names-only, Holding.names-same, Holding.same-there, Hearing.all_last-there, Keyrings.indexed-same, Releasing.each-there, Rosters.has-same, Rosters.length-same, Outcomes.on_both, Outcomes.at_err, Keeping.on-registered_nodes, Keeping.nobody, Queued.standing_on-none, Queued.standing_stands, Queued.kept-queued, Queued.told-queued, Queued.pended-queued, Watching.watches-noted, Watching.watches-unheard, Quiet.not_nothing, Quiet.none-stand, Quiet.none-standing, Refusing.queued-same, Refusing.partly-queued}
+use Rattle.dom_observe.specs.{Once.once, Watchers.Watchers, Watchers.Watches, Watchers.records_at, Watchers.on, Registrations.at, Kept.registered_nodes, Kept.has_queue, Roster.queues_by, Telling.listeners, Held.nodes_of_mutation}
+use Rattle.dom_observe.proofs.{Awaiting.awaited-queued, Holding.names-only, Holding.names-same, Holding.same-there, Hearing.all_last-there, Keyrings.indexed-same, Releasing.each-there, Rosters.has-same, Rosters.length-same, Outcomes.on_both, Outcomes.at_err, Keeping.on-registered_nodes, Keeping.none_in, Queued.standing_on-none, Queued.standing_stands, Queued.kept-queued, Queued.told-queued, Queued.pended-queued, Watching.watches-noted, Watching.watches-unheard, Quiet.not_nothing, Quiet.none-stand, Quiet.none-standing, Refusing.queued-same, Refusing.partly-queued}
 use Rattle.std.proofs.lemmas.Bool.{true≢false}
 use Rattle.dom_model.proofs.PlainLists.Numbers.{same_or, same, apart}
 use Rattle.dom_observe.proofs.observers.Observers.queue.Goals as goal
@@ -17,15 +17,14 @@ returns-then-is_empty-clause-queued g c = λ x w.
     let ns = ancestors c.args.mutation.now.target c.args.tree.now.forest in
     let m : Mutation = record (c.args.mutation.now) { standing = standing_on ns x.registrations } in
     let shown = subst (λ (o : Watchers). Watches o x) (sym c.self.view_is) w in
-    let empty = none a.nodes.entries (c.is_empty.ensures.0 c.if-is_empty.true) in
-    let gone = nobody x.registrations (λ n. sym (shown.registrations n) ∙ ap (λ es. on n (registered_nodes a.table es)) empty) in
+    let gone = none_in a.registrations (sym c.is_empty.ensures ∙ c.if-is_empty.true) x.registrations shown.registrations in
     watches-unheard c.args.self.now x w m (ap (λ rs. filter (interests m) (standing_on ns rs)) gone ∙ ap (filter (interests m)) (standing_on-none ns))
 
 pub tell-requires : goal.tell-requires
 tell-requires g c =
     let a = c.self.inside in
     let qs = queues_by a.roster in
-    standing_stands (at a.table) (has_queue qs) (listed a.nodes.entries) _ c.as_slice.result.now c.self.invariant.0.stand (c.as_slice.ensures.value ∙ c.in_ok-find_standing.ensures)
+    standing_stands (at a.registrations) (has_queue qs) a.registrations.lists _ c.as_slice.result.now c.self.invariant.0.stand (c.as_slice.ensures.value ∙ c.in_ok-find_standing.ensures)
 
 pub invariant_of-self : goal.invariant_of-self
 invariant_of-self g c = c.self.invariant
@@ -34,15 +33,14 @@ pub invariant_of-self-2 : goal.invariant_of-self-2
 invariant_of-self-2 g c =
     let a = c.self.inside in
     let qs = queues_by a.roster in
-    let bounded = standing_stands (at a.table) (has_queue qs) (listed a.nodes.entries) _ c.as_slice.result.now c.self.invariant.0.stand (c.as_slice.ensures.value ∙ c.in_ok-find_standing.ensures) in (
-      kept-queued a.table a.nodes.entries qs a.pending.keys c.self.invariant.0 (queues_by c.tell.new.roster) c.tell.new.pending.keys
+    let bounded = standing_stands (at a.registrations) (has_queue qs) a.registrations.lists _ c.as_slice.result.now c.self.invariant.0.stand (c.as_slice.ensures.value ∙ c.in_ok-find_standing.ensures) in (
+      kept-queued a.registrations qs a.pending.keys c.self.invariant.0 (queues_by c.tell.new.roster) c.tell.new.pending.keys
           (has-same a.roster c.tell.new.roster c.tell.ensures.keys)
           (c.tell.ensures.there (has_queue qs) bounded c.self.invariant.0.there),
-      indexed-same (at a.table) (listed a.nodes.entries) a.fleeting.keys a.roster c.tell.new.roster c.self.invariant.1 c.tell.ensures.keys,
+      indexed-same (at a.registrations) a.fleeting.keys a.roster c.tell.new.roster c.self.invariant.1 c.tell.ensures.keys,
       c.self.invariant.2,
       c.self.invariant.3,
       awaited-queued qs a.pending.keys a.untold.keys c.self.invariant.4 (queues_by c.tell.new.roster) c.tell.new.pending.keys (has-same a.roster c.tell.new.roster c.tell.ensures.keys) c.tell.ensures.stay c.tell.ensures.others,
-      c.self.invariant.5,
     )
 
 pub returns-clause-queued : goal.returns-clause-queued
@@ -51,14 +49,14 @@ returns-clause-queued g c =
     let a = c.self.inside in
     let m = c.args.mutation.now in
     let ns = ancestors c.args.mutation.now.target c.args.tree.now.forest in
-    let u = at a.table in
-    let lists = listed a.nodes.entries in
+    let u = at a.registrations in
+    let lists = a.registrations.lists in
     let keys = c.as_slice.result.now in
     let qs = queues_by a.roster in
     let qs' = queues_by c.tell.new.roster in
-    let o : Watchers = record { nodes = registered_nodes a.table a.nodes.entries; queues = qs; pending = a.pending.keys } in
+    let o : Watchers = record { nodes = registered_nodes a.registrations; queues = qs; pending = a.pending.keys } in
     let shown = subst (λ (o : Watchers). Watches o x) (sym c.self.view_is) w in
-    let has : (n : ℕ) → filter_map u (on n lists) ≡ once (registered_on n x.registrations) = λ n. sym (on-registered_nodes a.table n a.nodes.entries) ∙ shown.registrations n in
+    let has : (n : ℕ) → filter_map u (on n lists) ≡ once (registered_on n x.registrations) = λ n. sym (on-registered_nodes a.registrations n) ∙ shown.registrations n in
     let ls = listeners u m.type m.target m.name keys in
     let target = ap (λ (k : Mutation). k.target) c.mutation.view_is in
     let is : keys ≡ flat_map (λ n. on n lists) ns = c.as_slice.ensures.value ∙ c.in_ok-find_standing.ensures ∙ ap (λ t. flat_map (λ n. on n lists) (ancestors t c.args.tree.now.forest)) target in
@@ -76,30 +74,30 @@ returns-clause-queued g c =
 pub returns-then-is_empty-clause-names : goal.returns-then-is_empty-clause-names
 returns-then-is_empty-clause-names g c =
     let a = c.self.inside in
-    names-same a.table a.nodes.entries (queues_by a.roster) a.pending.keys c.self.invariant.0 c.args.self.now c.self.view_is (nodes_of_mutation c.args.mutation.now)
+    names-same a.registrations (queues_by a.roster) a.pending.keys c.self.invariant.0 c.args.self.now c.self.view_is (nodes_of_mutation c.args.mutation.now)
 
 pub returns-clause-names : goal.returns-clause-names
 returns-clause-names g c =
     let a = c.self.inside in
     let qs = queues_by a.roster in
     let qs' = queues_by c.tell.new.roster in
-    let bounded = standing_stands (at a.table) (has_queue qs) (listed a.nodes.entries) _ c.as_slice.result.now c.self.invariant.0.stand (c.as_slice.ensures.value ∙ c.in_ok-find_standing.ensures) in
-    let kept = kept-queued a.table a.nodes.entries qs a.pending.keys c.self.invariant.0 qs' c.tell.new.pending.keys
+    let bounded = standing_stands (at a.registrations) (has_queue qs) a.registrations.lists _ c.as_slice.result.now c.self.invariant.0.stand (c.as_slice.ensures.value ∙ c.in_ok-find_standing.ensures) in
+    let kept = kept-queued a.registrations qs a.pending.keys c.self.invariant.0 qs' c.tell.new.pending.keys
     (has-same a.roster c.tell.new.roster c.tell.ensures.keys)
     (c.tell.ensures.there (has_queue qs) bounded c.self.invariant.0.there) in
-    names-only a.table a.nodes.entries qs a.pending.keys c.args.self.now c.self.view_is a.table a.nodes.entries qs' c.tell.new.pending.keys kept (nodes_of_mutation c.args.mutation.now)
+    names-only a.registrations qs a.pending.keys c.args.self.now c.self.view_is a.registrations qs' c.tell.new.pending.keys kept (nodes_of_mutation c.args.mutation.now)
     (λ p nameless names tells. (names, c.tell.ensures.names p nameless tells))
 
 pub returns-clause-made : goal.returns-clause-made
 returns-clause-made g c =
     let a = c.self.inside in
-    let new : Watchers = record { nodes = registered_nodes a.table a.nodes.entries; queues = queues_by c.tell.new.roster; pending = c.tell.new.pending.keys } in
+    let new : Watchers = record { nodes = registered_nodes a.registrations; queues = queues_by c.tell.new.roster; pending = c.tell.new.pending.keys } in
     same-there c.args.self.now new (queues_by a.roster) (ap (λ (o : Watchers). o.queues) c.self.view_is) (length-same a.roster c.tell.new.roster c.tell.ensures.keys) (has-same a.roster c.tell.new.roster c.tell.ensures.keys)
 
 pub returns-in_err-find_standing-clause-names : goal.returns-in_err-find_standing-clause-names
 returns-in_err-find_standing-clause-names g c =
     let a = c.self.inside in
-    names-only a.table a.nodes.entries (queues_by a.roster) a.pending.keys c.args.self.now c.self.view_is a.table a.nodes.entries (queues_by a.roster) a.pending.keys c.self.invariant.0 (nodes_of_mutation c.args.mutation.now) (λ p _ names tells. (names, tells))
+    names-only a.registrations (queues_by a.roster) a.pending.keys c.args.self.now c.self.view_is a.registrations (queues_by a.roster) a.pending.keys c.self.invariant.0 (nodes_of_mutation c.args.mutation.now) (λ p _ names tells. (names, tells))
 
 pub returns-then-is_empty-2-clause-queued : goal.returns-then-is_empty-2-clause-queued
 returns-then-is_empty-2-clause-queued g c = λ x w.
@@ -112,15 +110,15 @@ returns-then-is_empty-2-clause-queued g c = λ x w.
     let t : (c.find_standing.new.keys.len == 0) ≡ true = sym c.is_empty-2.ensures ∙ c.if-is_empty-2.true in
     let nothing : c.find_standing.new.keys.items ≡ [] =
     none c.find_standing.new.keys.items (elim (same_or c.find_standing.new.keys.len 0) [ same e _ ↦ omega (arith, full, e) | apart _ f ↦ absurd (true≢false (sym t ∙ f)) ]) in
-    let keys = ap (λ k. flat_map (λ n. on n (listed a.nodes.entries)) (ancestors k c.args.tree.now.forest)) (sym target) ∙ sym c.in_ok-find_standing.ensures ∙ nothing in
-    let gone = none-standing a.table a.nodes.entries x.registrations shown.registrations ns keys in
-    let o : Watchers = record { nodes = registered_nodes a.table a.nodes.entries; queues = queues_by a.roster; pending = a.pending.keys } in
+    let keys = ap (λ k. flat_map (λ n. on n a.registrations.lists) (ancestors k c.args.tree.now.forest)) (sym target) ∙ sym c.in_ok-find_standing.ensures ∙ nothing in
+    let gone = none-standing a.registrations x.registrations shown.registrations ns keys in
+    let o : Watchers = record { nodes = registered_nodes a.registrations; queues = queues_by a.roster; pending = a.pending.keys } in
     watches-unheard o x shown m (ap (filter (interests m)) gone)
 
 pub returns-then-is_empty-2-clause-names : goal.returns-then-is_empty-2-clause-names
 returns-then-is_empty-2-clause-names g c =
     let a = c.self.inside in
-    names-only a.table a.nodes.entries (queues_by a.roster) a.pending.keys c.args.self.now c.self.view_is a.table a.nodes.entries (queues_by a.roster) a.pending.keys c.self.invariant.0 (nodes_of_mutation c.args.mutation.now) (λ p _ names tells. (names, tells))
+    names-only a.registrations (queues_by a.roster) a.pending.keys c.args.self.now c.self.view_is a.registrations (queues_by a.roster) a.pending.keys c.self.invariant.0 (nodes_of_mutation c.args.mutation.now) (λ p _ names tells. (names, tells))
 
 pub returns-then-is_empty-2-clause-quiet : goal.returns-then-is_empty-2-clause-quiet
 returns-then-is_empty-2-clause-quiet g c unnamed = c.self.view_is
@@ -135,8 +133,8 @@ pub returns-clause-quiet : goal.returns-clause-quiet
 returns-clause-quiet g c unnamed =
     let a = c.self.inside in
     let target = ap (λ (k : Mutation). k.target) c.mutation.view_is in
-    let none-there = none-stand a.table a.nodes.entries (has_queue (queues_by a.roster)) c.self.invariant.0.stand (queues_by a.roster) a.pending.keys c.args.self.now c.self.view_is (ancestors c.args.mutation.now.target c.args.tree.now.forest) unnamed in
-    let nothing = c.in_ok-find_standing.ensures ∙ ap (λ k. flat_map (λ n. on n (listed a.nodes.entries)) (ancestors k c.args.tree.now.forest)) target ∙ none-there in
+    let none-there = none-stand a.registrations (has_queue (queues_by a.roster)) c.self.invariant.0.stand (queues_by a.roster) a.pending.keys c.args.self.now c.self.view_is (ancestors c.args.mutation.now.target c.args.tree.now.forest) unnamed in
+    let nothing = c.in_ok-find_standing.ensures ∙ ap (λ k. flat_map (λ n. on n a.registrations.lists) (ancestors k c.args.tree.now.forest)) target ∙ none-there in
     absurd (not_nothing c.find_standing.new.keys.items c.find_standing.new.keys.len (sym c.find_standing.new.keys.ok.0) (sym c.is_empty-2.ensures ∙ c.if-is_empty-2.false) nothing)
 
 pub returns-in_err-find_standing-clause-partly : goal.returns-in_err-find_standing-clause-partly
@@ -146,6 +144,6 @@ pub returns-clause-partly : goal.returns-clause-partly
 returns-clause-partly g c =
     let a = c.self.inside in
     let left =
-    partly-queued a.table a.nodes.entries (queues_by a.roster) a.pending.keys c.args.self.now c.self.view_is c.args.mutation.now (queues_by c.tell.new.roster) c.tell.new.pending.keys
+    partly-queued a.registrations (queues_by a.roster) a.pending.keys c.args.self.now c.self.view_is c.args.mutation.now (queues_by c.tell.new.roster) c.tell.new.pending.keys
     c.tell.ensures.front c.tell.ensures.each in
     at_err c.tell.result left

@@ -7,9 +7,9 @@ pub returns-clause-watched : goal.returns-clause-watched
 returns-clause-watched c = λ x w.
     let a = c.self.inside in
     let shown = subst (λ (o : Watchers). Watches o x) (sym c.self.view_is) w in
-    c.len.ensures ∙ registrations-counted a.table a.nodes.entries c.self.invariant.1.placed x.registrations shown.registrations
+    c.len.ensures ∙ registrations-counted a.registrations c.self.invariant.0.are.placed x.registrations shown.registrations
 
 pub returns-clause-own : goal.returns-clause-own
 returns-clause-own c =
     let a = c.self.inside in
-    c.len.ensures ∙ registrations-summed a.table a.nodes.entries c.self.invariant.0.unique c.self.invariant.1.placed c.self.invariant.1.placed_once ∙ ap registrations_in c.self.view_is
+    c.len.ensures ∙ registrations-summed a.registrations c.self.invariant.0.are ∙ ap registrations_in c.self.view_is

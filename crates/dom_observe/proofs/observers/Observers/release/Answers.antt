@@ -1,8 +1,8 @@
 -- The observer's registrations go from every node, it is not pending any more, and has no queue.
-use Rattle.dom_observe.proofs.{Awaiting.awaited-released, Agreeing.agree-ended, Holding.names-only, Holding.none-ended, Holding.tells-released, Keeping.on-registered_nodes, Keeping.found-ended, Keyrings.indexed-lost, KeysOnce.placed_once-swept, QueueLists.queue_within, Releasing.taken-out, Releasing.out-taken, Releasing.there-taken, Releasing.others-there, Releasing.kept-released, Rosters.has-kept, Rosters.lasting-there, Rosters.passing-there, Rosters.length-queues, Rosters.lasting-gone, Rosters.passing-gone, Rosters.queues-gone, Sources.sources-ended, Watching.watches-filtered, Watching.watches-released, Turns.rising-swept}
+use Rattle.dom_observe.proofs.{Awaiting.awaited-released, Agreeing.agree-ended, Holding.names-only, Holding.none-ended, Holding.tells-released, Keeping.on-registered_nodes, Keeping.found-ended, Keyrings.indexed-lost, QueueLists.queue_within, Releasing.taken-out, Releasing.out-taken, Releasing.there-taken, Releasing.others-there, Releasing.kept-released, Rosters.has-kept, Rosters.lasting-there, Rosters.passing-there, Rosters.length-queues, Rosters.lasting-gone, Rosters.passing-gone, Rosters.queues-gone, Sources.sources-ended, Watching.watches-filtered, Watching.watches-released}
 use Rattle.std.proofs.Common.{◌≡◌, ℕ, true, List, [], Option, Some, None, filter, is_some, ap, sym, ◌∙◌, subst, arith, nat_eq, slice_set}
 use Rattle.dom_model.specs.Definitions.{among, left_out, Record, released_observer}
-use Rattle.dom_observe.specs.{declared.registration.Ended.TheVariants.Of, Watchers.Watchers, Watchers.Watches, Watchers.on, Registrations.at, Registrations.listed, Registrations.is_live, Registrations.spares, Kept.registered_nodes, Kept.has_queue, Kept.AllThere, Kept.IsKept, Kept.IsAwaited, Roster.lasting_by, Roster.passing_by, Roster.queues_by, Naming.TellsNone}
+use Rattle.dom_observe.specs.{declared.registration.Ended.TheVariants.Of, Watchers.Watchers, Watchers.Watches, Watchers.on, Registrations.at, Registrations.spares, Kept.registered_nodes, Kept.has_queue, Kept.AllThere, Kept.IsKept, Kept.IsAwaited, Roster.lasting_by, Roster.passing_by, Roster.queues_by, Naming.TellsNone}
 use Rattle.std.specs.List.{list_any}
 use Rattle.std.proofs.lemmas.List.{get_or-set_same, set-set}
 use Rattle.dom_observe.proofs.observers.Observers.release.Goals as goal
@@ -32,10 +32,8 @@ invariant_of-self c =
     let o = c.args.observer in
     let qs = queues_by a.roster in
     let held_there = subst (λ (w : Watchers). has_queue w.queues o ≡ true) (sym c.self.view_is) c.requires.held in
-    let u = at a.table in
-    let v = at c.end_all.new.table in
-    let lists = listed a.nodes.entries in
-    let lists' = listed c.end_all.new.nodes.entries in
+    let u = at a.registrations in
+    let v = at c.end_all.new.self in
     let new = c.release.new.self in
     let gone : new ≡ slice_set a.roster o None = c.release.ensures ∙ set-set a.roster o (Some c.end_all.new.kept) None in
     let queues : queues_by new ≡ slice_set qs o None = ap queues_by gone ∙ queues-gone a.roster o in
@@ -45,18 +43,16 @@ invariant_of-self c =
     let known : AllThere (has_queue (queues_by new)) c.swap_remove.new.self.keys =
     subst (λ q. AllThere (has_queue q) c.swap_remove.new.self.keys) (sym queues)
     (there-taken o a.fleeting.keys c.swap_remove.new.self.keys taken (has_queue qs) (has_queue (slice_set qs o None)) (others-there qs o) c.self.invariant.1.known) in (
-      subst (λ ps. IsKept c.end_all.new.table c.end_all.new.nodes.entries (queues_by new) ps) (sym pending)
-          (subst (λ q. IsKept c.end_all.new.table c.end_all.new.nodes.entries q (left_out o a.pending.keys)) (sym queues)
-          (kept-released a.table a.nodes.entries qs a.pending.keys c.self.invariant.0 c.end_all.new.table c.end_all.new.nodes.entries o c.end_all.ensures.left c.end_all.ensures.swept c.end_all.ensures.unique (c.end_all.ensures.full c.self.invariant.0.full))),
-      indexed-lost u v lists lists' a.roster new a.fleeting.keys o c.self.invariant.1 held_there c.end_all.ensures.placed
-          (placed_once-swept lists lists' (is_live v) c.end_all.ensures.swept c.self.invariant.1.placed_once) c.end_all.ensures.left (ap lasting_by gone ∙ lasting-gone a.roster o) (ap passing_by gone ∙ passing-gone a.roster o)
+      subst (λ ps. IsKept c.end_all.new.self (queues_by new) ps) (sym pending)
+          (subst (λ q. IsKept c.end_all.new.self q (left_out o a.pending.keys)) (sym queues)
+          (kept-released a.registrations qs a.pending.keys c.self.invariant.0 c.end_all.new.self o c.end_all.ensures.left c.end_all.ensures.swept c.sound.ensures)),
+      indexed-lost u v a.roster new a.fleeting.keys o c.self.invariant.1 held_there c.end_all.ensures.left (ap lasting_by gone ∙ lasting-gone a.roster o) (ap passing_by gone ∙ passing-gone a.roster o)
           c.swap_remove.new.self.keys (out-taken o a.fleeting.keys c.swap_remove.new.self.keys taken) known,
       sources-ended u v (Of o) c.end_all.ensures.left c.self.invariant.2,
       agree-ended u v (Of o) c.end_all.ensures.left c.self.invariant.3,
       subst (λ ps. IsAwaited (queues_by new) ps c.swap_remove-2.new.self.keys) (sym pending)
           (subst (λ q. IsAwaited q (left_out o a.pending.keys) c.swap_remove-2.new.self.keys) (sym queues)
           (awaited-released qs a.pending.keys a.untold.keys c.self.invariant.4 o c.swap_remove-2.new.self.keys c.swap_remove-2.ensures.updates.0)),
-      rising-swept c.self.inside.table c.end_all.new.table (listed c.self.inside.nodes.entries) (listed c.end_all.new.nodes.entries) c.end_all.ensures.fewer c.end_all.ensures.swept c.self.invariant.5,
     )
 
 pub returns-clause-released : goal.returns-clause-released
@@ -68,14 +64,14 @@ returns-clause-released c = λ x w.
     let queues : queues_by new ≡ slice_set qs i None = ap queues_by (c.release.ensures ∙ set-set a.roster i (Some c.end_all.new.kept) None) ∙ queues-gone a.roster i in
     let pending : c.shift_remove.new.self.keys ≡ left_out i a.pending.keys =
     c.shift_remove.ensures.keys ∙ taken-out i a.pending.keys (ap (list_any (nat_eq i)) (sym c.shift_remove.ensures.keys) ∙ c.shift_remove.ensures.updates.1) in
-    let nodes' = registered_nodes c.end_all.new.table c.end_all.new.nodes.entries in
-    let o : Watchers = record { nodes = registered_nodes a.table a.nodes.entries; queues = qs; pending = a.pending.keys } in
+    let nodes' = registered_nodes c.end_all.new.self in
+    let o : Watchers = record { nodes = registered_nodes a.registrations; queues = qs; pending = a.pending.keys } in
     let shown = subst (λ (o : Watchers). Watches o x) (sym c.self.view_is) w in
     let keep = spares (Of i) in
-    let left : (n : ℕ) → on n nodes' ≡ filter keep (on n (registered_nodes a.table a.nodes.entries)) = λ n.
-    on-registered_nodes c.end_all.new.table n c.end_all.new.nodes.entries
-    ∙ found-ended (at a.table) (at c.end_all.new.table) (Of i) (listed a.nodes.entries) (listed c.end_all.new.nodes.entries) c.end_all.ensures.left c.end_all.ensures.swept n
-    ∙ ap (filter keep) (sym (on-registered_nodes a.table n a.nodes.entries)) in
+    let left : (n : ℕ) → on n nodes' ≡ filter keep (on n (registered_nodes a.registrations)) = λ n.
+    on-registered_nodes c.end_all.new.self n
+    ∙ found-ended (at a.registrations) (at c.end_all.new.self) (Of i) a.registrations.lists c.end_all.new.self.lists c.end_all.ensures.left c.end_all.ensures.swept n
+    ∙ ap (filter keep) (sym (on-registered_nodes a.registrations n)) in
     let gone = watches-filtered o x shown keep nodes' left in
     subst (λ (q : List (Option (List Record))). Watches (record { nodes = nodes'; queues = q; pending = c.shift_remove.new.self.keys }) (released_observer i x)) (sym queues)
     (subst (λ ps. Watches (record { nodes = nodes'; queues = slice_set qs i None; pending = ps }) (released_observer i x)) (sym pending)
@@ -86,19 +82,19 @@ returns-clause-names c =
     let a = c.self.inside in
     let o = c.args.observer in
     let qs = queues_by a.roster in
-    let u = at a.table in
-    let v = at c.end_all.new.table in
-    let lists = listed a.nodes.entries in
-    let lists' = listed c.end_all.new.nodes.entries in
+    let u = at a.registrations in
+    let v = at c.end_all.new.self in
+    let lists = a.registrations.lists in
+    let lists' = c.end_all.new.self.lists in
     let new = c.release.new.self in
     let queues : queues_by new ≡ slice_set qs o None = ap queues_by (c.release.ensures ∙ set-set a.roster o (Some c.end_all.new.kept) None) ∙ queues-gone a.roster o in
     let pending : c.shift_remove.new.self.keys ≡ left_out o a.pending.keys =
     c.shift_remove.ensures.keys ∙ taken-out o a.pending.keys (ap (list_any (nat_eq o)) (sym c.shift_remove.ensures.keys) ∙ c.shift_remove.ensures.updates.1) in
     let kept =
-    subst (λ ps. IsKept c.end_all.new.table c.end_all.new.nodes.entries (queues_by new) ps) (sym pending)
-    (subst (λ q. IsKept c.end_all.new.table c.end_all.new.nodes.entries q (left_out o a.pending.keys)) (sym queues)
-    (kept-released a.table a.nodes.entries qs a.pending.keys c.self.invariant.0 c.end_all.new.table c.end_all.new.nodes.entries o c.end_all.ensures.left c.end_all.ensures.swept c.end_all.ensures.unique (c.end_all.ensures.full c.self.invariant.0.full))) in
-    names-only a.table a.nodes.entries qs a.pending.keys c.args.self.now c.self.view_is c.end_all.new.table c.end_all.new.nodes.entries (queues_by new) c.shift_remove.new.self.keys kept []
+    subst (λ ps. IsKept c.end_all.new.self (queues_by new) ps) (sym pending)
+    (subst (λ q. IsKept c.end_all.new.self q (left_out o a.pending.keys)) (sym queues)
+    (kept-released a.registrations qs a.pending.keys c.self.invariant.0 c.end_all.new.self o c.end_all.ensures.left c.end_all.ensures.swept c.sound.ensures)) in
+    names-only a.registrations qs a.pending.keys c.args.self.now c.self.view_is c.end_all.new.self (queues_by new) c.shift_remove.new.self.keys kept []
     (λ p _ names tells. (none-ended p u v (Of o) lists lists' c.end_all.ensures.left c.end_all.ensures.swept names, subst (TellsNone p) (sym queues) (tells-released p qs o tells)))
 
 pub returns-clause-made : goal.returns-clause-made

@@ -1,10 +1,10 @@
 -- Transient registrations are made, and then each observer that the mutation interests gets its record.
-use Rattle.dom_observe.proofs.{Awaiting.awaited-queued, Holding.names-only, Holding.names-same, Holding.same-queues, Holding.same-there, Hearing.all_last-there, Keeping.on-registered_nodes, Keyrings.indexed-by, Keyrings.indexed-same, Outcomes.on_both, Outcomes.at_err, Queued.standing_on-none, Queued.standing_stands, Queued.kept-queued, Queued.told-queued, Queued.pended-queued, Quiet.not_nothing, Quiet.none-stand, Quiet.none-standing, Refusing.front-same, Refusing.gets-none, Refusing.removed-same, Refusing.partly-removed, Releasing.each-there, Removals.listeners-alike, Removals.stood, Removals.standing-live, Removals.standing-unnamed, Removals.kept-left, Removals.standing-left, Removals.watches-none_above, Rosters.has-same, Rosters.length-same, Tables.live_of_stands, Transients.transients-of_all, Watching.watches-transients, Watching.watches-noted}
+use Rattle.dom_observe.proofs.{Awaiting.awaited-queued, Holding.names-only, Holding.names-same, Holding.same-queues, Holding.same-there, Hearing.all_last-there, Keeping.on-registered_nodes, Keyrings.indexed-by, Keyrings.indexed-same, Outcomes.on_both, Outcomes.at_err, Queued.standing_on-none, Queued.standing_stands, Queued.kept-queued, Queued.told-queued, Queued.pended-queued, Quiet.not_nothing, Quiet.none-stand, Quiet.none-standing, Refusing.front-same, Refusing.gets-none, Refusing.removed-same, Refusing.partly-removed, Releasing.each-there, Removals.listeners-alike, Removals.stood, Removals.standing-live, Removals.standing-unnamed, Removals.kept-left, Removals.standing-left, Removals.watches-none_above, Rosters.has-same, Rosters.length-same, Transients.transients-of_all, Watching.watches-transients, Watching.watches-noted}
 use Rattle.std.proofs.Common.{◌≡◌, ℕ, ◌==◌, true, List, [], ◌∷◌, ◌++◌, length, refl, ap, sym, ◌∙◌, subst, arith, flat_map, filter_map, option_to_list}
 use Rattle.std.proofs.lemmas.Bool.{true≢false, or_parts}
 use Rattle.dom_model.specs.Definitions.{ancestors, Mutation, standing_on, registered_on, with_transients, observers_of, record_for, among, with_all_last}
 use Rattle.dom_model.proofs.PlainLists.Numbers.{same_or, same, apart}
-use Rattle.dom_observe.specs.{Once.once, Watchers.Watchers, Watchers.Watches, Watchers.records_at, Watchers.on, Registrations.at, Registrations.listed, Kept.registered_nodes, Kept.has_queue, Kept.IsAwaited, Roster.lasting_by, Roster.passing_by, Roster.queues_by, Naming.TellsNone, Held.nodes_of_mutation, Refused.GetsAtMostOne, Telling.listeners}
+use Rattle.dom_observe.specs.{Once.once, Watchers.Watchers, Watchers.Watches, Watchers.records_at, Watchers.on, Registrations.at, Kept.registered_nodes, Kept.has_queue, Kept.IsAwaited, Roster.lasting_by, Roster.passing_by, Roster.queues_by, Naming.TellsNone, Held.nodes_of_mutation, Refused.GetsAtMostOne, Telling.listeners}
 use Rattle.dom_observe.proofs.observers.Observers.removed.Goals as goal
 
 none : {A : Type 0} (xs : List A) → length xs ≡ 0 → xs ≡ []
@@ -19,7 +19,7 @@ returns-then-is_idle-clause-removed g c = λ x w.
 pub returns-then-is_idle-clause-names : goal.returns-then-is_idle-clause-names
 returns-then-is_idle-clause-names g c =
     let a = c.self.inside in
-    names-same a.table a.nodes.entries (queues_by a.roster) a.pending.keys c.self.invariant.0 c.args.self.now c.self.view_is (c.args.node ∷ nodes_of_mutation c.args.mutation.now)
+    names-same a.registrations (queues_by a.roster) a.pending.keys c.self.invariant.0 c.args.self.now c.self.view_is (c.args.node ∷ nodes_of_mutation c.args.mutation.now)
 
 pub returns-then-is_idle-clause-quiet : goal.returns-then-is_idle-clause-quiet
 returns-then-is_idle-clause-quiet g c unnamed = refl
@@ -27,7 +27,7 @@ returns-then-is_idle-clause-quiet g c unnamed = refl
 pub returns-in_err-find_standing-clause-names : goal.returns-in_err-find_standing-clause-names
 returns-in_err-find_standing-clause-names g c =
     let a = c.self.inside in
-    names-only a.table a.nodes.entries (queues_by a.roster) a.pending.keys c.args.self.now c.self.view_is a.table a.nodes.entries (queues_by a.roster) a.pending.keys c.self.invariant.0 (c.args.node ∷ nodes_of_mutation c.args.mutation.now) (λ p _ names tells. (names, tells))
+    names-only a.registrations (queues_by a.roster) a.pending.keys c.args.self.now c.self.view_is a.registrations (queues_by a.roster) a.pending.keys c.self.invariant.0 (c.args.node ∷ nodes_of_mutation c.args.mutation.now) (λ p _ names tells. (names, tells))
 
 pub returns-in_err-find_standing-clause-quiet : goal.returns-in_err-find_standing-clause-quiet
 returns-in_err-find_standing-clause-quiet g c unnamed = c.self.view_is
@@ -44,14 +44,14 @@ returns-then-is_empty-clause-removed g c = λ x w.
     let t : (c.find_standing.new.keys.len == 0) ≡ true = sym c.is_empty.ensures ∙ c.if-is_empty.true in
     let nothing : c.find_standing.new.keys.items ≡ [] =
     none c.find_standing.new.keys.items (elim (same_or c.find_standing.new.keys.len 0) [ same e _ ↦ omega (arith, full, e) | apart _ f ↦ absurd (true≢false (sym t ∙ f)) ]) in
-    let keys = ap (λ k. flat_map (λ n. on n (listed a.nodes.entries)) (ancestors k c.args.tree.now.forest)) (sym target) ∙ sym c.in_ok-find_standing.ensures ∙ nothing in
-    let o : Watchers = record { nodes = registered_nodes a.table a.nodes.entries; queues = queues_by a.roster; pending = a.pending.keys } in
-    watches-none_above o x shown c.args.node ns c.args.mutation.now c.requires.apart (none-standing a.table a.nodes.entries x.registrations shown.registrations ns keys)
+    let keys = ap (λ k. flat_map (λ n. on n a.registrations.lists) (ancestors k c.args.tree.now.forest)) (sym target) ∙ sym c.in_ok-find_standing.ensures ∙ nothing in
+    let o : Watchers = record { nodes = registered_nodes a.registrations; queues = queues_by a.roster; pending = a.pending.keys } in
+    watches-none_above o x shown c.args.node ns c.args.mutation.now c.requires.apart (none-standing a.registrations x.registrations shown.registrations ns keys)
 
 pub returns-then-is_empty-clause-names : goal.returns-then-is_empty-clause-names
 returns-then-is_empty-clause-names g c =
     let a = c.self.inside in
-    names-only a.table a.nodes.entries (queues_by a.roster) a.pending.keys c.args.self.now c.self.view_is a.table a.nodes.entries (queues_by a.roster) a.pending.keys c.self.invariant.0 (c.args.node ∷ nodes_of_mutation c.args.mutation.now) (λ p _ names tells. (names, tells))
+    names-only a.registrations (queues_by a.roster) a.pending.keys c.args.self.now c.self.view_is a.registrations (queues_by a.roster) a.pending.keys c.self.invariant.0 (c.args.node ∷ nodes_of_mutation c.args.mutation.now) (λ p _ names tells. (names, tells))
 
 pub returns-then-is_empty-clause-quiet : goal.returns-then-is_empty-clause-quiet
 returns-then-is_empty-clause-quiet g c unnamed = c.self.view_is
@@ -61,20 +61,15 @@ invariant_of-self g c = c.self.invariant
 
 -- transient registrations
 
-pub add_transients-requires-clause-live : goal.add_transients-requires-clause-live
-add_transients-requires-clause-live g c = λ n.
-    let a = c.self.inside in
-    live_of_stands (at a.table) (has_queue (queues_by a.roster)) n (on n (listed a.nodes.entries)) (c.self.invariant.0.stand n)
-
 pub add_transients-requires-clause-standing : goal.add_transients-requires-clause-standing
 add_transients-requires-clause-standing g c =
     let a = c.self.inside in
-    standing-live (at a.table) (listed a.nodes.entries) _ c.as_slice.result.now (c.as_slice.ensures.value ∙ c.in_ok-find_standing.ensures) (has_queue (queues_by a.roster)) c.self.invariant.0.stand
+    standing-live (at a.registrations) a.registrations.lists _ c.as_slice.result.now (c.as_slice.ensures.value ∙ c.in_ok-find_standing.ensures) (has_queue (queues_by a.roster)) c.self.invariant.0.stand
 
 pub add_transients-requires-clause-there : goal.add_transients-requires-clause-there
 add_transients-requires-clause-there g c =
     let a = c.self.inside in
-    standing_stands (at a.table) (has_queue (queues_by a.roster)) (listed a.nodes.entries) _ c.as_slice.result.now c.self.invariant.0.stand (c.as_slice.ensures.value ∙ c.in_ok-find_standing.ensures)
+    standing_stands (at a.registrations) (has_queue (queues_by a.roster)) a.registrations.lists _ c.as_slice.result.now c.self.invariant.0.stand (c.as_slice.ensures.value ∙ c.in_ok-find_standing.ensures)
 
 -- what add_transients leaves, after an error too
 
@@ -84,15 +79,14 @@ invariant_of-self-in_err-add_transients g c =
     let b = c.add_transients.new in
     let qs = queues_by a.roster in
     let there = has_queue qs in
-    let bounded = standing_stands (at a.table) there (listed a.nodes.entries) _ c.as_slice.result.now c.self.invariant.0.stand (c.as_slice.ensures.value ∙ c.in_ok-find_standing.ensures) in
+    let bounded = standing_stands (at a.registrations) there a.registrations.lists _ c.as_slice.result.now c.self.invariant.0.stand (c.as_slice.ensures.value ∙ c.in_ok-find_standing.ensures) in
     let s = c.add_transients.ensures in (
-      kept-left a.table a.nodes.entries qs a.pending.keys c.self.invariant.0 b.table b.nodes.entries (queues_by b.roster) s.queues s.unique (s.all_stand there bounded c.self.invariant.0.stand) (s.full c.self.invariant.0.full),
-      indexed-by (at b.table) (listed b.nodes.entries) b.fleeting.keys b.roster (lasting_by a.roster) (passing_by b.roster) there s.lasting refl
+      kept-left a.registrations qs a.pending.keys c.self.invariant.0 b.registrations (queues_by b.roster) s.queues s.sound (s.all_stand there bounded c.self.invariant.0.stand),
+      indexed-by (at b.registrations) b.fleeting.keys b.roster (lasting_by a.roster) (passing_by b.roster) there s.lasting refl
           (λ i held_there. ap (λ q. has_queue q i) s.queues ∙ held_there) (s.indexed (lasting_by a.roster) there bounded c.self.invariant.1),
       s.sources c.self.invariant.2,
-      s.agree c.self.invariant.1.placed c.self.invariant.3,
+      s.agree c.self.invariant.3,
       subst (λ q. IsAwaited q a.pending.keys a.untold.keys) (sym s.queues) c.self.invariant.4,
-      s.rising c.self.invariant.1.placed c.self.invariant.5,
     )
 
 pub returns-in_err-add_transients-clause-names : goal.returns-in_err-add_transients-clause-names
@@ -101,14 +95,14 @@ returns-in_err-add_transients-clause-names g c =
     let b = c.add_transients.new in
     let qs = queues_by a.roster in
     let there = has_queue qs in
-    let lists = listed a.nodes.entries in
+    let lists = a.registrations.lists in
     let is = c.as_slice.ensures.value ∙ c.in_ok-find_standing.ensures in
-    let bounded = standing_stands (at a.table) there lists _ c.as_slice.result.now c.self.invariant.0.stand is in
+    let bounded = standing_stands (at a.registrations) there lists _ c.as_slice.result.now c.self.invariant.0.stand is in
     let s = c.add_transients.ensures in
-    let kept = kept-left a.table a.nodes.entries qs a.pending.keys c.self.invariant.0 b.table b.nodes.entries (queues_by b.roster) s.queues s.unique (s.all_stand there bounded c.self.invariant.0.stand) (s.full c.self.invariant.0.full) in
-    names-only a.table a.nodes.entries qs a.pending.keys c.args.self.now c.self.view_is b.table b.nodes.entries (queues_by b.roster) a.pending.keys kept (c.args.node ∷ nodes_of_mutation c.args.mutation.now)
+    let kept = kept-left a.registrations qs a.pending.keys c.self.invariant.0 b.registrations (queues_by b.roster) s.queues s.sound (s.all_stand there bounded c.self.invariant.0.stand) in
+    names-only a.registrations qs a.pending.keys c.args.self.now c.self.view_is b.registrations (queues_by b.roster) a.pending.keys kept (c.args.node ∷ nodes_of_mutation c.args.mutation.now)
     (λ p nameless names tells. (
-      s.names p (or_parts (p c.args.node) _ nameless).0 (standing-unnamed (at a.table) lists _ c.as_slice.result.now is p names) names,
+      s.names p (or_parts (p c.args.node) _ nameless).0 (standing-unnamed (at a.registrations) lists _ c.as_slice.result.now is p names) names,
       subst (TellsNone p) (sym s.queues) tells,
     ))
 
@@ -116,15 +110,15 @@ pub returns-in_err-add_transients-clause-made : goal.returns-in_err-add_transien
 returns-in_err-add_transients-clause-made g c =
     let a = c.self.inside in
     let b = c.add_transients.new in
-    let new : Watchers = record { nodes = registered_nodes b.table b.nodes.entries; queues = queues_by b.roster; pending = a.pending.keys } in
+    let new : Watchers = record { nodes = registered_nodes b.registrations; queues = queues_by b.roster; pending = a.pending.keys } in
     same-queues c.args.self.now new (c.add_transients.ensures.queues ∙ ap (λ (o : Watchers). o.queues) c.self.view_is)
 
 pub returns-in_err-add_transients-clause-quiet : goal.returns-in_err-add_transients-clause-quiet
 returns-in_err-add_transients-clause-quiet g c unnamed =
     let a = c.self.inside in
     let target = ap (λ (k : Mutation). k.target) c.mutation.view_is in
-    let none-there = none-stand a.table a.nodes.entries (has_queue (queues_by a.roster)) c.self.invariant.0.stand (queues_by a.roster) a.pending.keys c.args.self.now c.self.view_is (ancestors c.args.mutation.now.target c.args.tree.now.forest) unnamed in
-    let nothing = c.in_ok-find_standing.ensures ∙ ap (λ k. flat_map (λ n. on n (listed a.nodes.entries)) (ancestors k c.args.tree.now.forest)) target ∙ none-there in
+    let none-there = none-stand a.registrations (has_queue (queues_by a.roster)) c.self.invariant.0.stand (queues_by a.roster) a.pending.keys c.args.self.now c.self.view_is (ancestors c.args.mutation.now.target c.args.tree.now.forest) unnamed in
+    let nothing = c.in_ok-find_standing.ensures ∙ ap (λ k. flat_map (λ n. on n a.registrations.lists) (ancestors k c.args.tree.now.forest)) target ∙ none-there in
     absurd (not_nothing c.find_standing.new.keys.items c.find_standing.new.keys.len (sym c.find_standing.new.keys.ok.0) (sym c.is_empty.ensures ∙ c.if-is_empty.false) nothing)
 
 -- the record
@@ -134,8 +128,8 @@ tell-requires g c =
     let a = c.self.inside in
     let b = c.add_transients.new in
     let qs = queues_by a.roster in
-    let bounded = standing_stands (at a.table) (has_queue qs) (listed a.nodes.entries) _ c.as_slice.result.now c.self.invariant.0.stand (c.as_slice.ensures.value ∙ c.in_ok-find_standing.ensures) in
-    stood (at a.table) (at b.table) qs (queues_by b.roster) c.as_slice.result.now c.as_slice-2.result.now (c.as_slice-2.ensures.value ∙ sym c.as_slice.ensures.value) c.add_transients.ensures.queues c.add_transients.ensures.stay bounded
+    let bounded = standing_stands (at a.registrations) (has_queue qs) a.registrations.lists _ c.as_slice.result.now c.self.invariant.0.stand (c.as_slice.ensures.value ∙ c.in_ok-find_standing.ensures) in
+    stood (at a.registrations) (at b.registrations) qs (queues_by b.roster) c.as_slice.result.now c.as_slice-2.result.now (c.as_slice-2.ensures.value ∙ sym c.as_slice.ensures.value) c.add_transients.ensures.queues c.add_transients.ensures.stay bounded
 
 pub invariant_of-self-2 : goal.invariant_of-self-2
 invariant_of-self-2 g c =
@@ -145,20 +139,19 @@ invariant_of-self-2 g c =
     let qs = queues_by a.roster in
     let qs' = queues_by b.roster in
     let there = has_queue qs in
-    let bounded = standing_stands (at a.table) there (listed a.nodes.entries) _ c.as_slice.result.now c.self.invariant.0.stand (c.as_slice.ensures.value ∙ c.in_ok-find_standing.ensures) in
+    let bounded = standing_stands (at a.registrations) there a.registrations.lists _ c.as_slice.result.now c.self.invariant.0.stand (c.as_slice.ensures.value ∙ c.in_ok-find_standing.ensures) in
     let s = c.add_transients.ensures in
-    let kept = kept-left a.table a.nodes.entries qs a.pending.keys c.self.invariant.0 b.table b.nodes.entries qs' s.queues s.unique (s.all_stand there bounded c.self.invariant.0.stand) (s.full c.self.invariant.0.full) in
-    let indexed = indexed-by (at b.table) (listed b.nodes.entries) b.fleeting.keys b.roster (lasting_by a.roster) (passing_by b.roster) there s.lasting refl
+    let kept = kept-left a.registrations qs a.pending.keys c.self.invariant.0 b.registrations qs' s.queues s.sound (s.all_stand there bounded c.self.invariant.0.stand) in
+    let indexed = indexed-by (at b.registrations) b.fleeting.keys b.roster (lasting_by a.roster) (passing_by b.roster) there s.lasting refl
     (λ i held_there. ap (λ q. has_queue q i) s.queues ∙ held_there) (s.indexed (lasting_by a.roster) there bounded c.self.invariant.1) in
-    let bounded' = stood (at a.table) (at b.table) qs qs' c.as_slice.result.now c.as_slice-2.result.now (c.as_slice-2.ensures.value ∙ sym c.as_slice.ensures.value) s.queues s.stay bounded in (
-      kept-queued b.table b.nodes.entries qs' a.pending.keys kept (queues_by d.roster) d.pending.keys
+    let bounded' = stood (at a.registrations) (at b.registrations) qs qs' c.as_slice.result.now c.as_slice-2.result.now (c.as_slice-2.ensures.value ∙ sym c.as_slice.ensures.value) s.queues s.stay bounded in (
+      kept-queued b.registrations qs' a.pending.keys kept (queues_by d.roster) d.pending.keys
           (has-same b.roster d.roster c.tell.ensures.keys)
           (c.tell.ensures.there (has_queue qs') bounded' kept.there),
-      indexed-same (at b.table) (listed b.nodes.entries) b.fleeting.keys b.roster d.roster indexed c.tell.ensures.keys,
+      indexed-same (at b.registrations) b.fleeting.keys b.roster d.roster indexed c.tell.ensures.keys,
       s.sources c.self.invariant.2,
-      s.agree c.self.invariant.1.placed c.self.invariant.3,
+      s.agree c.self.invariant.3,
       awaited-queued qs' a.pending.keys a.untold.keys (subst (λ q. IsAwaited q a.pending.keys a.untold.keys) (sym s.queues) c.self.invariant.4) (queues_by d.roster) d.pending.keys (has-same b.roster d.roster c.tell.ensures.keys) c.tell.ensures.stay c.tell.ensures.others,
-      s.rising c.self.invariant.1.placed c.self.invariant.5,
     )
 
 pub returns-clause-removed : goal.returns-clause-removed
@@ -170,9 +163,9 @@ returns-clause-removed g c =
     let m = c.args.mutation.now in
     let node = c.args.node in
     let ns = ancestors m.target c.args.tree.now.forest in
-    let u = at a.table in
-    let v = at b.table in
-    let lists = listed a.nodes.entries in
+    let u = at a.registrations in
+    let v = at b.registrations in
+    let lists = a.registrations.lists in
     let qs = queues_by a.roster in
     let qs' = queues_by b.roster in
     let there = has_queue qs in
@@ -180,18 +173,18 @@ returns-clause-removed g c =
     let keys' = c.as_slice-2.result.now in
     let same_keys : keys' ≡ keys = c.as_slice-2.ensures.value ∙ sym c.as_slice.ensures.value in
     let s = c.add_transients.ensures in
-    let o : Watchers = record { nodes = registered_nodes a.table a.nodes.entries; queues = qs; pending = a.pending.keys } in
+    let o : Watchers = record { nodes = registered_nodes a.registrations; queues = qs; pending = a.pending.keys } in
     let shown = subst (λ (o : Watchers). Watches o x) (sym c.self.view_is) w in
-    let has : (n : ℕ) → filter_map u (on n lists) ≡ once (registered_on n x.registrations) = λ n. sym (on-registered_nodes a.table n a.nodes.entries) ∙ shown.registrations n in
+    let has : (n : ℕ) → filter_map u (on n lists) ≡ once (registered_on n x.registrations) = λ n. sym (on-registered_nodes a.registrations n) ∙ shown.registrations n in
     let target = ap (λ (k : Mutation). k.target) c.mutation.view_is in
     let standing : keys ≡ flat_map (λ n. on n lists) _ = c.as_slice.ensures.value ∙ c.in_ok-find_standing.ensures in
     let is : keys ≡ flat_map (λ n. on n lists) ns = standing ∙ ap (λ t. flat_map (λ n. on n lists) (ancestors t c.args.tree.now.forest)) target in
     let y = with_transients node ns x in
-    let mid : Watchers = record { nodes = registered_nodes b.table b.nodes.entries; queues = qs'; pending = a.pending.keys } in
+    let mid : Watchers = record { nodes = registered_nodes b.registrations; queues = qs'; pending = a.pending.keys } in
     let left : Watches mid y =
-    subst (λ q. Watches (record { nodes = registered_nodes b.table b.nodes.entries; queues = q; pending = a.pending.keys }) y) (sym s.queues)
-    (watches-transients o x shown node ns (registered_nodes b.table b.nodes.entries)
-    (λ n. on-registered_nodes b.table n b.nodes.entries ∙ c.in_ok-add_transients.ensures.ok n ∙ transients-of_all u lists there c.self.invariant.3 c.self.invariant.0.stand x.registrations has node ns keys is n)) in
+    subst (λ q. Watches (record { nodes = registered_nodes b.registrations; queues = q; pending = a.pending.keys }) y) (sym s.queues)
+    (watches-transients o x shown node ns (registered_nodes b.registrations)
+    (λ n. on-registered_nodes b.registrations n ∙ c.in_ok-add_transients.ensures.ok n ∙ transients-of_all u lists there c.self.invariant.3 c.self.invariant.0.stand x.registrations has node ns keys is n)) in
     let stood_as : Mutation = record m { standing = standing_on ns y.registrations } in
     let alike : record m { standing = standing_on ns x.registrations } ≡ stood_as = ap (λ rs. record m { standing = rs }) (sym (standing-left node ns x c.requires.apart)) in
     let ls = listeners v m.type m.target m.name keys' in
@@ -200,7 +193,7 @@ returns-clause-removed g c =
     pends ∙ pended-queued u lists x.registrations has m ns keys is ls heard a.pending.keys ∙ ap (λ k. with_all_last a.pending.keys (observers_of k)) alike in
     let bounded = standing_stands u there lists _ keys c.self.invariant.0.stand standing in
     let bounded' = stood u v qs qs' keys keys' same_keys s.queues s.stay bounded in
-    let kept = kept-left a.table a.nodes.entries qs a.pending.keys c.self.invariant.0 b.table b.nodes.entries qs' s.queues s.unique (s.all_stand there bounded c.self.invariant.0.stand) (s.full c.self.invariant.0.full) in
+    let kept = kept-left a.registrations qs a.pending.keys c.self.invariant.0 b.registrations qs' s.queues s.sound (s.all_stand there bounded c.self.invariant.0.stand) in
     watches-noted mid y left stood_as (queues_by d.roster) d.pending.keys
     (length-same b.roster d.roster c.tell.ensures.keys)
     (has-same b.roster d.roster c.tell.ensures.keys)
@@ -217,18 +210,18 @@ returns-clause-names g c =
     let qs = queues_by a.roster in
     let qs' = queues_by b.roster in
     let there = has_queue qs in
-    let lists = listed a.nodes.entries in
+    let lists = a.registrations.lists in
     let is = c.as_slice.ensures.value ∙ c.in_ok-find_standing.ensures in
-    let bounded = standing_stands (at a.table) there lists _ c.as_slice.result.now c.self.invariant.0.stand is in
+    let bounded = standing_stands (at a.registrations) there lists _ c.as_slice.result.now c.self.invariant.0.stand is in
     let s = c.add_transients.ensures in
-    let kept = kept-left a.table a.nodes.entries qs a.pending.keys c.self.invariant.0 b.table b.nodes.entries qs' s.queues s.unique (s.all_stand there bounded c.self.invariant.0.stand) (s.full c.self.invariant.0.full) in
-    let bounded' = stood (at a.table) (at b.table) qs qs' c.as_slice.result.now c.as_slice-2.result.now (c.as_slice-2.ensures.value ∙ sym c.as_slice.ensures.value) s.queues s.stay bounded in
-    let kept' = kept-queued b.table b.nodes.entries qs' a.pending.keys kept (queues_by d.roster) d.pending.keys
+    let kept = kept-left a.registrations qs a.pending.keys c.self.invariant.0 b.registrations qs' s.queues s.sound (s.all_stand there bounded c.self.invariant.0.stand) in
+    let bounded' = stood (at a.registrations) (at b.registrations) qs qs' c.as_slice.result.now c.as_slice-2.result.now (c.as_slice-2.ensures.value ∙ sym c.as_slice.ensures.value) s.queues s.stay bounded in
+    let kept' = kept-queued b.registrations qs' a.pending.keys kept (queues_by d.roster) d.pending.keys
     (has-same b.roster d.roster c.tell.ensures.keys)
     (c.tell.ensures.there (has_queue qs') bounded' kept.there) in
-    names-only a.table a.nodes.entries qs a.pending.keys c.args.self.now c.self.view_is b.table b.nodes.entries (queues_by d.roster) d.pending.keys kept' (c.args.node ∷ nodes_of_mutation c.args.mutation.now)
+    names-only a.registrations qs a.pending.keys c.args.self.now c.self.view_is b.registrations (queues_by d.roster) d.pending.keys kept' (c.args.node ∷ nodes_of_mutation c.args.mutation.now)
     (λ p nameless names tells. (
-      s.names p (or_parts (p c.args.node) _ nameless).0 (standing-unnamed (at a.table) lists _ c.as_slice.result.now is p names) names,
+      s.names p (or_parts (p c.args.node) _ nameless).0 (standing-unnamed (at a.registrations) lists _ c.as_slice.result.now is p names) names,
       c.tell.ensures.names p (or_parts (p c.args.node) _ nameless).1 (subst (TellsNone p) (sym s.queues) tells),
     ))
 
@@ -237,15 +230,15 @@ returns-clause-made g c =
     let a = c.self.inside in
     let b = c.add_transients.new in
     let d = c.tell.new in
-    let new : Watchers = record { nodes = registered_nodes b.table b.nodes.entries; queues = queues_by d.roster; pending = d.pending.keys } in
+    let new : Watchers = record { nodes = registered_nodes b.registrations; queues = queues_by d.roster; pending = d.pending.keys } in
     same-there c.args.self.now new (queues_by b.roster) (c.add_transients.ensures.queues ∙ ap (λ (o : Watchers). o.queues) c.self.view_is) (length-same b.roster d.roster c.tell.ensures.keys) (has-same b.roster d.roster c.tell.ensures.keys)
 
 pub returns-clause-quiet : goal.returns-clause-quiet
 returns-clause-quiet g c unnamed =
     let a = c.self.inside in
     let target = ap (λ (k : Mutation). k.target) c.mutation.view_is in
-    let none-there = none-stand a.table a.nodes.entries (has_queue (queues_by a.roster)) c.self.invariant.0.stand (queues_by a.roster) a.pending.keys c.args.self.now c.self.view_is (ancestors c.args.mutation.now.target c.args.tree.now.forest) unnamed in
-    let nothing = c.in_ok-find_standing.ensures ∙ ap (λ k. flat_map (λ n. on n (listed a.nodes.entries)) (ancestors k c.args.tree.now.forest)) target ∙ none-there in
+    let none-there = none-stand a.registrations (has_queue (queues_by a.roster)) c.self.invariant.0.stand (queues_by a.roster) a.pending.keys c.args.self.now c.self.view_is (ancestors c.args.mutation.now.target c.args.tree.now.forest) unnamed in
+    let nothing = c.in_ok-find_standing.ensures ∙ ap (λ k. flat_map (λ n. on n a.registrations.lists) (ancestors k c.args.tree.now.forest)) target ∙ none-there in
     absurd (not_nothing c.find_standing.new.keys.items c.find_standing.new.keys.len (sym c.find_standing.new.keys.ok.0) (sym c.is_empty.ensures ∙ c.if-is_empty.false) nothing)
 
 -- what is left half-way
@@ -260,7 +253,7 @@ returns-in_err-add_transients-clause-partly g c =
     let m = c.args.mutation.now in
     let qs = queues_by a.roster in
     let left =
-    partly-removed a.table a.nodes.entries qs a.pending.keys c.args.self.now c.self.view_is b.table b.nodes.entries c.args.node
+    partly-removed a.registrations qs a.pending.keys c.args.self.now c.self.view_is b.registrations c.args.node
     c.add_transients.ensures.front c.add_transients.ensures.elsewhere m (queues_by b.roster) a.pending.keys (front-same a.pending.keys a.pending.keys refl)
     (λ i. gets-none m (records_at qs i) (records_at (queues_by b.roster) i) (ap (λ q. records_at q i) c.add_transients.ensures.queues)) in
     at_err c.from_residual-in_err-add_transients.result left
@@ -272,7 +265,7 @@ returns-clause-partly g c =
     let d = c.tell.new in
     let m = c.args.mutation.now in
     let left =
-    partly-removed a.table a.nodes.entries (queues_by a.roster) a.pending.keys c.args.self.now c.self.view_is b.table b.nodes.entries c.args.node
+    partly-removed a.registrations (queues_by a.roster) a.pending.keys c.args.self.now c.self.view_is b.registrations c.args.node
     c.add_transients.ensures.front c.add_transients.ensures.elsewhere m (queues_by d.roster) d.pending.keys c.tell.ensures.front
     (λ i. subst (λ q. GetsAtMostOne m (records_at q i) (records_at (queues_by d.roster) i)) c.add_transients.ensures.queues (c.tell.ensures.each i)) in
     at_err c.tell.result left

@@ -7,4 +7,4 @@ use Rattle.dom_observe.proofs.observers.Observers.sound.Goals as goal
 pub returns : goal.returns
 returns c =
     let a = c.self.inside in
-    subst IsSound c.self.view_is (seen-sound a.table a.nodes.entries (queues_by a.roster) a.pending.keys c.self.invariant.0 c.self.invariant.1.placed c.self.invariant.1.placed_once c.self.invariant.2 c.self.invariant.3)
+    subst IsSound c.self.view_is (seen-sound a.registrations (queues_by a.roster) a.pending.keys c.self.invariant.0 c.self.invariant.2 c.self.invariant.3)

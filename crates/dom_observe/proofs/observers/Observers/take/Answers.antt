@@ -2,7 +2,7 @@
 use Rattle.dom_observe.proofs.{Awaiting.awaited-emptied, Holding.names-only, Holding.tells-emptied, Holding.same-there, Keeping.kept-emptied, Keyrings.indexed-same, Rosters.has-same, Rosters.length-same, Watching.watches-taken}
 use Rattle.std.proofs.Common.{◌≡◌, ℕ, true, [], ap, sym, ◌∙◌, subst, List, Option, Some, slice_set}
 use Rattle.dom_model.specs.Definitions.{Registration, Record, records_taken}
-use Rattle.dom_observe.specs.{Watchers.Watchers, Watchers.Watches, Watchers.records_at, Registrations.at, Registrations.listed, Kept.registered_nodes, Kept.has_queue, Kept.IsKept, Kept.IsAwaited, Roster.queues_by, Naming.TellsNone}
+use Rattle.dom_observe.specs.{Watchers.Watchers, Watchers.Watches, Watchers.records_at, Registrations.at, Kept.registered_nodes, Kept.has_queue, Kept.IsKept, Kept.IsAwaited, Roster.queues_by, Naming.TellsNone}
 use Rattle.dom_observe.proofs.observers.Observers.take.Goals as goal
 
 pub take_from-requires : goal.take_from-requires
@@ -12,14 +12,13 @@ pub invariant_of-self : goal.invariant_of-self
 invariant_of-self c =
     let a = c.self.inside in
     let held_there = subst (λ (o : Watchers). has_queue o.queues c.args.observer ≡ true) (sym c.self.view_is) c.requires.held in (
-      subst (λ (qs : List (Option (List Record))). IsKept a.table a.nodes.entries qs a.pending.keys) (sym c.take_from.ensures.emptied)
-          (kept-emptied a.table a.nodes.entries (queues_by a.roster) a.pending.keys c.self.invariant.0 c.args.observer held_there),
-      indexed-same (at a.table) (listed a.nodes.entries) a.fleeting.keys a.roster c.take_from.new.roster c.self.invariant.1 c.take_from.ensures.keys,
+      subst (λ (qs : List (Option (List Record))). IsKept a.registrations qs a.pending.keys) (sym c.take_from.ensures.emptied)
+          (kept-emptied a.registrations (queues_by a.roster) a.pending.keys c.self.invariant.0 c.args.observer held_there),
+      indexed-same (at a.registrations) a.fleeting.keys a.roster c.take_from.new.roster c.self.invariant.1 c.take_from.ensures.keys,
       c.self.invariant.2,
       c.self.invariant.3,
       subst (λ (qs : List (Option (List Record))). IsAwaited qs a.pending.keys a.untold.keys) (sym c.take_from.ensures.emptied)
           (awaited-emptied (queues_by a.roster) a.pending.keys a.untold.keys c.self.invariant.4 c.args.observer held_there),
-      c.self.invariant.5,
     )
 
 pub returns-clause-records : goal.returns-clause-records
@@ -30,10 +29,10 @@ returns-clause-records c = λ x w.
 pub returns-clause-taken : goal.returns-clause-taken
 returns-clause-taken c = λ x w.
     let a = c.self.inside in
-    let o : Watchers = record { nodes = registered_nodes a.table a.nodes.entries; queues = queues_by a.roster; pending = a.pending.keys } in
+    let o : Watchers = record { nodes = registered_nodes a.registrations; queues = queues_by a.roster; pending = a.pending.keys } in
     let shown = subst (λ (o : Watchers). Watches o x) (sym c.self.view_is) w in
     let held_there = subst (λ (o : Watchers). has_queue o.queues c.args.observer ≡ true) (sym c.self.view_is) c.requires.held in
-    subst (λ (qs : List (Option (List Record))). Watches (record { nodes = registered_nodes a.table a.nodes.entries; queues = qs; pending = a.pending.keys }) (records_taken c.args.observer x)) (sym c.take_from.ensures.emptied)
+    subst (λ (qs : List (Option (List Record))). Watches (record { nodes = registered_nodes a.registrations; queues = qs; pending = a.pending.keys }) (records_taken c.args.observer x)) (sym c.take_from.ensures.emptied)
     (watches-taken o x shown c.args.observer held_there)
 
 pub returns-clause-names : goal.returns-clause-names
@@ -42,15 +41,15 @@ returns-clause-names c =
     let qs = queues_by a.roster in
     let held_there = subst (λ (o : Watchers). has_queue o.queues c.args.observer ≡ true) (sym c.self.view_is) c.requires.held in
     let kept =
-    subst (λ (qs : List (Option (List Record))). IsKept a.table a.nodes.entries qs a.pending.keys) (sym c.take_from.ensures.emptied)
-    (kept-emptied a.table a.nodes.entries qs a.pending.keys c.self.invariant.0 c.args.observer held_there) in
-    names-only a.table a.nodes.entries qs a.pending.keys c.args.self.now c.self.view_is a.table a.nodes.entries (queues_by c.take_from.new.roster) a.pending.keys kept []
+    subst (λ (qs : List (Option (List Record))). IsKept a.registrations qs a.pending.keys) (sym c.take_from.ensures.emptied)
+    (kept-emptied a.registrations qs a.pending.keys c.self.invariant.0 c.args.observer held_there) in
+    names-only a.registrations qs a.pending.keys c.args.self.now c.self.view_is a.registrations (queues_by c.take_from.new.roster) a.pending.keys kept []
     (λ p _ names tells. (names, subst (TellsNone p) (sym c.take_from.ensures.emptied) (tells-emptied p qs c.args.observer held_there tells)))
 
 pub returns-clause-made : goal.returns-clause-made
 returns-clause-made c =
     let a = c.self.inside in
-    let new : Watchers = record { nodes = registered_nodes a.table a.nodes.entries; queues = queues_by c.take_from.new.roster; pending = a.pending.keys } in
+    let new : Watchers = record { nodes = registered_nodes a.registrations; queues = queues_by c.take_from.new.roster; pending = a.pending.keys } in
     same-there c.args.self.now new (queues_by a.roster) (ap (λ (o : Watchers). o.queues) c.self.view_is)
     (length-same a.roster c.take_from.new.roster c.take_from.ensures.keys) (has-same a.roster c.take_from.new.roster c.take_from.ensures.keys)
 
@@ -66,4 +65,4 @@ with_emptied i o = record o { queues = slice_set o.queues i (Some []) }
 pub returns-clause-left : goal.returns-clause-left
 returns-clause-left c =
     let a = c.self.inside in
-    ap (with_queues (registered_nodes a.table a.nodes.entries) a.pending.keys) c.take_from.ensures.emptied ∙ ap (with_emptied c.args.observer) c.self.view_is
+    ap (with_queues (registered_nodes a.registrations) a.pending.keys) c.take_from.ensures.emptied ∙ ap (with_emptied c.args.observer) c.self.view_is

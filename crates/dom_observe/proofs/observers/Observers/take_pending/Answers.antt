@@ -9,10 +9,9 @@ invariant_of-self-2 c =
     let a = c.self.inside in
     let qs = queues_by a.roster in
     let kept = c.self.invariant.0 in
-    let nobody : IsKept a.table a.nodes.entries qs c.append.new.other.keys = record {
-      unique = kept.unique;
+    let nobody : IsKept a.registrations qs c.append.new.other.keys = record {
+      are = kept.are;
       stand = kept.stand;
-      full = kept.full;
       there = subst (AllThere (has_queue qs)) (sym c.in_ok-append.ensures.emptied) tt;
     } in (
       nobody,
@@ -20,7 +19,6 @@ invariant_of-self-2 c =
       c.self.invariant.2,
       c.self.invariant.3,
       awaited-taken qs a.pending.keys a.untold.keys c.self.invariant.4 c.append.new.other.keys c.append.new.self.keys kept.there (c.in_ok-append.ensures.keys ∙ insert_all-last a.untold.keys a.pending.keys),
-      c.self.invariant.5,
     )
 
 pub returns-clause-names : goal.returns-clause-names
@@ -28,22 +26,21 @@ returns-clause-names c =
     let a = c.self.inside in
     let qs = queues_by a.roster in
     let kept = c.self.invariant.0 in
-    let nobody : IsKept a.table a.nodes.entries qs c.append.new.other.keys = record {
-      unique = kept.unique;
+    let nobody : IsKept a.registrations qs c.append.new.other.keys = record {
+      are = kept.are;
       stand = kept.stand;
-      full = kept.full;
       there = subst (AllThere (has_queue qs)) (sym c.in_ok-append.ensures.emptied) tt;
     } in
-    names-only a.table a.nodes.entries qs a.pending.keys c.args.self.now c.self.view_is a.table a.nodes.entries qs c.append.new.other.keys nobody [] (λ p _ names tells. (names, tells))
+    names-only a.registrations qs a.pending.keys c.args.self.now c.self.view_is a.registrations qs c.append.new.other.keys nobody [] (λ p _ names tells. (names, tells))
 
 pub returns-in_err-taken-clause-names : goal.returns-in_err-taken-clause-names
 returns-in_err-taken-clause-names c =
     let a = c.self.inside in
-    names-same a.table a.nodes.entries (queues_by a.roster) a.pending.keys c.self.invariant.0 c.args.self.now c.self.view_is []
+    names-same a.registrations (queues_by a.roster) a.pending.keys c.self.invariant.0 c.args.self.now c.self.view_is []
 
 pub returns-in_err-append-clause-names : goal.returns-in_err-append-clause-names
 returns-in_err-append-clause-names c =
     let a = c.self.inside in
     let qs = queues_by a.roster in
-    names-only a.table a.nodes.entries qs a.pending.keys c.args.self.now c.self.view_is a.table a.nodes.entries qs c.append.new.other.keys
-    (subst (IsKept a.table a.nodes.entries qs) (sym c.in_err-append.ensures.other_err) c.self.invariant.0) [] (λ p _ names tells. (names, tells))
+    names-only a.registrations qs a.pending.keys c.args.self.now c.self.view_is a.registrations qs c.append.new.other.keys
+    (subst (IsKept a.registrations qs) (sym c.in_err-append.ensures.other_err) c.self.invariant.0) [] (λ p _ names tells. (names, tells))

@@ -6,5 +6,5 @@ use Rattle.dom_observe.proofs.origins.Origins.has.Goals as goal
 
 pub returns-in-Some : goal.returns-in-Some
 returns-in-Some c =
-    let noted : NotesIfAny (at c.args.table.now) c.args.own.now (Some c.in-Some.noted) = subst (NotesIfAny (at c.args.table.now) c.args.own.now) c.in-Some.is c.requires in
-    c.contains.ensures ∙ noted c.new.result ∙ ap (λ (o : Origin). list_any (from_at (at c.args.table.now) o.observer o.node) c.args.own.now) c.new.ensures
+    let noted : NotesIfAny (at c.args.registrations.now) c.args.own.now (Some c.in-Some.noted) = subst (NotesIfAny (at c.args.registrations.now) c.args.own.now) c.in-Some.is c.requires in
+    c.contains.ensures ∙ noted c.new.result ∙ ap (λ (o : Origin). list_any (from_at (at c.args.registrations.now) o.observer o.node) c.args.own.now) c.new.ensures

@@ -1,18 +1,18 @@
 -- One more observer, without keys and with an empty queue.
-use Rattle.std.proofs.Common.{[], ◌∷◌, ◌++◌, Some, ap, ◌∙◌}
-use Rattle.dom_slots.proofs.Entries.{by_slot-pushed}
+use Rattle.std.proofs.Common.{◌≡◌, [], ◌∷◌, ◌++◌, Some, ap, ◌∙◌}
+use Rattle.dom_slots.specs.Slotted.{by_slot}
 use Rattle.dom_observe.specs.Roster.{keys_by, queues_by}
 use Rattle.dom_observe.proofs.Rosters.{keys-made, queues-made}
 use Rattle.dom_observe.proofs.roster.Roster.make.Goals as goal
 
 pub returns-clause-keys : goal.returns-clause-keys
 returns-clause-keys c =
-    let made = by_slot-pushed c.sound.ensures.fit c.self.inside.observers.items c.self.invariant c.new.result ∙ ap (λ v. v ++ Some c.new.result ∷ []) c.self.view_is in
-    rw (c.push_reserved.ensures.items, c.reserve-2.ensures.items, c.push_reserved-number.ensures.slots, c.reserve.ensures.slots, c.reserve.ensures.numbers)
-    (ap keys_by made ∙ keys-made c.args.self.now c.new.result c.new.ensures.lasting c.new.ensures.passing)
+    let new = c.push_reserved-number.new.self in
+    let made : by_slot new.slots new.items ≡ c.args.self.now ++ Some c.new.result ∷ [] = rw (c.push_reserved-number.ensures.pushed, c.reserve.ensures.slots, c.reserve.ensures.items, c.self.view_is) in
+    ap keys_by made ∙ keys-made c.args.self.now c.new.result c.new.ensures.lasting c.new.ensures.passing
 
 pub returns-clause-queues : goal.returns-clause-queues
 returns-clause-queues c =
-    let made = by_slot-pushed c.sound.ensures.fit c.self.inside.observers.items c.self.invariant c.new.result ∙ ap (λ v. v ++ Some c.new.result ∷ []) c.self.view_is in
-    rw (c.push_reserved.ensures.items, c.reserve-2.ensures.items, c.push_reserved-number.ensures.slots, c.reserve.ensures.slots, c.reserve.ensures.numbers)
-    (ap queues_by made ∙ queues-made c.args.self.now c.new.result c.new.ensures.queue)
+    let new = c.push_reserved-number.new.self in
+    let made : by_slot new.slots new.items ≡ c.args.self.now ++ Some c.new.result ∷ [] = rw (c.push_reserved-number.ensures.pushed, c.reserve.ensures.slots, c.reserve.ensures.items, c.self.view_is) in
+    ap queues_by made ∙ queues-made c.args.self.now c.new.result c.new.ensures.queue

@@ -1,6 +1,6 @@
-use Rattle.std.proofs.Common.{arith}
-use Rattle.dom_ranges.proofs.Making.{ranges-counted}
+use Rattle.std.proofs.Common.{sym, ◌∙◌}
+use Rattle.dom_ranges.proofs.Tables.{live-counted}
 use Rattle.dom_ranges.proofs.ranges.Ranges.count.Goals as goal
 
 pub returns : goal.returns
-returns c = omega (arith, c.len.ensures, ranges-counted _ _ _ _ c.self.invariant _ c.self.view_is)
+returns c = c.count.ensures ∙ sym (live-counted c.sound.ensures.fit c.self.inside.chains c.self.invariant _ c.self.view_is)

@@ -1,39 +1,42 @@
-use Rattle.std.proofs.Common.{refl, ap, ◌∙◌, arith}
-use Rattle.std.proofs.lemmas.Grind.{common_steps}
-use Rattle.dom_ranges.specs.Chained.{covers}
-use Rattle.dom_ranges.proofs.{Slots.slot-read, Pairs.range-found, Pairs.first-live, Pairs.second-live, Pairs.first-within, Pairs.covered-is, Moving.point-covered}
+use Rattle.std.proofs.Common.{ℕ, is_some, option_map, ap, sym, ◌∙◌, arith}
+use Rattle.dom_chains.proofs.Items.{keys-one}
+use Rattle.dom_slots.specs.Slotted.{slot_at}
+use Rattle.dom_slots.proofs.Entries.{has_slot}
+use Rattle.dom_ranges.specs.{Ends.paired, Tables.RangeTable, Tables.covers, Tables.range_in}
+use Rattle.dom_ranges.proofs.Tables.{end-within, range-read}
 use Rattle.dom_ranges.proofs.ranges.Ranges.ends.Goals as goal
 
-pub point-start-requires-clause-within : goal.point-start-requires-clause-within
-point-start-requires-clause-within c =
-    let slot = slot-read c.self.inside.slots.items c.args.r _ _ c.slot_of.ensures c.unwrap-slot.ensures in
-    first-within _ _ _ _ c.self.invariant _ c.self.view_is _ _ slot _ _ c.start.ensures refl
+pub unwrap-slot-requires : goal.unwrap-slot-requires
+unwrap-slot-requires c =
+    ap is_some (c.slot.ensures ∙ ap (slot_at c.self.inside.slots.slots) c.number.ensures)
+    ∙ has_slot c.self.inside.slots.slots (paired c.self.inside.chains.items) c.args.r (ap (λ (v : RangeTable). is_some (range_in v c.args.r)) c.self.view_is ∙ c.requires)
 
-pub point-start-requires-clause-live : goal.point-start-requires-clause-live
-point-start-requires-clause-live c =
-    let slot = slot-read c.self.inside.slots.items c.args.r _ _ c.slot_of.ensures c.unwrap-slot.ensures in
-    first-live _ _ _ _ c.self.invariant _ c.self.view_is _ _ slot _ _ c.start.ensures refl
+pub overflow_mul-first : goal.overflow_mul-first
+overflow_mul-first c =
+    omega (arith, end-within c.sound.ensures.fit c.self.inside.chains c.self.invariant _ c.self.view_is c.number.result c.unwrap-slot.result (sym c.slot.ensures ∙ c.unwrap-slot.ensures), c.sound-2.ensures.few)
 
-pub point-end-requires-clause-live : goal.point-end-requires-clause-live
-point-end-requires-clause-live c =
-    let slot = slot-read c.self.inside.slots.items c.args.r _ _ c.slot_of.ensures c.unwrap-slot.ensures in
-    second-live _ _ _ _ c.self.invariant _ c.self.view_is _ _ slot _ _ refl c.end.ensures
+pub overflow_add-first : goal.overflow_add-first
+overflow_add-first c =
+    omega (arith, end-within c.sound.ensures.fit c.self.inside.chains c.self.invariant _ c.self.view_is c.number.result c.unwrap-slot.result (sym c.slot.ensures ∙ c.unwrap-slot.ensures), c.sound-2.ensures.few)
+
+pub point-start-requires : goal.point-start-requires
+point-start-requires c = omega (arith, end-within c.sound.ensures.fit c.self.inside.chains c.self.invariant _ c.self.view_is c.number.result c.unwrap-slot.result (sym c.slot.ensures ∙ c.unwrap-slot.ensures))
+
+pub point-end-requires : goal.point-end-requires
+point-end-requires c = end-within c.sound.ensures.fit c.self.inside.chains c.self.invariant _ c.self.view_is c.number.result c.unwrap-slot.result (sym c.slot.ensures ∙ c.unwrap-slot.ensures)
 
 pub returns-clause-ends : goal.returns-clause-ends
 returns-clause-ends c =
-    let slot = slot-read c.self.inside.slots.items c.args.r _ _ c.slot_of.ensures c.unwrap-slot.ensures in
-    let a = rw c.start.ensures at c.point-start.ensures in
-    let b = rw c.end.ensures at c.point-end.ensures in
-    range-found _ _ _ _ c.self.invariant _ c.self.view_is _ _ slot ∙ rw (a, b) refl
+    range-read c.sound.ensures.fit c.self.inside.chains c.self.invariant _ c.self.view_is c.args.r c.unwrap-slot.result
+    (ap (slot_at c.self.inside.slots.slots) (sym c.number.ensures) ∙ sym c.slot.ensures ∙ c.unwrap-slot.ensures)
+    c.point-start.result c.point-end.result c.point-start.ensures c.point-end.ensures
 
 pub returns-clause-start_covered : goal.returns-clause-start_covered
-returns-clause-start_covered c = ap (λ cs. covers cs c.point-start.result.node) (covered-is _ _ _ _ c.self.invariant _ c.self.view_is) ∙ point-covered _ _ _ _ c.self.invariant _ c.self.view_is _ _ c.point-start.ensures
+returns-clause-start_covered c =
+    ap (λ (v : RangeTable). covers v.covered c.point-start.result.node) (sym c.self.view_is)
+    ∙ c.sound-2.ensures.covered c.point-start.result.node (keys-one c.point-start.result.node c.self.inside.chains.items _ (ap (option_map (λ (e : ℕ × ℕ). e.0)) c.point-start.ensures))
 
 pub returns-clause-end_covered : goal.returns-clause-end_covered
-returns-clause-end_covered c = ap (λ cs. covers cs c.point-end.result.node) (covered-is _ _ _ _ c.self.invariant _ c.self.view_is) ∙ point-covered _ _ _ _ c.self.invariant _ c.self.view_is _ _ c.point-end.ensures
-
-pub unwrap-slot-requires : goal.unwrap-slot-requires
-unwrap-slot-requires c = grind (arith, common_steps)
-
-pub point-end-requires-clause-within : goal.point-end-requires-clause-within
-point-end-requires-clause-within c = grind (arith, common_steps)
+returns-clause-end_covered c =
+    ap (λ (v : RangeTable). covers v.covered c.point-end.result.node) (sym c.self.view_is)
+    ∙ c.sound-2.ensures.covered c.point-end.result.node (keys-one c.point-end.result.node c.self.inside.chains.items _ (ap (option_map (λ (e : ℕ × ℕ). e.0)) c.point-end.ensures))

@@ -1,10 +1,11 @@
-use Rattle.std.proofs.Common.{◌∙◌, ap}
-use Rattle.dom_ranges.specs.Chained.{points_of}
-use Rattle.dom_ranges.proofs.{EndsAsked.stands-told, Making.order-kept}
+use Rattle.std.proofs.Common.{ap, ◌∙◌}
+use Rattle.dom_model.specs.Definitions.{among}
+use Rattle.dom_chains.specs.Keyed.{keys_of}
+use Rattle.dom_ranges.proofs.Tables.{among-told}
 use Rattle.dom_ranges.proofs.ranges.Ranges.forget_one.Goals as goal
 
-pub forget-requires-clause-empty : goal.forget-requires-clause-empty
-forget-requires-clause-empty c = stands-told _ _ _ _ c.self.invariant _ c.self.view_is c.args.node ∙ c.requires
-
-pub invariant_of-self : goal.invariant_of-self
-invariant_of-self c = order-kept _ _ _ _ c.self.invariant _ _ (ap points_of c.forget.ensures.table) c.forget.ensures.chains
+pub forget-requires : goal.forget-requires
+forget-requires c =
+    ap (λ n. among n (keys_of c.self.inside.chains.items)) c.number.ensures
+    ∙ among-told c.sound.ensures.fit c.self.inside.chains c.self.invariant _ c.self.view_is c.args.node
+    ∙ c.requires

@@ -1,18 +1,12 @@
-use Rattle.std.proofs.Common.{◌∙◌}
-use Rattle.dom_model.specs.Definitions.{after_gap, after_splice}
-use Rattle.dom_ranges.specs.Chained.{points_of, on_node}
-use Rattle.dom_ranges.proofs.Moving.{point-fits, point-covered, order-shifted, view-shifted, map-same, gap-splice, splice-elsewhere}
+use Rattle.std.proofs.Common.{sym, ap, subst, ◌∙◌}
+use Rattle.std.proofs.Math.Path.{fun_ext}
+use Rattle.dom_model.specs.Definitions.{Point, map_ranges}
+use Rattle.dom_ranges.specs.Tables.{OffsetsFit}
+use Rattle.dom_ranges.proofs.Moving.{gap-splice}
 use Rattle.dom_ranges.proofs.ranges.Ranges.gap.Goals as goal
-use Rattle.dom_model.proofs.TokenText.Contents.ExtractedAsDeleted.{splice-node}
 
-pub shift-requires-clause-within : goal.shift-requires-clause-within
-shift-requires-clause-within c e p at there =
-    (rw (gap-splice c.args.parent c.args.at c.args.count p) (point-fits _ _ _ _ c.self.invariant _ c.self.view_is (after_gap c.args.parent c.args.at c.args.count) c.requires e p at), rw (splice-node c.args.parent c.args.at 0 c.args.count p) (point-covered _ _ _ _ c.self.invariant _ c.self.view_is e p at))
-
-pub invariant_of-self : goal.invariant_of-self
-invariant_of-self c = order-shifted _ _ _ _ c.self.invariant (on_node c.args.parent (after_splice c.args.parent c.args.at 0 c.args.count)) _ _ c.shift.ensures.points c.shift.ensures.chains
+pub spliced-requires : goal.spliced-requires
+spliced-requires c = subst (λ (g : Point → Point). OffsetsFit g c.args.self.now.ranges) (sym (fun_ext (gap-splice c.args.parent c.args.at c.args.count))) c.requires
 
 pub returns : goal.returns
-returns c =
-    let all = c.shift.ensures.points ∙ map-same (on_node c.args.parent (after_splice c.args.parent c.args.at 0 c.args.count)) (after_gap c.args.parent c.args.at c.args.count) (λ p. splice-elsewhere c.args.parent c.args.at 0 c.args.count p ∙ gap-splice c.args.parent c.args.at c.args.count p) (points_of c.self.inside.chains.table.items) in
-    view-shifted _ _ _ _ c.self.invariant (after_gap c.args.parent c.args.at c.args.count) _ _ all c.shift.ensures.chains _ c.self.view_is c.shift.ensures.covered
+returns c = c.spliced.ensures ∙ ap (λ (g : Point → Point). record c.args.self.now { ranges = map_ranges g c.args.self.now.ranges }) (fun_ext (gap-splice c.args.parent c.args.at c.args.count))

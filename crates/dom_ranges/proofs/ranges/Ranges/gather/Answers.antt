@@ -1,6 +1,6 @@
 -- Each step gathers the ends of one node.
 use Rattle.std.proofs.Common.{sym, ap, ◌∙◌}
-use Rattle.dom_ranges.specs.{Chained.covers, Tables.RangeTable}
+use Rattle.dom_ranges.specs.Tables.{RangeTable, covers}
 use Rattle.dom_ranges.proofs.Inside.{gathered-top, gathered-next, gathered-end, gathered-rest}
 use Rattle.dom_ranges.proofs.ranges.Ranges.gather.Goals as goal
 

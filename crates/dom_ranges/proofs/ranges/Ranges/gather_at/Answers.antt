@@ -1,9 +1,13 @@
-use Rattle.dom_ranges.specs.Chained.{on_node}
-use Rattle.dom_ranges.proofs.Moving.{order-shifted, view-shifted}
+use Rattle.std.proofs.Common.{ap, ◌∙◌}
+use Rattle.dom_chains.specs.Keyed.{on_key}
+use Rattle.dom_ranges.specs.{Ends.moved_end, Tables.RangeTable, Tables.covers, Tables.on_node}
+use Rattle.dom_ranges.proofs.{Moving.on_key-point, Tables.table-moved}
 use Rattle.dom_ranges.proofs.ranges.Ranges.gather_at.Goals as goal
 
-pub invariant_of-self : goal.invariant_of-self
-invariant_of-self c = order-shifted _ _ _ _ c.self.invariant (on_node c.args.node (λ _. c.args.to)) _ _ c.shift.ensures.points c.shift.ensures.chains
+pub shift-requires : goal.shift-requires
+shift-requires c id end at there = (λ fits. c.requires.fits, ap (λ (v : RangeTable). covers v.covered c.args.to.node) c.self.view_is ∙ c.requires.covered)
 
 pub returns : goal.returns
-returns c = view-shifted _ _ _ _ c.self.invariant (on_node c.args.node (λ _. c.args.to)) _ _ c.shift.ensures.points c.shift.ensures.chains _ c.self.view_is c.shift.ensures.covered
+returns c =
+    table-moved c.self.inside.slots.slots c.self.inside.chains _ c.self.view_is (on_node c.args.node (λ _. c.args.to)) (on_key c.args.node (moved_end (λ _. c.args.to)))
+    (on_key-point c.args.node (λ _. c.args.to)) c.shift.new.ends c.shift.ensures

@@ -1,37 +1,25 @@
-use Rattle.std.proofs.Common.{◌≡◌, true, sym, ap, ◌∙◌}
+use Rattle.std.proofs.Common.{refl, ap, ◌∙◌}
 use Rattle.dom_model.specs.Definitions.{after_merge}
-use Rattle.dom_ranges.specs.Chained.{covers, cover_of}
-use Rattle.dom_ranges.proofs.{Pairs.covered-is, Moving.moves-within, Moving.order-shifted, Moving.view-shifted, Moving.merge-node}
+use Rattle.dom_ranges.specs.{Ends.moved_end, Tables.RangeTable, Tables.covers}
+use Rattle.dom_ranges.proofs.{Moving.merge-node, Tables.can-move, Tables.table-moved}
 use Rattle.dom_ranges.proofs.ranges.Ranges.merged.Goals as goal
 
-pub shift_both-requires-clause-first_within : goal.shift_both-requires-clause-first_within
-shift_both-requires-clause-first_within c =
-    let w : covers (cover_of c.self.inside.chains.heads.items) c.args.into ≡ true = ap (λ cs. covers cs c.args.into) (sym (covered-is _ _ _ _ c.self.invariant _ c.self.view_is)) ∙ c.requires.into_covered in
-    moves-within _ _ _ _ c.self.invariant _ c.self.view_is (after_merge c.args.from c.args.into c.args.base c.args.parent c.args.index) c.requires.fit (λ p. merge-node c.args.from c.args.into c.args.base c.args.parent c.args.index _ p w) c.args.from
+pub shift_both-requires-clause-within : goal.shift_both-requires-clause-within
+shift_both-requires-clause-within c =
+    can-move c.sound.ensures.fit c.self.inside.chains c.self.invariant _ c.self.view_is c.sound-2.ensures.covered (after_merge c.args.from c.args.into c.args.base c.args.parent c.args.index) c.requires.fit
+    (λ p. merge-node c.args.from c.args.into c.args.base c.args.parent c.args.index _ p (ap (λ (v : RangeTable). covers v.covered c.args.into) c.self.view_is ∙ c.requires.into_covered))
 
-pub shift_both-requires-clause-second_within : goal.shift_both-requires-clause-second_within
-shift_both-requires-clause-second_within c =
-    let w : covers (cover_of c.self.inside.chains.heads.items) c.args.into ≡ true = ap (λ cs. covers cs c.args.into) (sym (covered-is _ _ _ _ c.self.invariant _ c.self.view_is)) ∙ c.requires.into_covered in
-    moves-within _ _ _ _ c.self.invariant _ c.self.view_is (after_merge c.args.from c.args.into c.args.base c.args.parent c.args.index) c.requires.fit (λ p. merge-node c.args.from c.args.into c.args.base c.args.parent c.args.index _ p w) c.args.parent
-
-pub shift_both-requires-else-eq-clause-first_within : goal.shift_both-requires-else-eq-clause-first_within
-shift_both-requires-else-eq-clause-first_within c =
-    let w : covers (cover_of c.self.inside.chains.heads.items) c.args.into ≡ true = ap (λ cs. covers cs c.args.into) (sym (covered-is _ _ _ _ c.self.invariant _ c.self.view_is)) ∙ c.requires.into_covered in
-    moves-within _ _ _ _ c.self.invariant _ c.self.view_is (after_merge c.args.from c.args.into c.args.base c.args.parent c.args.index) c.requires.fit (λ p. merge-node c.args.from c.args.into c.args.base c.args.parent c.args.index _ p w) c.args.parent
-
-pub shift_both-requires-else-eq-clause-second_within : goal.shift_both-requires-else-eq-clause-second_within
-shift_both-requires-else-eq-clause-second_within c =
-    let w : covers (cover_of c.self.inside.chains.heads.items) c.args.into ≡ true = ap (λ cs. covers cs c.args.into) (sym (covered-is _ _ _ _ c.self.invariant _ c.self.view_is)) ∙ c.requires.into_covered in
-    moves-within _ _ _ _ c.self.invariant _ c.self.view_is (after_merge c.args.from c.args.into c.args.base c.args.parent c.args.index) c.requires.fit (λ p. merge-node c.args.from c.args.into c.args.base c.args.parent c.args.index _ p w) c.args.from
-
-pub invariant_of-self : goal.invariant_of-self
-invariant_of-self c = order-shifted _ _ _ _ c.self.invariant (after_merge c.args.from c.args.into c.args.base c.args.parent c.args.index) _ _ c.shift_both.ensures.points c.shift_both.ensures.chains
+pub shift_both-requires-else-eq-clause-within : goal.shift_both-requires-else-eq-clause-within
+shift_both-requires-else-eq-clause-within c =
+    can-move c.sound.ensures.fit c.self.inside.chains c.self.invariant _ c.self.view_is c.sound-2.ensures.covered (after_merge c.args.from c.args.into c.args.base c.args.parent c.args.index) c.requires.fit
+    (λ p. merge-node c.args.from c.args.into c.args.base c.args.parent c.args.index _ p (ap (λ (v : RangeTable). covers v.covered c.args.into) c.self.view_is ∙ c.requires.into_covered))
 
 pub returns-then-eq : goal.returns-then-eq
-returns-then-eq c = view-shifted _ _ _ _ c.self.invariant (after_merge c.args.from c.args.into c.args.base c.args.parent c.args.index) _ _ c.shift_both.ensures.points c.shift_both.ensures.chains _ c.self.view_is c.shift_both.ensures.covered
-
-pub invariant_of-self-else-eq : goal.invariant_of-self-else-eq
-invariant_of-self-else-eq c = order-shifted _ _ _ _ c.self.invariant (after_merge c.args.from c.args.into c.args.base c.args.parent c.args.index) _ _ c.shift_both-else-eq.ensures.points c.shift_both-else-eq.ensures.chains
+returns-then-eq c =
+    let g = after_merge c.args.from c.args.into c.args.base c.args.parent c.args.index in
+    table-moved c.self.inside.slots.slots c.self.inside.chains _ c.self.view_is g (moved_end g) (λ end. refl) c.shift_both.new.ends c.shift_both.ensures
 
 pub returns-else-eq : goal.returns-else-eq
-returns-else-eq c = view-shifted _ _ _ _ c.self.invariant (after_merge c.args.from c.args.into c.args.base c.args.parent c.args.index) _ _ c.shift_both-else-eq.ensures.points c.shift_both-else-eq.ensures.chains _ c.self.view_is c.shift_both-else-eq.ensures.covered
+returns-else-eq c =
+    let g = after_merge c.args.from c.args.into c.args.base c.args.parent c.args.index in
+    table-moved c.self.inside.slots.slots c.self.inside.chains _ c.self.view_is g (moved_end g) (λ end. refl) c.shift_both-else-eq.new.ends c.shift_both-else-eq.ensures

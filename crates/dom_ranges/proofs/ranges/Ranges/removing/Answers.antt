@@ -2,7 +2,7 @@
 use Rattle.std.proofs.Common.{sym, ap, ◌∙◌}
 use Rattle.dom_model.specs.Definitions.{inclusive_descendants, parent_of, index_of, after_splice, map_ranges}
 use Rattle.dom_ranges.specs.Tables.{moved_in}
-use Rattle.dom_ranges.proofs.Inside.{still-removed, idle-removed, closed-removed, gathered-removed, if-each, if-some}
+use Rattle.dom_ranges.proofs.Inside.{closed-fit, still-removed, idle-removed, closed-removed, gathered-removed, if-each, if-some}
 use Rattle.dom_ranges.proofs.ranges.Ranges.removing.Goals as goal
 
 pub returns-then-is_idle : goal.returns-then-is_idle
@@ -21,13 +21,16 @@ returns-then-inside g c =
     let i = c.index-index.ensures in
     if-some _ _ c.unwrap-parent.result (sym c.parent.ensures ∙ c.unwrap-parent.ensures)
     (gathered-removed c.args.self.now (inclusive_descendants c.args.tree.now.forest c.args.node) c.unwrap-parent.result (index_of c.args.tree.now.forest c.args.node)
-    c.close_up.new.self c.gather.new.self
-    (c.close_up.ensures ∙ ap (λ n. record c.args.self.now { ranges = map_ranges (after_splice c.unwrap-parent.result n 1 0) c.args.self.now.ranges }) i)
-    (c.gather.ensures ∙ ap (λ n. record c.close_up.new.self { ranges = map_ranges (moved_in (inclusive_descendants c.args.tree.now.forest c.args.node) (record { node = c.unwrap-parent.result; offset = n })) c.close_up.new.self.ranges }) i))
+    c.spliced.new.self c.gather.new.self
+    (c.spliced.ensures ∙ ap (λ n. record c.args.self.now { ranges = map_ranges (after_splice c.unwrap-parent.result n 1 0) c.args.self.now.ranges }) i)
+    (c.gather.ensures ∙ ap (λ n. record c.spliced.new.self { ranges = map_ranges (moved_in (inclusive_descendants c.args.tree.now.forest c.args.node) (record { node = c.unwrap-parent.result; offset = n })) c.spliced.new.self.ranges }) i))
 
 pub returns-else-inside : goal.returns-else-inside
 returns-else-inside g c =
     if-some _ _ c.unwrap-parent.result (sym c.parent.ensures ∙ c.unwrap-parent.ensures)
     (closed-removed c.args.self.now (inclusive_descendants c.args.tree.now.forest c.args.node) c.unwrap-parent.result (index_of c.args.tree.now.forest c.args.node)
-    c.close_up.new.self (sym c.refers_within-inside.ensures ∙ c.if-inside.false)
-    (c.close_up.ensures ∙ ap (λ n. record c.args.self.now { ranges = map_ranges (after_splice c.unwrap-parent.result n 1 0) c.args.self.now.ranges }) c.index-index.ensures))
+    c.spliced.new.self (sym c.refers_within-inside.ensures ∙ c.if-inside.false)
+    (c.spliced.ensures ∙ ap (λ n. record c.args.self.now { ranges = map_ranges (after_splice c.unwrap-parent.result n 1 0) c.args.self.now.ranges }) c.index-index.ensures))
+
+pub spliced-requires : goal.spliced-requires
+spliced-requires g c = closed-fit c.unwrap-parent.result c.index-index.result c.args.self.now.ranges

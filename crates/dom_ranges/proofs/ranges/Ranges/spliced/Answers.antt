@@ -1,18 +1,18 @@
 use Rattle.std.proofs.Common.{◌∙◌}
 use Rattle.dom_model.specs.Definitions.{after_splice}
-use Rattle.dom_ranges.specs.Chained.{points_of, on_node}
-use Rattle.dom_ranges.proofs.Moving.{point-fits, point-covered, order-shifted, view-shifted, map-same, splice-elsewhere}
-use Rattle.dom_ranges.proofs.ranges.Ranges.spliced.Goals as goal
 use Rattle.dom_model.proofs.TokenText.Contents.ExtractedAsDeleted.{splice-node}
+use Rattle.dom_chains.specs.Keyed.{on_key}
+use Rattle.dom_ranges.specs.{Ends.moved_end, Ends.point_of}
+use Rattle.dom_ranges.proofs.{Moving.on_key-point, Moving.splice-elsewhere, Tables.can-move, Tables.table-moved}
+use Rattle.dom_ranges.proofs.ranges.Ranges.spliced.Goals as goal
 
-pub shift-requires-clause-within : goal.shift-requires-clause-within
-shift-requires-clause-within c e p at there =
-    (point-fits _ _ _ _ c.self.invariant _ c.self.view_is (after_splice c.args.node c.args.at c.args.count c.args.added) c.requires e p at, rw (splice-node c.args.node c.args.at c.args.count c.args.added p) (point-covered _ _ _ _ c.self.invariant _ c.self.view_is e p at))
-
-pub invariant_of-self : goal.invariant_of-self
-invariant_of-self c = order-shifted _ _ _ _ c.self.invariant (on_node c.args.node (after_splice c.args.node c.args.at c.args.count c.args.added)) _ _ c.shift.ensures.points c.shift.ensures.chains
+pub shift-requires : goal.shift-requires
+shift-requires c =
+    let g = after_splice c.args.node c.args.at c.args.count c.args.added in
+    can-move c.sound.ensures.fit c.self.inside.chains c.self.invariant _ c.self.view_is c.sound-2.ensures.covered g c.requires (λ p held. rw (splice-node c.args.node c.args.at c.args.count c.args.added p) held) c.args.node
 
 pub returns : goal.returns
 returns c =
-    let all = c.shift.ensures.points ∙ map-same (on_node c.args.node (after_splice c.args.node c.args.at c.args.count c.args.added)) (after_splice c.args.node c.args.at c.args.count c.args.added) (λ p. splice-elsewhere c.args.node c.args.at c.args.count c.args.added p) (points_of c.self.inside.chains.table.items) in
-    view-shifted _ _ _ _ c.self.invariant (after_splice c.args.node c.args.at c.args.count c.args.added) _ _ all c.shift.ensures.chains _ c.self.view_is c.shift.ensures.covered
+    let g = after_splice c.args.node c.args.at c.args.count c.args.added in
+    table-moved c.self.inside.slots.slots c.self.inside.chains _ c.self.view_is g (on_key c.args.node (moved_end g))
+    (λ end. on_key-point c.args.node g end ∙ splice-elsewhere c.args.node c.args.at c.args.count c.args.added (point_of end)) c.shift.new.ends c.shift.ensures

@@ -1,34 +1,43 @@
-use Rattle.std.proofs.Common.{refl, sym, ap, ◌∙◌}
-use Rattle.dom_ranges.specs.Chained.{covers, point_at, moved_from}
-use Rattle.dom_ranges.proofs.{Steps.has-after, Slots.slot-read, Pairs.first-live, Pairs.second-kept, Pairs.covered-is, Making.kept-written, Making.view-written}
+use Rattle.std.proofs.Common.{◌*◌, length, is_some, ap, sym, ◌∙◌, arith, length-set}
+use Rattle.dom_chains.specs.Keyed.{Keyed}
+use Rattle.dom_slots.specs.Slotted.{slot_at}
+use Rattle.dom_slots.proofs.Entries.{has_slot}
+use Rattle.dom_ranges.specs.{Ends.end_at, Ends.paired, Tables.RangeTable, Tables.range_in}
+use Rattle.dom_ranges.proofs.Tables.{end-within, long-set, table-set}
 use Rattle.dom_ranges.proofs.ranges.Ranges.write.Goals as goal
 
-pub place-requires-clause-live : goal.place-requires-clause-live
-place-requires-clause-live c =
-    let slot = slot-read c.self.inside.slots.items c.args.r _ _ c.slot_of.ensures c.unwrap-slot.ensures in
-    first-live _ _ _ _ c.self.invariant _ c.self.view_is _ _ slot _ _ c.start.ensures refl
+pub unwrap-slot-requires : goal.unwrap-slot-requires
+unwrap-slot-requires c =
+    ap is_some (c.slot.ensures ∙ ap (slot_at c.self.inside.slots.slots) c.number.ensures)
+    ∙ has_slot c.self.inside.slots.slots (paired c.self.inside.chains.items) c.args.r (ap (λ (v : RangeTable). is_some (range_in v c.args.r)) c.self.view_is ∙ c.requires.held)
 
-pub place-requires-2-clause-live : goal.place-requires-2-clause-live
-place-requires-2-clause-live c =
-    let slot = slot-read c.self.inside.slots.items c.args.r _ _ c.slot_of.ensures c.unwrap-slot.ensures in
-    second-kept _ _ _ _ c.self.invariant _ c.self.view_is _ _ slot _ _ c.start.ensures c.end.ensures _ _ c.place.ensures.points
+pub overflow_mul-first : goal.overflow_mul-first
+overflow_mul-first c =
+    omega (arith, end-within c.sound.ensures.fit c.self.inside.chains c.self.invariant _ c.self.view_is c.number.result c.unwrap-slot.result (sym c.slot.ensures ∙ c.unwrap-slot.ensures), c.sound-2.ensures.few)
 
-pub place-requires-clause-covered : goal.place-requires-clause-covered
-place-requires-clause-covered c = ap (λ cs. covers cs c.args.start.node) (sym (covered-is _ _ _ _ c.self.invariant _ c.self.view_is)) ∙ c.requires.start_covered
+pub overflow_add-first : goal.overflow_add-first
+overflow_add-first c =
+    omega (arith, end-within c.sound.ensures.fit c.self.inside.chains c.self.invariant _ c.self.view_is c.number.result c.unwrap-slot.result (sym c.slot.ensures ∙ c.unwrap-slot.ensures), c.sound-2.ensures.few)
 
-pub place-requires-2-clause-covered : goal.place-requires-2-clause-covered
-place-requires-2-clause-covered c = ap (λ cs. covers cs c.args.end.node) (c.place.ensures.covered ∙ sym (covered-is _ _ _ _ c.self.invariant _ c.self.view_is)) ∙ c.requires.end_covered
+pub place-requires-clause-within : goal.place-requires-clause-within
+place-requires-clause-within c = omega (arith, end-within c.sound.ensures.fit c.self.inside.chains c.self.invariant _ c.self.view_is c.number.result c.unwrap-slot.result (sym c.slot.ensures ∙ c.unwrap-slot.ensures))
+
+pub place-requires-2-clause-within : goal.place-requires-2-clause-within
+place-requires-2-clause-within c =
+    omega (
+      arith,
+      end-within c.sound.ensures.fit c.self.inside.chains c.self.invariant _ c.self.view_is c.number.result c.unwrap-slot.result (sym c.slot.ensures ∙ c.unwrap-slot.ensures),
+      ap (λ (k : Keyed _). length k.items) c.place.ensures,
+      length-set c.self.inside.chains.items (2 * c.unwrap-slot.result) (end_at c.args.start),
+    )
 
 pub invariant_of-self : goal.invariant_of-self
 invariant_of-self c =
-    let slot = slot-read c.self.inside.slots.items c.args.r _ _ c.slot_of.ensures c.unwrap-slot.ensures in
-    let a = has-after (moved_from c.start.result (point_at c.self.inside.chains.table.items c.start.result) c.args.start.node) _ _ _ _ c.self.invariant.chains c.place.ensures.chains in
-    let b = has-after (moved_from c.end.result (point_at c.place.new.self.table.items c.end.result) c.args.end.node) _ _ _ _ a c.place-2.ensures.chains in
-    kept-written _ _ _ _ c.self.invariant _ c.self.view_is _ _ _ _ slot c.start.ensures c.end.ensures _ _ _ b c.args.start c.args.end c.place.ensures.points c.place-2.ensures.points
+    long-set c.sound.ensures.fit c.self.inside.chains c.self.invariant _ c.self.view_is c.number.result c.unwrap-slot.result (sym c.slot.ensures ∙ c.unwrap-slot.ensures) c.args.start c.args.end
+    c.place.new.ends c.place-2.new.ends c.place.ensures c.place-2.ensures
 
 pub returns : goal.returns
 returns c =
-    let slot = slot-read c.self.inside.slots.items c.args.r _ _ c.slot_of.ensures c.unwrap-slot.ensures in
-    let a = has-after (moved_from c.start.result (point_at c.self.inside.chains.table.items c.start.result) c.args.start.node) _ _ _ _ c.self.invariant.chains c.place.ensures.chains in
-    let b = has-after (moved_from c.end.result (point_at c.place.new.self.table.items c.end.result) c.args.end.node) _ _ _ _ a c.place-2.ensures.chains in
-    view-written _ _ _ _ c.self.invariant _ c.self.view_is _ _ _ _ slot c.start.ensures c.end.ensures _ _ _ b c.args.start c.args.end c.place.ensures.points c.place-2.ensures.points (c.place-2.ensures.covered ∙ c.place.ensures.covered)
+    table-set c.sound.ensures.fit c.self.inside.chains c.self.invariant _ c.self.view_is c.args.r c.unwrap-slot.result
+    (ap (slot_at c.self.inside.slots.slots) (sym c.number.ensures) ∙ sym c.slot.ensures ∙ c.unwrap-slot.ensures) c.args.start c.args.end
+    c.place.new.ends c.place-2.new.ends c.place.ensures c.place-2.ensures

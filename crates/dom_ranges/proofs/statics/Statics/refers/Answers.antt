@@ -15,6 +15,6 @@ pub returns-in-None : goal.returns-in-None
 returns-in-None g c =
     let inside = λ (m : ℕ). among m (inclusive_descendants c.args.tree.now.forest c.args.top) in
     c.refer.ensures
-    ∙ ap (λ (rs : List Range). list_any inside (flat_map nodes_of_range rs)) c.deref.ensures.value
-    ∙ any-by_slot inside nodes_of_range c.sound.ensures.fit c.self.inside.table.items c.self.invariant.long
+    ∙ ap (λ (rs : List Range). list_any inside (flat_map nodes_of_range rs)) c.items.ensures
+    ∙ any-by_slot inside nodes_of_range c.sound.ensures.slotted
     ∙ ap (λ (rs : List (Option Range)). list_any inside (flat_map (nodes_unless_released nodes_of_range) rs)) c.self.view_is

@@ -1,6 +1,6 @@
 use Rattle.std.proofs.Common.{◌≡◌, ◌-◌, Some, None, is_some, length, slice_index_or, slice_set, ap, sym, ◌∙◌, arith}
 use Rattle.dom_slots.specs.Slotted.{slot_at}
-use Rattle.dom_slots.proofs.{Fitting.slot_within, Fitting.mover_at, Steps.last_is, Steps.IsSlotted-released}
+use Rattle.dom_slots.proofs.{Fitting.slot_within, Fitting.mover_at, Steps.last_is, Steps.IsSlotTable-released}
 use Rattle.dom_slots.proofs.slots.Slots.release.Goals as goal
 
 pub overflow_sub-len : goal.overflow_sub-len
@@ -31,5 +31,5 @@ invariant_of-self c =
     let at : slot_at c.self.inside.slots.items c.args.number ≡ Some c.unwrap-slot.result = sym c.get.ensures ∙ c.unwrap-slot.ensures in
     let read : c.index-last.result.now ≡ slice_index_or c.self.inside.numbers.items (length c.self.inside.numbers.items - 1) c.index-last.result.now =
     c.index-last.ensures ∙ ap (λ n. slice_index_or c.self.inside.numbers.items (n - 1) c.index-last.result.now) (omega (arith, c.len.ensures, c.self.inside.numbers.ok)) in
-    IsSlotted-released c.self.invariant c.args.number c.unwrap-slot.result c.index-last.result.now at read c.swap_remove.result _ _
+    IsSlotTable-released c.self.invariant c.args.number c.unwrap-slot.result c.index-last.result.now at read c.swap_remove.result _ _
     (c.clear.ensures.items ∙ ap (λ os. slice_set os c.args.number None) c.set.ensures.items) c.swap_remove.ensures.items

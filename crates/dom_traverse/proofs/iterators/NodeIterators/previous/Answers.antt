@@ -1,24 +1,12 @@
--- The iterator in the slot of the number.
-use Rattle.std.proofs.Common.{◌≡◌}
-use Rattle.dom_model.specs.Definitions.{previous_found, moved_to_previous}
-use Rattle.dom_traverse.specs.Standing.{StandsInside}
-use Rattle.dom_traverse.proofs.BySlot.{has-slot, slot-within, entry-told, entry-known, entry-written, long-written}
+-- The iterator in the slot of the number; it waits from then on.
+use Rattle.std.proofs.Common.{true, ap, ◌∙◌}
+use Rattle.dom_model.specs.Definitions.{Iterator, previous_found}
+use Rattle.dom_model.proofs.Soundness.SoundTraversalSteps.{root-moved}
+use Rattle.dom_traverse.proofs.Found.{found-left}
 use Rattle.dom_traverse.proofs.iterators.NodeIterators.previous.Goals as goal
 
-pub slot_of-slot-requires : goal.slot_of-slot-requires
-slot_of-slot-requires g c = has-slot c.self.inside.slots.slots c.self.inside.iterators c.args.self.now c.self.view_is c.args.id c.number.result c.number.ensures c.requires.held
-
-pub previous-requires-clause-held : goal.previous-requires-clause-held
-previous-requires-clause-held g c = slot-within c.slot_of-slot.ensures.fit c.self.inside.iterators c.self.invariant c.args.self.now c.self.view_is c.args.id c.number.result c.slot_of-slot.result c.number.ensures c.slot_of-slot.ensures.slot
-
-pub previous-requires-clause-inside : goal.previous-requires-clause-inside
-previous-requires-clause-inside g c = entry-known c.slot_of-slot.ensures.fit c.self.inside.iterators c.self.invariant c.args.self.now c.self.view_is c.args.id c.number.result c.slot_of-slot.result c.number.ensures c.slot_of-slot.ensures.slot (StandsInside c.args.tree.now.forest) c.requires.inside
-
-pub invariant_of-self : goal.invariant_of-self
-invariant_of-self g c = long-written c.slot_of-slot.ensures.fit c.self.inside.iterators c.self.invariant c.args.self.now c.self.view_is c.args.id c.number.result c.slot_of-slot.result c.number.ensures c.slot_of-slot.ensures.slot (moved_to_previous c.args.tree.now.forest) c.previous.new.self c.previous.ensures.moved
-
-pub returns-clause-found : goal.returns-clause-found
-returns-clause-found g c = entry-told c.slot_of-slot.ensures.fit c.self.inside.iterators c.self.invariant c.args.self.now c.self.view_is c.args.id c.number.result c.slot_of-slot.result c.number.ensures c.slot_of-slot.ensures.slot (λ i. c.previous.result ≡ previous_found c.args.tree.now.forest i) c.previous.ensures.found
-
-pub returns-clause-moved : goal.returns-clause-moved
-returns-clause-moved g c = entry-written c.slot_of-slot.ensures.fit c.self.inside.iterators c.self.invariant c.args.self.now c.self.view_is c.args.id c.number.result c.slot_of-slot.result c.number.ensures c.slot_of-slot.ensures.slot (moved_to_previous c.args.tree.now.forest) c.previous.new.self c.previous.ensures.moved
+pub invariant_of-located : goal.invariant_of-located
+invariant_of-located g c =
+    found-left (λ (i : Iterator). i.root) (λ (i : Iterator). i.reference) c.located.inside.items.items c.located.inside.roots c.located.inside.whereabouts c.located.invariant c.slot_of-slot.result c.in_slot_mut-iterator.result.now c.previous-found.new.self
+    c.in_slot_mut-iterator.ensures.value
+    (ap (λ (i : Iterator). i.root) c.previous-found.ensures.moved ∙ root-moved true (previous_found c.args.tree.now.forest c.in_slot_mut-iterator.result.now) c.in_slot_mut-iterator.result.now) c.leave.new.self c.leave.ensures

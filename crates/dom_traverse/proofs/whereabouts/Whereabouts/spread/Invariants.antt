@@ -1,10 +1,11 @@
--- The items that were passed are spread.
-use Rattle.std.proofs.Common.{◌≡◌, take}
+-- The items that were passed are spread, and there is room for the others.
+use Rattle.std.proofs.Common.{◌≡◌, ◌+◌, ◌<◌, true, length, replicate, take}
 use Rattle.dom_traverse.specs.Whereabouts.{spread_over}
 use Rattle.dom_traverse.proofs.whereabouts.Whereabouts.spread.Given as goal
 
-abbrev pub invariant-loop-node : goal.invariant-loop-node
-invariant-loop-node l = record {
-  items : l.places.items ≡ spread_over l.count (take l.node-index l.self);
-  count : l.places.count ≡ l.count;
+abbrev pub invariant-loop-id : goal.invariant-loop-id
+invariant-loop-id l = record {
+  items : l.chains.items ≡ spread_over l.count (take l.id l.self);
+  covered : l.chains.covered ≡ replicate l.count true;
+  room : length l.self < l.chains.room + l.id;
 }

@@ -1,10 +1,14 @@
-use Rattle.std.proofs.Common.{length, ap, ◌∙◌, arith}
-use Rattle.dom_traverse.specs.Whereabouts.{place_of}
-use Rattle.dom_traverse.proofs.Spreading.{stands-there, spread-written}
+-- The item comes to the place of its node.
+use Rattle.std.proofs.Common.{set, ap, ◌∙◌}
+use Rattle.dom_traverse.specs.Whereabouts.{place_of, nodes_of, AreSpread}
+use Rattle.dom_traverse.proofs.{Spreading.spread-view, Spreading.spread-own, Spreading.spread-written, whereabouts.Whereabouts.write.Goals.After-place}
 use Rattle.dom_traverse.proofs.whereabouts.Whereabouts.write.Goals as goal
 
-pub place-requires-clause-stands : goal.place-requires-clause-stands
-place-requires-clause-stands c = stands-there c.self.inside.nodes.items c.self.inside.places c.self.invariant c.args.id (omega (arith, c.requires, ap length c.self.view_is))
+written : (c : After-place) → AreSpread (set (nodes_of c.self.inside.chains.items) c.args.id c.args.node) c.place.new.self
+written c = spread-written (nodes_of c.self.inside.chains.items) c.self.inside.chains c.self.invariant c.args.id c.args.node c.place_of-place.result c.place.new.self (c.place_of-place.ensures.place ∙ ap (λ k. place_of k c.args.node) c.key_count.ensures) c.place.ensures
 
 pub invariant_of-self : goal.invariant_of-self
-invariant_of-self c = spread-written c.self.inside.nodes.items c.self.inside.places c.self.invariant c.args.id c.args.node c.place_of-place.result c.place.new.self (c.place_of-place.ensures.place ∙ ap (λ k. place_of k c.args.node) c.count.ensures) c.place.ensures
+invariant_of-self c = spread-own _ c.place.new.self (written c)
+
+pub returns : goal.returns
+returns c = spread-view _ c.place.new.self (written c) ∙ ap (λ ns. set ns c.args.id c.args.node) c.self.view_is

@@ -1,0 +1,123 @@
+//! The first item of each key's chain.
+
+ghost use Rattle.std.specs.Prelude.{◌≡◌, ℕ, ◌-◌, ◌≤◌, ◌++◌, [], List, Option, Some, None, IsSome, IfOk, OnOk, OnErr, length, map, replicate, slice_set};
+ghost use Rattle.dom_pages.specs.Numbered.{item_at};
+
+use crate::link::{HeadCell, Link};
+use dom_pages::Pages;
+use std::alloc::{AllocError, Global};
+
+/// For each covered key the first item of its chain.
+pub trait Heads {
+    // by key the first item of its chain, nothing where the key is not covered
+    ghost by_key: { Self → List (Option (Option ℕ)) };
+
+    /// The first item of a key's chain; nothing where the key is not covered.
+    fn first(&self, key: u32) -> Option<Link>
+        ensures { result ≡ item_at (by_key self.now) key };
+
+    /// Writes the first item of a covered key's chain. It takes no memory.
+    fn begin(&mut self, key: u32, first: Link)
+        requires { IsSome (item_at (by_key self.old) key) }
+        ensures { by_key self.new ≡ slice_set (by_key self.old) key (Some first) };
+}
+
+/// Heads in pages: for keys that come in order, and are forgotten. A page whose keys were all forgotten gives its memory back.
+#[derive(Drop)]
+pub struct HeadsInPages {
+    heads: Pages<Link, HeadCell>,
+}
+
+impl Heads for HeadsInPages {
+    ghost by_key = { λ h. h.heads.items };
+
+    fn first(&self, key: u32) -> Option<Link> {
+        self.heads.get(key as usize)
+    }
+
+    fn begin(&mut self, key: u32, first: Link) {
+        self.heads.set(key as usize, first);
+    }
+}
+
+impl HeadsInPages {
+    pub(crate) fn new(alloc: Global) -> HeadsInPages
+        ensures { result.heads.items ≡ [] }
+    {
+        HeadsInPages {
+            heads: Pages::new(alloc),
+        }
+    }
+
+    /// Covers the keys below `made` of which it does not know yet.
+    pub(crate) fn cover(&mut self, made: u64) -> Result<(), AllocError>
+        requires { made ≤ 4294967295 }
+        ensures ok { OnOk result (self.new.heads.items ≡ self.old.heads.items
+            ++ replicate (made - length self.old.heads.items) (Some None)) }
+        ensures err { OnErr result (self.new.heads.items ≡ self.old.heads.items) }
+    {
+        let have = self.heads.len();
+        let need = made as usize;
+        if need <= have {
+            return Ok(());
+        }
+        self.heads.reserve(need - have)?;
+        for _key in have..need {
+            self.heads.push_reserved(Link::none());
+        }
+        Ok(())
+    }
+
+    /// Covers a key no more, if it ever was.
+    pub(crate) fn forget(&mut self, key: u32)
+        ensures { self.new.heads.items ≡ slice_set self.old.heads.items key None }
+    {
+        let index = key as usize;
+        if index < self.heads.len() {
+            self.heads.clear(index);
+        }
+    }
+}
+
+/// Heads in a list: for keys that are there from the beginning.
+#[derive(Drop)]
+pub struct HeadsInList {
+    heads: Vec<Link>,
+}
+
+impl Heads for HeadsInList {
+    ghost by_key = { λ h. map (λ first. Some first) h.heads.items };
+
+    fn first(&self, key: u32) -> Option<Link> {
+        self.heads.get(key as usize).copied()
+    }
+
+    fn begin(&mut self, key: u32, first: Link) {
+        self.heads[key as usize] = first;
+    }
+}
+
+impl HeadsInList {
+    pub(crate) fn new(alloc: Global) -> HeadsInList
+        ensures { result.heads.items ≡ [] }
+    {
+        HeadsInList {
+            heads: Vec::new(alloc),
+        }
+    }
+
+    /// So many keys, which no item has yet.
+    pub(crate) fn of(alloc: Global, count: usize) -> Result<HeadsInList, AllocError>
+        ensures { IfOk result (λ h. h.heads.items ≡ replicate count None) }
+    {
+        let heads = vec![in alloc; Link::none(); count]?;
+        Ok(HeadsInList { heads })
+    }
+
+    /// How many keys there are.
+    pub(crate) fn count(&self) -> usize
+        ensures { result ≡ length self.now.heads.items }
+    {
+        self.heads.len()
+    }
+}

@@ -1,0 +1,88 @@
+//! Links to items by their numbers, and what a table keeps for them.
+//!
+//! Each takes the room of a number alone: the highest ones, which no item has, stand for what is not there.
+
+ghost use Rattle.std.specs.Prelude.{◌≡◌, ◌<◌, ◌^◌, Some, None};
+ghost use Rattle.dom_chains.specs.Kept.{head_kept};
+
+use dom_pages::Cell;
+use std::marker::Model;
+
+const NOWHERE: usize = usize::MAX;
+
+const NOT_COVERED: usize = usize::MAX - 1;
+
+/// The number of an item, or none.
+#[derive(Clone, Copy)]
+pub struct Link {
+    index: usize,
+}
+
+impl Model for Link {
+    ghost use Rattle.std.specs.Prelude.{◌≡◌, ℕ, Option};
+    ghost use Rattle.dom_chains.specs.Kept.{link_kept, number_kept, number_kept-link_kept};
+
+    ghost Value = { Option ℕ };
+
+    ghost view = { λ l. link_kept l.index };
+
+    ghost invariant = { λ l. l.index ≡ 18446744073709551614 → ⊥ };
+
+    ghost inverse = { λ o. record { index = number_kept o } };
+
+    ghost inverse_ok = { λ l h i. record { index = number_kept-link_kept l.index i } };
+}
+
+impl Link {
+    /// Leads nowhere.
+    pub(crate) fn none() -> Link
+        ensures { result ≡ None }
+    {
+        Link { index: NOWHERE }
+    }
+
+    /// Leads to an item.
+    pub(crate) fn to(id: usize) -> Link
+        requires { id < 2 ^ 33 }
+        ensures { result ≡ Some id }
+    {
+        Link { index: id }
+    }
+
+    /// Where it leads.
+    pub(crate) fn get(self) -> Option<usize>
+        ensures { result ≡ self }
+    {
+        if self.index == NOWHERE {
+            None
+        } else {
+            Some(self.index)
+        }
+    }
+}
+
+/// The first link of a covered key, or none for a key that is not covered.
+#[derive(Clone, Copy)]
+pub(crate) struct HeadCell {
+    index: usize,
+}
+
+impl Cell<Link> for HeadCell {
+    ghost held = { λ cell. head_kept cell.index };
+
+    fn vacant() -> HeadCell {
+        HeadCell { index: NOT_COVERED }
+    }
+
+    fn of(item: Link) -> HeadCell {
+        HeadCell { index: item.index }
+    }
+
+    fn item(self) -> Option<Link> {
+        if self.index == NOT_COVERED {
+            None
+        } else {
+            Some(Link { index: self.index })
+        }
+    }
+}

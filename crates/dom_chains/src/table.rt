@@ -1,0 +1,127 @@
+//! Seats of items, which tell of each chain what lies on both sides of an item.
+
+ghost use Rattle.std.specs.Prelude.{◌≡◌, ◌<◌, true, length, slice_get, slice_set, Some};
+ghost use Rattle.dom_chains.specs.Keyed.{covers};
+ghost use Rattle.dom_chains.specs.Chained.{head_at, link_at, HasChains, Rechains, ForLink, led_on, led_back, keys_without, unchained, chained_first, moved, items_of, keys_in, keyed, links_of, AreChained};
+
+use crate::heads::Heads;
+use crate::link::Link;
+
+/// An item with its key, and the items before and after it in the chain of its key.
+#[derive(Clone, Copy, Drop)]
+pub(crate) struct Seat<T> {
+    pub(crate) key: u32,
+    pub(crate) item: T,
+    pub(crate) prev: Link,
+    pub(crate) next: Link,
+}
+
+/// The seats of all items, and for each covered key the first item of its chain.
+#[derive(Drop)]
+pub(crate) struct Table<T, H> {
+    pub(crate) seats: Vec<Seat<T>>,
+    pub(crate) heads: H,
+}
+
+impl<T: Copy, H: Heads> Table<T, H> {
+    /// The seat of an item.
+    pub(crate) fn seat(&self, id: usize) -> Seat<T>
+        requires { id < length (items_of self.now) }
+        ensures item { slice_get (items_of self.now) id ≡ Some (result.key, result.item) }
+        ensures prev { result.prev ≡ link_at (links_of H.by_key self.now).prevs id }
+        ensures next { result.next ≡ link_at (links_of H.by_key self.now).nexts id }
+    {
+        self.seats[id]
+    }
+
+    /// The first item of a key's chain.
+    pub(crate) fn head(&self, key: u32) -> Link
+        ensures { result ≡ head_at (H.by_key self.now.heads) key }
+    {
+        self.heads.first(key).unwrap_or(Link::none())
+    }
+
+    // What follows `prev` in the chain of a key becomes `next`.
+    fn lead_on(&mut self, prev: Link, key: u32, next: Link)
+        requires covered { covers (keyed H.by_key self.old).covered key ≡ true }
+        requires link { ForLink prev (length (links_of H.by_key self.old).nexts) }
+        ensures same { keyed H.by_key self.new ≡ keyed H.by_key self.old }
+        ensures links { links_of H.by_key self.new
+            ≡ led_on prev key next (links_of H.by_key self.old) }
+    {
+        match prev.get() {
+            Some(prev) => {
+                let seat = &mut self.seats[prev];
+                seat.next = next;
+            }
+            None => self.heads.begin(key, next),
+        }
+    }
+
+    // What comes before `next` becomes `prev`.
+    fn lead_back(&mut self, next: Link, prev: Link)
+        requires { ForLink next (length (links_of H.by_key self.old).prevs) }
+        ensures same { keyed H.by_key self.new ≡ keyed H.by_key self.old }
+        ensures links { links_of H.by_key self.new
+            ≡ led_back next prev (links_of H.by_key self.old) }
+    {
+        if let Some(next) = next.get() {
+            let seat = &mut self.seats[next];
+            seat.prev = prev;
+        }
+    }
+
+    /// Takes an item out of the chain of its key.
+    pub(crate) fn unlink(&mut self, id: usize)
+        requires within { id < length (items_of self.old) }
+        requires chains { AreChained H.by_key self.old }
+        ensures same { keyed H.by_key self.new ≡ keyed H.by_key self.old }
+        ensures chains { let keys = keys_in self.old in Rechains keys (keys_without id keys)
+            (unchained id) (links_of H.by_key self.old) (links_of H.by_key self.new) }
+    {
+        let seat = self.seat(id);
+        self.lead_on(seat.prev, seat.key, seat.next);
+        self.lead_back(seat.next, seat.prev);
+    }
+
+    /// Writes an item that is in no chain, first in that of its key.
+    pub(crate) fn link(&mut self, id: usize, key: u32, item: T)
+        requires within { id < length (items_of self.old) }
+        requires covered { covers (keyed H.by_key self.old).covered key ≡ true }
+        requires chains { HasChains (keys_without id (keys_in self.old))
+            (links_of H.by_key self.old) }
+        ensures view { let old = keyed H.by_key self.old in
+            keyed H.by_key self.new ≡ record old { items = slice_set old.items id (key, item) } }
+        ensures chains { Rechains (keys_without id (keys_in self.old)) (keys_in self.new)
+            (chained_first id key) (links_of H.by_key self.old) (links_of H.by_key self.new) }
+    {
+        let next = self.head(key);
+        self.lead_back(next, Link::to(id));
+        self.seats[id] = Seat {
+            key,
+            item,
+            prev: Link::none(),
+            next,
+        };
+        self.heads.begin(key, Link::to(id));
+    }
+
+    /// Writes an item with its key. It keeps its place in the chain where it has that key already, and comes first where it does not.
+    pub(crate) fn place(&mut self, id: usize, key: u32, item: T)
+        requires within { id < length (items_of self.old) }
+        requires covered { covers (keyed H.by_key self.old).covered key ≡ true }
+        requires chains { AreChained H.by_key self.old }
+        ensures view { let old = keyed H.by_key self.old in
+            keyed H.by_key self.new ≡ record old { items = slice_set old.items id (key, item) } }
+        ensures chains { let keys = keys_in self.old in Rechains keys (keys_in self.new)
+            (moved id (keys id) key) (links_of H.by_key self.old) (links_of H.by_key self.new) }
+    {
+        if self.seat(id).key == key {
+            let seat = &mut self.seats[id];
+            seat.item = item;
+        } else {
+            self.unlink(id);
+            self.link(id, key, item);
+        }
+    }
+}

@@ -1,0 +1,6 @@
+use Rattle.std.proofs.Common.{subst}
+use Rattle.dom_observe.specs.Kept.{AreRegistered}
+use Rattle.dom_observe.proofs.registrations.Registrations.sound.Goals as goal
+
+pub returns : goal.returns
+returns c = subst AreRegistered c.self.view_is c.self.invariant

@@ -1,0 +1,194 @@
+//! Items by number, found by their roots and by where they stand.
+
+ghost use Rattle.std.specs.Prelude.{◌≡◌, ◌<◌, [], ◌∷◌, ◌++◌, length, slice_get, slice_set, count_by, Some, IsSome, is_some, IfOk, OnOk, OnErr};
+ghost use Rattle.std.specs.List.{list_any, flat_map};
+ghost use Rattle.dom_model.specs.PlainLists.Lists.{among};
+ghost use Rattle.dom_model.specs.Forests.Forest.{HasNode, inclusive_descendants};
+ghost use Rattle.dom_model.specs.MutationAlgorithms.Discarding.{nodes_unless_released};
+ghost use Rattle.dom_slots.specs.Slotted.{by_slot};
+ghost use Rattle.dom_traverse.specs.Naming.{named_by};
+ghost use Rattle.dom_traverse.specs.Standing.{item_in, released};
+ghost use Rattle.dom_traverse.specs.Whereabouts.{all_standing, StandOrWait};
+
+use crate::naming::{name, names_inside, unname};
+use crate::standing::{Standing, stands_in};
+use crate::whereabouts::Whereabouts;
+use dom_slots::Slotted;
+use dom_tree::{NodeId, Tree};
+use indexmap::IndexMap;
+use std::alloc::{AllocError, Global};
+use std::marker::Model;
+
+// Items that have numbers, each with a root and a node at which it stands. One that leaves its node waits until someone asks which stand inside
+// a node.
+#[derive(Drop)]
+pub(crate) struct Located<T: Standing> {
+    pub(crate) items: Slotted<T>,
+    // by slot where each stands, unless it waits
+    pub(crate) whereabouts: Whereabouts,
+    // how many have a node as their root, by its number
+    roots: IndexMap<u32, u32>,
+}
+
+impl<T: Standing> Model for Located<T> {
+    ghost use Rattle.std.specs.Prelude.{List, Option};
+    ghost use Rattle.std.specs.Coded.{coded_list, coded_option};
+    ghost use Rattle.dom_slots.specs.Slotted.{by_slot};
+    ghost use Rattle.dom_traverse.specs.Naming.{AreFound};
+
+    ghost Value = { List (Option T) };
+
+    ghost coded = { coded_list (coded_option T.code) };
+
+    ghost view = { λ l. by_slot l.items.slots l.items.items };
+
+    ghost invariant = { λ l. AreFound T.root_of T.node_of l.items.items l.roots l.whereabouts };
+}
+
+// The slot of an item, where it is read and written.
+pub(crate) fn slot_of<T>(items: &Slotted<T>, number: u32) -> usize
+    requires { IsSome (item_in (by_slot items.now.slots items.now.items) number) }
+    ensures within { result < length items.now.items }
+    ensures read { item_in (by_slot items.now.slots items.now.items) number
+        ≡ slice_get items.now.items result }
+    ensures written { (x : T) → by_slot items.now.slots (slice_set items.now.items result x)
+        ≡ slice_set (by_slot items.now.slots items.now.items) number (Some x) }
+{
+    items.sound();
+    items.slot(number).unwrap()
+}
+
+// Those that wait come to stand at their nodes.
+pub(crate) fn catch_up<T: Standing>(items: &[T], whereabouts: &mut Whereabouts)
+    requires { StandOrWait T.node_of items.now whereabouts.old }
+    ensures { whereabouts.new ≡ all_standing T.node_of items.now }
+{
+    while let Some(slot) = whereabouts.waiting() {
+        let item = &items[slot];
+        whereabouts.set(slot, item.node());
+    }
+}
+
+impl<T: Standing> Located<T> {
+    // No items.
+    pub(crate) fn new(alloc: Global) -> Located<T>
+        ensures { result ≡ [] }
+    {
+        Located {
+            items: Slotted::new(alloc),
+            whereabouts: Whereabouts::new(alloc),
+            roots: IndexMap::new(alloc),
+        }
+    }
+
+    // By what it takes memory.
+    pub(crate) fn allocator(&self) -> Global {
+        *self.roots.allocator()
+    }
+
+    // Adds an item that stands at its root, with the next number.
+    pub(crate) fn add(&mut self, item: T) -> Result<u32, AllocError>
+        requires room { length self.old < 4294967295 }
+        requires stands { T.node_of item ≡ T.root_of item }
+        ensures number { IfOk result (λ number. number ≡ length self.old) }
+        ensures added { OnOk result (self.new ≡ self.old ++ Some item ∷ []) }
+        ensures unchanged { OnErr result (self.new ≡ self.old) }
+    {
+        let alloc = self.allocator();
+        let root = item.root();
+        self.items.sound();
+        self.items.reserve(1)?;
+        self.roots.reserve(1)?;
+        self.whereabouts.add(alloc, root)?;
+        name(&mut self.roots, root);
+        Ok(self.items.push_reserved(item))
+    }
+
+    // How many numbers were given out.
+    pub(crate) fn made(&self) -> u64
+        ensures { result ≡ length self.now }
+    {
+        self.items.made()
+    }
+
+    // How many items there are.
+    pub(crate) fn count(&self) -> usize
+        ensures { result ≡ count_by is_some self.now }
+    {
+        self.items.count()
+    }
+
+    // Whether there is an item of a number.
+    pub(crate) fn holds(&self, number: u32) -> bool
+        ensures { result ≡ is_some (item_in self.now number) }
+    {
+        self.items.holds(number)
+    }
+
+    // An item.
+    pub(crate) fn get(&self, number: u32) -> &T
+        requires { IsSome (item_in self.now number) }
+        ensures { item_in self.now number ≡ Some result.now }
+    {
+        self.items.get(number).unwrap()
+    }
+
+    // Takes an item out. It names no node any more.
+    pub(crate) fn release(&mut self, number: u32)
+        requires { IsSome (item_in self.old number) }
+        ensures { self.new ≡ released number self.old }
+    {
+        let (slot, item) = self.items.release(number);
+        self.whereabouts.swap_remove(slot);
+        unname(&mut self.roots, item.root());
+    }
+
+    // Those that wait come to stand at their nodes.
+    pub(crate) fn catch_up(&mut self)
+        ensures { self.new ≡ self.old }
+    {
+        catch_up(self.items.items(), &mut self.whereabouts);
+    }
+
+    // The root or the node of an item, one after the other of each; none past the last.
+    fn named(&self, index: usize) -> Option<NodeId> {
+        let item = self.items.items().get(index / 2)?;
+        Some(if index % 2 == 0 {
+            item.root()
+        } else {
+            item.node()
+        })
+    }
+
+    // Whether some item has its root or its node among the inclusive descendants of a node. It walks the nodes inside, or climbs from each item
+    // where that takes fewer steps, or where one waits.
+    pub(crate) fn refers<X>(&self, tree: &Tree<X>, top: NodeId) -> bool
+        requires { HasNode tree.now.forest top }
+        ensures { result ≡ list_any (λ m. among m (inclusive_descendants tree.now.forest top))
+            (flat_map (nodes_unless_released (named_by T.root_of T.node_of)) self.now) }
+    {
+        self.items.sound();
+        if self.whereabouts.waiting().is_some() {
+            return refer(self.items.items(), tree, top);
+        }
+        let steps = tree.steps_inside(top, |index| self.named(index));
+        match names_inside(&self.roots, &self.whereabouts, tree, top, steps) {
+            Some(answer) => answer,
+            None => refer(self.items.items(), tree, top),
+        }
+    }
+}
+
+// The same, by each item there is.
+fn refer<T: Standing, X>(items: &[T], tree: &Tree<X>, top: NodeId) -> bool
+    requires { HasNode tree.now.forest top }
+    ensures { result ≡ list_any (λ m. among m (inclusive_descendants tree.now.forest top))
+        (flat_map (named_by T.root_of T.node_of) items.now) }
+{
+    for item in items {
+        if stands_in(item, tree, top) {
+            return true;
+        }
+    }
+    false
+}
