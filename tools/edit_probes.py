@@ -29,8 +29,6 @@ TACTICS = """    first_of (
 TACTICS_USED = ("use borrow.Author.Rules as own-rules", "use native.Mathlib.Omega as own-omega", "use Rattle.std.proofs.lemmas.Grind as own-grind")
 # What a check says of a function without a proof.
 LOST = ("not proved", "no proof")
-# What it says of a stub.
-HOLE_TOLD = "depends on a hole"
 # How a tactic says that it found no proof.
 UNFOUND = re.compile(r"`(?:search|grind|omega)`")
 # Attributes of functions that other code than the crate's calls, or whose proofs are not their own; and of tactics with lemmas of their own.
@@ -119,8 +117,7 @@ class Probes(edit_twins.Twins):
     def lost(self, said):
         """Returns the twins that say no goal and have no proof, each with what the check tells of it; a call of a stub is no reason."""
         told = [(it, said.functions.get(it.named().path())) for it in self.made if not it.edit.meant]
-        is_stub = lambda name: name in said.functions and said.functions[name].kind == HOLE_TOLD
-        return [(it, found) for it, found in told if found and found.kind in LOST and all(map(is_stub, found.calls))]
+        return [(it, found) for it, found in told if found and found.kind in LOST and said.calls_stubs(found)]
 
     def unproved(self, said):
         """Returns those of which the check does not say that their goal has a proof; a goal that a function has with its edit alone counts for none."""
@@ -144,9 +141,16 @@ class Probes(edit_twins.Twins):
 
     def lay(self, to, left_out=()):
         at = super().lay(to, left_out)
-        for path in glob.glob(f"{to}/src/**/*.rt", recursive=True):
-            self.stub_all(to, os.path.relpath(path, to))
+        self.stub_all(to, ())
         return at
+
+    def lay_placed(self, to, edits):
+        """Lays a copy of the crate with edits in their places, and stubs for all functions that these neither change nor are meant to meet."""
+        super().lay(to)
+        for file, text in edit_files.texts_of(edits, self.folder).items():
+            with open(f"{to}/{file}", "w", encoding="utf-8") as it:
+                it.write(text)
+        self.stub_all(to, {it.meant.rpartition(": ")[0] for it in edits} | {owner.path() for it in edits for owner in it.owners if owner})
 
     def lay_proof(self, to, twin):
         super().lay_proof(to, twin)
@@ -171,16 +175,21 @@ class Probes(edit_twins.Twins):
             rest += [f"pub {goal} : goal.{goal}", f"{goal} {'g c' if is_generic(lines, twin.owner) else 'c'} =\n{TACTICS}"]
         return "\n".join([*uses, "", *rest]) + "\n"
 
-    def stub_all(self, to, file):
-        """Leaves of each function of a source but the probes its contract, and a hole for its proof. Each line keeps its number."""
-        lines = edit_files.read_file(f"{to}/{file}").split("\n")
-        for owner in {it for it in edit_files.owners_of(lines, file, edit_files.homes_of(self.folder)) if it}:
-            body = self.body_to_stub(lines, owner)
-            if body:
-                lines[body[0] : body[1] + 1] = [f"{lines[body[0]]} loop {{}} }}", *[""] * (body[1] - body[0])]
-                self.lay_hole(to, owner)
-        with open(f"{to}/{file}", "w", encoding="utf-8") as it:
-            it.write("\n".join(lines))
+    def stub_all(self, to, kept):
+        """Leaves of each function but the twins and those of these names its contract, and a hole for its proof."""
+        for path in glob.glob(f"{to}/src/**/*.rt", recursive=True):
+            lines, file = edit_files.read_file(path).split("\n"), os.path.relpath(path, to)
+            for owner in {it for it in edit_files.owners_of(lines, file, edit_files.homes_of(self.folder)) if it and it.path() not in kept}:
+                self.stub(to, lines, owner)
+            with open(path, "w", encoding="utf-8") as it:
+                it.write("\n".join(lines))
+
+    def stub(self, to, lines, owner):
+        """Leaves a function's contract of it, where that may be. Each line keeps its number."""
+        body = self.body_to_stub(lines, owner)
+        if body:
+            lines[body[0] : body[1] + 1] = [f"{lines[body[0]]} loop {{}} }}", *[""] * (body[1] - body[0])]
+            self.lay_hole(to, owner)
 
     def body_to_stub(self, lines, owner):
         """Returns the first and the last line of a function's body that may be left out, or None."""

@@ -4,8 +4,10 @@ import re
 
 from edit_files import joined
 
+# What a check says of a function whose proof is a hole, or cites one.
+HOLE = "depends on a hole"
 # A line of a crate's function; one on an error in a proof's file; one on an error in the source, which reaches no prover.
-OF_FUNCTION = re.compile(r"(?:fn|impl) (.+?): (proved|not proved|no proof|could not tell|no holes|depends on a hole)\b(.*)")
+OF_FUNCTION = re.compile(rf"(?:fn|impl) (.+?): (proved|not proved|no proof|could not tell|no holes|{HOLE})\b(.*)")
 OF_PROOF = re.compile(r"(?:\./)?proofs/(\S+)/(?:Answers|Invariants|Proof)\.antt:\d+:\d+: error: (?:`([^`]*)`: )?(.*)")
 OF_SOURCE = re.compile(r"(?:\./)?(src/\S+?):(\d+):\d+: error\[([\w-]+)\]: (.*)")
 SEARCHED = re.compile(r"did not prove ((?:`[^`]*`(?:, | and )?)+)")
@@ -52,6 +54,10 @@ class Said:
 
     def of(self, name):
         return self.functions.setdefault(name, Told())
+
+    def calls_stubs(self, told):
+        """Returns whether a function waits for none but those whose proof is a hole."""
+        return all(it in self.functions and self.functions[it].kind == HOLE for it in told.calls)
 
     @property
     def has_judged(self):

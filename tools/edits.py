@@ -243,14 +243,21 @@ class Trial:
         groups = self.meant_groups()
         for group in groups:
             functions = {it.path: it.meant.rpartition(": ")[0] for it in group}
-            only = [word for name in sorted({*functions.values()}) for word in ("--only", name)]
-            ran = self.rt.checked(self.crate, edit_files.texts_of(group, self.crate.folder), ["--jobs", str(jobs), *only], self.work)
-            said = edit_told.read(self.crate.name, ran.stdout)
+            said = self.check_placed(group, sorted({*functions.values()}), jobs)
             for edit in group if said.has_judged else ():
                 told = said.functions.get(functions[edit.path])
-                if told and told.is_refused and not told.calls:
+                if told and told.is_refused and said.calls_stubs(told):
                     self.settle(edit, Outcome(REFUSED, functions[edit.path], told.goals))
         return len(groups)
+
+    def check_placed(self, edits, names, jobs):
+        """Checks functions of a copy of the crate with edits in their places, over stubs; returns what it said."""
+        with tempfile.TemporaryDirectory(prefix=f"rt-placed-{os.getpid()}-") as room:
+            edit_probes.Probes(self.crate.name, self.crate.folder, []).lay_placed(room, edits)
+            crate = copy.copy(self.crate)
+            crate.folder = room
+            ran = self.rt.checked(crate, {}, ["--jobs", str(jobs), *(word for it in names for word in ("--only", it)), "--allow-holes"], None)
+        return edit_told.read(self.crate.name, ran.stdout)
 
     def spoiled(self, group, said):
         """Settles those of a group whose check ended before it judged: the edits at whose functions it found a fault, or one of them that is then alone."""
