@@ -2,7 +2,7 @@
 
 ghost use Rattle.std.specs.Prelude.{◌≡◌, ℕ, List, Ok, Result};
 ghost use Rattle.dom_model.specs.declared.Move.{Move as AMove};
-ghost use Rattle.dom_model.specs.Commands.Command.{Command as PlainCommand, CreateElement, CreateText, NextNode, PreviousNode, Walk};
+ghost use Rattle.dom_model.specs.Commands.Command.{Command as PlainCommand, CreateElement, CreateText, NextNode, PreviousNode, Walk, HasAttribute};
 ghost use Rattle.dom_session.specs.Brief.{reply_of};
 ghost use Rattle.dom_session.specs.Views.{making_view, editing_view};
 ghost use Rattle.dom_wire.specs.Sessions.{command_view, reply_view};
@@ -157,6 +157,20 @@ impl Kept {
         }
     }
 
+    // Tells whether an element has an attribute, and keeps the reply.
+    fn ask_attribute(&mut self, element: NodeId, name: &str) -> u8
+        ensures { Steps (step_for self.old (Ok (HasAttribute element name.now))) self.old self.new
+            result }
+    {
+        if self.ended {
+            return HP_OUT_OF_MEMORY;
+        }
+        match self.session.has_attribute(element, name) {
+            Ok(reply) => self.keep(reply),
+            Err(Ended) => self.end(),
+        }
+    }
+
     // Says what is wrong with arguments. Memory that was wanting ends the session.
     fn refuse(&mut self, fault: Fault) -> u8
         ensures { (c : Result PlainCommand ℕ) → IsFaultOf fault c →
@@ -227,6 +241,19 @@ impl Kept {
     {
         match direction {
             Ok(direction) => self.move_walker(walker, direction),
+            Err(fault) => self.refuse(fault),
+        }
+    }
+
+    /// Tells whether an element has an attribute of a name that was read, or says what is wrong
+    /// with it.
+    pub(crate) fn has_attribute(&mut self, element: NodeId, name: Result<&str, Fault>) -> u8
+        ensures { (c : Result (List ℕ) ℕ) → Reads (λ name. name.now) name.entry c →
+            Steps (step_for self.old (then_make c (λ name. Ok (HasAttribute element name))))
+            self.old self.new result }
+    {
+        match name {
+            Ok(name) => self.ask_attribute(element, name),
             Err(fault) => self.refuse(fault),
         }
     }

@@ -9,7 +9,7 @@ ghost use Rattle.dom_c.specs.Told.{told, flag_told};
 
 use crate::fault::Fault;
 use crate::handle::Handle;
-use crate::reading::{choice_of, name_of, units_of};
+use crate::reading::{choice_of, lent_name, name_of, units_of};
 use dom_session::{Attributes, NodeId};
 use dom_wire::Command;
 use std::alloc::Global;
@@ -67,20 +67,10 @@ pub extern "C" fn hp_get_attribute(
     handle.take(read_get_attribute(alloc, element, name))
 }
 
-// Reads the arguments of `hp_has_attribute`.
-fn read_has_attribute(alloc: Global, element: u32, name: &[u8]) -> Result<Command, Fault>
-    ensures { Reads command_view result
-        (then_make (name_in name.now) (λ name. Ok (HasAttribute element name))) }
-{
-    let name = name_of(alloc, name)?;
-    Ok(Command::Attributes(Attributes::HasAttribute(NodeId::new(element), name)))
-}
-
 /// Whether there is an attribute of that name.
 #[unsafe(no_mangle)]
 pub extern "C" fn hp_has_attribute(
     handle: &mut Handle,
-    alloc: Global,
     element: u32,
     name: &[u8],
     is_there: &mut u8,
@@ -89,7 +79,7 @@ pub extern "C" fn hp_has_attribute(
         (then_make (name_in name.now) (λ name. Ok (HasAttribute element name))) result }
     ensures told { is_there.new ≡ flag_told (told handle.new result) is_there.old }
 {
-    handle.take_flag(read_has_attribute(alloc, element, name), is_there)
+    handle.has_attribute(NodeId::new(element), lent_name(name), is_there)
 }
 
 // Reads the arguments of `hp_remove_attribute`.

@@ -120,8 +120,8 @@ impl Kept {
         }
     }
 
-    // Writes a yes or a no: 1 or 0.
-    fn write_flag(&self, status: u8, flag: &mut u8)
+    /// Writes a yes or a no: 1 or 0.
+    pub(crate) fn write_flag(&self, status: u8, flag: &mut u8)
         ensures { flag.new ≡ flag_told (told_of self.now status) flag.old }
     {
         if status == HP_OK

@@ -12,7 +12,7 @@ use crate::table::{Seat, Table};
 use std::alloc::{AllocError, Global};
 use std::marker::Model;
 
-/// Items by number, without gaps, each in the chain of those that have its key; the last that came is the first of its chain.
+/// Items by number, without gaps, each in the chain of those that have its key.
 #[derive(Drop)]
 pub struct Chains<T, H: Heads> {
     table: Table<T, H>,
@@ -131,7 +131,7 @@ impl<T: Copy, H: Heads> Chains<T, H> {
         self.table.heads.first(key).is_some()
     }
 
-    /// Some item that has a key: the one that came to it last.
+    /// Some item that has a key, none where no item has it.
     pub fn first(&self, key: u32) -> Option<usize>
         ensures some { IfSome result (λ id. key_at self.now.items id ≡ Some key) }
         ensures none { IfNone result (among key (keys_of self.now.items) ≡ false) }

@@ -36,6 +36,15 @@ use dom_ranges::RangeId;
 use dom_tree::{NodeId, Tree};
 use std::alloc::{AllocError, Global};
 
+// What is drawn of a range: whether it moves or is copied, the range's ends, and its parts.
+#[derive(Clone, Copy)]
+struct Drawn<'a> {
+    moves: bool,
+    start: Point,
+    end: Point,
+    parts: &'a Parts,
+}
+
 // Whether one of these nodes is a doctype.
 fn has_doctype(tree: &Tree<Content>, nodes: &[NodeId]) -> bool
     requires held { AreThere tree.now.forest nodes.now }
@@ -80,25 +89,32 @@ fn follows_cut(tree: &Tree<Content>, start: Point, end: Point) -> bool
 fn draw_units(
     world: &mut World,
     alloc: Global,
-    moves: bool,
     into: NodeId,
-    start: Point,
-    end: Point,
+    drawn: &Drawn<'_>,
 ) -> Result<(), AllocError>
     requires whole { IsWhole world.old }
     requires may { MayDraw world.old into [] }
-    requires kind { kind_passes is_character_data world.old.tree.forest start.node ≡ true }
-    requires within { start.offset ≤ length (data_of (unwatched world.old) start.node) }
-    requires ahead { start.offset ≤ end.offset }
-    requires room { HasRoom world.old (units_into moves into start.node start.offset
-        (end.offset - start.offset)) }
+    requires kind { kind_passes is_character_data world.old.tree.forest drawn.now.start.node
+        ≡ true }
+    requires within { drawn.now.start.offset
+        ≤ length (data_of (unwatched world.old) drawn.now.start.node) }
+    requires ahead { drawn.now.start.offset ≤ drawn.now.end.offset }
+    requires room { HasRoom world.old (units_into drawn.now.moves into drawn.now.start.node
+        drawn.now.start.offset (drawn.now.end.offset - drawn.now.start.offset)) }
     ensures drawn { OnOk result (Follows world.old world.new
-        (units_into moves into start.node start.offset (end.offset - start.offset))) }
+        (units_into drawn.now.moves into drawn.now.start.node drawn.now.start.offset
+        (drawn.now.end.offset - drawn.now.start.offset))) }
     ensures stays { OnOk result (Stays world.old world.new) }
-    ensures left { moves ≡ false → LeavesOlder (into ∷ []) world.old world.new }
+    ensures left { drawn.now.moves ≡ false → LeavesOlder (into ∷ []) world.old world.new }
     ensures kept { KeepsLabels world.old world.new }
     ensures whole { IsWhole world.new }
 {
+    let Drawn {
+        moves,
+        start,
+        end,
+        ..
+    } = *drawn;
     let count = end.offset - start.offset;
     units_into(world, alloc, moves, into, start.node, start.offset, count)
 }
@@ -107,124 +123,129 @@ fn draw_units(
 fn draw_parts(
     world: &mut World,
     alloc: Global,
-    moves: bool,
     into: NodeId,
-    start: Point,
-    end: Point,
-    parts: &Parts,
+    drawn: &Drawn<'_>,
 ) -> Result<(), AllocError>
     requires whole { IsWhole world.old }
-    requires may { MayDraw world.old into (parts.now.first.items
-        ++ (parts.now.contained.items ++ parts.now.last.items)) }
-    requires first_way { IsPathTo world.old.tree.forest start.offset parts.now.first.items }
-    requires last_way { IsPathTo world.old.tree.forest 0 parts.now.last.items }
-    requires room { HasRoom world.old (drawn_by moves into start end parts.now) }
+    requires may { MayDraw world.old into (drawn.now.parts.now.first.items
+        ++ (drawn.now.parts.now.contained.items ++ drawn.now.parts.now.last.items)) }
+    requires first_way { IsPathTo world.old.tree.forest drawn.now.start.offset
+        drawn.now.parts.now.first.items }
+    requires last_way { IsPathTo world.old.tree.forest 0 drawn.now.parts.now.last.items }
+    requires room { HasRoom world.old (drawn_by drawn.now.moves into drawn.now.start drawn.now.end
+        drawn.now.parts.now) }
     ensures drawn { OnOk result (Follows world.old world.new
-        (drawn_by moves into start end parts.now)) }
+        (drawn_by drawn.now.moves into drawn.now.start drawn.now.end drawn.now.parts.now)) }
     ensures stays { OnOk result (Stays world.old world.new) }
-    ensures left { moves ≡ false → LeavesOlder (into ∷ []) world.old world.new }
+    ensures left { drawn.now.moves ≡ false → LeavesOlder (into ∷ []) world.old world.new }
     ensures kept { KeepsLabels world.old world.new }
     ensures whole { IsWhole world.new }
 {
+    let Drawn {
+        moves,
+        start,
+        end,
+        parts,
+    } = *drawn;
     tail_into(world, alloc, moves, into, start.offset, &parts.first)?;
     children_into(world, alloc, moves, into, &parts.contained)?;
     head_into(world, alloc, moves, into, end.offset, &parts.last)
 }
 
 // The contents of a range go into a fragment: nothing, units of one node, or the parts.
-fn fill(
-    world: &mut World,
-    alloc: Global,
-    moves: bool,
-    into: NodeId,
-    start: Point,
-    end: Point,
-    parts: &Parts,
-) -> Result<(), AllocError>
+fn fill(world: &mut World, alloc: Global, into: NodeId, drawn: &Drawn<'_>) -> Result<(), AllocError>
     requires whole { IsWhole world.old }
-    requires start_held { HasNode world.old.tree.forest start.node }
-    requires within { in_one_data world.old.tree.forest (record { start = start; end = end })
-        ≡ true →
-        start.offset ≤ length (data_of (unwatched world.old) start.node) }
-    requires ahead { (start.node == end.node) ≡ true → start.offset ≤ end.offset }
-    requires may { MayDraw world.old into (parts.now.first.items
-        ++ (parts.now.contained.items ++ parts.now.last.items)) }
-    requires first_way { IsPathTo world.old.tree.forest start.offset parts.now.first.items }
-    requires last_way { IsPathTo world.old.tree.forest 0 parts.now.last.items }
-    requires room { HasRoom world.old (filled_by moves
-        (in_one_data world.old.tree.forest (record { start = start; end = end })) into start end
-        parts.now) }
-    ensures drawn { OnOk result (Follows world.old world.new
-        (filled_by moves (in_one_data world.old.tree.forest (record { start = start; end = end }))
-        into start end parts.now)) }
+    requires start_held { HasNode world.old.tree.forest drawn.now.start.node }
+    requires within { in_one_data world.old.tree.forest
+        (record { start = drawn.now.start; end = drawn.now.end }) ≡ true →
+        drawn.now.start.offset ≤ length (data_of (unwatched world.old) drawn.now.start.node) }
+    requires ahead { (drawn.now.start.node == drawn.now.end.node) ≡ true →
+        drawn.now.start.offset ≤ drawn.now.end.offset }
+    requires may { MayDraw world.old into (drawn.now.parts.now.first.items
+        ++ (drawn.now.parts.now.contained.items ++ drawn.now.parts.now.last.items)) }
+    requires first_way { IsPathTo world.old.tree.forest drawn.now.start.offset
+        drawn.now.parts.now.first.items }
+    requires last_way { IsPathTo world.old.tree.forest 0 drawn.now.parts.now.last.items }
+    requires room { HasRoom world.old (filled_by drawn.now.moves
+        (in_one_data world.old.tree.forest
+        (record { start = drawn.now.start; end = drawn.now.end })) into drawn.now.start
+        drawn.now.end drawn.now.parts.now) }
+    ensures drawn { OnOk result (Follows world.old world.new (filled_by drawn.now.moves
+        (in_one_data world.old.tree.forest
+        (record { start = drawn.now.start; end = drawn.now.end })) into drawn.now.start
+        drawn.now.end drawn.now.parts.now)) }
     ensures stays { OnOk result (Stays world.old world.new) }
-    ensures left { moves ≡ false → LeavesOlder (into ∷ []) world.old world.new }
+    ensures left { drawn.now.moves ≡ false → LeavesOlder (into ∷ []) world.old world.new }
     ensures kept { KeepsLabels world.old world.new }
     ensures whole { IsWhole world.new }
 {
-    if start == end {
+    if drawn.start == drawn.end {
         return Ok(());
     }
-    if is_in_one_data(&world.tree, start, end) {
-        return draw_units(world, alloc, moves, into, start, end);
+    if is_in_one_data(&world.tree, drawn.start, drawn.end) {
+        return draw_units(world, alloc, into, drawn);
     }
-    draw_parts(world, alloc, moves, into, start, end, parts)
+    draw_parts(world, alloc, into, drawn)
 }
 
 // Makes a fragment with the contents of a range, by its parts.
-fn draw(
-    world: &mut World,
-    alloc: Global,
-    moves: bool,
-    start: Point,
-    end: Point,
-    parts: &Parts,
-) -> Result<NodeId, AllocError>
+fn draw(world: &mut World, alloc: Global, drawn: &Drawn<'_>) -> Result<NodeId, AllocError>
     requires whole { IsWhole world.old }
-    requires range { IsRange world.old.tree.forest (record { start = start; end = end }) }
-    requires allowed { check_draw (unwatched world.old) (record { start = start; end = end })
-        ≡ None }
-    requires parts { ArePartsOf world.old.tree.forest start end parts.now }
-    requires room { HasRoom world.old (contents_drawn moves (record { start = start; end = end })) }
+    requires range { IsRange world.old.tree.forest
+        (record { start = drawn.now.start; end = drawn.now.end }) }
+    requires allowed { check_draw (unwatched world.old)
+        (record { start = drawn.now.start; end = drawn.now.end }) ≡ None }
+    requires parts { ArePartsOf world.old.tree.forest drawn.now.start drawn.now.end
+        drawn.now.parts.now }
+    requires room { HasRoom world.old (contents_drawn drawn.now.moves
+        (record { start = drawn.now.start; end = drawn.now.end })) }
     ensures number { IfOk result (λ id. id ≡ world.old.tree.made) }
-    ensures drawn { OnOk result (Follows world.old world.new
-        (contents_drawn moves (record { start = start; end = end }))) }
+    ensures drawn { OnOk result (Follows world.old world.new (contents_drawn drawn.now.moves
+        (record { start = drawn.now.start; end = drawn.now.end }))) }
     ensures stays { OnOk result (Stays world.old world.new) }
-    ensures left { moves ≡ false → LeavesAll world.old world.new }
+    ensures left { drawn.now.moves ≡ false → LeavesAll world.old world.new }
     ensures kept { KeepsLabels world.old world.new }
     ensures whole { IsWhole world.new }
 {
+    let start = drawn.start;
     let document = document_in(&world.tree, start.node);
     let fragment = new_fragment(world, document)?;
-    fill(world, alloc, moves, fragment, start, end, parts)?;
+    fill(world, alloc, fragment, drawn)?;
     Ok(fragment)
 }
 
-// Takes the contents of a live range into a new fragment, by its parts; both ends then stand where they were.
+// Takes the contents of a live range into a new fragment, by its ends and parts; both ends then stand where they were.
 fn extract_parts(
     world: &mut World,
     alloc: Global,
     range: RangeId,
-    start: Point,
-    end: Point,
+    ends: (Point, Point),
     parts: &Parts,
 ) -> Result<NodeId, AllocError>
     requires whole { IsWhole world.old }
     requires live { IsSome (range_in world.old.ranges range) }
-    requires range { IsRange world.old.tree.forest (record { start = start; end = end }) }
-    requires allowed { check_draw (unwatched world.old) (record { start = start; end = end })
+    requires range { IsRange world.old.tree.forest (record { start = ends.0; end = ends.1 }) }
+    requires allowed { check_draw (unwatched world.old) (record { start = ends.0; end = ends.1 })
         ≡ None }
-    requires parts { ArePartsOf world.old.tree.forest start end parts.now }
-    requires room { HasRoom world.old (contents_drawn true (record { start = start; end = end })) }
+    requires parts { ArePartsOf world.old.tree.forest ends.0 ends.1 parts.now }
+    requires room { HasRoom world.old (contents_drawn true
+        (record { start = ends.0; end = ends.1 })) }
     ensures number { IfOk result (λ id. id ≡ world.old.tree.made) }
     ensures extracted { OnOk result (Follows world.old world.new
-        (extracted range (record { start = start; end = end }))) }
+        (extracted range (record { start = ends.0; end = ends.1 }))) }
     ensures kept { KeepsLabels world.old world.new }
     ensures whole { IsWhole world.new }
 {
+    let (start, end) = ends;
     let place = new_place(&world.tree, start, &parts.first);
     let stays = follows_cut(&world.tree, start, end);
-    let fragment = draw(world, alloc, true, start, end, parts)?;
+    let moved = Drawn {
+        moves: true,
+        start,
+        end,
+        parts,
+    };
+    let fragment = draw(world, alloc, &moved)?;
     if !stays {
         stand_at(world, range, place);
     }
@@ -248,7 +269,7 @@ pub fn extract(world: &mut World, alloc: Global, range: RangeId) -> Result<NodeI
 {
     let (start, end) = world.ranges.ends(range);
     let parts = drawable_parts(world, alloc, start, end)?;
-    let fragment = extract_parts(world, alloc, range, start, end, &parts)?;
+    let fragment = extract_parts(world, alloc, range, (start, end), &parts)?;
     Ok(fragment)
 }
 
@@ -268,7 +289,7 @@ pub fn extract_checked(
 {
     let (start, end) = world.ranges.ends(range);
     let parts = parts_of(&world.tree, alloc, start, end)?;
-    extract_parts(world, alloc, range, start, end, &parts)
+    extract_parts(world, alloc, range, (start, end), &parts)
 }
 
 /// Copies what lies in a live range into a new fragment, which it answers.
@@ -294,6 +315,12 @@ pub fn clone_contents(world: &mut World, alloc: Global, range: RangeId) -> Resul
 {
     let (start, end) = world.ranges.ends(range);
     let parts = drawable_parts(world, alloc, start, end)?;
-    let fragment = draw(world, alloc, false, start, end, &parts)?;
+    let copied = Drawn {
+        moves: false,
+        start,
+        end,
+        parts: &parts,
+    };
+    let fragment = draw(world, alloc, &copied)?;
     Ok(fragment)
 }

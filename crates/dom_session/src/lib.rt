@@ -1,6 +1,7 @@
 //! A session: commands in, replies out, over one world of nodes.
 //!
 //! [`Session::apply`] answers each [`Command`] with a [`Reply`]; the calls for one group of commands, or for one, answer a [`Brief`].
+//! A question of one command, [`Session::has_attribute`], answers a `Reply`.
 //! What stands around a node ([`Links`]) and how many objects there are ([`Counts`]) are read with no command, also once the
 //! session has ended.
 #![tactic(auto)]

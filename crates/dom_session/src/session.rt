@@ -3,7 +3,7 @@
 ghost use Rattle.std.specs.Prelude.{◌≡◌, ℕ, ◌≤◌, true, false, IsErr, IfOk, OnOk, OnErr};
 ghost use Rattle.dom_model.specs.Worlds.World.{World as PlainWorld, first_world};
 ghost use Rattle.dom_model.specs.Forests.Forest.{children_of};
-ghost use Rattle.dom_model.specs.Commands.Command.{CreateElement, CreateText, NextNode, PreviousNode, Walk};
+ghost use Rattle.dom_model.specs.Commands.Command.{CreateElement, CreateText, NextNode, PreviousNode, Walk, HasAttribute};
 ghost use Rattle.dom_model.specs.Commands.Reply.{is_refusal};
 ghost use Rattle.dom_session.specs.Brief.{reply_of};
 ghost use Rattle.dom_session.specs.Views.{command_view, making_view, editing_view, reply_view};
@@ -16,6 +16,7 @@ ghost use Rattle.dom_session.specs.Lending.{lent_as, data_in, attribute_in};
 ghost use Rattle.dom_attrs.specs.Entries.{attribute_at};
 
 use crate::answering::answered;
+use crate::attributes::has_attribute;
 use crate::brief::Brief;
 use crate::command::{Command, Editing, Making};
 use crate::editing::edit_tree;
@@ -280,6 +281,21 @@ impl Session {
             return Err(Ended);
         }
         Ok(walk(&mut self.world, walker, direction))
+    }
+
+    /// Tells whether an element has an attribute as `apply` does, of a name that is lent. No memory
+    /// is taken, and the session stays.
+    pub fn has_attribute(&self, element: NodeId, name: &str) -> Result<Reply, Ended>
+        ensures answers { IfOk result
+            (λ reply. (w : PlainWorld) → StandsFor self.now w →
+            IsAnswered reply w self.now self.now (HasAttribute element name.now)) }
+        ensures open { OnOk result (self.now.ended ≡ false) }
+        ensures ended { OnErr result (self.now.ended ≡ true) }
+    {
+        if self.ended {
+            return Err(Ended);
+        }
+        Ok(has_attribute(&self.world, element, name))
     }
 
     /// What a node is, and what stands around it, in constant time. No command is applied, and no memory taken.
