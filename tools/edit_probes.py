@@ -4,8 +4,8 @@ A probe is a twin that has an answer for one goal, the one of its line `at:`: it
 itself. No tactic tries its other goals. All other functions of the crate are stubs, which the check takes at their contracts' word: the crate's own proof
 is of their bodies. So next to nothing that is proved elsewhere is proved once more here.
 
-Where the goal of a probe has no proof, its edit is refused there. What a probe says nothing of is tried with a whole twin. An edit that says no goal, since it
-is refused at none, has such a twin here, beside the same stubs.
+Where the goal of a probe has no proof, its edit is refused there. An edit of which its probe says nothing, or that says no goal, since it is refused at none,
+has a whole twin beside the same stubs.
 """
 import dataclasses
 import glob
@@ -83,13 +83,18 @@ def is_generic(lines, owner):
 class Probes(edit_twins.Twins):
     """The probes of those edits of a crate that may have one; or, with nothing edited, those of each goal that an edit is meant to meet, which has to be proved."""
 
-    def __init__(self, crate, folder, edits, are_edited=True):
+    def __init__(self, crate, folder, edits, are_edited=True, are_whole=False):
         super().__init__(crate, folder, edits)
-        found = [it for it in self.made if self.may_probe(it)]
-        whole = [it for it in self.made if are_edited and not it.edit.meant]
+        self.are_whole = are_whole
+        found = [it for it in self.made if not are_whole and self.may_probe(it)]
+        whole = [it for it in self.made if are_edited and self.is_whole(it)]
         if not are_edited:
             found = [*{(it.owner, it.edit.meant): self.unedited(it) for it in found}.values()]
         self.made = [*map(self.without_tactics, found), *whole]
+
+    def is_whole(self, twin):
+        """Returns whether a twin here is asked for all goals."""
+        return self.are_whole or not twin.edit.meant
 
     def goal(self, probe):
         return probe.edit.meant.rpartition(": ")[2]
@@ -112,11 +117,11 @@ class Probes(edit_twins.Twins):
     def refused(self, said):
         """Returns those of which the check says that their goal has no proof."""
         told = lambda it: said.functions.get(it.named().path())
-        return [it for it in self.made if it.edit.meant and told(it) and self.has_no_proof(it, told(it))]
+        return [it for it in self.made if not self.is_whole(it) and told(it) and self.has_no_proof(it, told(it))]
 
     def lost(self, said):
-        """Returns the twins that say no goal and have no proof, each with what the check tells of it; a call of a stub is no reason."""
-        told = [(it, said.functions.get(it.named().path())) for it in self.made if not it.edit.meant]
+        """Returns the twins that are asked for all goals and have no proof, each with what the check tells of it; a call of a stub is no reason."""
+        told = [(it, said.functions.get(it.named().path())) for it in self.made if self.is_whole(it)]
         return [(it, found) for it, found in told if found and found.kind in LOST and said.calls_stubs(found)]
 
     def unproved(self, said):
@@ -154,7 +159,7 @@ class Probes(edit_twins.Twins):
 
     def lay_proof(self, to, twin):
         super().lay_proof(to, twin)
-        if not twin.edit.meant:
+        if self.is_whole(twin):
             return
         path = f"{to}/proofs/{edit_twins.place_of(twin.named())}/Answers.antt"
         os.makedirs(os.path.dirname(path), exist_ok=True)

@@ -3,9 +3,9 @@
 
 A function's proof stands on the contracts of what it calls, and never on their bodies. So beside each function that an edit changes a second one, its twin,
 gets the edited body, with the same contract and a copy of the proof. One check of a copy with all twins of a crate asks each for the one goal that its edit
-is meant to meet (`edit_probes.py`); a second one asks what is left for all goals. What has no twin, or was not refused at a clause there, is tried in its
-place, over what the checks before it proved: first at the function that it is meant to meet alone, and then, in as few groups as no two of which change one
-function, by a check of all that the edits touch.
+is meant to meet (`edit_probes.py`); a second one asks what is left for all goals, and a third one does so with no stubs. What has no twin, or was not refused
+at a clause there, is tried in its place, over what the checks before it proved: first at the function that it is meant to meet alone, and then, in as few
+groups as no two of which change one function, by a check of all that the edits touch.
 
 An edit is refused, at a function and its goals; or let through; or bad, where it does not fit, does not compile, or its function was not reached. One
 that is refused at no clause, since a proof file names what it takes away or its new body has no proof of any kind, is told: it says little of the
@@ -177,21 +177,29 @@ class Trial:
         return checks
 
     def try_probes(self, jobs):
-        """Settles the edits whose probes have no proof of the goal that they are meant to meet, or none where they say no goal; returns how many checks it took."""
-        probes = edit_probes.Probes(self.crate.name, self.crate.folder, self.waiting)
-        if not probes.made:
-            return 0
-        said, _ = self.check_twins(probes, (), jobs, ["--allow-holes"])
+        """Settles the edits whose probes have no proof: of the goal that each is meant to meet, and then, of what is left, of any; returns how many checks it
+        took."""
+        checks = 0
+        for are_whole in (False, True):
+            edits = [it for it in self.waiting if it.meant or not are_whole]
+            probes = edit_probes.Probes(self.crate.name, self.crate.folder, edits, are_whole=are_whole)
+            if probes.made:
+                said, _ = self.check_twins(probes, (), 1 if checks else jobs, ["--allow-holes"])
+                checks += 1
+                self.settle_probes(probes, said)
+        return checks
+
+    def settle_probes(self, probes, said):
+        """Settles what a check of probes tells."""
         if said.has_judged:
             for it in probes.refused(said):
                 self.settle(it.edit, Outcome(REFUSED, it.owner.path(), [probes.goal(it)]))
             for it, told in probes.lost(said):
                 self.settle_lost(it, told)
-        return 1
 
     def settle_lost(self, twin, told):
-        """Settles an edit that says no goal and whose twin has no proof."""
-        if twin.edit in self.waiting:
+        """Settles an edit whose twin has no proof; one that says a goal, only where that is at a clause."""
+        if twin.edit in self.waiting and (told.is_refused or not twin.edit.meant):
             name, why = twin.owner.path(), "a proof file names what it takes away" if told.lacks_names else told.kind
             self.settle(twin.edit, Outcome(REFUSED, name, told.goals) if told.is_refused else Outcome(BY_NAME, why=f"{name}: {why}"))
 
