@@ -62,7 +62,9 @@ class Turns:
 
 
 class Gate(edits.Edits):
-    """Some crates and those below them, their tests and their edits."""
+    """Some crates and those below them, for each target of a release, their tests and their edits."""
+
+    further = (start.ARM,)
 
     def __init__(self, rt, top, names, processors):
         super().__init__(rt, top, [*names], begins=False)
@@ -86,7 +88,8 @@ class Gate(edits.Edits):
     def is_waited_for(self, crate):
         """Returns whether a crate is what is built, a program or an archive, or another one stands on it."""
         above = (it for it in self.crates.values() if it.name != crate.name)
-        return crate.is_program or crate.is_static or any(crate.name == below.name for it in above for below in it.below())
+        is_built = (crate.is_program or crate.is_static) and start.target_of(crate) == start.HERE
+        return is_built or any(crate.name == below.name for it in above for below in it.below())
 
     def is_ready(self, crate):
         return self.is_waited_for(crate) and super().is_ready(crate)
@@ -104,15 +107,16 @@ class Gate(edits.Edits):
 
     def prove_tests(self, crate, jobs):
         """Proves and builds the tests of a crate as the gate does, or finds that they are kept."""
-        crate, key = copy.copy(crate), self.kept.key(crate)
+        kept = self.kept.verdicts
+        crate, key = copy.copy(crate), kept.key(crate)
         os.makedirs(f"{crate.folder}/out", exist_ok=True)
         name = f"{crate.name} (tests)"
         self.running.add(name)
-        with tempfile.TemporaryFile("w+", encoding="utf-8", errors="replace") as crate.out, self.kept.in_turn(crate, True, key):
-            was_kept = self.kept.give(crate, True, key)
+        with tempfile.TemporaryFile("w+", encoding="utf-8", errors="replace") as crate.out, kept.in_turn(crate, True, key):
+            was_kept = kept.give(crate, True, key)
             is_proved = was_kept or not crate.ci(["--jobs", str(jobs)], True)
             if is_proved and not was_kept:
-                self.kept.keep(crate, True, key)
+                kept.keep(crate, True, key)
             self.running.discard(name)
             self.say(f"{'kept' if was_kept else 'proved' if is_proved else 'NOT PROVED'}: {name}")
             if not is_proved:

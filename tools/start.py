@@ -34,12 +34,15 @@ PROOF = "proof"
 PAUSE = 60
 # How far what nothing waits for stands back from the rest, as `nice` has it.
 BEHIND = 10
-# A clang that keeps the code that it is handed.
+# What a program and a static library are compiled for: this machine, and the other processor of a release.
+HERE, ARM = "x86_64-unknown-linux-gnu", "aarch64-unknown-linux-gnu"
+# A clang that keeps the code that it is handed, as text or not, and the words that it was called with, a line each.
 KEEPER = """\
 #!/bin/sh
 for it in "$@"; do
-    case "$it" in *.bc) cp "$it" '{kept}' ;; esac
+    case "$it" in *.bc | *.ll) cp "$it" '{kept}' ;; esac
 done
+printf '%s\\n' "$@" >'{kept}.words'
 exec '{clang}' "$@"
 """
 
@@ -94,9 +97,26 @@ def built(name):
     return file, f"{file}.sum"
 
 
-def code_of(name):
-    """Returns the file of a static library's LLVM code, which stands beside its archive."""
-    return f"{built(name)[0]}.bc"
+def code_of(name, target=HERE):
+    """Returns the file of the LLVM code of a program or a static library, which stands beside it; NAME.words has the words that clang was called with."""
+    return f"{built(name)[0]}{'' if target == HERE else '.' + target.partition('-')[0]}.bc"
+
+
+def target_of(crate):
+    """Returns what a crate is proved and compiled for."""
+    return getattr(crate, "target", HERE)
+
+
+def for_target(crate, target):
+    """Returns a crate as it is proved and compiled for a target."""
+    found = copy.copy(crate)
+    found.target = target
+    return found
+
+
+def told(crate):
+    """Returns how a crate is named to whoever waits."""
+    return crate.name if target_of(crate) == HERE else f"{crate.name} for {target_of(crate).partition('-')[0]}"
 
 
 def toolchain(kit, to, kept):
@@ -113,10 +133,16 @@ def toolchain(kit, to, kept):
     return to
 
 
-def is_fresh(name):
-    """Returns whether a crate is built of the files that are there."""
-    file, noted = built(name)
-    if not os.path.isfile(file) or not os.path.isfile(noted):
+def noted_of(name, target=HERE):
+    """Returns the file that has the sum of what was proved, for a target."""
+    return built(name)[1] if target == HERE else f"{code_of(name, target)}.sum"
+
+
+def is_fresh(name, target=HERE, has_code=False):
+    """Returns whether a crate is built of the files that are there; with its code, where that is asked for."""
+    code, noted = code_of(name, target), noted_of(name, target)
+    files = [*([built(name)[0]] if target == HERE else []), *([code, f"{code}.words"] if has_code or target != HERE else []), noted]
+    if not all(map(os.path.isfile, files)):
         return False
     with open(noted, encoding="utf-8") as it:
         return it.read() == sum_of(with_lower(listed(), name))
@@ -162,27 +188,37 @@ class Left:
         """Drops nothing: what is left lies in the repository's own folders."""
 
 
+def files_of(rt, crate):
+    """Returns the files of its out/ that a program or a static library is kept by: what is linked here, and its code with clang's words."""
+    if crate.is_wasm:
+        return [crate.name]
+    linked = [crate.name] if crate.is_static else [crate.name + it for it in rt.BACKENDS.values()]
+    code = os.path.basename(code_of(crate.name, target_of(crate)))
+    return [*(linked if target_of(crate) == HERE else []), code, f"{code}.words"]
+
+
 def store(rt, crates):
-    """Returns the kit's store, which here keeps a static library's archive as well, as out/NAME, and its code."""
+    """Returns the kit's store, which here keeps the code of a program and of a static library as well, and of the latter its archive, as out/NAME."""
     if not hasattr(rt, "Kept"):
         return Left()
 
     class Store(rt.Kept):
         def key(self, crate):
-            return hashlib.sha256(f"archive and code {super().key(crate)}".encode()).hexdigest() if crate.is_static else super().key(crate)
+            found = super().key(crate)
+            return found if crate.makes_rlib() else hashlib.sha256(f"code and words for {target_of(crate)} {found}".encode()).hexdigest()
 
         def made(self, crate, tests):
-            if not crate.is_static:
+            if tests or crate.makes_rlib():
                 return super().made(crate, tests)
-            return [it for it in (crate.name, f"{crate.name}.bc") if os.path.isfile(f"{crate.folder}/out/{it}")]
+            return [it for it in files_of(rt, crate) if os.path.isfile(f"{crate.folder}/out/{it}")]
 
         def is_whole(self, crate, tests, files):
-            return crate.name in files if crate.is_static else super().is_whole(crate, tests, files)
+            return super().is_whole(crate, tests, files) if tests or crate.makes_rlib() else files == files_of(rt, crate)
 
         def keep(self, crate, tests, key):
             super().keep(crate, tests, key)
-            if crate.is_static:
-                # (the gate's own entry of a static library has no file: it says that the crate was proved)
+            if not crate.makes_rlib() and target_of(crate) == HERE:
+                # (the gate's own entry: of a static library it has no file, and says that the crate was proved)
                 self.verdicts.keep(crate, tests, self.verdicts.key(crate))
 
         def is_built(self, crate):
@@ -195,7 +231,9 @@ def store(rt, crates):
 
 
 class Start:
-    """One start, over a copy of the crates: what is to be proved, and how far it is."""
+    """One start, over a copy of the crates: what is to be proved, and how far it is. Programs and static libraries are proved for further targets as well."""
+
+    further = ()
 
     def __init__(self, rt, top, names):
         self.rt, self.names = rt, names
@@ -210,6 +248,10 @@ class Start:
         with self.saying:
             print(f"{PROGRAM}: {text} ({passed // 60}:{passed % 60:02})", file=sys.stderr, flush=True)
 
+    def count(self):
+        """Returns how many proofs there are."""
+        return len(self.names) + len(self.further) * sum(not it.makes_rlib() for it in self.crates.values())
+
     def tell(self, ended):
         """Says from time to time what is being proved."""
         while not ended.wait(PAUSE):
@@ -218,7 +260,7 @@ class Start:
     def build(self, crate, jobs):
         """Proves a crate from nothing, and returns whether it is proved; a static library's archive is then out/NAME."""
         flags = ["--jobs", str(jobs)]
-        return not (self.build_static(crate, flags) if crate.is_static and hasattr(self.rt, "Kept") else self.build_other(crate, flags))
+        return not (self.build_top(crate, flags) if not crate.makes_rlib() and hasattr(self.rt, "Kept") else self.build_other(crate, flags))
 
     def build_other(self, crate, flags):
         if not crate.is_static:
@@ -228,17 +270,28 @@ class Start:
             os.rename(f"{crate.folder}/out/lib{crate.name}.a", f"{crate.folder}/out/{crate.name}")
         return status
 
-    def build_static(self, crate, flags):
-        """Proves a static library as the gate does, and builds its archive of what that check proved, so that neither proves it a second time."""
+    def build_top(self, crate, flags):
+        """Proves a program or a static library as the gate does, and builds it of what that check proved, so that neither proves it a second time; the code that
+        clang is handed is kept."""
+        flags += ["--target", target_of(crate)] if target_of(crate) != HERE else []
         words = crate.words(flags, keeps=False)
         with tempfile.TemporaryDirectory(prefix=f"rt-proved-{os.getpid()}-") as room:
             status = crate.prove(["check", *words, "-o", f"{room}/checked"])
             for flag in ("--logic-built", "--jobs"):
                 at = words.index(flag)
                 words = [*words[:at], *words[at + 2 :]]
-            made = toolchain(self.rt.KIT, f"{room}/toolchain", f"{crate.folder}/out/{crate.name}.bc")
-            words += ["--crate-checked", f"{room}/checked", "--toolchain", made, "--backend", "llvm"]
-            return status or crate.call(self.rt.rtlib.RATTLE, "build", *words, "-o", f"out/{crate.name}")
+            words += ["--crate-checked", f"{room}/checked"]
+            made = toolchain(self.rt.KIT, f"{room}/toolchain", f"{crate.folder}/out/{os.path.basename(code_of(crate.name, target_of(crate)))}")
+            return status or self.compile(crate, words, made, f"{room}/object")
+
+    def compile(self, crate, words, made, to):
+        """Compiles what was proved: for this machine what is linked here, for another target an object that is thrown away."""
+        if crate.is_program and target_of(crate) == HERE:
+            # (Rattle's own compiler has no part in the code that is kept)
+            by_llvm = crate.compile_by("llvm", [*words, "--toolchain", made], f"out/{crate.name}")
+            return by_llvm or crate.compile_by("rattle", [*words, "--toolchain", f"{self.rt.KIT}/toolchain"], f"out/{crate.name}")
+        to = f"out/{crate.name}" if target_of(crate) == HERE else to
+        return crate.call(self.rt.rtlib.RATTLE, "build", *words, "--toolchain", made, "--backend", "llvm", "-o", to)
 
     def take_or_build(self, crate, jobs):
         """Takes a crate from the store, or proves it and keeps it there; returns whether it is proved, and whether it was kept already."""
@@ -279,16 +332,16 @@ class Start:
             return False
         crate, jobs = copy.copy(crate), self.threads(crate, jobs)
         os.makedirs(f"{crate.folder}/out", exist_ok=True)
-        self.running.add(crate.name)
+        self.running.add(told(crate))
         with tempfile.TemporaryFile("w+", encoding="utf-8", errors="replace") as crate.out:
             is_proved, was_kept = self.take_or_build(crate, jobs)
-            self.running.discard(crate.name)
+            self.running.discard(told(crate))
             if not is_proved:
                 self.tell_why(crate)
                 return False
-        self.proved.add(crate.name)
+        self.proved.add(told(crate))
         self.done += 1
-        self.say(f"{self.done} of {len(self.names)} {'kept' if was_kept else 'proved'}: {crate.name}")
+        self.say(f"{self.done} of {self.count()} {'kept' if was_kept else 'proved'}: {told(crate)}")
         return True
 
     def tell_why(self, crate):
@@ -301,9 +354,15 @@ class Start:
         """Returns what there is to do: each crate is proved once those below it are."""
         tasks = {}
         for crate in self.crates.values():
-            call = lambda given, jobs, crate=crate: self.prove(crate, given, jobs)
-            tasks[crate.name, PROOF] = ([(it.name, PROOF) for it in crate.below()], crate.count(rb"\n"), self.rt.need(crate), call)
+            tasks[crate.name, PROOF] = self.task(crate)
+        for target in self.further:
+            tops = [it for it in self.crates.values() if not it.makes_rlib()]
+            tasks.update(((it.name, f"{PROOF} for {target}"), self.task(for_target(it, target))) for it in tops)
         return tasks
+
+    def task(self, crate):
+        call = lambda given, jobs: self.prove(crate, given, jobs)
+        return ([(it.name, PROOF) for it in crate.below()], crate.count(rb"\n"), self.rt.need(crate), call)
 
     def run(self):
         """Does what there is to do, as the kit orders it, and returns whether all of it went well."""
@@ -333,19 +392,23 @@ def end(number, _):
     os.killpg(os.getpgrp(), number)
 
 
-def bring(top, name):
-    """Copies what was built into the crate's own out/, with the sum of what it was built of."""
-    file, noted = built(name)
-    for to in (file, code_of(name)):
-        made = f"{top}/crates/{name}/out/{os.path.basename(to)}"
-        if os.path.isfile(made) and made != to:
-            os.makedirs(os.path.dirname(to), exist_ok=True)
-            with contextlib.suppress(FileNotFoundError):
-                os.remove(to)
-            shutil.copy(made, to)
-    if os.path.isfile(file):
-        with open(noted, "w", encoding="utf-8") as it:
+def bring(top, name, target=HERE):
+    """Copies what was built, and its code, into the crate's own out/, with the sum of what it was built of, which comes last and never stands beside another."""
+    noted, code = noted_of(name, target), code_of(name, target)
+    files = [*([built(name)[0]] if target == HERE else []), code, f"{code}.words"]
+    made = {to: f"{top}/crates/{name}/out/{os.path.basename(to)}" for to in files}
+    os.makedirs(os.path.dirname(noted), exist_ok=True)
+    if any(os.path.isfile(it) and it != to for to, it in made.items()):
+        with contextlib.suppress(FileNotFoundError):
+            os.remove(noted)
+    for to, it in made.items():
+        if os.path.isfile(it) and it != to:
+            shutil.copy(it, f"{to}.new")
+            os.replace(f"{to}.new", to)
+    if os.path.isfile(files[0]):
+        with open(f"{noted}.new", "w", encoding="utf-8") as it:
             it.write(sum_of(with_lower(listed(), name)))
+        os.replace(f"{noted}.new", noted)
 
 
 @contextlib.contextmanager
@@ -361,9 +424,10 @@ def workplace(rt):
         yield f"{room}/repository"
 
 
-def start(names):
-    """Proves these crates and those below them, and builds them; returns whether all are proved."""
-    missing = [it for it in names if not is_fresh(it)]
+def start(names, further=(), has_code=False):
+    """Proves these crates and those below them, and builds them; also for further targets, and with their code, where that is asked for. Returns whether all are
+    proved."""
+    missing = [it for it in names if not is_fresh(it, HERE, has_code) or not all(is_fresh(it, target) for target in further)]
     if not missing:
         return True
     rt, rows = kit(), listed()
@@ -371,11 +435,14 @@ def start(names):
     with workplace(rt) as top:
         wanted = {it for name in missing for it in with_lower(rows, name)}
         run = Start(rt, top, wanted)
+        run.further = further
         run.say(f"proving {', '.join(missing)} and what stands below, {len(wanted)} crates, once")
         is_proved = run.run()
         if is_proved and sum_of(rows) == before:
             for name in missing:
                 bring(top, name)
+                for target in further:
+                    bring(top, name, target)
     return is_proved
 
 

@@ -1,8 +1,9 @@
 #!/usr/bin/env python3
 """Makes the library for C in one folder: libhuckleport.a, libhuckleport.so, huckleport.h and huckleport.pc.
 
-What is missing of crates/dom_c and below it is proved and built first, which takes long once; --library takes an archive that is there.
-The shared object shows the calls of the header and no other name. With --install the four go under a prefix.
+The archive is built of the proved assembly in generated/, where that is of the sources that are here; where it is not, or with --prove, crates/dom_c and what
+stands below are proved and built first, which takes long once. --library takes an archive that is there. The shared object shows the calls of the header and
+no other name. With --install the four go under a prefix.
 """
 import argparse
 import importlib.util
@@ -39,13 +40,10 @@ def pkgconfig(prefix, lib="", include=""):
     return PKGCONFIG.format(prefix=prefix, lib=lib, include=include, version=VERSION, license=LICENSE)
 
 
-def start():
-    """The script that proves what is missing, as a module."""
-    spec = importlib.util.spec_from_file_location("start", os.path.join(ROOT, "tools/start.py"))
-    found = importlib.util.module_from_spec(spec)
-    sys.dont_write_bytecode = True
-    spec.loader.exec_module(found)
-    return found
+sys.path.append(os.path.join(ROOT, "tools"))
+sys.dont_write_bytecode = True
+import assemble
+import start
 
 
 def kit():
@@ -59,10 +57,20 @@ def kit():
 
 def build():
     """Proves and builds what is missing of the crate and below it, or takes it from the kit's store, and returns the archive."""
-    proving = start()
-    if not proving.start([CRATE]):
+    if not start.start([CRATE]):
         sys.exit(f"{CRATE} was not proved and built")
-    return proving.built(CRATE)[0]
+    return start.built(CRATE)[0]
+
+
+def archive_of(given):
+    """Returns an archive that was given, or proved because that was asked for; or why the assembly in generated/ does not do, or neither."""
+    if given.library or given.prove:
+        return given.library or build(), None
+    try:
+        assemble.fits(CRATE, given.machine)
+    except assemble.Unfit as why:
+        return None, str(why)
+    return None, None
 
 
 def call(*words, **how):
@@ -103,15 +111,16 @@ def share(compiler, archive, names, folder):
     return to
 
 
-def shown(path):
+def shown(path, compiler):
     """The names that a shared object shows."""
-    said = call("nm", "-D", "--defined-only", path)
+    said = call(call(compiler, "-print-prog-name=nm").strip(), "-D", "--defined-only", path)
     return {line.split()[-1].partition("@")[0] for line in said.splitlines() if line.strip()}
 
 
-def check(path, names):
+def check(path, names, compiler="gcc"):
     """Fails where the shared object shows another name than the header's calls, or lacks one."""
-    more, less = sorted(shown(path) - set(names)), sorted(set(names) - shown(path))
+    found = shown(path, compiler)
+    more, less = sorted(found - set(names)), sorted(set(names) - found)
     if more or less:
         sys.exit(f"{os.path.basename(path)} shows what the header lacks: {more}; and lacks what it has: {less}")
 
@@ -134,22 +143,33 @@ def install(folder, prefix):
     write(os.path.join(prefix, "lib/pkgconfig/huckleport.pc"), pkgconfig("${pcfiledir}/../..", "/lib", "/include"))
 
 
+def put_archive(given, to):
+    """Puts the archive, with all that it takes beside the C library, into a file."""
+    archive, why = archive_of(given)
+    if not archive and not why:
+        try:
+            return assemble.library(to, given.machine, given.compiler)
+        except assemble.Unfit as fault:
+            sys.exit(str(fault))
+    archive = archive or (start.built(CRATE)[0] if start.is_fresh(CRATE) else assemble.proved(CRATE, why))
+    c_part = os.path.abspath(given.c_part or os.path.join(kit(), "c/liblibc_c.a"))
+    for it in (archive, c_part):
+        if not os.path.isfile(it):
+            sys.exit(f"{it} is not there")
+    return merge([os.path.abspath(archive), c_part], to)
+
+
 def make(given):
     """Makes the four files in a folder; each is put in place whole, since others may read it meanwhile."""
     found = modules(given.sources)
     names = [it.name for module in found for it in module.exports]
     text = header(found)
-    archive = os.path.abspath(given.library) if given.library else build()
-    c_part = os.path.abspath(given.c_part or os.path.join(kit(), "c/liblibc_c.a"))
-    for it in (archive, c_part):
-        if not os.path.isfile(it):
-            sys.exit(f"{it} is not there")
     folder = os.path.abspath(given.to)
     os.makedirs(folder, exist_ok=True)
     with tempfile.TemporaryDirectory(dir=folder) as room:
         merged = os.path.join(room, "libhuckleport.a")
-        merge([archive, c_part], merged)
-        check(share(given.compiler, merged, names, room), names)
+        put_archive(given, merged)
+        check(share(given.compiler, merged, names, room), names, given.compiler)
         write(os.path.join(room, "huckleport.h"), text)
         write(os.path.join(room, "huckleport.pc"), pkgconfig("${pcfiledir}"))
         for it in os.listdir(room):
@@ -163,7 +183,9 @@ def words_of(text):
     parser.add_argument("--c-part", metavar="FILE", help="the kit's part in C (c/liblibc_c.a of the kit)")
     parser.add_argument("--sources", metavar="FOLDER", default=SOURCES, help="the exports that the header is made of (crates/dom_c/src)")
     parser.add_argument("--to", metavar="FOLDER", default=os.path.join(HERE, "out"), help="where the files go (bindings/c/out)")
-    parser.add_argument("--compiler", default="gcc", help="the C compiler that links (gcc)")
+    parser.add_argument("--prove", action="store_true", help="prove and build the crate first, and do not take generated/")
+    parser.add_argument("--machine", choices=assemble.MACHINES, help="the processor that the assembly of generated/ is taken for (this one)")
+    parser.add_argument("--compiler", default="gcc", help="the C compiler that assembles and links (gcc)")
     return parser
 
 
