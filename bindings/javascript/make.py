@@ -1,7 +1,8 @@
 #!/usr/bin/env python3
-"""Puts the module beside the package: out/huckleport.wasm and out/calls.js, from bindings/web/out.
+"""Puts the module beside the package: out/huckleport.wasm and out/calls.js.
 
-They are made there by bindings/web/make.py where they are missing; --module takes another folder that has both.
+They are taken from generated/, where they were made of the sources that are here. Where they were not, or with --prove, bindings/web/make.py makes them in
+bindings/web/out. --module takes another folder that has both.
 """
 import argparse
 import importlib.util
@@ -11,6 +12,10 @@ import subprocess
 import sys
 
 HERE = os.path.dirname(os.path.abspath(__file__))
+ROOT = os.path.dirname(os.path.dirname(HERE))
+sys.path.append(os.path.join(ROOT, "tools"))
+import assemble
+
 WEB = os.path.join(os.path.dirname(HERE), "web")
 MODULE = os.path.join(WEB, "out")
 FILES = ("huckleport.wasm", "calls.js")
@@ -29,24 +34,52 @@ def has_module(folder):
     return all(os.path.isfile(os.path.join(folder, it)) for it in FILES)
 
 
-def build(given):
-    """Puts both files into the package's folder, each whole, since others may read it meanwhile; returns the module."""
-    if os.path.abspath(given.module) == MODULE and not has_module(MODULE):
+def why_made():
+    """Why the files in generated/ do not do, or None."""
+    try:
+        return next(filter(None, map(assemble.why_unfit, FILES)), None)
+    except assemble.Unfit as why:
+        return str(why)
+
+
+def made(given):
+    """The content of both files: from generated/, or from a folder, in which they may have to be made first."""
+    if given.module is None and not given.prove and why_made() is None:
+        return [assemble.content(it) for it in FILES]
+    folder = given.module or MODULE
+    if given.module is None:
+        print(f"making the module: {'that is asked for' if given.prove else why_made()}", file=sys.stderr, flush=True)
         if subprocess.run([sys.executable, os.path.join(WEB, "make.py")], check=False).returncode:
             sys.exit("the module was not made")
-    if not has_module(given.module):
-        sys.exit(f"{given.module} lacks {' or '.join(FILES)}")
+    if not has_module(folder):
+        sys.exit(f"{folder} lacks {' or '.join(FILES)}")
+    return [content(os.path.join(folder, it)) for it in FILES]
+
+
+def content(path):
+    with open(path, "rb") as file:
+        return file.read()
+
+
+def build(given):
+    """Puts both files into the package's folder, each whole, since others may read it meanwhile; returns the module."""
     os.makedirs(given.to, exist_ok=True)
-    for it in FILES:
+    try:
+        found = made(given)
+    except assemble.Unfit as why:
+        sys.exit(str(why))
+    for it, whole in zip(FILES, found):
         to = os.path.join(given.to, it)
-        shutil.copy(os.path.join(given.module, it), f"{to}.new")
+        with open(f"{to}.new", "wb") as file:
+            file.write(whole)
         os.replace(f"{to}.new", to)
     return os.path.join(given.to, FILES[0])
 
 
 def words_of(text):
     parser = argparse.ArgumentParser(description=text, formatter_class=argparse.RawDescriptionHelpFormatter)
-    parser.add_argument("--module", metavar="FOLDER", default=MODULE, help="where huckleport.wasm and calls.js are (bindings/web/out)")
+    parser.add_argument("--module", metavar="FOLDER", help="where huckleport.wasm and calls.js are, in place of generated/")
+    parser.add_argument("--prove", action="store_true", help="prove the crate and make the module, and do not take generated/")
     parser.add_argument("--to", metavar="FOLDER", default=os.path.join(HERE, "out"), help="where they go (bindings/javascript/out)")
     return parser
 

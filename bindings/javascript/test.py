@@ -13,7 +13,7 @@ import sys
 HERE = os.path.dirname(os.path.abspath(__file__))
 sys.dont_write_bytecode = True
 sys.path.insert(0, HERE)
-from make import build, has_module, module, MODULE, WEB, words_of
+from make import build, has_module, module, WEB, why_made, words_of
 
 # What tests need beside node. Debian's packages are found by NODE_PATH.
 PACKAGES = {
@@ -56,10 +56,10 @@ def missing(given):
         return "there is no node"
     if is_old():
         return f"node is older than {OLDEST}"
-    if has_module(given.module):
+    if given.module:
+        return None if has_module(given.module) else f"there is no module in {given.module}"
+    if not given.prove and why_made() is None:
         return None
-    if os.path.abspath(given.module) != MODULE:
-        return f"there is no module in {given.module}"
     return module("web_make", os.path.join(WEB, "make.py")).lacking()
 
 

@@ -2,7 +2,7 @@
 """Writes core/calls.h, the part of the extension module that follows from the exports of crates/dom_c and the table of members.py; and builds the module.
 
 With --check nothing is written, and it fails where the file is not what the sources give. With --build the module is compiled and linked
-with libhuckleport.a, as huckleport/_core.abi3.so, which any CPython from 3.8 on can load.
+with libhuckleport.a, as huckleport/_core.abi3.so, which any CPython from 3.8 on can load; bindings/c/make.py makes that library where it is missing.
 """
 import argparse
 import os
@@ -16,6 +16,7 @@ ROOT = os.path.dirname(os.path.dirname(HERE))
 CORE = os.path.join(HERE, "core")
 MADE = os.path.join(CORE, "calls.h")
 MODULE = os.path.join(HERE, "huckleport", "_core.abi3.so")
+LIBRARY = os.path.join(ROOT, "bindings/c/out")
 # The library takes its memory by the functions of core/memory.h.
 WRAPS = [f"-Wl,--wrap={it}" for it in ("malloc", "realloc", "free")]
 sys.dont_write_bytecode = True
@@ -286,8 +287,16 @@ def what_is_missing(given):
     return f"{given.library} has no {' and no '.join(lacking)}: python3 bindings/c/make.py makes them" if lacking else ""
 
 
+def make_library(given):
+    """Makes the library for C, where it is missing or is to be proved first."""
+    script = [sys.executable, os.path.join(ROOT, "bindings/c/make.py"), *(["--prove"] if given.prove else [])]
+    if given.library == LIBRARY and (given.prove or not os.path.exists(os.path.join(LIBRARY, "libhuckleport.a"))) and subprocess.run(script).returncode:
+        sys.exit("the library for C was not made")
+
+
 def build(given):
     """Compiles and links the module. It shows one name, and is put in place whole."""
+    make_library(given)
     missing = what_is_missing(given)
     if missing:
         sys.exit(f"the extension module can't be built: {missing}")
@@ -305,7 +314,8 @@ def main():
     parser.add_argument("--check", action="store_true", help="write nothing, and fail where calls.h is not what the sources give")
     parser.add_argument("--build", action="store_true", help="write nothing, and build the module")
     parser.add_argument("--sources", default=SOURCES, metavar="FOLDER", help="the folder of the exports (crates/dom_c/src)")
-    parser.add_argument("--library", default=os.path.join(ROOT, "bindings/c/out"), metavar="FOLDER", help="where libhuckleport.a and huckleport.h are (bindings/c/out)")
+    parser.add_argument("--prove", action="store_true", help="with --build, prove the library first")
+    parser.add_argument("--library", default=LIBRARY, metavar="FOLDER", help="where libhuckleport.a and huckleport.h are (bindings/c/out)")
     parser.add_argument("--compiler", default="gcc", help="the C compiler (gcc)")
     parser.add_argument("--to", default=MODULE, metavar="FILE", help="the module that is built (huckleport/_core.abi3.so)")
     given = parser.parse_args()

@@ -1,5 +1,5 @@
 //! Finds the library: in the folder that HUCKLEPORT_LIB_DIR names; else by pkg-config, where that has this version of it; else beside the crate, in
-//! `lib`, as a release has it, or where `bindings/c/make.py` puts it.
+//! `lib`, as a release has it, or where `bindings/c/make.py` puts it, which is run where nothing is there.
 use std::env;
 use std::path::{Path, PathBuf};
 use std::process::Command;
@@ -29,7 +29,27 @@ fn folder() -> PathBuf {
     }
     let here = PathBuf::from(env::var_os("CARGO_MANIFEST_DIR").expect("cargo sets CARGO_MANIFEST_DIR"));
     let beside = || Some(here.join("lib")).filter(|it| has_archive(it));
-    by_pkg_config().or_else(beside).unwrap_or_else(|| here.join("../c/out"))
+    by_pkg_config().or_else(beside).unwrap_or_else(|| made(&here))
+}
+
+/// The folder of the library in the repository, which is built there in seconds where it is missing; for another processor, one of this build.
+fn made(here: &Path) -> PathBuf {
+    let script = here.join("../c/make.py");
+    let target = env::var("TARGET").unwrap_or_default();
+    let mut words = vec![];
+    let mut folder = here.join("../c/out");
+    if env::var_os("HOST") != env::var_os("TARGET") {
+        folder = PathBuf::from(env::var_os("OUT_DIR").expect("cargo sets OUT_DIR"));
+        let machine = target.split('-').next().unwrap_or_default();
+        words = vec!["--machine".into(), machine.into(), "--compiler".into(), format!("{machine}-linux-gnu-gcc")];
+    }
+    if !has_archive(&folder) && script.is_file() {
+        let ran = Command::new("python3").arg(&script).args(&words).arg("--to").arg(&folder).status();
+        if !matches!(ran, Ok(it) if it.success()) {
+            eprintln!("{} did not make the library.", script.display());
+        }
+    }
+    folder
 }
 
 /// The crate's page: among the documents of the repository, or beside the crate, as a release has it.
