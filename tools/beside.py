@@ -1,14 +1,15 @@
 #!/usr/bin/env python3
-"""Runs all tests that need no proof, side by side: of the tools, of want of memory, of costs, of README, of each binding, of served documents, and of the
-referee.
+"""Runs all tests that need no proof, side by side: of generated/, of the tools, of dialogues, of want of memory, of costs, of README, of each binding, of
+served documents, and of the referee. With --proved it runs those that want the Rattle kit and what it proved as well.
 
-What they share is built first: the library for C, the module for Python and the one for JavaScript. Tests that build it again put each file in place whole,
-so others may read it meanwhile. Each task is begun once those that it needs have ended, never more at once than processors. What it writes is handed on in
-one piece when it has ended, under a line with its name and how long it took. The last line says how many passed and failed; --after adds what another run
-said in its last line. A test that says no such counts is one; a build counts where it fails.
+What they share is built first: the program, the library for C, the module for Python and the one for JavaScript. Tests that build it again put each file in
+place whole, so others may read it meanwhile. Each task is begun once those that it needs have ended, never more at once than processors. What it writes is
+handed on in one piece when it has ended, under a line with its name and how long it took. The last line says how many passed and failed; --after adds what
+another run said in its last line. A test that says no such counts is one; a build counts where it fails.
 
 What passed is kept in out/passed.json, beside a sum of all that it may read: each file of the repository, the kit, and what is installed. Where nothing of
-that has changed it is not run again, and what it wrote is shown once more; builds are always run, and --anew runs all.
+that has changed it is not run again, and what it wrote is shown once more; builds are always run, and --anew runs all. Beside it, out/seconds.json has how
+long each took, by which is told how long is left.
 """
 import argparse
 import contextlib
@@ -24,45 +25,55 @@ import tempfile
 import threading
 import time
 
+from progress import Figures, Progress, clock
 from start import ROOT
 
 COUNTS = re.compile(r"(\d+) passed, (\d+) failed")
 BINDINGS = "bindings/test.py"
-LIBRARY, EXTENSION, MODULE = "the library for C", "the module for Python", "the module for JavaScript"
+PROGRAM, LIBRARY, EXTENSION, MODULE = "the program", "the library for C", "the module for Python", "the module for JavaScript"
 
 
 @dataclasses.dataclass(frozen=True)
 class Task:
-    """A test, or a build that tests need: its script with words, and the names of those that have to end first."""
+    """A test, or a build that tests need: its script with words, the names of those that have to end first, how many seconds it took on four processors beside
+    the others, and whether it wants the kit."""
 
     name: str
     words: tuple
     needs: tuple = ()
     is_build: bool = False
+    seconds: int = 20
+    is_of_kit: bool = False
 
 
 # Those that others need come first, and then those that take long.
 TASKS = (
-    Task(LIBRARY, ("bindings/c/make.py",), is_build=True),
-    Task(MODULE, ("bindings/javascript/make.py",), is_build=True),
+    Task(PROGRAM, ("tools/assemble.py",), is_build=True, seconds=4),
+    Task(LIBRARY, ("bindings/c/make.py",), is_build=True, seconds=5),
+    Task(MODULE, ("bindings/javascript/make.py",), is_build=True, seconds=2),
     Task(EXTENSION, ("bindings/python/extension.py", "--build"), (LIBRARY,), is_build=True),
-    Task("bindings rust", (BINDINGS, "rust"), (LIBRARY,)),
-    Task("bindings python", (BINDINGS, "python"), (EXTENSION,)),
-    Task("served documents", ("serving/test.py",), (EXTENSION,)),
-    Task("bindings c", (BINDINGS, "c"), (LIBRARY,)),
-    Task("referee", ("referee/test.py",), (EXTENSION, MODULE, "bindings rust")),
-    Task("want of memory", ("tools/refused.py",)),
-    Task("bindings javascript", (BINDINGS, "javascript"), (MODULE,)),
-    Task("linters", ("tools/linted.py",)),
-    Task("costs", ("bench/hostile.py",)),
-    Task("README", ("tools/printed.py", "README.md")),
-    Task("versions", (BINDINGS, "versions")),
-    Task("edits", ("tools/test_edits.py",)),
+    Task("generated/ is what the proof leaves", ("tools/generate.py", "--check"), is_of_kit=True, seconds=60),
+    Task("bindings rust", (BINDINGS, "rust"), (LIBRARY,), seconds=120),
+    Task("bindings python", (BINDINGS, "python"), (EXTENSION,), seconds=120),
+    Task("served documents", ("serving/test.py",), (PROGRAM, EXTENSION), seconds=120),
+    Task("bindings c", (BINDINGS, "c"), (LIBRARY,), seconds=120),
+    Task("referee", ("referee/test.py",), (PROGRAM, EXTENSION, MODULE, "bindings rust"), seconds=150),
+    Task("want of memory", ("tools/refused.py", "dialogues", "writers", "leaks", "room"), (PROGRAM,), seconds=60),
+    Task("want of memory in crates", ("tools/refused.py", "store", "tests"), is_of_kit=True, seconds=60),
+    Task("bindings javascript", (BINDINGS, "javascript"), (MODULE,), seconds=60),
+    Task("linters", ("tools/linted.py",), seconds=60),
+    Task("costs", ("bench/hostile.py",), (PROGRAM,), seconds=60),
+    Task("aarch64", ("tools/other.py",), seconds=100),
+    Task("README", ("tools/printed.py", "README.md"), (PROGRAM,), seconds=60),
+    Task("generated/", ("tools/test_generated.py",), (PROGRAM,), seconds=60),
+    Task("dialogues", ("tools/pieces.py",), (PROGRAM,), seconds=5),
+    Task("versions", (BINDINGS, "versions"), seconds=1),
+    Task("edits", ("tools/test_edits.py",), is_of_kit=True),
     Task("tools", ("tools/test.py",)),
 )
 
-# What passed.
-KEPT = f"{ROOT}/out/passed.json"
+# What passed, and how long each took.
+KEPT, FIGURES = f"{ROOT}/out/passed.json", f"{ROOT}/out/seconds.json"
 # Which packages are installed, and which kit and machine this is.
 SURROUNDINGS = (("dpkg-query", "-W"), ("rt", "version"), ("uname", "-a"), (sys.executable, "--version"))
 
@@ -117,10 +128,11 @@ class Passed:
 class Run:
     """What has begun and ended; `passed` and `failed` are counted over all that has ended."""
 
-    def __init__(self, passed, failed, kept):
+    def __init__(self, passed, failed, kept, tasks, jobs):
         self.passed, self.failed, self.kept = passed, failed, kept
-        self.left, self.ended = [*TASKS], set()
-        self.changed = threading.Condition()
+        self.left, self.ended = [*tasks], set()
+        self.changed, self.figures = threading.Condition(), Figures(FIGURES)
+        self.progress = Progress("test", {it.name: self.figures.of.get(it.name, it.seconds) for it in tasks}, jobs)
 
     def next(self):
         """Takes the first task whose needs have ended, waits where there is none, and returns None once nothing is left to begin."""
@@ -142,6 +154,7 @@ class Run:
             self.passed, self.failed = self.passed + passed, self.failed + failed
             self.ended.add(task.name)
             words = f": FAILED, status {status}" if failed else ""
+            self.progress.clear()
             print(f"== {task.name} ({took}){words}\n{said.rstrip()}", flush=True)
             if not failed:
                 self.kept.keep(task, said)
@@ -150,15 +163,19 @@ class Run:
     def work(self):
         while task := self.next():
             began, said = time.monotonic(), self.kept.said(task)
+            self.progress.begin(task.name)
             if said is not None:
+                self.progress.end(task.name)
                 self.end(task, 0, said, "kept")
                 continue
             with tempfile.TemporaryFile("w+", encoding="utf-8", errors="replace") as out:
                 words = [sys.executable, f"{ROOT}/{task.words[0]}", *task.words[1:]]
                 status = subprocess.run(words, stdin=subprocess.DEVNULL, stdout=out, stderr=subprocess.STDOUT, check=False).returncode
                 out.seek(0)
-                seconds = int(time.monotonic() - began)
-                self.end(task, status, out.read(), f"{seconds // 60}:{seconds % 60:02}")
+                seconds = time.monotonic() - began
+                self.figures.keep(task.name, seconds)
+                self.progress.end(task.name)
+                self.end(task, status, out.read(), clock(seconds))
 
 
 def end(number, _):
@@ -172,6 +189,7 @@ def main():
     words.add_argument("--after", metavar="LINE", default="0 passed, 0 failed", help="the last line of the tests before these")
     words.add_argument("--jobs", type=int, default=os.cpu_count() or 1, metavar="N", help="how many run side by side (all processors)")
     words.add_argument("--anew", action="store_true", help="run also what passed over the same files")
+    words.add_argument("--proved", action="store_true", help="run also what wants the Rattle kit, and what it proved and built")
     given = words.parse_args()
     before = COUNTS.fullmatch(given.after)
     if not before:
@@ -179,12 +197,14 @@ def main():
     for it in (signal.SIGTERM, signal.SIGHUP, signal.SIGINT):
         with contextlib.suppress(ValueError):
             signal.signal(it, end)
-    run = Run(*map(int, before.groups()), Passed(KEPT, sum_of_all(), given.anew))
+    tasks = [it for it in TASKS if given.proved or not it.is_of_kit]
+    run = Run(*map(int, before.groups()), Passed(KEPT, sum_of_all(), given.anew), tasks, given.jobs)
     workers = [threading.Thread(target=run.work) for _ in range(given.jobs)]
-    for it in workers:
-        it.start()
-    for it in workers:
-        it.join()
+    with run.progress:
+        for it in workers:
+            it.start()
+        for it in workers:
+            it.join()
     print(f"{run.passed} passed, {run.failed} failed")
     return 1 if run.failed else 0
 

@@ -23,7 +23,7 @@ MAN = f"{SHARE}/man/man1/domserve.1"
 COMPLETIONS = ("bash-completion/completions/domserve", "zsh/site-functions/_domserve", "fish/vendor_completions.d/domserve.fish")
 # The form of sources in C, and the sources, but for the one that is made.
 STYLES = {
-    "bindings/c/.clang-format": ("bindings/c/**/*.[ch]", "release/**/*.c", "tools/*.c"),
+    "bindings/c/.clang-format": ("bindings/c/**/*.[ch]", "release/**/*.c", "tools/*.c", "generated/*.c", "examples/*.c"),
     "bindings/.clang-format": ("bindings/python/core/*.[ch]", "bindings/web/**/*.[ch]"),
 }
 MADE = "bindings/python/core/calls.h"
@@ -104,7 +104,7 @@ def rust():
 
 
 def shell():
-    return said("shellcheck", "--shell=bash", "--severity=warning", ".ci/run", "domserve", f"{SHARE}/{COMPLETIONS[0]}")
+    return said("shellcheck", "--severity=warning", ".ci/run", "test", "domserve") + said("shellcheck", "--shell=bash", "--severity=warning", f"{SHARE}/{COMPLETIONS[0]}")
 
 
 def javascript():
