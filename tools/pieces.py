@@ -18,6 +18,7 @@ CUTS = 12
 
 def takes(parser):
     takes_folders(parser)
+    parser.add_argument("--cuts", type=int, default=CUTS, metavar="N", help=f"at how many places each is cut in two ({CUTS})")
     parser.add_argument("--every", action="store_true", help="cut in two at each byte")
     parser.add_argument("--before", default="", metavar="WORD", help="a program that runs it, as qemu-aarch64-static")
 
@@ -58,7 +59,7 @@ def fault_of(given, dialogue):
     """Returns how many ways a dialogue was served, and what is wrong with one of them, if anything is."""
     words = [*given.before.split(), given.program, *dialogue.words]
     count = 0
-    for way, pieces in ways(dialogue.given, len(dialogue.given) if given.every else CUTS):
+    for way, pieces in ways(dialogue.given, len(dialogue.given) if given.every else given.cuts):
         status, out = served(words, pieces)
         count += 1
         if (status, out) != (0, dialogue.due):

@@ -1,0 +1,145 @@
+#!/usr/bin/env python3
+"""Builds the program and the library of the assembly for aarch64 by Debian's cross compiler, and tries both under qemu: dialogues byte for byte, the tests of the
+library for C, and the tests of the package for Python where a Python for aarch64 is there.
+
+With --install such a Python is taken from Debian's packages, into the folder where this looks for it. The last line says how many parts passed and failed.
+"""
+import argparse
+import glob
+import os
+import shutil
+import subprocess
+import sys
+import tempfile
+
+import assemble
+from start import ROOT
+
+sys.dont_write_bytecode = True
+sys.path.append(f"{ROOT}/bindings/c")
+MACHINE, COMPILER = "aarch64", "aarch64-linux-gnu-gcc"
+LIBC = "/usr/aarch64-linux-gnu"
+QEMU = ("qemu-aarch64-static", "-L", LIBC)
+# Where a Python for aarch64 is kept, and the packages that it is put together of.
+PYTHON = "/usr/local/lib/huckleport/aarch64"
+PACKAGES = "python3.11-minimal libpython3.11-minimal libpython3.11-stdlib libpython3.11-dev libpython3.11 libc6 libexpat1 zlib1g libssl3 libffi8 libbz2-1.0 liblzma5 libuuid1".split()
+# The tests of the library that say most of another processor: what is handed in and out, and its layout.
+PARTS = ("lines", "said", "closed", "misuse", "counted", "threads", "example")
+# Tests of the package that only ask of Python, or start other processes of this machine.
+LIMIT = 600
+
+
+def lacking():
+    """Returns why nothing can be tried here, or None."""
+    for tool, package in ((QEMU[0], "qemu-user-static"), (COMPILER, "gcc-aarch64-linux-gnu")):
+        if not shutil.which(tool):
+            return f"there is no {tool} ({package})"
+    return None if os.path.exists(f"{LIBC}/lib/libc.so.6") else f"there is no {LIBC}/lib/libc.so.6 (libc6-dev-arm64-cross)"
+
+
+def passes(*words, **how):
+    """Runs a command, and answers whether it passed."""
+    ran = subprocess.run(words, stdin=subprocess.DEVNULL, stdout=subprocess.PIPE, stderr=subprocess.STDOUT, text=True, errors="replace", timeout=LIMIT, check=False, **how)
+    lines = ran.stdout.strip().splitlines()
+    print("\n".join(lines[-30:] if ran.returncode else lines[-1:]), flush=True)
+    return ran.returncode == 0
+
+
+def dialogues(room):
+    program = f"{room}/domserve"
+    assemble.program(program, MACHINE, COMPILER)
+    return passes(sys.executable, f"{ROOT}/tools/pieces.py", "--program", program, "--before", " ".join(QEMU), "--cuts", "1")
+
+
+def library(room):
+    """Builds the library, and runs tests of it, each program under qemu."""
+    import test as of_c
+    from make import make, words_of
+
+    class Tests(of_c.Tests):
+        def run(self, *words, given=b""):
+            return super().run(*([*QEMU, "-E", f"LD_LIBRARY_PATH={self.folder}"] if words[0].startswith(self.work + os.sep) else []), *words, given=given)
+
+        def said(self):
+            """The dialogues through the calls, as C: how that is written is read off the library of this machine."""
+            source = os.path.join(self.work, "said.c")
+            here = f"{ROOT}/bindings/c/out"
+            words = ["--library", f"{here}/libhuckleport.so", "--header", f"{here}/huckleport.h", "--write", source]
+            if self.must("the dialogues through the calls", sys.executable, f"{of_c.TESTS}/typed.py", *words) is not None:
+                self.alone("said", source=source, standard="-std=c99")
+
+    given = words_of("").parse_args(["--machine", MACHINE, "--compiler", COMPILER, "--to", f"{room}/library"])
+    make(given)
+    os.mkdir(f"{room}/programs")
+    tests = Tests(given, given.to, f"{room}/programs")
+    tests.has_valgrind = False
+    for it in PARTS:
+        getattr(tests, it)()
+    return not tests.faults
+
+
+def package(room):
+    """Builds the module for a Python for aarch64, and runs the tests of the package by it."""
+    folder = f"{room}/python"
+    shutil.copytree(f"{ROOT}/bindings/python", folder, ignore=shutil.ignore_patterns("*.so", "__pycache__"))
+    core = f"{folder}/core"
+    words = [COMPILER, "-std=c99", "-O1", "-fPIC", "-shared", "-fvisibility=hidden", f"-I{PYTHON}/usr/include/python3.11", f"-I{PYTHON}/usr/include"]
+    words += [f"-I{room}/library", f"-I{core}", f"{core}/core.c", f"{room}/library/libhuckleport.a", "-Wl,--exclude-libs,ALL", "-Wl,-z,noexecstack"]
+    words += [f"-Wl,--wrap={it}" for it in ("malloc", "realloc", "free")]
+    if not passes(*words, "-o", f"{folder}/huckleport/_core.abi3.so"):
+        return False
+    python = [QEMU[0], "-L", PYTHON, f"{PYTHON}/usr/bin/python3.11"]
+    return passes(*python, f"{ROOT}/tools/other_python.py", folder, env={**os.environ, "PYTHONDONTWRITEBYTECODE": "1", "HUCKLEPORT_SECONDS": "1"})
+
+
+def has_python():
+    return os.path.isfile(f"{PYTHON}/usr/bin/python3.11") and bool(glob.glob(f"{PYTHON}/usr/include/python3.11/Python.h"))
+
+
+def install():
+    """Takes a Python for aarch64 from Debian, without changing what is installed: lists of that processor are kept in a folder of their own."""
+    if has_python() or lacking():
+        return
+    with tempfile.TemporaryDirectory() as room:
+        for it in ("lists/partial", "cache/archives/partial", "taken"):
+            os.makedirs(f"{room}/{it}")
+        open(f"{room}/status", "w", encoding="utf-8").close()
+        words = [f"-o{it}" for it in (f"Dir::State::lists={room}/lists", f"Dir::Cache={room}/cache", f"Dir::State::status={room}/status")]
+        words += ["-oAPT::Architecture=arm64", "-oAPT::Architectures::=arm64", "-oAPT::Sandbox::User=root", "-oAcquire::http::Timeout=20"]
+        subprocess.run(["apt-get", "-qq", *words, "update"], stdout=subprocess.DEVNULL, stderr=subprocess.DEVNULL, check=False)
+        if subprocess.run(["apt-get", "-qq", *words, "download", *PACKAGES], cwd=f"{room}/taken", stdout=subprocess.DEVNULL, check=False).returncode:
+            return print("no Python for aarch64 could be taken from Debian")
+        for it in glob.glob(f"{room}/taken/*.deb"):
+            subprocess.run(["dpkg-deb", "-x", it, f"{room}/whole"], check=True)
+        os.makedirs(os.path.dirname(PYTHON), exist_ok=True)
+        shutil.copytree(f"{room}/whole", f"{PYTHON}.new", symlinks=True)
+        os.rename(f"{PYTHON}.new", PYTHON)
+    return None
+
+
+def main():
+    words = argparse.ArgumentParser(description=__doc__, formatter_class=argparse.RawDescriptionHelpFormatter)
+    words.add_argument("--install", action="store_true", help="take a Python for aarch64 from Debian, and try nothing")
+    if words.parse_args().install:
+        install()
+        return 0
+    why = lacking()
+    if why:
+        print(f"left out: aarch64, since {why}")
+        return 0
+    parts = [("dialogues", dialogues), ("the library for C", library)]
+    if has_python():
+        parts.append(("the package for Python", package))
+    else:
+        print("left out: the package for Python on aarch64, since there is no Python for it (tools/other.py --install)")
+    failed = 0
+    with tempfile.TemporaryDirectory() as room:
+        for what, part in parts:
+            print(f"-- {what}", flush=True)
+            failed += not part(room)
+    print(f"{len(parts) - failed} passed, {failed} failed")
+    return 1 if failed else 0
+
+
+if __name__ == "__main__":
+    sys.exit(main())
