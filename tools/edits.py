@@ -358,12 +358,10 @@ class Edits(start.Start):
         new = [it for it in edits if it.path not in outcomes]
         strange = {}
         if new:
-            self.running.add(f"{crate.name} (edits)")
             with self.work(crate) as work:
                 trial = Trial(self.rt, crate, new, work, self.say)
                 outcomes |= trial.run(jobs)
                 strange = trial.strange
-            self.running.discard(f"{crate.name} (edits)")
         for function, goals in strange.items():
             self.say(f"{crate.name}: {function} lost its proof beside edits of others: {', '.join(goals)}")
         for edit in new:

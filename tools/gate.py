@@ -111,13 +111,11 @@ class Gate(edits.Edits):
         crate, key = copy.copy(crate), kept.key(crate)
         os.makedirs(f"{crate.folder}/out", exist_ok=True)
         name = f"{crate.name} (tests)"
-        self.running.add(name)
         with tempfile.TemporaryFile("w+", encoding="utf-8", errors="replace") as crate.out, kept.in_turn(crate, True, key):
             was_kept = kept.give(crate, True, key)
             is_proved = was_kept or not crate.ci(["--jobs", str(jobs)], True)
             if is_proved and not was_kept:
                 kept.keep(crate, True, key)
-            self.running.discard(name)
             self.say(f"{'kept' if was_kept else 'proved' if is_proved else 'NOT PROVED'}: {name}")
             if not is_proved:
                 self.tell_why(crate)

@@ -18,7 +18,7 @@ from collections import namedtuple
 from start import ROOT
 
 PASSED_OVER = (
-    (r"\.ci/run|\brt (ci|all)\b", "the gate itself, which proves all from nothing"),
+    (r"\.ci/run|\./test\b|\brt (ci|all)\b", "the gate itself, which proves all from nothing"),
     (r"--install|\bpip install|\bnpm install|\binstall -m|\bapt(-get)? |\bsystemctl\b|\bdocker\b|\bpodman\b", "installs, or needs what is not here"),
     (r"\b(NAME|FILE|PREFIX|FOLDER|CRATE)\b|-0\.\d", "a form, with words to put in"),
     (r"\btools/(refused|size|printed)|\bbench|\brt \w+|playground", "a long run by hand"),
@@ -50,10 +50,15 @@ def blocks(page):
 
 
 def save(block, folder):
+    """Saves a block in its file; returns why it may not, where the repository has another file of that name."""
     path = os.path.join(folder, block.file)
+    if os.path.exists(path):
+        with open(path, encoding="utf-8") as it:
+            return None if it.read() == block.script else "the page has it otherwise than it stands there"
     os.makedirs(os.path.dirname(path), exist_ok=True)
     with open(path, "w", encoding="utf-8") as it:
         it.write(block.script)
+    return None
 
 
 def fault_of(block, folder):
@@ -69,7 +74,7 @@ def fault_of(block, folder):
 def reason(script):
     """Returns why a script is not run, if it is not: what it is, or the tool that it lacks."""
     found = next((why for pattern, why in PASSED_OVER if re.search(pattern, script)), None)
-    lacking = [it for it in TOOLS if re.search(rf"(?m)^{it}\b", script) and not shutil.which(it)]
+    lacking = [it for it in TOOLS if re.search(rf"(?m)^(\(cd \w+ && )?{it}\b", script) and not shutil.which(it)]
     return found, f"there is no {lacking[0]}" if lacking else None
 
 
@@ -88,7 +93,9 @@ def run(page, folder):
         passed_over, lacking = reason(block.script) if not block.file else (None, None)
         name = f"{page}: {block.script.strip().splitlines()[0]}"
         if block.file:
-            save(block, folder)
+            fault = save(block, folder)
+            if fault:
+                yield f"{page}: {block.file}: {fault}", True, True
         elif passed_over:
             yield f"{name}: not run: {passed_over}", False, False
         elif lacking:

@@ -26,12 +26,14 @@ import tempfile
 import threading
 import time
 
+from progress import Figures, Progress
+
 ROOT = os.path.dirname(os.path.dirname(os.path.realpath(__file__)))
 PROGRAM = "domserve"
 # What `rt` calls the task that proves a crate.
 PROOF = "proof"
-# How often a start that takes long says what it is at, in seconds.
-PAUSE = 60
+# How many bytes of a crate take a second to prove, where no earlier proof of it was timed; and what is too short to be one.
+RATE, KEPT = 3000, 5
 # How far what nothing waits for stands back from the rest, as `nice` has it.
 BEHIND = 10
 # What a program and a static library are compiled for: this machine, and the other processor of a release.
@@ -240,22 +242,19 @@ class Start:
         rt.Crate.allowed = rt.handles_of(top)
         self.crates = {it.name: it for it in rt.rtlib.crates_below(top) if it.name in names}
         self.kept = store(rt, [*self.crates.values()])
-        self.running, self.proved, self.done, self.sizes = set(), set(), 0, {}
-        self.began, self.saying = time.monotonic(), threading.Lock()
+        self.proved, self.done, self.sizes = set(), 0, {}
+        self.began, self.saying, self.progress = time.monotonic(), threading.Lock(), None
 
     def say(self, text):
         passed = int(time.monotonic() - self.began)
         with self.saying:
+            if self.progress:
+                self.progress.clear()
             print(f"{PROGRAM}: {text} ({passed // 60}:{passed % 60:02})", file=sys.stderr, flush=True)
 
     def count(self):
         """Returns how many proofs there are."""
         return len(self.names) + len(self.further) * sum(not it.makes_rlib() for it in self.crates.values())
-
-    def tell(self, ended):
-        """Says from time to time what is being proved."""
-        while not ended.wait(PAUSE):
-            self.say(f"at {', '.join(sorted(self.running))}")
 
     def build(self, crate, jobs):
         """Proves a crate from nothing, and returns whether it is proved; a static library's archive is then out/NAME."""
@@ -332,10 +331,8 @@ class Start:
             return False
         crate, jobs = copy.copy(crate), self.threads(crate, jobs)
         os.makedirs(f"{crate.folder}/out", exist_ok=True)
-        self.running.add(told(crate))
         with tempfile.TemporaryFile("w+", encoding="utf-8", errors="replace") as crate.out:
             is_proved, was_kept = self.take_or_build(crate, jobs)
-            self.running.discard(told(crate))
             if not is_proved:
                 self.tell_why(crate)
                 return False
@@ -364,12 +361,29 @@ class Start:
         call = lambda given, jobs: self.prove(crate, given, jobs)
         return ([(it.name, PROOF) for it in crate.below()], crate.count(rb"\n"), self.rt.need(crate), call)
 
+    def timed(self, key, task, figures):
+        """Returns a task that says when it begins and ends, and whose time is kept beside the kit's store."""
+        waits, lines, memory, call = task
+        name = " ".join(key)
+
+        def work(given, jobs):
+            began = time.monotonic()
+            self.progress.begin(name)
+            found = call(given, jobs)
+            self.progress.end(name)
+            if found and time.monotonic() - began > KEPT:
+                figures.keep(name, time.monotonic() - began)
+            return found
+
+        return waits, lines, memory, work
+
     def run(self):
-        """Does what there is to do, as the kit orders it, and returns whether all of it went well."""
-        ended = threading.Event()
-        threading.Thread(target=self.tell, args=(ended,), daemon=True).start()
-        given = self.rt.in_lanes(self.tasks())
-        ended.set()
+        """Does what there is to do, as the kit orders it, and returns whether all of it went well; meanwhile it tells how far it is."""
+        tasks, figures = self.tasks(), Figures(f"{getattr(self.rt, 'STORE', ROOT + '/out')}/seconds.json")
+        seconds = {" ".join(key): figures.of.get(" ".join(key), 1 + self.size(self.crates[key[0]]) / RATE) for key in tasks}
+        self.progress = Progress(PROGRAM, seconds, self.rt.processors())
+        with self.progress:
+            given = self.rt.in_lanes({key: self.timed(key, it, figures) for key, it in tasks.items()})
         self.kept.shrink()
         return all(given.values())
 
