@@ -5,6 +5,7 @@ A word leaves only the scenes whose name has it. What makes a scene is not count
 where twice the size takes more than 2.3 times as much: twice, and what a logarithm or the pages of a table add. --size takes larger ones: the sizes
 below are those of the gate, which are small.
 """
+import shutil
 import sys
 import tempfile
 
@@ -231,6 +232,9 @@ def takes_size(parser):
 
 def main():
     given, over = words_of(__doc__, takes_size), 0
+    if not shutil.which("valgrind"):
+        print("left out: what scenes cost, since there is no valgrind")
+        return
     with tempfile.TemporaryDirectory() as work:
         empty = empty_line(given.program, work)
         for name, scene, least in SCENES:

@@ -51,7 +51,7 @@ TASKS = (
     Task(PROGRAM, ("tools/assemble.py",), is_build=True, seconds=4),
     Task(LIBRARY, ("bindings/c/make.py",), is_build=True, seconds=5),
     Task(MODULE, ("bindings/javascript/make.py",), is_build=True, seconds=2),
-    Task(EXTENSION, ("bindings/python/extension.py", "--build"), (LIBRARY,), is_build=True),
+    Task(EXTENSION, ("bindings/python/extension.py", "--build", "--where-possible"), (LIBRARY,), is_build=True),
     Task("generated/ is what the proof leaves", ("tools/generate.py", "--check"), is_of_kit=True, seconds=60),
     Task("bindings rust", (BINDINGS, "rust"), (LIBRARY,), seconds=120),
     Task("bindings python", (BINDINGS, "python"), (EXTENSION,), seconds=120),

@@ -12,6 +12,7 @@ import re
 import shutil
 import subprocess
 import sys
+import sysconfig
 import tempfile
 from collections import namedtuple
 
@@ -74,6 +75,8 @@ def fault_of(block, folder):
 def reason(script):
     """Returns why a script is not run, if it is not: what it is, or the tool that it lacks."""
     found = next((why for pattern, why in PASSED_OVER if re.search(pattern, script)), None)
+    if re.search(r"\bbindings/python\b", script) and not os.path.isfile(f"{sysconfig.get_path('include')}/Python.h"):
+        return found, "there is no Python.h"
     lacking = [it for it in TOOLS if re.search(rf"(?m)^(\(cd \w+ && )?{it}\b", script) and not shutil.which(it)]
     return found, f"there is no {lacking[0]}" if lacking else None
 

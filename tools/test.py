@@ -1,10 +1,12 @@
 #!/usr/bin/env python3
-"""Tests tools/setup, tools/gathered.py, tools/beside.py, tools/printed.py, tools/rows.py, tools/commands.py, tools/quoted.py and how many threads a proof gets, where nothing
-is installed, built or proved: apt is a script that notes how it was called."""
+"""Tests tools/setup, tools/gathered.py, tools/beside.py, tools/progress.py, tools/printed.py, tools/rows.py, tools/commands.py, tools/quoted.py and how many
+threads a proof gets, where nothing is installed, built or proved: apt is a script that notes how it was called."""
 import glob
 import importlib.machinery
 import importlib.util
+import io
 import os
+import shutil
 import subprocess
 import sys
 import tempfile
@@ -22,6 +24,7 @@ import contracts
 import gate
 import gathered
 import printed
+import progress
 import quoted
 import start
 
@@ -47,7 +50,7 @@ class Setup(unittest.TestCase):
                 with open(path, "w", encoding="utf-8") as file:
                     file.write(APT.format(log=log, status=status))
                 os.chmod(path, 0o755)
-            environment = {**os.environ, "PATH": folder, "LOG": log, **variables}
+            environment = {**{name: it for name, it in os.environ.items() if name != "HUCKLEPORT_SETUP"}, "PATH": folder, "LOG": log, **variables}
             ran = subprocess.run([sys.executable, os.path.join(HERE, "setup")], env=environment, stdout=subprocess.PIPE, text=True, check=False)
             calls = []
             if os.path.exists(log):
@@ -194,6 +197,7 @@ class Threads(unittest.TestCase):
 
 
 class Rows(unittest.TestCase):
+    @unittest.skipUnless(shutil.which("rt"), "left out, since there is no rt")
     def test_what_is_written_of_dialogues_is_as_they_give_it(self):
         ran = subprocess.run([sys.executable, os.path.join(HERE, "rows.py"), "--check"], capture_output=True, text=True, check=False)
         self.assertEqual((ran.returncode, ran.stdout), (0, "what is written from the dialogues is as it should be\n"))
@@ -263,5 +267,43 @@ class Printed(unittest.TestCase):
             self.assertIn("status 1", printed.fault_of(printed.Block(None, "false\n", None), folder))
 
 
+class Left(unittest.TestCase):
+    """How long is left of three parts on two processors."""
+
+    def test_by_what_they_took(self):
+        out = io.StringIO()
+        it = progress.Progress("test", {"one": 100, "two": 60, "three": 40}, 2, out)
+        self.assertEqual(it.left(), 100)
+        it.begin("one")
+        it.begin("two")
+        self.assertAlmostEqual(it.left(), 100, delta=1)
+        it.write()
+        self.assertRegex(out.getvalue(), r"^test: \d+% after 0:0\d, about 1:(39|40) left: one, two\n$")
+        it.end("one")
+        it.end("two")
+        self.assertAlmostEqual(it.left(), 40, delta=1)
+        it.begin("three")
+        it.end("three")
+        self.assertEqual(it.left(), 0)
+
+    def test_one_that_takes_longer_is_nearly_done(self):
+        it = progress.Progress("test", {"one": 10}, 2, io.StringIO())
+        it.begin("one")
+        it.running["one"] -= 500
+        self.assertAlmostEqual(it.left(), 1)
+
+    def test_figures_that_are_kept(self):
+        with tempfile.TemporaryDirectory() as room:
+            path = os.path.join(room, "out", "seconds.json")
+            progress.Figures(path).keep("one", 12.34)
+            self.assertEqual(progress.Figures(path).of, {"one": 12.3})
+            with open(path, "w", encoding="utf-8") as file:
+                file.write("[")
+            self.assertEqual(progress.Figures(path).of, {})
+
+    def test_a_clock(self):
+        self.assertEqual([progress.clock(it) for it in (0, 61, 3600, 5400)], ["0:00", "1:01", "1:00 h", "1:30 h"])
+
+
 if __name__ == "__main__":
-    unittest.main()
+    unittest.main(verbosity=2)

@@ -298,6 +298,8 @@ def build(given):
     """Compiles and links the module. It shows one name, and is put in place whole."""
     make_library(given)
     missing = what_is_missing(given)
+    if missing and given.where_possible:
+        return print(f"left out: the extension module, since {missing}")
     if missing:
         sys.exit(f"the extension module can't be built: {missing}")
     words = [given.compiler, "-std=c99", "-O3", "-fPIC", "-shared", "-Wall", "-Wextra", "-Wno-missing-field-initializers", "-fvisibility=hidden"]
@@ -306,7 +308,7 @@ def build(given):
     if subprocess.run([*words, "-o", given.to + ".new"]).returncode:
         sys.exit("the extension module was not built")
     os.replace(given.to + ".new", given.to)
-    print(given.to)
+    return print(given.to)
 
 
 def main():
@@ -315,6 +317,7 @@ def main():
     parser.add_argument("--build", action="store_true", help="write nothing, and build the module")
     parser.add_argument("--sources", default=SOURCES, metavar="FOLDER", help="the folder of the exports (crates/dom_c/src)")
     parser.add_argument("--prove", action="store_true", help="with --build, prove the library first")
+    parser.add_argument("--where-possible", action="store_true", help="with --build, leave the module out where there is no compiler or no Python.h")
     parser.add_argument("--library", default=LIBRARY, metavar="FOLDER", help="where libhuckleport.a and huckleport.h are (bindings/c/out)")
     parser.add_argument("--compiler", default="gcc", help="the C compiler (gcc)")
     parser.add_argument("--to", default=MODULE, metavar="FILE", help="the module that is built (huckleport/_core.abi3.so)")
