@@ -25,7 +25,10 @@ PYTHON = "/usr/local/lib/huckleport/aarch64"
 PACKAGES = "python3.11-minimal libpython3.11-minimal libpython3.11-stdlib libpython3.11-dev libpython3.11 libc6 libexpat1 zlib1g libssl3 libffi8 libbz2-1.0 liblzma5 libuuid1".split()
 # The tests of the library that say most of another processor: what is handed in and out, and its layout.
 PARTS = ("lines", "said", "closed", "misuse", "counted", "threads", "example")
-# Tests of the package that only ask of Python, or start other processes of this machine.
+# The tests of the package that say most of another processor, and how they are run: another Python is started through qemu too.
+TESTS = [f"tests.test_{it}" for it in ("dialogues", "answers", "documents", "members", "objects", "history", "letting_go", "undo")]
+RUN = "import sys, unittest; sys.executable = sys.argv.pop(1); unittest.main(None)"
+# The longest that a part may take, in seconds.
 LIMIT = 600
 
 
@@ -80,8 +83,9 @@ def library(room):
 
 def package(room):
     """Builds the module for a Python for aarch64, and runs the tests of the package by it."""
-    folder = f"{room}/python"
+    folder = f"{room}/bindings/python"
     shutil.copytree(f"{ROOT}/bindings/python", folder, ignore=shutil.ignore_patterns("*.so", "__pycache__"))
+    os.symlink(f"{ROOT}/dialogues", f"{room}/dialogues")
     core = f"{folder}/core"
     words = [COMPILER, "-std=c99", "-O1", "-fPIC", "-shared", "-fvisibility=hidden", f"-I{PYTHON}/usr/include/python3.11", f"-I{PYTHON}/usr/include"]
     words += [f"-I{room}/library", f"-I{core}", f"{core}/core.c", f"{room}/library/libhuckleport.a", "-Wl,--exclude-libs,ALL", "-Wl,-z,noexecstack"]
@@ -89,7 +93,12 @@ def package(room):
     if not passes(*words, "-o", f"{folder}/huckleport/_core.abi3.so"):
         return False
     python = [QEMU[0], "-L", PYTHON, f"{PYTHON}/usr/bin/python3.11"]
-    return passes(*python, f"{ROOT}/tools/other_python.py", folder, env={**os.environ, "PYTHONDONTWRITEBYTECODE": "1", "HUCKLEPORT_SECONDS": "1"})
+    with open(f"{room}/python", "w", encoding="utf-8") as file:
+        file.write(f'#!/bin/sh\nexec {" ".join(python)} "$@"\n')
+    os.chmod(f"{room}/python", 0o755)
+    environment = {**os.environ, "PYTHONDONTWRITEBYTECODE": "1", "HUCKLEPORT_SECONDS": "1"}
+    ran = [passes(*python, "-c", RUN, f"{room}/python", "-q", it, cwd=folder, env=environment) for it in TESTS]
+    return all(ran)
 
 
 def has_python():
