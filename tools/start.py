@@ -32,8 +32,8 @@ ROOT = os.path.dirname(os.path.dirname(os.path.realpath(__file__)))
 PROGRAM = "domserve"
 # What `rt` calls the task that proves a crate.
 PROOF = "proof"
-# How many bytes of a crate take a second to prove, where no earlier proof of it was timed; and what is too short to be one.
-RATE, KEPT = 3000, 5
+# How many seconds any proof takes, and how many lines a second, where no earlier one of the crate was timed; and what is too short to be one.
+LEAST, RATE, KEPT = 20, 7, 5
 # How far what nothing waits for stands back from the rest, as `nice` has it.
 BEHIND = 10
 # What a program and a static library are compiled for: this machine, and the other processor of a release.
@@ -380,7 +380,7 @@ class Start:
     def run(self):
         """Does what there is to do, as the kit orders it, and returns whether all of it went well; meanwhile it tells how far it is."""
         tasks, figures = self.tasks(), Figures(f"{getattr(self.rt, 'STORE', ROOT + '/out')}/seconds.json")
-        seconds = {" ".join(key): figures.of.get(" ".join(key), 1 + self.size(self.crates[key[0]]) / RATE) for key in tasks}
+        seconds = {" ".join(key): figures.of.get(" ".join(key), LEAST + self.crates[key[0]].count(rb"\n") / RATE) for key in tasks}
         self.progress = Progress(PROGRAM, seconds, self.rt.processors())
         with self.progress:
             given = self.rt.in_lanes({key: self.timed(key, it, figures) for key, it in tasks.items()})
