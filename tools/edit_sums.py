@@ -3,8 +3,8 @@
 The prover proves a function by its own body and proof, over the contracts of the functions that it calls. So the sum of an edit has:
 
 - its lines, the functions that it changes, and their proofs;
-- of the rest of its crate the contracts, types and constants, without the bodies and proofs of other functions;
-- of the crates below what they show: public contracts, types and constants;
+- the types and constants of its crate, and of the crates below;
+- the contracts of those functions of both whose names occur in all this, without bodies and proofs; those of traits always;
 - every file of definitions or lemmas that these import, and that those import in turn;
 - the libraries that the crate lists, the kit's identity, and the tools that try edits.
 
@@ -25,10 +25,11 @@ CLOSES = {"{": "}", "(": ")"}
 # Functions that only their own crate sees.
 PRIVATE = re.compile(r"\s*(?:pub\([^)]*\)\s+)?(?:unsafe\s+)?fn\s")
 CONSTANT = re.compile(r"\bconst fn\b")
+WORD = re.compile(r"\w+")
 
 
 def without_comments(lines):
-    return [it for it in lines if not it.lstrip().startswith(("//", "--"))]
+    return [it for it in lines if it.strip() and not it.lstrip().startswith(("//", "--"))]
 
 
 def group_at(text, begin):
@@ -120,40 +121,45 @@ class Sources:
         spans = {it: edit_twins.extent(lines, it.line) for it in owners}
         return {it: span for it, span in spans.items() if span and not CONSTANT.search(lines[it.line])}
 
-    def shown(self, file, folder, whole=(), is_below=False):
-        """Returns the lines of a source without the bodies of functions but those of `whole`, and for a crate above without private functions."""
+    def pieces(self, file, folder, is_below):
+        """Yields the pieces of a source without bodies, each with the name of the one function that it is of, or None: of a crate below the public ones."""
+        lines, begin, rest = self.text(f"{folder}/{file}").split("\n"), 0, []
+        for owner, (first, body, end) in sorted(self.functions(file, folder).items(), key=lambda it: it[1]):
+            if first < begin or not edit_twins.may_have(lines, owner):
+                # (within another function; or of a trait, which may be called without its name)
+                continue
+            rest += self.bodiless(file, folder, begin, first)
+            if not (is_below and PRIVATE.match(lines[owner.line])):
+                yield owner.name, without_comments(lines[first : body + 1])
+            begin = end + 1
+        yield None, rest + self.bodiless(file, folder, begin, len(lines))
+
+    def bodiless(self, file, folder, begin, end):
+        """Returns lines of a source without the bodies of functions."""
         lines = self.text(f"{folder}/{file}").split("\n")
-        for owner, (begin, body, end) in self.functions(file, folder).items():
-            is_private = is_below and PRIVATE.match(lines[owner.line]) and edit_twins.may_have(lines, owner)
-            if owner not in whole:
-                lines[begin if is_private else body + 1 : end + 1] = [None] * (end + 1 - (begin if is_private else body + 1))
-        return without_comments(it for it in lines if it is not None)
+        for _, body, last in self.functions(file, folder).values():
+            if begin <= body and last < end:
+                lines[body + 1 : last] = [None] * (last - body - 1)
+        return without_comments(it for it in lines[begin:end] if it is not None)
 
     def files(self, name):
         folder = self.folder(name)
         return folder, sorted(os.path.relpath(it, folder) for it in glob.glob(f"{folder}/src/**/*.rt", recursive=True))
 
     @functools.lru_cache(maxsize=None)
-    def interface(self, name):
-        """Returns what a crate shows to those above it."""
+    def shown(self, name, is_below):
+        """Returns the pieces of all sources of a crate."""
         folder, files = self.files(name)
-        return "\n".join(line for file in files for line in [file, *self.shown(file, folder, is_below=True)])
+        return [(function, "\n".join([file, *lines])) for file in files for function, lines in self.pieces(file, folder, is_below) if lines]
+
+    def around(self, name, words):
+        """Returns all that an edit of a crate depends on beside its own functions, if these words occur in them."""
+        pieces = [*self.shown(name, False), *(it for below in self.below(name) for it in self.shown(below, True))]
+        return [text for function, text in pieces if function is None or function in words]
 
     @functools.lru_cache(maxsize=None)
-    def contracts(self, name):
-        """Returns what a crate shows to its own functions."""
-        folder, files = self.files(name)
-        return "\n".join(line for file in files for line in [file, *self.shown(file, folder)])
-
-    @functools.lru_cache(maxsize=None)
-    def around(self, name):
-        """Returns the sum of all that each edit of a crate depends on but for its own functions, and the files that this has read."""
-        texts = [self.contracts(name), *(self.interface(it) for it in self.below(name))]
-        files = frozenset(self.closed(it for text in texts for it in self.named_in(text)))
-        total = hashlib.sha256("\n".join([" ".join(self.listed[name]), *texts]).encode())
-        for file in sorted(files):
-            total.update(self.sum_of(file))
-        return total.hexdigest(), files
+    def words_of(self, path):
+        return frozenset(WORD.findall(self.text(path)))
 
     @functools.lru_cache(maxsize=None)
     def sum_of(self, path):
@@ -193,10 +199,13 @@ def changes_of(edit):
 
 def sum_of(sources, name, edit, kit, tools=None):
     """Returns the sum of all that the outcome of an edit of a crate may depend on."""
-    around, known = sources.around(name)
     proofs, text = own_files(sources, name, edit)
-    files = sources.closed(proofs | {*sources.named_in("\n".join(text))}) - known
-    total = hashlib.sha256("\n".join([kit, tools or sum_of_tools(), around, changes_of(edit), *text]).encode())
+    own = "\n".join([changes_of(edit), *text])
+    files = sources.closed(proofs | {*sources.named_in(own)})
+    words = {*WORD.findall(own)}.union(*(sources.words_of(it) for it in files))
+    around = sources.around(name, words)
+    files = sources.closed(files | {it for piece in around for it in sources.named_in(piece)})
+    total = hashlib.sha256("\n".join([kit, tools or sum_of_tools(), " ".join(sources.listed[name]), own, *around]).encode())
     for file in sorted(files):
         total.update(sources.sum_of(file))
     return total.hexdigest()

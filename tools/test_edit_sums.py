@@ -43,8 +43,16 @@ pub fn two(n: u8) -> u8
     requires { n ≤ 99 }
     ensures { IsNear n result }
 {
-    n + 2
+    n + 2 + nothing(n)
 }
+
+fn nothing(n: u8) -> u8
+    requires { n ≤ 200 }
+{
+    n - n
+}
+
+struct Pair(u8);
 """
 FILES = {
     "crates/low/src/lib.rt": LOW,
@@ -63,15 +71,19 @@ ROWS = {"low": [], "high": ["low", "indexmap"]}
 # What is changed: the file, the text that goes, the text that comes, and the edits that are tried anew.
 CHANGES = {
     "a body": ("crates/high/src/lib.rt", "    n + 2", "    2 + n", {TWO}),
-    "a contract": ("crates/high/src/lib.rt", "n ≤ 99", "n ≤ 98", {ONE, TWO}),
+    "its contract": ("crates/high/src/lib.rt", "n ≤ 99", "n ≤ 98", {TWO}),
+    "a contract that is called": ("crates/high/src/lib.rt", "n ≤ 200", "n ≤ 199", {TWO}),
+    "a type": ("crates/high/src/lib.rt", "struct Pair(u8)", "struct Pair(u16)", {ONE, TWO}),
     "an answer": ("crates/high/proofs/one/Answers.antt", "returns = near-next", "returns = near-next-of", {ONE}),
     "an answer of another": ("crates/high/proofs/two/Answers.antt", "search", "grind", {TWO}),
     "a lemma": ("crates/high/proofs/Lemmas.antt", "near-next = near-self", "near-next = near-other", {ONE}),
     "a lemma below it": ("crates/high/proofs/Deeper.antt", "refl", "search", {ONE}),
     "a definition": ("crates/high/specs/High.antt", "ℕ → ℕ → Prop", "ℕ → ℕ → Bool", {ONE, TWO}),
-    "a public contract below": ("crates/low/src/lib.rt", "pub fn base(n: u8) -> u8\n    ensures { IsSmall result }", "pub fn base(n: u8) -> u8", {ONE, TWO}),
+    "a public contract below": ("crates/low/src/lib.rt", "pub fn base(n: u8) -> u8\n    ensures { IsSmall result }", "pub fn base(n: u8) -> u8", {ONE}),
     "a definition below": ("crates/low/specs/Low.antt", "ℕ → Prop", "ℕ → Bool", {ONE, TWO}),
     "a body below": ("crates/low/src/lib.rt", "    inner(n)\n", "    n / 2\n", set()),
+    "a new function": ("crates/high/src/lib.rt", "/// Returns two more.", "/// Returns three more.\npub fn three(n: u8) -> u8\n    requires { n ≤ 98 }\n{\n    n + 3\n}\n\n/// Returns two more.", set()),
+    "a new function below": ("crates/low/src/lib.rt", "fn inner(", "pub fn other(n: u8) -> u8 {\n    n\n}\n\nfn inner(", set()),
     "a private contract below": ("crates/low/src/lib.rt", "fn inner(n: u8) -> u8\n    ensures { IsSmall result }", "fn inner(n: u8) -> u8", set()),
     "a comment": ("crates/high/src/lib.rt", "/// Returns one more.", "/// Returns the next number.", set()),
     "a comment below": ("crates/low/src/lib.rt", "//! The crate below.", "//! The lower crate.", set()),
