@@ -26,10 +26,40 @@ CLOSES = {"{": "}", "(": ")"}
 PRIVATE = re.compile(r"\s*(?:pub\([^)]*\)\s+)?(?:unsafe\s+)?fn\s")
 CONSTANT = re.compile(r"\bconst fn\b")
 WORD = re.compile(r"\w+")
+# Lines of a source that no crate above sees: imports of code, private constants and types; and the first line of a public type with named fields.
+HIDDEN = re.compile(r"\s*(?:use|mod)\s|(?:pub\([^)]*\)\s+)?(?:const|static|struct|enum)\s")
+OPENED = re.compile(r"pub struct \w+.*\{$")
+PUBLIC = re.compile(r"\s*pub\s")
+PUBLIC_TYPE = re.compile(r"^pub (?:struct|enum) (\w+)", re.M)
+MET = re.compile(r"impl\b.*\bfor (?:\w+::)*(\w+)")
+FIELD = re.compile(r"\s*(?:pub\s|ghost\s|\}|#\[)")
 
 
 def without_comments(lines):
     return [it for it in lines if it.strip() and not it.lstrip().startswith(("//", "--"))]
+
+
+def closing(lines, begin):
+    """Returns the number of the line at which an item ends that begins at a line."""
+    if lines[begin].rstrip().endswith((";", "}")):
+        return begin
+    return next((at for at in range(begin + 1, len(lines)) if lines[at][:1] in ("}", ")") or lines[at].rstrip().endswith(";") and lines[begin].rstrip()[-1] != "{"), begin)
+
+
+def visible(lines):
+    """Returns those lines of a source that crates above see: without imports of code, private constants and types, and private fields."""
+    found, at = [], 0
+    while at < len(lines):
+        end = at
+        if HIDDEN.match(lines[at]):
+            end = closing(lines, at)
+        elif OPENED.match(lines[at]):
+            end = closing(lines, at)
+            found += [lines[at], *(it for it in lines[at + 1 : end + 1] if FIELD.match(it))]
+        else:
+            found.append(lines[at])
+        at = end + 1
+    return found
 
 
 def group_at(text, begin):
@@ -121,6 +151,15 @@ class Sources:
         spans = {it: edit_twins.extent(lines, it.line) for it in owners}
         return {it: span for it, span in spans.items() if span and not CONSTANT.search(lines[it.line])}
 
+    @functools.lru_cache(maxsize=None)
+    def public_types(self, name):
+        folder, files = self.files(name)
+        return frozenset(it for file in files for it in PUBLIC_TYPE.findall(self.text(f"{folder}/{file}")))
+
+    def is_seen(self, name, lines):
+        """Returns whether some of these lines, which are of one source, declares something public, or says that a public type meets a trait."""
+        return any(PUBLIC.match(it) or (found := MET.match(it)) and found[1] in self.public_types(name) for it in lines)
+
     def pieces(self, file, folder, is_below):
         """Yields the pieces of a source without bodies, each with the name of the one function that it is of, or None: of a crate below the public ones."""
         lines, begin, rest = self.text(f"{folder}/{file}").split("\n"), 0, []
@@ -132,7 +171,8 @@ class Sources:
             if not (is_below and PRIVATE.match(lines[owner.line])):
                 yield owner.name, without_comments(lines[first : body + 1])
             begin = end + 1
-        yield None, rest + self.bodiless(file, folder, begin, len(lines))
+        rest += self.bodiless(file, folder, begin, len(lines))
+        yield None, visible(rest) if is_below else rest
 
     def bodiless(self, file, folder, begin, end):
         """Returns lines of a source without the bodies of functions."""
@@ -149,8 +189,12 @@ class Sources:
     @functools.lru_cache(maxsize=None)
     def shown(self, name, is_below):
         """Returns the pieces of all sources of a crate."""
-        folder, files = self.files(name)
-        return [(function, "\n".join([file, *lines])) for file in files for function, lines in self.pieces(file, folder, is_below) if lines]
+        (folder, files), found = self.files(name), []
+        for file in files:
+            pieces = [it for it in self.pieces(file, folder, is_below) if it[1]]
+            if not is_below or any(function or self.is_seen(name, lines) for function, lines in pieces):
+                found += [(function, "\n".join([file, *lines])) for function, lines in pieces]
+        return found
 
     def around(self, name, words):
         """Returns all that an edit of a crate depends on beside its own functions, if these words occur in them."""
