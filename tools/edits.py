@@ -12,28 +12,33 @@ that is refused at no clause, since a proof file names what it takes away or its
 contract. So is a function that loses its proof beside edits of others. Where a function is said to wait for another that has no proof, its edit is tried again beside others. The line `at: FUNCTION: GOAL` of an edit says
 the clause that it is meant to meet: one that is refused elsewhere is told. With --write these lines are written from what the check says.
 
-The libraries below a crate are proved first, or taken from the kit's store; what was tried is kept beside it, by the sums of all that was read. The
-last line is `N passed, M failed`.
+The libraries below a crate are proved first, or taken from the kit's store. An edit is tried only if something has changed that its outcome may depend on
+(`edit_sums.py`): the outcomes seen stand in `edits/tried.json`, which --note writes, and in the kit's store on this machine. --anew tries all. The last line is
+`N passed, M failed`.
 """
 import argparse
 import contextlib
 import copy
-import hashlib
+import functools
 import json
 import os
 import re
 import shutil
 import signal
+import subprocess
 import sys
 import tempfile
 
 import edit_files
 import edit_probes
+import edit_sums
 import edit_told
 import edit_twins
 import start
 
 TASK = "edits"
+# Where the outcomes that were seen stand in the repository.
+NOTED = "edits/tried.json"
 REFUSED, BY_NAME, LET_THROUGH, BAD, WAITS, UNTOLD = "refused", "refused, but at no clause", "LET THROUGH", "BAD", "waits", "NOT TOLD"
 # What stays so wherever the same is tried.
 SETTLED = (REFUSED, BY_NAME, LET_THROUGH, BAD)
@@ -89,33 +94,77 @@ def judged(said, edit, is_single):
     return Outcome(UNTOLD, why="; ".join(f"{name}: {told.kind}" for name, told in found.items() if not told.is_proved)), []
 
 
-class Kept:
-    """What edits came to on this machine, by the sum of the crate, of the libraries below it and of the lines that the edit changes."""
+class Seen:
+    """The outcomes of edits that were seen, by the sum of all that each may depend on: of any machine in `edits/tried.json`, of this one in the kit's store."""
 
-    def __init__(self, store, crate):
-        self.key = store.key(crate)
-        self.at = f"{store.at}/grouped-edits" if store.at else None
+    def __init__(self, store, crate, top=start.ROOT, is_anew=False):
+        self.crate, self.is_anew, self.at = crate.name, is_anew, f"{store.at}/edits-seen" if store.at else None
+        self.kit, self.sources, self.sums = kit_identity(), edit_sums.Sources(os.path.dirname(os.path.dirname(crate.folder)), start.rows()), {}
+        self.noted = {} if is_anew else noted(top)
 
-    def path(self, edit):
-        said = json.dumps([self.key, sorted((file, sorted(lines.items())) for file, lines in edit.changes.items())])
-        return f"{self.at}/{hashlib.sha256(said.encode()).hexdigest()}"
+    def sum(self, edit):
+        if edit.path not in self.sums:
+            self.sums[edit.path] = edit_sums.sum_of(self.sources, self.crate, edit, self.kit)
+        return self.sums[edit.path]
 
     def known(self, edit):
-        """Returns what this edit came to earlier, or None."""
+        """Returns the outcome that was seen of this edit, or None."""
+        found = self.noted.get(name_of(self.crate, edit))
+        if self.is_anew or edit.bad:
+            return None
+        return outcome_of(found) if found and found["sum"] == self.sum(edit) else self.kept(edit)
+
+    def kept(self, edit):
         try:
-            with open(self.path(edit), encoding="utf-8") as it:
-                return Outcome(**json.load(it))
-        except (OSError, ValueError, TypeError):
+            with open(f"{self.at}/{self.sum(edit)}", encoding="utf-8") as it:
+                return outcome_of(json.load(it))
+        except (OSError, ValueError, TypeError, KeyError):
             return None
 
     def keep(self, edit, outcome):
-        if not self.at or outcome.kind not in SETTLED:
+        if not self.at or outcome.kind not in SETTLED or edit.bad:
             return
         with contextlib.suppress(OSError):
             os.makedirs(self.at, 0o700, exist_ok=True)
             with tempfile.NamedTemporaryFile("w", dir=self.at, delete=False, encoding="utf-8") as it:
                 json.dump(vars(outcome), it)
-            os.replace(it.name, self.path(edit))
+            os.replace(it.name, f"{self.at}/{self.sum(edit)}")
+
+
+def name_of(crate, edit):
+    return f"{crate}/{edit.name.removesuffix('.edit')}"
+
+
+def outcome_of(found):
+    return Outcome(found["kind"], found.get("function", ""), found.get("goals", ()), found.get("why", ""))
+
+
+@functools.lru_cache(maxsize=None)
+def kit_identity():
+    return subprocess.run(["rt", "version"], capture_output=True, text=True, check=True).stdout.strip()
+
+
+@functools.lru_cache(maxsize=None)
+def noted(top):
+    """Returns the outcomes that stand in the repository, by the edit's crate and name."""
+    try:
+        return json.loads(edit_files.read_file(f"{top}/{NOTED}"))
+    except OSError:
+        return {}
+
+
+def note_all(results):
+    """Writes the outcomes that were seen into the repository; those of other crates stay, and those of edits that are gone go."""
+    found = dict(noted(start.ROOT))
+    for crate, (edits, _, seen) in results.items():
+        found = {name: it for name, it in found.items() if name.partition("/")[0] != crate}
+        for edit, outcome in edits:
+            if outcome.kind in (REFUSED, BY_NAME):
+                found[name_of(crate, edit)] = {"sum": seen.sum(edit), **{key: it for key, it in vars(outcome).items() if it}}
+    lines = ",\n".join(f"{json.dumps(name)}: {json.dumps(found[name])}" for name in sorted(found))
+    os.makedirs(os.path.dirname(f"{start.ROOT}/{NOTED}"), exist_ok=True)
+    with open(f"{start.ROOT}/{NOTED}", "w", encoding="utf-8") as file:
+        file.write(f"{{\n{lines}\n}}\n")
 
 
 class Trial:
@@ -328,7 +377,7 @@ class Edits(start.Start):
     def __init__(self, rt, top, names, anew=False, begins=True, controls=False):
         rows = start.listed()
         super().__init__(rt, top, {below for name in names for below in start.with_lower(rows, name)})
-        self.of, self.anew, self.begins, self.results = names, anew, begins, {}
+        self.of, self.anew, self.begins, self.results, self.tried = names, anew, begins, {}, 0
         self.work_of = self.try_controls if controls else self.try_edits
 
     def lower(self):
@@ -353,8 +402,8 @@ class Edits(start.Start):
 
     def try_edits(self, crate, jobs):
         """Tries the edits of a crate that were not tried before, over what its own checks kept where there is such, and keeps what each came to."""
-        edits, kept = edit_files.edits_of(self.rt, crate.folder), Kept(self.kept, crate)
-        outcomes = {} if self.anew else {it.path: found for it in edits if not it.bad and (found := kept.known(it))}
+        edits, seen = edit_files.edits_of(self.rt, crate.folder), Seen(self.kept, crate, is_anew=self.anew)
+        outcomes = {it.path: found for it in edits if (found := seen.known(it))}
         new = [it for it in edits if it.path not in outcomes]
         strange = {}
         if new:
@@ -365,8 +414,9 @@ class Edits(start.Start):
         for function, goals in strange.items():
             self.say(f"{crate.name}: {function} lost its proof beside edits of others: {', '.join(goals)}")
         for edit in new:
-            kept.keep(edit, outcomes[edit.path])
-        self.results[crate.name] = [(it, outcomes[it.path]) for it in edits], strange
+            seen.keep(edit, outcomes[edit.path])
+        self.tried += len(new)
+        self.results[crate.name] = [(it, outcomes[it.path]) for it in edits], strange, seen
         return True
 
     def try_controls(self, crate, jobs):
@@ -414,7 +464,7 @@ def with_edits(names):
 def report(results, writes, after):
     """Prints all that was told and the closing line, and returns the status."""
     passed, failed = (int(it) for it in re.fullmatch(r"(\d+) passed, (\d+) failed.*", after).groups())
-    for name, (edits, strange) in sorted(results.items()):
+    for name, (edits, strange, _) in sorted(results.items()):
         well, ill = of_crate(name, edits, strange, writes)
         passed, failed = passed + well, failed + ill
     print(f"{passed} passed, {failed} failed")
@@ -425,7 +475,8 @@ def main():
     words = argparse.ArgumentParser(description=__doc__, formatter_class=argparse.RawDescriptionHelpFormatter)
     words.add_argument("crates", nargs="*", metavar="CRATE", help="try the edits of these crates, in place of all")
     words.add_argument("--write", action="store_true", help="write the lines `at:` from what the check says")
-    words.add_argument("--anew", action="store_true", help="try each, also what was tried before on this machine")
+    words.add_argument("--note", action="store_true", help=f"write the outcomes seen into {NOTED}")
+    words.add_argument("--anew", action="store_true", help="try each, also those of which nothing has changed")
     words.add_argument("--controls", action="store_true", help="try no edit: check twins and probes with nothing edited, all of which have to be proved")
     words.add_argument("--after", metavar="LINE", default="0 passed, 0 failed", help="the last line of the tests before these")
     given = words.parse_args()
@@ -442,6 +493,9 @@ def main():
             return 1
         if given.controls:
             return 0
+        if given.note:
+            note_all(run.results)
+        print(f"edits: {run.tried} tried now, {sum(len(it[0]) for it in run.results.values()) - run.tried} as seen before")
         return report(run.results, given.write, given.after)
 
 

@@ -66,11 +66,16 @@ def kit():
     return rt
 
 
+def rows():
+    """Returns for each crate of crates.txt the libraries that it lists."""
+    with open(f"{ROOT}/crates.txt", encoding="utf-8") as it:
+        found = [line.partition("#")[0].partition(":") for line in it]
+    return {head.split()[0]: deps.split() for head, _, deps in found if head.strip()}
+
+
 def listed():
     """Returns for each crate of crates.txt the crates of this repository that it lists."""
-    with open(f"{ROOT}/crates.txt", encoding="utf-8") as it:
-        rows = [line.partition("#")[0].partition(":") for line in it]
-    found = {head.split()[0]: deps.split() for head, _, deps in rows if head.strip()}
+    found = rows()
     return {name: [dep for dep in deps if dep in found] for name, deps in found.items()}
 
 

@@ -12,7 +12,7 @@ import sys
 import tempfile
 
 HERE = os.path.dirname(os.path.realpath(__file__))
-SCRIPTS = ("start.py", "progress.py", "edits.py", "edit_files.py", "edit_probes.py", "edit_told.py", "edit_twins.py")
+SCRIPTS = ("start.py", "progress.py", "edits.py", "edit_files.py", "edit_probes.py", "edit_sums.py", "edit_told.py", "edit_twins.py")
 SOURCE = """//! Six functions, of which one promises nothing, and one is of a type that another file declares.
 #![tactic(auto)]
 
