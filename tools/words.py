@@ -34,7 +34,7 @@ ALLOWED = {}
 MOST_WORDS = 35
 FENCED = re.compile(r"^```.*?^```\n", re.M | re.S)
 MARKS = re.compile(r"`[^`]*`|\]\([^)]*\)|[*_\[\]]")
-SENTENCE = re.compile(r"(?<=[.!?:])\s+(?=["A-Z`*\[])")
+SENTENCE = re.compile(r"(?<=[.!?:])\s+(?=[\"A-Z`*\[])")
 DOC = re.compile(r"^\s*///\s?(.*)$")
 VERB = re.compile(r"^(?:\W*)[A-Z]\w*(?:s|es)\b")
 
