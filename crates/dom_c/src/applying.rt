@@ -6,7 +6,7 @@ ghost use Rattle.dom_model.specs.Commands.Command.{Command as PlainCommand, Crea
 ghost use Rattle.dom_session.specs.Brief.{reply_of};
 ghost use Rattle.dom_session.specs.Views.{making_view, editing_view, reading_view};
 ghost use Rattle.dom_wire.specs.Sessions.{command_view, reply_view};
-ghost use Rattle.dom_c.specs.Answers.{Steps, step_for, Answers, Asks, AsksOrEnded, with_reply, at_end};
+ghost use Rattle.dom_c.specs.Answers.{Steps, step_for, Answers, AsksOrEnded, with_reply, at_end};
 ghost use Rattle.dom_c.specs.Reads.{Reads, IsFaultOf, name_in, then_make};
 ghost use Rattle.dom_c.specs.Statuses.{status_of, status_at_end, out_of_memory};
 
@@ -163,12 +163,12 @@ impl Kept {
         ensures status { result ≡ status_at_end (reply_view reply) }
     {
         let status = status_at_end(&reply);
-        self.reply = Some(reply);
+        let _ = self.keep(reply);
         status
     }
 
-    // Answers a question that takes no memory, and keeps the reply.
-    fn read(&mut self, question: Reading) -> u8
+    /// Answers a question that takes no memory, and keeps the reply.
+    pub(crate) fn read(&mut self, question: Reading) -> u8
         ensures { AsksOrEnded self.old.ended (Ok (reading_view question)) self.old self.new result }
     {
         let reply = self.session.read(question);
@@ -287,15 +287,5 @@ impl Handle {
             return HP_CLOSED;
         }
         self.slot.lend().kept.take(command)
-    }
-
-    /// Answers a question that takes no memory.
-    pub(crate) fn read(&mut self, question: Reading) -> u8
-        ensures { Asks self.old self.new (Ok (reading_view question)) result }
-    {
-        if !self.is_open {
-            return HP_CLOSED;
-        }
-        self.slot.lend().kept.read(question)
     }
 }

@@ -3,7 +3,7 @@
 ghost use Rattle.std.specs.Prelude.{◌≡◌, ℕ, List, Ok, Result};
 ghost use Rattle.dom_model.specs.declared.Move.{Move as AMove};
 ghost use Rattle.dom_model.specs.Commands.Command.{Command as PlainCommand, CreateElement, CreateText, NextNode, PreviousNode, Walk, HasAttribute};
-ghost use Rattle.dom_session.specs.Views.{making_view, editing_view};
+ghost use Rattle.dom_session.specs.Views.{making_view, editing_view, reading_view};
 ghost use Rattle.dom_c.specs.Answers.{Answers, Asks};
 ghost use Rattle.dom_c.specs.Reads.{Reads, name_in, then_make};
 ghost use Rattle.dom_c.specs.Told.{told, as_answered, number_told, maybe_number_told, flag_told};
@@ -11,7 +11,7 @@ ghost use Rattle.dom_c.specs.Told.{told, as_answered, number_told, maybe_number_
 use crate::fault::Fault;
 use crate::handle::Handle;
 use crate::status::{HP_CLOSED, as_answered};
-use dom_session::{Editing, IteratorId, Making, Move, NodeId, Units, WalkerId};
+use dom_session::{Editing, IteratorId, Making, Move, NodeId, Reading, Units, WalkerId};
 
 impl Handle {
     /// Takes a command that makes a node, or says what is wrong with its arguments. Writes the number of the node.
@@ -144,5 +144,15 @@ impl Handle {
         let status = kept.has_attribute(element, name);
         kept.write_flag(as_answered(status), flag);
         status
+    }
+
+    /// Answers a question that takes no memory.
+    pub(crate) fn read(&mut self, question: Reading) -> u8
+        ensures { Asks self.old self.new (Ok (reading_view question)) result }
+    {
+        if !self.is_open {
+            return HP_CLOSED;
+        }
+        self.slot.lend().kept.read(question)
     }
 }

@@ -123,8 +123,8 @@ fn brief_at_end(brief: Brief) -> u8
 {
     match brief {
         Brief::Nothing | Brief::Number(_) | Brief::MaybeNumber(_) => HP_ENDED,
-        Brief::Dom(error) => status_of_dom(error),
-        Brief::Own(error) => status_of_own(error),
+        Brief::Dom(refusal) => status_of_dom(refusal),
+        Brief::Own(refusal) => status_of_own(refusal),
     }
 }
 
