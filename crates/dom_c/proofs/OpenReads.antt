@@ -4,8 +4,8 @@ use Rattle.dom_model.specs.declared.OwnError.{OwnError}
 use Rattle.dom_model.specs.Definitions.{Entry, children_in, Node, Forest, entry_in, children_of, Content, World}
 use Rattle.dom_session.specs.Links.{read_where, count_in, laid_over}
 use Rattle.dom_session.proofs.Laying.{laid_over-absent}
-use Rattle.dom_wire.specs.Sessions.{StandsFor, held_world}
-use Rattle.dom_c.specs.{Statuses.found_at, Statuses.not_there, Statuses.status_of_own, Nearby.IsReadOrEnded, Nearby.ReadsKept, Nearby.children_over, Nearby.told_as, Nearby.written, Nearby.status_of_read, Nearby.status_of_read_at_end, Holding.IsLentOrEnded, Holding.LendsKept, Holding.status_of_lent, Holding.status_of_lent_at_end, Holding.lent_or_before, declared.kept.Kept.Kept}
+use Rattle.dom_wire.specs.Sessions.{Held, StandsFor, held_world}
+use Rattle.dom_c.specs.{Statuses.found_at, Statuses.not_there, Statuses.status_of_own, Nearby.IsReadOrEnded, Nearby.ReadsKept, Nearby.children_over, Nearby.told_as, Nearby.written, Nearby.status_of_read, Nearby.status_of_read_at_end, Holding.IsLentOrEnded, Holding.LendsKept, Holding.status_of_lent, Holding.status_of_lent_at_end, Holding.lent_or_before, Counting.IsToldOrEnded, Counting.TellsKept, declared.kept.Kept.Kept}
 
 -- a call that reads: what it read is that of each world that the session stands for, and of the one that it holds
 module _ {A : Type 0} (read : Forest Content → Result A OwnError) (k : Kept) (o : Option Kept) (before after : A) (status : ℕ) (is : o ≡ Some k) where
@@ -58,6 +58,16 @@ module _ {A : Type 0} (find : Forest Content → Result (Option A) OwnError) (k 
       at : (b : Bool) → IsLentOrEnded b find k before after status
       at true = record { status_is = says ∙ ap status_of_lent_at_end held; lent_is = same ∙ ap (λ (r : Result (Option A) OwnError). lent_or_before r before) held }
       at false = record { status_is = λ w st. says ∙ ap status_of_lent (shown w st); lent_is = λ w st. same ∙ ap (λ (r : Result (Option A) OwnError). lent_or_before r before) (shown w st) }
+
+-- a call that tells of all that there is
+pub tells-all : {A : Type 0} (tell : World → A) (held : Held → A) (k : Kept) (o : Option Kept) (before after : A) (status : ℕ) → o ≡ Some k → status ≡ found_at k.ended
+    → ((w : World) → StandsFor k.session w → after ≡ tell w) → after ≡ held k.session → TellsKept tell held o before after status
+tells-all tell held k o before after status is says shown own =
+    subst (λ (q : Option Kept). TellsKept tell held q before after status) (sym is) (at k.ended says)
+  where
+    at : (b : Bool) → status ≡ found_at b → IsToldOrEnded b tell held k after status
+    at true s = (s, own)
+    at false s = record { status_is = s; written_is = shown }
 
 module _ (before after : List ℕ) (e : OwnError) where
   as-before : (o : Option (Entry (Node Content))) (count : ℕ) (over : ℕ → List ℕ) → Err e ≡ read_where (λ _. count) o → after ≡ laid_over (children_in o) before
