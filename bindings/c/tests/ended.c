@@ -53,8 +53,8 @@ static void build(void)
     WANT(said == HP_OK);
 }
 
-/* What a node is: its kind, its names, its data and its attributes. */
-static void say_node(struct said *to, uint32_t node)
+/* What a node is: its kind, its names and its attributes, and its data where no edit stopped half-way. */
+static void say_node(struct said *to, uint32_t node, bool stays)
 {
     hp_node_links links;
     hp_bytes name;
@@ -69,7 +69,7 @@ static void say_node(struct said *to, uint32_t node)
     }
     uint8_t status = hp_data_of(&session, node, &text);
     WANT(status == found || status == HP_NOT_THERE);
-    for (size_t at = 0; status == found && at < text.length; at++)
+    for (size_t at = 0; stays && status == found && at < text.length; at++)
         say(to, " %x", text.units[at]);
     for (size_t at = 0; (status = hp_attribute_at(&session, node, at, &name, &text)) != HP_NOT_THERE; at++) {
         WANT(status == found);
@@ -120,12 +120,12 @@ static void say_others(struct said *to)
     say(to, "ranges %zu iterators %zu walkers %zu observers %zu\n", counts_now.ranges, counts_now.iterators, counts_now.walkers, counts_now.observers);
 }
 
-/* All that a session holds; of one that ended in an edit, what each node is. */
+/* All that a session holds; of one that ended in an edit, the names and the attributes of each node. */
 static void read_all(struct said *to, bool stays)
 {
     to->length = 0;
     for (uint32_t node = 0; node < NODES; node++)
-        say_node(to, node);
+        say_node(to, node, stays);
     for (uint32_t node = 0; stays && node < NODES; node++)
         say_place(to, node);
     if (stays)
@@ -195,7 +195,7 @@ static void closed(void)
     WANT(hp_links(&session, 0, &links) == HP_CLOSED && links.kind == 7);
     WANT(hp_first_child(&session, 0, &number) == HP_CLOSED && number == 7);
     WANT(hp_range(&session, 0, &ends) == HP_CLOSED && ends.start == 7);
-    WANT(hp_name_of(&session, 1, 0, &name) == HP_CLOSED && name.length == 7);
+    WANT(hp_name_of(&session, 1, 0, &name) == HP_CLOSED && name.length == 0);
 }
 
 /* One call with one allocation refused: whether the refusal was met. */
