@@ -1,16 +1,22 @@
--- What is read of an open handle whose session goes on; and a refusal, after which an array is as it was.
-use Rattle.std.proofs.Common.{◌≡◌, ℕ, Bool, false, List, length, refl, sym, subst, ◌∙◌, Option, Some, None, Result, Err}
+-- What is read of an open handle and refused, while its session goes on and once it has ended; and a refusal, after which an array is as it was.
+use Rattle.std.proofs.Common.{◌≡◌, ℕ, Bool, true, false, List, length, refl, sym, ap, subst, ◌∙◌, Option, Some, None, Result, Err}
 use Rattle.dom_model.specs.declared.OwnError.{OwnError}
-use Rattle.dom_model.specs.Definitions.{Entry, children_in, Node, Forest, entry_in, children_of, Content}
+use Rattle.dom_model.specs.Definitions.{Entry, children_in, Node, Forest, entry_in, children_of, Content, World}
 use Rattle.dom_session.specs.Links.{read_where, count_in, laid_over}
 use Rattle.dom_session.proofs.Laying.{laid_over-absent}
-use Rattle.dom_c.specs.{Nearby.IsRead, Nearby.IsReadOrEnded, Nearby.ReadsKept, Nearby.children_over, Nearby.told_as, Nearby.written, declared.kept.Kept.Kept}
+use Rattle.dom_wire.specs.Sessions.{StandsFor, held_world}
+use Rattle.dom_c.specs.{Statuses.status_of_own, Nearby.IsReadOrEnded, Nearby.ReadsKept, Nearby.children_over, Nearby.told_as, Nearby.written, Nearby.status_of_read, Nearby.status_of_read_at_end, declared.kept.Kept.Kept}
 
-pub open-reads : {A : Type 0} (read : Forest Content → Result A OwnError) (k : Kept) (o : Option Kept) (before after : A) (status : ℕ)
-    → o ≡ Some k → k.ended ≡ false → IsRead read k before after status → ReadsKept read o before after status
-open-reads read k o before after status is on it =
-    subst (λ (q : Option Kept). ReadsKept read q before after status) (sym is)
-    (subst (λ (b : Bool). IsReadOrEnded b read k before after status) (sym on) it)
+-- a refusal in each world that the session stands for, and in the one that it holds
+pub reads-refused : {A : Type 0} (read : Forest Content → Result A OwnError) (k : Kept) (o : Option Kept) (before after : A) (status : ℕ) (e : OwnError) → o ≡ Some k → status ≡ status_of_own e
+    → ((w : World) → StandsFor k.session w → (Err e ≡ read w.forest) × (after ≡ written (read w.forest) before))
+    → (Err e ≡ read (held_world k.session).forest) × (after ≡ written (read (held_world k.session).forest) before) → ReadsKept read o before after status
+reads-refused read k o before after status e is says shown held =
+    subst (λ (q : Option Kept). ReadsKept read q before after status) (sym is) (at k.ended)
+  where
+    at : (b : Bool) → IsReadOrEnded b read k before after status
+    at true = record { status_is = says ∙ ap status_of_read_at_end held.0; written_is = held.1 }
+    at false = record { status_is = λ w st. says ∙ ap status_of_read (shown w st).0; written_is = λ w st. (shown w st).1 }
 
 module _ (before after : List ℕ) (e : OwnError) where
   as-before : (o : Option (Entry (Node Content))) (count : ℕ) (over : ℕ → List ℕ) → Err e ≡ read_where (λ _. count) o → after ≡ laid_over (children_in o) before
