@@ -28,7 +28,7 @@ begin
 end $$;
 
 create function huckleport.grant_document(given text, role text) returns void language plpgsql
-security definer set search_path = pg_catalog, pg_temp as $$
+security definer set search_path = pg_catalog, pg_temp set jit = off as $$
 begin
     insert into huckleport.grants (document, role)
     select d.id, r.rolname from huckleport.documents d, pg_roles r where d.name = grant_document.given and r.rolname = grant_document.role
@@ -40,7 +40,7 @@ begin
 end $$;
 
 create function huckleport.revoke_document(given text, role text) returns void language sql
-security definer set search_path = pg_catalog, pg_temp as $$
+security definer set search_path = pg_catalog, pg_temp set jit = off as $$
     delete from huckleport.grants g using huckleport.documents d
     where d.id = g.document and d.name = revoke_document.given and g.role = revoke_document.role
 $$;
@@ -49,7 +49,7 @@ $$;
 
 -- Begins the session of a client on this connection. A client that runs in another process is refused, and so is one connection too many.
 create function huckleport.enter(client uuid) returns void language plpgsql
-security definer set search_path = pg_catalog, pg_temp as $$
+security definer set search_path = pg_catalog, pg_temp set jit = off as $$
 declare
     most int;
     count int;
@@ -80,7 +80,7 @@ end $$;
 
 -- The document of that name, or null. `among` is how many databases the caller knows.
 create function huckleport.find(given text, among int default 1) returns bigint language plpgsql
-security definer set search_path = pg_catalog, pg_temp as $$
+security definer set search_path = pg_catalog, pg_temp set jit = off as $$
 declare
     found bigint;
 begin
@@ -95,7 +95,7 @@ end $$;
 -- The document of that name. It is made with these limits if there is none, which an operator may do. A caller that knows fewer databases
 -- than there are makes none: the row with their count is locked meanwhile.
 create function huckleport.make(given text, among int default 1, numbers bigint default 4294967295, line int default 1048576)
-returns bigint language plpgsql security definer set search_path = pg_catalog, pg_temp as $$
+returns bigint language plpgsql security definer set search_path = pg_catalog, pg_temp set jit = off as $$
 declare
     made bigint := huckleport.find(given, among);
 begin
@@ -113,7 +113,7 @@ end $$;
 
 -- The limits of a document.
 create function huckleport.about(document bigint) returns table (numbers bigint, line int) language plpgsql
-security definer set search_path = pg_catalog, pg_temp as $$
+security definer set search_path = pg_catalog, pg_temp set jit = off as $$
 begin
     perform huckleport.check_granted(document);
     return query select d.numbers, d.line from huckleport.documents d where d.id = about.document;
@@ -121,7 +121,7 @@ end $$;
 
 -- The largest request of a client that waits or was answered.
 create function huckleport.last_request(document bigint, client uuid) returns bigint language plpgsql
-security definer set search_path = pg_catalog, pg_temp set enable_seqscan = off as $$
+security definer set search_path = pg_catalog, pg_temp set jit = off set enable_seqscan = off as $$
 begin
     perform huckleport.check_granted(document);
     return greatest(0,
@@ -133,7 +133,7 @@ end $$;
 -- Refuses lines while more of them wait than the settings allow. The lines of a client are counted over all documents, once for a sixteenth of
 -- the limit that was handed in, since to count them takes as long as they are many.
 create function huckleport.check_waiting(document bigint, client uuid, put int, last_id bigint) returns void language plpgsql
-set enable_seqscan = off set enable_bitmapscan = off as $$
+set jit = off set enable_seqscan = off set enable_bitmapscan = off as $$
 declare
     most record;
     count bigint;
@@ -162,7 +162,7 @@ end $$;
 -- limit, so its reply is `line-too-long`.
 create function huckleport.submit(document bigint, client uuid, first bigint, lines bytea[]) returns void language plpgsql
 security definer set search_path = pg_catalog, pg_temp
-set enable_hashjoin = off set enable_mergejoin = off set enable_seqscan = off set enable_bitmapscan = off set enable_material = off as $$
+set jit = off set enable_hashjoin = off set enable_mergejoin = off set enable_seqscan = off set enable_bitmapscan = off set enable_material = off as $$
 declare
     last bigint := submit.first + cardinality(submit.lines) - 1;
     longest int;
@@ -196,7 +196,7 @@ end $$;
 -- not the client's last and was not recorded was a question's, so it may be a question again, and nothing else.
 create function huckleport.check_same(document bigint, client uuid, first bigint, last bigint, longest int, lines bytea[])
 returns void language plpgsql
-set enable_hashjoin = off set enable_mergejoin = off set enable_seqscan = off set enable_bitmapscan = off set enable_material = off as $$
+set jit = off set enable_hashjoin = off set enable_mergejoin = off set enable_seqscan = off set enable_bitmapscan = off set enable_material = off as $$
 declare
     other bigint;
 begin
@@ -234,7 +234,7 @@ $$;
 -- The replies to a client's requests behind a number. Replies to questions up to that number were taken, and are forgotten.
 create function huckleport.replies(document bigint, client uuid, behind bigint, most int default 1000)
 returns table (request bigint, reply bytea) language plpgsql security definer set search_path = pg_catalog, pg_temp
-set enable_hashjoin = off set enable_mergejoin = off set enable_seqscan = off set enable_bitmapscan = off as $$
+set jit = off set enable_hashjoin = off set enable_mergejoin = off set enable_seqscan = off set enable_bitmapscan = off as $$
 begin
     perform huckleport.check_granted(document);
     delete from huckleport.answers a where a.document = replies.document and a.client = replies.client and a.request <= replies.behind;
@@ -250,7 +250,7 @@ end $$;
 -- The lines of a document behind a number, with their replies.
 create function huckleport.entries(document bigint, behind bigint, most int default 1000)
 returns table (number bigint, client uuid, request bigint, line bytea, reply bytea) language plpgsql
-security definer set search_path = pg_catalog, pg_temp as $$
+security definer set search_path = pg_catalog, pg_temp set jit = off as $$
 begin
     perform huckleport.check_granted(document);
     return query
@@ -262,7 +262,7 @@ end $$;
 -- joined by commas and by newlines.
 create function huckleport.page(document bigint, behind bigint, most int, bytes bigint)
 returns table (count bigint, last bigint, clients text, requests text, lines bytea, replies bytea) language plpgsql
-security definer set search_path = pg_catalog, pg_temp as $$
+security definer set search_path = pg_catalog, pg_temp set jit = off as $$
 begin
     perform huckleport.check_granted(document);
     return query
@@ -282,7 +282,7 @@ end $$;
 
 -- Begins a worker's lease. Workers that have been gone for an hour are forgotten.
 create function huckleport.register(name text, version text, lease interval) returns bigint language sql
-security definer set search_path = pg_catalog, pg_temp as $$
+security definer set search_path = pg_catalog, pg_temp set jit = off as $$
     delete from huckleport.workers w where w.until < huckleport.now() - interval '1 hour';
     insert into huckleport.workers (name, version, until, lease) values (name, version, huckleport.now() + register.lease, register.lease)
     returning id
@@ -290,7 +290,7 @@ $$;
 
 -- Renews a lease, and returns whether it had not ended before. (One that the clock's setting back made too long is shortened.)
 create function huckleport.renew(worker bigint, lease interval, documents int, lines bigint, memory bigint) returns boolean language sql
-security definer set search_path = pg_catalog, pg_temp as $$
+security definer set search_path = pg_catalog, pg_temp set jit = off as $$
     update huckleport.workers w
     set until = huckleport.now() + renew.lease, documents = renew.documents, lines = renew.lines, memory = renew.memory
     where w.id = renew.worker and w.until > huckleport.now()
@@ -302,7 +302,7 @@ $$;
 -- (The workers are read once, ahead: a row that changed meanwhile is tested again by its new owner.)
 create function huckleport.claim(worker bigint, program text, most int, named bigint[], avoided bigint[], adopts boolean default false)
 returns table (id bigint, epoch bigint, numbers bigint, line int, attempts int) language sql
-security definer set search_path = pg_catalog, pg_temp as $$
+security definer set search_path = pg_catalog, pg_temp set jit = off as $$
     with free as (
         select d.id, d.owner from huckleport.documents d
         where d.id in (select r.document from huckleport.requests r where claim.named is null or r.document = any (claim.named))
@@ -323,7 +323,7 @@ $$;
 -- A piece of the logs of some documents, each behind a number: how many lines, the last one's number, the lines and the replies by newlines.
 create function huckleport.log(documents bigint[], behind bigint[], most int, bytes bigint)
 returns table (document bigint, count bigint, last bigint, lines bytea, replies bytea) language sql stable
-security definer set search_path = pg_catalog, pg_temp as $$
+security definer set search_path = pg_catalog, pg_temp set jit = off as $$
     select given.document, count(*), max(it.number), string_agg(it.line, '\x0a'::bytea order by it.number), string_agg(it.reply, '\x0a'::bytea order by it.number)
     from unnest(log.documents, log.behind) as given (document, behind)
     cross join lateral (
@@ -339,7 +339,7 @@ $$;
 -- Notifies clients and followers of what was answered, and then returns what waits for some documents, so many lines and bytes of each.
 create function huckleport.take(documents bigint[], most int, bytes bigint, clients uuid[], answered bigint[])
 returns table (document bigint, ids bigint[], lines bytea) language plpgsql security definer set search_path = pg_catalog, pg_temp
-set enable_hashjoin = off set enable_mergejoin = off set enable_seqscan = off set enable_bitmapscan = off set enable_material = off as $$
+set jit = off set enable_hashjoin = off set enable_mergejoin = off set enable_seqscan = off set enable_bitmapscan = off set enable_material = off as $$
 begin
     perform pg_notify('huckleport_client_' || it.client, it.document::text) from unnest(clients, answered) as it (client, document);
     perform pg_notify('huckleport_document_' || it.document, '') from (select distinct unnest(answered)) as it (document);
@@ -366,7 +366,7 @@ end $$;
 create function huckleport.record(
     worker bigint, documents bigint[], epochs bigint[], fresh bigint[], places bigint[], ids bigint[], numbers bigint[], replies bytea[])
 returns table (held bigint[], clients uuid[], answered bigint[]) language plpgsql security definer set search_path = pg_catalog, pg_temp
-set enable_hashjoin = off set enable_mergejoin = off set enable_seqscan = off set enable_bitmapscan = off set enable_material = off as $$
+set jit = off set enable_hashjoin = off set enable_mergejoin = off set enable_seqscan = off set enable_bitmapscan = off set enable_material = off as $$
 declare
     due bigint;
     moved bigint;
@@ -413,7 +413,7 @@ $$;
 -- The worker's own documents for which lines wait. Lines that were answered already (a retry that came late) are removed, and their client is
 -- notified. Replies to questions that nobody took are forgotten after a minute.
 create function huckleport.sweep(worker bigint) returns setof bigint language plpgsql security definer set search_path = pg_catalog, pg_temp
-set enable_hashjoin = off set enable_mergejoin = off set enable_material = off as $$
+set jit = off set enable_hashjoin = off set enable_mergejoin = off set enable_material = off as $$
 begin
     perform pg_notify('huckleport_client_' || it.client, it.document::text) from huckleport.drop_answered(sweep.worker) as it;
     return query
@@ -421,13 +421,13 @@ begin
     where d.owner = sweep.worker and d.id in (select r.document from huckleport.requests r);
 end $$;
 
-create function huckleport.forget_answers() returns void language sql security definer set search_path = pg_catalog, pg_temp as $$
+create function huckleport.forget_answers() returns void language sql security definer set search_path = pg_catalog, pg_temp set jit = off as $$
     delete from huckleport.answers a where a.at < huckleport.now() - interval '1 minute' or a.at > huckleport.now() + interval '1 minute'
 $$;
 
 -- Hands documents on, for whichever worker comes first; with a fault, not at once.
 create function huckleport.release(worker bigint, given bigint[], fault text default null) returns void language plpgsql
-security definer set search_path = pg_catalog, pg_temp as $$
+security definer set search_path = pg_catalog, pg_temp set jit = off as $$
 begin
     update huckleport.documents d
     set owner = null, fault = coalesce(release.fault, d.fault),
@@ -441,7 +441,7 @@ begin
 end $$;
 
 -- Ends a worker, and hands on all that it had.
-create function huckleport.leave(worker bigint) returns void language plpgsql security definer set search_path = pg_catalog, pg_temp as $$
+create function huckleport.leave(worker bigint) returns void language plpgsql security definer set search_path = pg_catalog, pg_temp set jit = off as $$
 begin
     update huckleport.documents d set owner = null where d.owner = leave.worker;
     delete from huckleport.workers w where w.id = leave.worker;
@@ -452,7 +452,7 @@ end $$;
 
 -- Answers a waiting line with `dropped`. It is recorded, and replay leaves it out. Whoever has the document loses it, and claims it again.
 create function huckleport.drop_line(given text, line bigint) returns boolean language plpgsql
-security definer set search_path = pg_catalog, pg_temp as $$
+security definer set search_path = pg_catalog, pg_temp set jit = off as $$
 declare
     it bigint;
     dropped record;
