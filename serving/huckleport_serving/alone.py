@@ -33,6 +33,10 @@ REPLAYING = 4
 """How many times the time of a line a replay has for each. (Lines that were answered just within their bounds are to be replayed.)"""
 
 
+class Killed(Exception):
+    """Something else than its bounds has ended the process of a document."""
+
+
 class Alone:
     """The world of a document in a process of its own."""
 
@@ -121,7 +125,7 @@ class Alone:
     def replies(self) -> List[bytes]:
         """Returns the replies to the lines. They end with the first line that was past a bound, whose reply says so.
 
-        Raises `Unanswered` if the process has ended otherwise before it answered any.
+        Raises `Killed` if something else ended the process before it answered any.
         """
         self.is_busy = False
         found = self._found
@@ -130,14 +134,17 @@ class Alone:
             if why == -signal.SIGPROF:
                 found.append(OUT_OF_TIME)
             elif not found:
-                raise Unanswered(f"its process ended with status {why}")
+                raise Killed(f"its process ended with status {why}")
         return found
 
     def difference(self) -> Optional[int]:
         """Returns the index of the first line with another reply in a replay, if there is one."""
         self.is_busy = False
         if len(self._read) < LENGTH.size:
-            raise Unanswered("out of time or memory as it was replayed")
+            why = self._process.wait()
+            if why != -signal.SIGPROF:
+                raise Killed(f"its process ended with status {why}")
+            raise Unanswered("out of time as it was replayed")
         (found,) = LENGTH.unpack_from(self._read, 0)
         if found == SHORT:
             raise Unanswered("out of memory as it was replayed")

@@ -19,7 +19,7 @@ from typing import Any, Dict, Iterable, List, Optional, Sequence, Set, Tuple
 import psycopg
 from psycopg import sql
 
-from .alone import Alone
+from .alone import Alone, Killed
 from .leases import Lease
 from .links import connected, first_line, log, ready
 from .questions import is_question
@@ -48,6 +48,9 @@ TURN = 0.2
 
 SUSPECT = 3
 """A document that was claimed so many times without a line of it recorded is given a process of its own."""
+
+MOST_DEATHS = 2
+"""How often a document's process is made anew after something else has killed it, without a line answered."""
 
 ALONE_LINES, ALONE_BYTES = 2_000, 4 << 20
 """How much a document in a process of its own is given at once."""
@@ -93,6 +96,7 @@ class Held:
     ids: List[int] = field(default_factory=list)
     lines: List[bytes] = field(default_factory=list)
     replayed: int = 0
+    deaths: int = 0
 
     @property
     def is_busy(self) -> bool:
@@ -295,12 +299,18 @@ class Tenure:
         for it in done:
             try:
                 over += [it] if self._collect_one(batch, it) else []
+            except Killed as fault:
+                log.warning("document %d: %s", it.document, fault)
+                it.deaths += 1
+                over.append(it)
             except Unanswered as fault:
                 self._give_up(it, str(fault))
         if batch.parts:
             self._record(batch)
         for it in over:
-            if it.document in self.held:
+            if self.held.get(it.document) is it and it.deaths > MOST_DEATHS:
+                self._give_up(it, "its process was killed again and again")
+            elif self.held.get(it.document) is it:
                 self._move(it)
         return bool(done)
 
@@ -336,7 +346,7 @@ class Tenure:
         self.told = (self.told[0] + (row[1] or []), self.told[1] + (row[2] or []))
         self.answered += len(batch.replies)
         for it, last in batch.parts:
-            it.last, it.used, it.is_fresh = last, now, False
+            it.last, it.used, it.is_fresh, it.deaths = last, now, False, 0
         self._drop([it for it in held if it.document not in kept], "claimed by another worker")
         for it in held:
             if it.document in kept and it.is_heavy and it.alone is None:
