@@ -57,7 +57,8 @@ class Server:
 
     @property
     def conninfo(self) -> str:
-        return f"host={self.folder} dbname=postgres user={SERVES}"
+        port = self.settings.get("port", "5432")
+        return f"host={self.folder} port={port} dbname=postgres user={SERVES}"
 
     def make(self) -> None:
         """Makes the data, if there are none. Only the user who runs this, and the server's own, may connect."""
@@ -118,6 +119,10 @@ class Server:
     def promote(self) -> None:
         """Has a standby take writes from now on."""
         self._run("pg_ctl", "promote", "-w", "-D", self.data)
+
+    def reload(self) -> None:
+        """Has it read its files again."""
+        self._run("pg_ctl", "reload", "-D", self.data)
 
     def stop(self) -> None:
         """Ends it, with all connections."""
