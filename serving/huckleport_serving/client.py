@@ -10,7 +10,7 @@ from typing import Any, Dict, Iterable, Iterator, List, NamedTuple, Optional, Se
 
 from psycopg import sql
 
-from .links import Link, escaped
+from .links import Link, Setting, escaped
 from .places import jumps
 from .refusals import ClientFull, DocumentFull, NotAnswered, OtherLimits, Refused
 
@@ -52,7 +52,7 @@ class Client:
         self.id = uuid.uuid4() if client is None else uuid.UUID(str(client))
         self.timeout = timeout
         self._conninfo = conninfo or ("",)
-        settings = [
+        settings: List[Setting] = [
             sql.SQL("set synchronous_commit = off"),
             sql.SQL("select huckleport.enter({})").format(str(self.id)),
             sql.SQL("listen {}").format(sql.Identifier(f"huckleport_client_{self.id}")),

@@ -6,7 +6,7 @@ import logging
 import select
 import time
 from importlib import resources
-from typing import Any, Callable, Optional, Sequence
+from typing import Any, Callable, Optional, Sequence, Union
 
 import psycopg
 from psycopg import sql
@@ -37,6 +37,9 @@ def safe_logger(name: str) -> logging.Logger:
 
 
 log = safe_logger("huckleport_serving")
+
+Setting = Union[sql.SQL, sql.Composed]
+"""A statement that is executed once for each connection."""
 
 SETTLING = 2.0
 """For how long a client's first connection waits for another process of the same id to be gone, in seconds."""
@@ -82,7 +85,7 @@ def completed(conninfo: str) -> str:
     return make_conninfo(conninfo, **{name: it for name, it in DEFAULTS.items() if name not in conninfo_to_dict(conninfo)})
 
 
-def connected(conninfo: str, settings: Sequence[sql.Composable] = (), waits: bool = True) -> psycopg.Connection[Any]:
+def connected(conninfo: str, settings: Sequence[Setting] = (), waits: bool = True) -> psycopg.Connection[Any]:
     """A connection each statement of which is a transaction. It has waited until all that it can see is safe, if it is asked to."""
     connection = psycopg.connect(completed(conninfo), autocommit=True)
     try:
@@ -140,7 +143,7 @@ def ready(seconds: float, *files: int) -> bool:
 class Link:
     """A connection that is made anew if it is lost, until a time is over."""
 
-    def __init__(self, conninfo: str, settings: Sequence[sql.Composable] = (), on_notify: Optional[Callable[[str], None]] = None) -> None:
+    def __init__(self, conninfo: str, settings: Sequence[Setting] = (), on_notify: Optional[Callable[[str], None]] = None) -> None:
         self._conninfo, self._settings, self._on_notify = conninfo, settings, on_notify
         self._connection: Optional[psycopg.Connection[Any]] = None
         self.times = 0

@@ -10,6 +10,7 @@ import psycopg
 from prometheus_client import CollectorRegistry, make_wsgi_app
 from prometheus_client.core import CounterMetricFamily, GaugeMetricFamily
 from prometheus_client.exposition import ThreadingWSGIServer
+from prometheus_client.registry import Collector
 
 from .faults import faults_of, told
 from .links import WrongTables, first_line
@@ -29,7 +30,7 @@ COUNTERS = {"take_overs": "Documents that were claimed after their worker was go
 Answer = Callable[[str, List[Tuple[str, str]]], Any]
 
 
-class Database:
+class Database(Collector):
     """A collector of the metrics of databases."""
 
     def __init__(self, databases: Sequence[str]) -> None:
@@ -76,13 +77,14 @@ def application(databases: Sequence[str], still: float) -> Callable[[Dict[str, A
     def answered(environment: Dict[str, Any], answer: Answer) -> Iterable[bytes]:
         path = environment["PATH_INFO"]
         if path == "/metrics":
-            return metrics(environment, answer)
+            found: Iterable[bytes] = metrics(environment, answer)
+            return found
         if path != "/healthz":
             answer("404 Not Found", [("Content-Type", "text/plain")])
             return [b"/metrics and /healthz are here\n"]
-        found = faults(databases, still)
-        answer("503 Service Unavailable" if found else "200 OK", [("Content-Type", "application/json")])
-        return [json.dumps({"faults": found}).encode() + b"\n"]
+        wrong = faults(databases, still)
+        answer("503 Service Unavailable" if wrong else "200 OK", [("Content-Type", "application/json")])
+        return [json.dumps({"faults": wrong}).encode() + b"\n"]
 
     return answered
 

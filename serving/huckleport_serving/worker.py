@@ -483,8 +483,8 @@ class Tenure:
     def _evict(self, idle: float, most: int) -> None:
         """Lets go of the documents for which nothing was answered for so long, the longest first."""
         since = time.monotonic() - idle
-        idle = (it for it in self.held.values() if it.used < since and it.is_whole and not it.is_busy and it.document not in self.due)
-        found = sorted(idle, key=lambda it: it.used)[:most]
+        free = (it for it in self.held.values() if it.used < since and it.is_whole and not it.is_busy and it.document not in self.due)
+        found = sorted(free, key=lambda it: it.used)[:most]
         if found:
             self._let_go(found)
             give_memory_back()

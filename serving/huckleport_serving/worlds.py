@@ -48,7 +48,7 @@ class World:
     def answer(self, line: bytes) -> bytes:
         """Returns the reply to a line, without its newline."""
         try:
-            reply = self._session.line(line)[:-1]
+            reply: bytes = self._session.line(line)[:-1]
         except (MemoryError, huckleport.OutOfMemory) as fault:
             raise Unanswered("out of memory") from fault
         if reply == OUT_OF_MEMORY:

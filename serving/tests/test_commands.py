@@ -2,6 +2,8 @@
 
 from __future__ import annotations
 
+import contextlib
+import io
 import json
 import os
 import signal
@@ -15,7 +17,7 @@ import psycopg
 from lines import changes, lines
 from place import HERE, PROGRAM, Place, replies_of
 
-from huckleport_serving.commands import PARTS
+from huckleport_serving.commands import PARTS, main
 
 LETTER = b'["createElement",0,"p"]\n["appendChild",0,1]\n["root",1]\n'
 
@@ -36,10 +38,14 @@ class Commands(unittest.TestCase):
 
     def test_help(self) -> None:
         for part in PARTS:
-            status, out, _ = self.said(part, "--help")
-            self.assertEqual((status, out[:6]), (0, b"usage:"), part)
-        self.assertEqual(self.said("nothing")[0], 2)
-        self.assertEqual(self.said("worker", "--documents", "many")[0], 2)
+            out = io.StringIO()
+            with contextlib.redirect_stdout(out), self.assertRaises(SystemExit) as ended:
+                main([part, "--help"])
+            self.assertEqual((ended.exception.code, out.getvalue()[:6]), (0, "usage:"), part)
+        for words in (["nothing"], ["worker", "--documents", "many"]):
+            with contextlib.redirect_stderr(io.StringIO()), self.assertRaises(SystemExit) as ended:
+                main(words)
+            self.assertEqual(ended.exception.code, 2)
 
     def test_send_then_follow(self) -> None:
         self.assertEqual(self.said("send", "letter", given=LETTER), (0, b'{"ok":1}\n{"ok":1}\n{"ok":0}\n', b""))

@@ -174,8 +174,8 @@ class Fences(Served):
 
     def recorded(self, worker: int, document: int, epoch: int) -> Any:
         ids = [it for it, in self.connection.execute("select id from huckleport.requests where document = %s order by id", (document,))]
-        words = "select held from huckleport.record(%s, array[%s::bigint], array[%s::bigint], '{}', array[%s::bigint, %s], %s, '{1,2}', '{a,b}')"
-        return self.row(words, worker, document, epoch, document, document, ids)[0]
+        words = "select held from huckleport.record(%s, array[%s::bigint], array[%s::bigint], array[%s::bigint], array[%s::bigint, %s], %s, '{1,2}', '{a,b}')"
+        return self.row(words, worker, document, epoch, document, document, document, ids)[0]
 
     def test_an_owner_that_was_overtaken_writes_nothing(self) -> None:
         document = self.handed_in("overtaken")
@@ -216,8 +216,11 @@ class Fences(Served):
         self.assertGreater(time.monotonic() - start, 0.3)
 
     def test_another_versions_document_is_left_alone(self) -> None:
+        document = self.handed_in("of another version")
+        worker = self.worker()
+        _, epoch = self.claimed(worker, "of another version")
+        self.recorded(worker, document, epoch)
         self.handed_in("of another version")
-        self.claimed(self.worker(), "of another version")
         self.connection.execute("update huckleport.documents set owner = null where name = 'of another version'")
         self.assertIsNone(self.connection.execute("select from huckleport.claim(%s, '0.1', 9, null, '{}')", (self.worker(),)).fetchone())
 
@@ -273,8 +276,7 @@ class Workers(Served):
         document.send([text])
         with self.assertRaises(NotAnswered):
             document.send([text] * 120, timeout=4)
-        (fault,) = self.row("select fault from huckleport.documents where id = %s", document.id)
-        self.assertIn("memory", fault)
+        self.wait_until("select fault like '%%memory%%' from huckleport.documents where id = %s", document.id)
         self.assertEqual(self.row("select count(*) from huckleport.lines where reply like '%%out-of-memory%%'"), (0,))
         self.work("--memory", "2000")
         replies = document.send([text] * 120, request=2, timeout=60)

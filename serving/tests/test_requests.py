@@ -231,4 +231,3 @@ class Scene:
         self.worker.close()
         for it in self.ends[0]:
             os.close(it)
-
