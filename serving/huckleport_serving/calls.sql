@@ -21,7 +21,9 @@ $$;
 
 create function huckleport.check_granted(document bigint) returns void language plpgsql stable as $$
 begin
-    if not exists (select from huckleport.grants g where g.document = check_granted.document and g.role = session_user)
+    -- (its callers run as the owner: whoever is that role has all rights, which is fast to see)
+    if not pg_has_role(session_user, current_user, 'member')
+        and not exists (select from huckleport.grants g where g.document = check_granted.document and g.role = session_user)
         and not huckleport.is_operator() then
         raise exception 'document % is not granted to %', document, session_user using errcode = 'insufficient_privilege';
     end if;
@@ -130,43 +132,48 @@ begin
         (select max(a.request) from huckleport.answers a where a.document = last_request.document and a.client = last_request.client));
 end $$;
 
--- Refuses lines while more of them wait than the settings allow. The lines of a client are counted over all documents, once for a sixteenth of
--- the limit that was handed in, since to count them takes as long as they are many.
-create function huckleport.check_waiting(document bigint, client uuid, put int, last_id bigint) returns void language plpgsql
-set jit = off set enable_seqscan = off set enable_bitmapscan = off as $$
+-- Refuses lines while more of them wait than the settings allow. To count them takes as long as they are many. So they are counted once for a
+-- 64th of a limit that was handed in, and those of a client over all documents once for a 16th. Small limits are exact.
+create function huckleport.check_waiting(document bigint, client uuid, put int, put_bytes bigint, last_id bigint) returns void language plpgsql as $$
 declare
     most record;
     count bigint;
     size bigint;
-    step bigint;
 begin
     select s.document_lines, s.document_bytes, s.client_lines, s.client_bytes into most from huckleport.settings s;
-    select count(*), sum(octet_length(r.line)) into count, size from huckleport.requests r where r.document = check_waiting.document;
-    if count > most.document_lines or size > most.document_bytes then
-        raise exception '% lines of % bytes would wait for document %', count, size, document
-            using errcode = 'HP005', hint = 'The settings `document_lines` and `document_bytes` are the limit.';
+    if huckleport.is_due(most.document_lines, most.document_bytes, 64, put, put_bytes, last_id) then
+        select count(*), sum(octet_length(r.line)) into count, size from huckleport.requests r where r.document = check_waiting.document;
+        if count > most.document_lines or size > most.document_bytes then
+            raise exception '% lines of % bytes would wait for document %', count, size, document
+                using errcode = 'HP005', hint = 'The settings `document_lines` and `document_bytes` are the limit.';
+        end if;
     end if;
-    step := greatest(1, most.client_lines / 16);
-    if last_id / step = (last_id - put) / step and size < most.client_bytes / 16 then
-        return;
+    if huckleport.is_due(most.client_lines, most.client_bytes, 16, put, put_bytes, last_id) then
+        select count(*), sum(octet_length(r.line)) into count, size from huckleport.requests r where r.client = check_waiting.client;
+        if count > most.client_lines or size > most.client_bytes then
+            raise exception '% lines of % bytes of client % would wait', count, size, client
+                using errcode = 'HP006', hint = 'The settings `client_lines` and `client_bytes` are the limit.';
+        end if;
     end if;
-    select count(*), sum(octet_length(r.line)) into count, size from huckleport.requests r where r.client = check_waiting.client;
-    if count > most.client_lines or size > most.client_bytes then
-        raise exception '% lines of % bytes of client % would wait', count, size, client
-            using errcode = 'HP006', hint = 'The settings `client_lines` and `client_bytes` are the limit.';
-    end if;
+end $$;
+
+-- Whether lines that were put are to be counted: if the ids of all lines passed a multiple of a part of the limit, or if their bytes are such
+-- a part. Limits below 1,000 lines or 1 MiB are checked each time.
+create function huckleport.is_due(lines bigint, bytes bigint, parts int, put int, put_bytes bigint, last_id bigint) returns boolean language plpgsql as $$
+begin
+    return lines < 1000 or bytes < 1048576 or put_bytes >= bytes / parts or last_id / (lines / parts) <> (last_id - put) / (lines / parts);
 end $$;
 
 -- Hands lines in, as the requests `first`, `first` + 1 and so on of that client. A request that waits or was answered stays as it is if it is
 -- the same line, and the call is refused if it is another one. A line that is too long for the document is stored up to the byte behind its
 -- limit, so its reply is `line-too-long`.
 create function huckleport.submit(document bigint, client uuid, first bigint, lines bytea[]) returns void language plpgsql
-security definer set search_path = pg_catalog, pg_temp
-set jit = off set enable_hashjoin = off set enable_mergejoin = off set enable_seqscan = off set enable_bitmapscan = off set enable_material = off as $$
+security definer set search_path = pg_catalog, pg_temp set jit = off set enable_seqscan = off set enable_bitmapscan = off as $$
 declare
     last bigint := submit.first + cardinality(submit.lines) - 1;
     longest int;
     put int;
+    put_bytes bigint;
     last_id bigint;
 begin
     perform huckleport.check_granted(document);
@@ -177,8 +184,8 @@ begin
         from unnest(submit.lines) with ordinality as given (line, place)
         order by given.place
         on conflict on constraint requests_client_document_request_key do nothing
-        returning id)
-    select count(*), max(placed.id) into put, last_id from placed;
+        returning id, octet_length(requests.line) as size)
+    select count(*), sum(placed.size), max(placed.id) into put, put_bytes, last_id from placed;
     -- (Another statement, so it also sees what was recorded while the first one waited for a worker's row.)
     if put < cardinality(lines) or exists (select from huckleport.lines l
             where l.document = submit.document and l.client = submit.client and l.request >= submit.first)
@@ -187,7 +194,7 @@ begin
         perform huckleport.check_same(document, client, first, last, longest, lines);
     end if;
     if put > 0 then
-        perform huckleport.check_waiting(document, client, put, last_id);
+        perform huckleport.check_waiting(document, client, put, put_bytes, last_id);
     end if;
     perform pg_notify('huckleport_requests', submit.document::text);
 end $$;
@@ -234,9 +241,15 @@ $$;
 -- The replies to a client's requests behind a number. Replies to questions up to that number were taken, and are forgotten.
 create function huckleport.replies(document bigint, client uuid, behind bigint, most int default 1000)
 returns table (request bigint, reply bytea) language plpgsql security definer set search_path = pg_catalog, pg_temp
-set jit = off set enable_hashjoin = off set enable_mergejoin = off set enable_seqscan = off set enable_bitmapscan = off as $$
+set jit = off set enable_seqscan = off set enable_bitmapscan = off as $$
 begin
     perform huckleport.check_granted(document);
+    if not exists (select from huckleport.answers a where a.document = replies.document and a.client = replies.client) then
+        return query
+        select l.request, l.reply from huckleport.lines l
+        where l.document = replies.document and l.client = replies.client and l.request > replies.behind order by l.request limit most;
+        return;
+    end if;
     delete from huckleport.answers a where a.document = replies.document and a.client = replies.client and a.request <= replies.behind;
     return query
     (select l.request, l.reply from huckleport.lines l
