@@ -271,23 +271,35 @@ begin
     where l.document = entries.document and l.number > entries.behind order by l.number limit most;
 end $$;
 
+-- The last number of a piece of a log that has at most so many lines and bytes, and at least one line.
+create function huckleport.piece_end(document bigint, behind bigint, most int, bytes bigint) returns bigint language plpgsql stable as $$
+declare
+    size bigint;
+begin
+    select sum(octet_length(l.line) + octet_length(l.reply)) into size from huckleport.lines l
+    where l.document = piece_end.document and l.number > piece_end.behind and l.number <= piece_end.behind + piece_end.most;
+    if size is null or size <= bytes then
+        return behind + most;
+    end if;
+    return greatest(behind + 1, (select max(it.number) from (
+        select l.number, sum(octet_length(l.line) + octet_length(l.reply)) over (order by l.number rows unbounded preceding) as upto
+        from huckleport.lines l
+        where l.document = piece_end.document and l.number > piece_end.behind and l.number <= piece_end.behind + piece_end.most) as it
+        where it.upto <= piece_end.bytes));
+end $$;
+
 -- The same in one row, which is faster to read: how many lines, the last one's number, and of each its client, its request, line and reply,
 -- joined by commas and by newlines.
 create function huckleport.page(document bigint, behind bigint, most int, bytes bigint)
 returns table (count bigint, last bigint, clients text, requests text, lines bytea, replies bytea) language plpgsql
-security definer set search_path = pg_catalog, pg_temp set jit = off as $$
+security definer set search_path = pg_catalog, pg_temp set jit = off set enable_bitmapscan = off set max_parallel_workers_per_gather = 0 as $$
+declare
+    ending bigint := huckleport.piece_end(document, behind, most, bytes);
 begin
     perform huckleport.check_granted(document);
     return query
-    select count(*), max(it.number), string_agg(it.client::text, ',' order by it.number), string_agg(it.request::text, ',' order by it.number),
-        string_agg(it.line, '\x0a'::bytea order by it.number), string_agg(it.reply, '\x0a'::bytea order by it.number)
-    from (
-        select l.number, l.client, l.request, l.line, l.reply,
-            sum(octet_length(l.line) + octet_length(l.reply)) over (order by l.number rows unbounded preceding) as upto
-        from huckleport.lines l
-        where l.document = page.document and l.number > page.behind
-        order by l.number limit page.most) as it
-    where it.upto <= page.bytes or it.number = page.behind + 1
+    select count(*), max(it.number), string_agg(it.client::text, ','), string_agg(it.request::text, ','), string_agg(it.line, '\x0a'::bytea), string_agg(it.reply, '\x0a'::bytea)
+    from (select l.* from huckleport.lines l where l.document = page.document and l.number > page.behind and l.number <= ending order by l.number) as it
     having count(*) > 0;
 end $$;
 
@@ -332,6 +344,20 @@ security definer set search_path = pg_catalog, pg_temp set jit = off as $$
     from free, counted where d.id = free.id
     returning d.id, d.epoch, d.numbers, d.line, d.attempts
 $$;
+
+-- A piece of the log of one document, in the same form. (An aggregate of an ordered query without joins keeps its order, and sorts nothing.)
+create function huckleport.piece(document bigint, behind bigint, most int, bytes bigint)
+returns table (count bigint, last bigint, lines bytea, replies bytea) language plpgsql
+security definer set search_path = pg_catalog, pg_temp set jit = off set enable_bitmapscan = off set max_parallel_workers_per_gather = 0 as $$
+declare
+    ending bigint := huckleport.piece_end(document, behind, most, bytes);
+begin
+    return query
+    select count(*), max(it.number), string_agg(it.line, '\x0a'::bytea), string_agg(it.reply, '\x0a'::bytea)
+    from (select l.number, l.line, l.reply from huckleport.lines l
+        where l.document = piece.document and l.number > piece.behind and l.number <= ending order by l.number) as it
+    having count(*) > 0;
+end $$;
 
 -- A piece of the logs of some documents, each behind a number: how many lines, the last one's number, the lines and the replies by newlines.
 create function huckleport.log(documents bigint[], behind bigint[], most int, bytes bigint)

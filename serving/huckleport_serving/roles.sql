@@ -26,12 +26,12 @@ begin
     grant select on huckleport.settings to huckleport_client, huckleport_worker;
     grant execute on function huckleport.enter, huckleport.find, huckleport.make, huckleport.about, huckleport.last_request, huckleport.submit,
         huckleport.replies, huckleport.entries, huckleport.page to huckleport_client, huckleport_operator;
-    grant execute on function huckleport.register, huckleport.renew, huckleport.claim, huckleport.log, huckleport.take, huckleport.record,
+    grant execute on function huckleport.register, huckleport.renew, huckleport.claim, huckleport.log, huckleport.piece, huckleport.take, huckleport.record,
         huckleport.sweep, huckleport.forget_answers, huckleport.release, huckleport.leave to huckleport_worker;
     grant select on all tables in schema huckleport to huckleport_operator;
     grant select on all sequences in schema huckleport to huckleport_operator;
     grant update on huckleport.settings to huckleport_operator;
     grant update (version) on huckleport.documents to huckleport_operator;
-    grant execute on function huckleport.grant_document, huckleport.revoke_document, huckleport.drop_line, huckleport.log, huckleport.now,
+    grant execute on function huckleport.grant_document, huckleport.revoke_document, huckleport.drop_line, huckleport.piece, huckleport.now,
         huckleport.is_running, huckleport.is_operator to huckleport_operator;
 end $$;

@@ -13,7 +13,7 @@ from .links import escaped
 from .worlds import LEFT_OUT, PROGRAM, Unanswered, World
 
 PIECE_LINES, PIECE_BYTES = 20_000, 16 << 20
-LOG = "select count, last, lines, replies from huckleport.log(array[%s::bigint], array[%s::bigint], %s, %s)"
+LOG = "select count, last, lines, replies from huckleport.piece(%s, %s, %s, %s)"
 
 
 class Answers(Protocol):

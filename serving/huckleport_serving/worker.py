@@ -404,7 +404,7 @@ class Tenure:
         return bool(idle)
 
     def _replay_piece_alone(self, held: Held, alone: Alone) -> None:
-        words = "select count, last, lines, replies from huckleport.log(array[%s::bigint], array[%s::bigint], %s, %s)"
+        words = "select count, last, lines, replies from huckleport.piece(%s, %s, %s, %s)"
         row = self.connection.execute(words, (held.document, held.last, PIECE_LINES, ALONE_BYTES), binary=True).fetchone()
         if row is None:
             held.is_whole = True
@@ -429,10 +429,7 @@ class Tenure:
         loading = [it for it in self.held.values() if not it.is_whole and it.world is not None and not it.is_heavy][:CLAIM]
         if not loading:
             return False
-        each = max(1, PIECE_LINES // len(loading)), PIECE_BYTES // len(loading)
-        words = "select document, count, last, lines, replies from huckleport.log(%s::bigint[], %s::bigint[], %s, %s)"
-        given = array(it.document for it in loading), array(it.last for it in loading), *each
-        rows = self.connection.execute(words, given, binary=True).fetchall()
+        rows = self._pieces(loading)
         for document, count, last, lines, replies in rows:
             self._replay_piece(self.held[document], count, last, split(lines), split(replies))
         for it in loading:
@@ -440,6 +437,17 @@ class Tenure:
                 it.is_whole = True
                 self.due[it.document] = None
         return True
+
+    def _pieces(self, loading: List[Held]) -> List[Tuple[int, int, int, bytes, bytes]]:
+        """Returns the next pieces of logs: of each its document, how many lines, the last one's number, the lines and the replies."""
+        if len(loading) == 1:
+            words = "select %s::bigint, count, last, lines, replies from huckleport.piece(%s, %s, %s, %s)"
+            given: Tuple[Any, ...] = (loading[0].document, loading[0].document, loading[0].last, PIECE_LINES, PIECE_BYTES)
+        else:
+            words = "select document, count, last, lines, replies from huckleport.log(%s::bigint[], %s::bigint[], %s, %s)"
+            each = max(1, PIECE_LINES // len(loading)), PIECE_BYTES // len(loading)
+            given = array(it.document for it in loading), array(it.last for it in loading), *each
+        return self.connection.execute(words, given, binary=True).fetchall()
 
     def _replay_piece(self, held: Held, count: int, last: int, lines: List[bytes], replies: List[bytes]) -> None:
         assert held.world is not None

@@ -20,7 +20,10 @@ LEFT_OUT = frozenset((OUT_OF_MEMORY, OUT_OF_TIME, b'{"error":"dropped"}'))
 LONGEST = 64 << 20
 """The bytes of the longest reply that is recorded."""
 
-HEAVY_SECONDS, HEAVY_BYTES, WATCHED_SECONDS = 0.02, 32 << 20, 0.002
+WATCHED_LINES = 4
+"""A replay is watched once for so many lines, which together then count as one."""
+
+HEAVY_SECONDS, HEAVY_BYTES, WATCHED_SECONDS = 0.05, 64 << 20, 0.005
 """A document is heavy if one of its lines takes so much processor time, or if its lines took so much memory. (Memory is read after lines that
 took a tenth of that time.)"""
 
@@ -93,7 +96,7 @@ def differs(world: Answers, lines: Sequence[bytes], replies: Sequence[bytes], wa
     for at, (line, reply) in enumerate(zip(lines, replies)):
         if reply not in LEFT_OUT and answer(line) != reply:
             return at
-        if watch is not None and watch.is_heavy():
+        if watch is not None and not at % WATCHED_LINES and watch.is_heavy():
             raise Unanswered("heavy")
     return None
 
