@@ -48,19 +48,25 @@ class Client:
     can't use one id at once: the second one raises `ClientInUse`.
     """
 
-    def __init__(self, *conninfo: str, client: Union[uuid.UUID, str, None] = None, timeout: float = 60.0) -> None:
+    def __init__(
+        self, *conninfo: str, client: Union[uuid.UUID, str, None] = None, timeout: float = 60.0, links: Optional[Sequence[Link]] = None
+    ) -> None:
         self.id = uuid.uuid4() if client is None else uuid.UUID(str(client))
         self.timeout = timeout
         self._conninfo = conninfo or ("",)
+        self._documents: Dict[str, Document] = {}
+        # By the place of their database, and their id there.
+        self._by_place: Dict[Tuple[int, str], Document] = {}
+        self._links = self._linked() if links is None else links
+
+    def _linked(self) -> List[Link]:
+        """Returns connections of its own."""
         settings: List[Setting] = [
             sql.SQL("set synchronous_commit = off"),
             sql.SQL("select huckleport.enter({})").format(str(self.id)),
             sql.SQL("listen {}").format(sql.Identifier(f"huckleport_client_{self.id}")),
         ]
-        self._links = [Link(it, settings, partial(self._told, at)) for at, it in enumerate(self._conninfo)]
-        self._documents: Dict[str, Document] = {}
-        # By the place of their database, and their id there.
-        self._by_place: Dict[Tuple[int, str], Document] = {}
+        return [Link(it, settings, partial(self._told, at)) for at, it in enumerate(self._conninfo)]
 
     def document(self, name: str, numbers: Optional[int] = None, line: Optional[int] = None) -> Document:
         """Returns the document of that name. If there is none it is made, with these limits or those of the program."""

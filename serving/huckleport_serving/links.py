@@ -154,11 +154,14 @@ class Link:
         pause, first = 0.02, time.monotonic()
         while True:
             try:
-                return self._connected().execute(query, parameters, binary=binary)
+                return self._execute(query, parameters, binary)
             except psycopg.Error as fault:
                 self._pass(fault, pause, first, until)
             time.sleep(pause)
             pause = min(2 * pause, 1.0)
+
+    def _execute(self, query: str, parameters: Sequence[Any], binary: bool) -> psycopg.Cursor[Any]:
+        return self._connected().execute(query, parameters, binary=binary)
 
     def _pass(self, fault: psycopg.Error, pause: float, first: float, until: float) -> None:
         """Returns if the statement may be executed again, and raises otherwise."""

@@ -2,6 +2,7 @@
 
 from __future__ import annotations
 
+import os
 import subprocess
 from typing import Any, List
 
@@ -10,6 +11,7 @@ from place import replies_of
 from test_documents import Served
 
 from huckleport_serving import ClientFull, DocumentFull, TooManyClients, connect
+from huckleport_serving.pool import Pool
 
 LONG = b'{"error":"line-too-long"}'
 ELEMENT = b'["createElement",0,"p"]'
@@ -125,3 +127,18 @@ class Waits(Served):
         self.assertIn(b"document_lines 123,", ran.communicate()[0])
         self.assertEqual(self.row("select document_lines from huckleport.settings"), (123,))
         self.assertEqual(self.place.command("limits", "nothing=1", stderr=subprocess.DEVNULL).wait(), 1)
+
+
+class Pooled(Served):
+    workers = 1
+    clients = 2_000 if os.environ.get("HUCKLEPORT_WHOLE") else 60
+
+    def test_many_clients_over_few_connections(self) -> None:
+        """Each sends to a document that ten others share. All connections are lost meanwhile."""
+        with Pool(self.place.conninfo, connections=4) as pool:
+            documents = [pool.client().document(f"shared {at % (self.clients // 10)}") for at in range(self.clients)]
+            posted = [it.post([ELEMENT] * 3) for it in documents]
+            words = "select count(*), count(pg_terminate_backend(pid)) from pg_stat_activity where application_name = 'huckleport' and pid <> pg_backend_pid() and query like '%%submit%%'"
+            self.assertLessEqual(self.row(words)[0], 4)
+            replies = [it.reply(request) for it, requests in zip(documents, posted) for request in requests]
+        self.assertEqual({it: replies.count(it) for it in set(replies)}, {b'{"ok":%d}' % it: self.clients // 10 for it in range(1, 31)})
