@@ -222,7 +222,8 @@ class Fences(Served):
         self.recorded(worker, document, epoch)
         self.handed_in("of another version")
         self.connection.execute("update huckleport.documents set owner = null where name = 'of another version'")
-        self.assertIsNone(self.connection.execute("select from huckleport.claim(%s, '0.1', 9, null, '{}')", (self.worker(),)).fetchone())
+        words = "select from huckleport.claim(%s, '0.1', 9, array[%s::bigint], '{}')"
+        self.assertIsNone(self.connection.execute(words, (self.worker(), document)).fetchone())
 
 
 class Workers(Served):
