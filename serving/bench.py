@@ -1,5 +1,6 @@
 #!/usr/bin/env python3
-"""Measures served documents on this machine, with a PostgreSQL of its own in /tmp: lines a second, take-over by length of log, memory of a worker.
+"""Measures served documents on this machine, with a PostgreSQL of its own in /tmp: lines a second, take-over by length of log, memory of a worker,
+processor time of the database.
 
 Everything runs on this machine: the database, its standby where there is one, workers and clients.
 """
@@ -9,6 +10,7 @@ import os
 import subprocess
 import sys
 import time
+import uuid
 
 sys.dont_write_bytecode = True
 sys.path.insert(0, os.path.join(os.path.dirname(os.path.abspath(__file__)), "tests"))
@@ -147,7 +149,57 @@ def memories(_):
         print(f"1,000 busy documents of 300 lines, 50 of each on the way: {resident(worker):.0f} MB", flush=True)
 
 
-PARTS = {"speed": speeds, "take-over": take_overs, "memory": memories}
+# ---- processor time of the database
+
+
+def used(process):
+    """The seconds of processor time that a process has had."""
+    with open(f"/proc/{process}/schedstat", encoding="ascii") as file:
+        return int(file.read().split()[0]) / 1e9
+
+
+class Calls:
+    """The calls of clients and a worker for one document at a time, and the processor time that each took of the database for a line."""
+
+    def __init__(self, connection):
+        self.connection, self.times = connection, {}
+        (self.process,) = connection.execute("select pg_backend_pid()").fetchone()
+        (self.worker,) = connection.execute("select huckleport.register('bench', 'bench', interval '1 hour')").fetchone()
+
+    def timed(self, name, count, words, *parameters):
+        before = used(self.process)
+        found = self.connection.execute(words, parameters, binary=True).fetchall()
+        self.times.setdefault(name, []).append((used(self.process) - before) / count * 1e6)
+        return found
+
+    def round(self, document, client, chunk, given):
+        """Lines of a document, from the client and back."""
+        count = len(given)
+        for at in range(0, count, chunk):
+            words = "select huckleport.submit(%b, %b, %b, %b::bytea[])"
+            self.timed(f"taking it in from the client, {chunk} lines at once", chunk, words, document, client, at + 1, given[at : at + chunk])
+        self.connection.execute("select from huckleport.claim(%s, 'bench', 64, array[%s::bigint], '{}')", (self.worker, document))
+        (epoch,) = self.connection.execute("select epoch from huckleport.documents where id = %s", (document,)).fetchone()
+        words = "select ids from huckleport.take(array[%s::bigint], 4000, 16000000, '{}', '{}')"
+        ((ids,),) = self.timed("handing it to the worker", count, words, document)
+        words = "select from huckleport.record(%s, array[%s::bigint], array[%s::bigint], '{}', %s::bigint[], %s::bigint[], %s::bigint[], %s::bytea[])"
+        numbers = list(range(1, count + 1))
+        self.timed("recording it with its reply", count, words, self.worker, document, epoch, [document] * count, ids, numbers, [b'{"ok":1}'] * count)
+        self.timed("handing the reply to the client", count, "select reply from huckleport.replies(%s, %s, 0)", document, client)
+
+
+def statements(_):
+    with Place(settings={"fsync": "off"}) as place, connected(place.conninfo) as connection:
+        print("-- processor time of the database, microseconds a line (the least, and the median)")
+        calls = Calls(connection)
+        for number in range(30):
+            (document,) = connection.execute("select huckleport.make(%s)", (f"document {number}",)).fetchone()
+            calls.round(document, uuid.uuid4(), (10, 100, 1000)[number % 3], lines(number, 1000))
+        for name, times in sorted(calls.times.items()):
+            print(f"{name}: {min(times):.1f}, {sorted(times)[len(times) // 2]:.1f}", flush=True)
+
+
+PARTS = {"speed": speeds, "take-over": take_overs, "memory": memories, "statements": statements}
 
 
 def main():

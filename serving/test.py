@@ -7,6 +7,7 @@ that says so. --whole plays the test of losses with 4 workers, 200 documents, 20
 import argparse
 import importlib.util
 import os
+import re
 import signal
 import subprocess
 import sys
@@ -46,14 +47,35 @@ def tested(given):
     os.environ["HUCKLEPORT_PROGRAM"] = given.program
     if given.whole:
         os.environ["HUCKLEPORT_WHOLE"] = "1"
+    if not given.only:
+        return tested_together()
     # (what the tests started ends with them)
     signal.signal(signal.SIGTERM, lambda *_: sys.exit(1))
     sys.path.insert(0, os.path.join(HERE, "tests"))
-    loader = unittest.TestLoader()
-    found = loader.loadTestsFromNames(given.only) if given.only else loader.discover(os.path.join(HERE, "tests"))
-    ran = unittest.TextTestRunner(verbosity=2 if given.only else 1).run(found)
+    ran = unittest.TextTestRunner(verbosity=2).run(unittest.TestLoader().loadTestsFromNames(given.only))
     failed = len({it.id() for it, _ in [*ran.failures, *ran.errors]})
     return ran.testsRun - failed, failed
+
+
+def tested_together():
+    """Runs the files of tests at once, each in a process of its own, since most of their time is waiting. Prints what they print, one by one."""
+    names = sorted(it[:-3] for it in os.listdir(os.path.join(HERE, "tests")) if it.startswith("test_"))
+    signal.signal(signal.SIGTERM, lambda *_: sys.exit(1))
+    started = []
+    found = [0, 0]
+    try:
+        for it in names:
+            started.append(subprocess.Popen([sys.executable, __file__, it], stdout=subprocess.PIPE, stderr=subprocess.STDOUT))
+        for it in started:
+            out = it.communicate()[0].decode(errors="replace")
+            counts = re.search(r"^(\d+) passed, (\d+) failed$", out, re.M)
+            print(out, end="", flush=True)
+            found = [found[0] + int(counts[1]), found[1] + int(counts[2])] if counts else [found[0], found[1] + 1]
+    finally:
+        for it in started:
+            it.terminate()
+            it.wait()
+    return found
 
 
 def main():

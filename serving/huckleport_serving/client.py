@@ -1,44 +1,37 @@
-"""Clients: lines in, replies out, and what others did."""
+"""Clients: they send lines, read replies, and follow what others send."""
 
 from __future__ import annotations
 
 import time
 import uuid
-from dataclasses import dataclass
 from functools import partial
 from types import TracebackType
-from typing import Any, Dict, Iterable, Iterator, List, Optional, Sequence, Tuple, Type
+from typing import Any, Dict, Iterable, Iterator, List, NamedTuple, Optional, Sequence, Tuple, Type, Union
 
-from .links import Link
+from psycopg import sql
+
+from .links import Link, Setting, escaped
 from .places import jumps
+from .refusals import ClientFull, DocumentFull, NotAnswered, OtherLimits, Refused
 
 CHUNK_LINES, CHUNK_BYTES = 500, 1 << 20
 """How much is handed in by one statement."""
 
 WINDOW_LINES, WINDOW_BYTES = 4000, 8 << 20
-"""How much one document has on the way at most."""
+"""How much of one document is on the way at most."""
 
-# How long a client waits to be told before it looks by itself, and before it hands in again what was not answered.
+# How long a client waits for a notification before it looks by itself, and before it hands in again the lines that were not answered.
 LOOK, AGAIN = 0.25, 10.0
 
-REPLIES = "select request, number, reply from huckleport.lines where document = %s and client = %s and request > %s order by request limit 1000"
-FOLLOWING = "select number, client, request, line, reply from huckleport.lines where document = %s and number > %s order by number limit %s"
+# How many lines, and bytes of lines and replies, are read at once by whoever follows a document.
+PAGE_LINES, PAGE_BYTES = 10_000, 4 << 20
+
+SUBMIT = "select huckleport.submit(%b, %b, %b, %b::bytea[])"
+REPLIES = "select request, reply from huckleport.replies(%s, %s, %s)"
+PAGE = "select last, clients, requests, lines, replies from huckleport.page(%s, %s, %s, %s)"
 
 
-class NotAnswered(TimeoutError):
-    """The time is over, and not all lines were answered. Those that wait may still be; to send them again under the same requests is safe."""
-
-
-class OtherLine(ValueError):
-    """A request was answered before, and it was another line."""
-
-
-class OtherLimits(ValueError):
-    """The document is there, and has other limits."""
-
-
-@dataclass(frozen=True)
-class Entry:
+class Entry(NamedTuple):
     """A line of a document's log with its reply. Numbers go from 1 on without a gap."""
 
     number: int
@@ -49,28 +42,39 @@ class Entry:
 
 
 class Client:
-    """Who sends lines to documents of one database, or of a list of them. A thread uses a client of its own.
+    """A sender of lines to documents of one database, or of a list of them. A thread uses a client of its own.
 
-    `client` names it for a program that may be started anew and then sends again what it does not know to be answered.
+    `client` is the id of a program that may be started anew, and then sends again the lines whose replies it does not have. Two processes
+    can't use one id at once: the second one raises `ClientInUse`.
     """
 
-    def __init__(self, *conninfo: str, client: Optional[uuid.UUID] = None, timeout: float = 60.0) -> None:
-        self.id = client or uuid.uuid4()
+    def __init__(
+        self, *conninfo: str, client: Union[uuid.UUID, str, None] = None, timeout: float = 60.0, links: Optional[Sequence[Link]] = None
+    ) -> None:
+        self.id = uuid.uuid4() if client is None else uuid.UUID(str(client))
         self.timeout = timeout
         self._conninfo = conninfo or ("",)
-        settings = ["set synchronous_commit = off", f'listen "huckleport_client_{self.id}"']
-        self._links = [Link(it, settings, partial(self._told, at)) for at, it in enumerate(self._conninfo)]
         self._documents: Dict[str, Document] = {}
         # By the place of their database, and their id there.
         self._by_place: Dict[Tuple[int, str], Document] = {}
+        self._links = self._linked() if links is None else links
+
+    def _linked(self) -> List[Link]:
+        """Returns connections of its own."""
+        settings: List[Setting] = [
+            sql.SQL("set synchronous_commit = off"),
+            sql.SQL("select huckleport.enter({})").format(str(self.id)),
+            sql.SQL("listen {}").format(sql.Identifier(f"huckleport_client_{self.id}")),
+        ]
+        return [Link(it, settings, partial(self._told, at)) for at, it in enumerate(self._conninfo)]
 
     def document(self, name: str, numbers: Optional[int] = None, line: Optional[int] = None) -> Document:
-        """The document of that name, which is made where it is not there: with these limits, or those of the program."""
+        """Returns the document of that name. If there is none it is made, with these limits or those of the program."""
         if name not in self._documents:
             self._documents[name] = self._opened(name, numbers, line)
         found = self._documents[name]
         if (numbers or found.numbers, line or found.line) != (found.numbers, found.line):
-            raise OtherLimits(f"{name} has {found.numbers} numbers and lines of {found.line} bytes")
+            raise OtherLimits(f"{escaped(name)} has {found.numbers} numbers and lines of {found.line} bytes")
         return found
 
     def _opened(self, name: str, numbers: Optional[int], line: Optional[int]) -> Document:
@@ -83,7 +87,7 @@ class Client:
             words = "select huckleport.make(%s, %s, coalesce(%s, 4294967295), coalesce(%s, 1048576))"
             document = self._ask(at, words, (name, count, numbers, line), until)
         assert document is not None
-        row = self._links[at].run("select numbers, line from huckleport.documents where id = %s", (document,), until).fetchone()
+        row = self._links[at].run("select numbers, line from huckleport.about(%s)", (document,), until).fetchone()
         assert row is not None
         made = Document(self, self._links[at], self._conninfo[at], name, document, *row)
         self._by_place[at, str(document)] = made
@@ -109,22 +113,22 @@ class Client:
 
 
 class Document:
-    """A document as a client has it."""
+    """A document, as one client uses it."""
 
     def __init__(self, client: Client, link: Link, conninfo: str, name: str, number: int, numbers: int, line: int) -> None:
         self.client, self.name, self.id, self.numbers, self.line = client, name, number, numbers, line
         self._link, self._conninfo = link, conninfo
         self._is_told = False
-        # By their requests: what was handed in and not answered, and answers that nobody has taken.
+        # By their requests: the lines that were handed in and not answered, and the replies that nobody has taken.
         self._waiting: Dict[int, bytes] = {}
         self._answers: Dict[int, bytes] = {}
         self._next = self._last() + 1
         self._handed_in: Tuple[int, float] = (self._link.times, time.monotonic())
 
     def _last(self) -> int:
-        """The last request of this client that was answered."""
-        words = "select coalesce(max(request), 0) from huckleport.lines where document = %s and client = %s"
-        row = self._link.run(words, (self.id, self.client.id), time.monotonic() + self.client.timeout).fetchone()
+        """Returns the largest request of this client that waits or was answered."""
+        until = time.monotonic() + self.client.timeout
+        row = self._link.run("select huckleport.last_request(%s, %s)", (self.id, self.client.id), until).fetchone()
         return 0 if row is None else int(row[0])
 
     # sending
@@ -132,20 +136,21 @@ class Document:
     def send(self, lines: Iterable[bytes], request: Optional[int] = None, timeout: Optional[float] = None) -> List[bytes]:
         """Sends lines, and returns their replies in order, without newlines. Raises `NotAnswered` once no reply has come for so long.
 
-        `request` is the number of the first of these among this client's requests to this document, by default the one that follows.
-        What was answered under that number before is not done again, and its reply is returned. What is on the way is then given up.
+        `request` is the number of the first of these among this client's requests to this document, by default the one that follows. A line
+        that waits or was answered under its number is not done again, and its reply is returned. Another line raises `OtherLine`.
         """
         given = [bytes(it) for it in lines]
         if request is None:
             return [self.reply(it, timeout) for it in self.post(given, timeout)]
         if not 0 < request <= self._next:
-            raise ValueError(f"{self.name}: request {request} does not follow {self._next - 1}")
+            raise ValueError(f"{escaped(self.name)}: request {request} does not follow {self._next - 1}")
         self._waiting.clear()
         self._answers.clear()
-        self._check_before(given, request)
         following, self._next = self._next, request
-        requests = self.post(given, timeout)
-        self._next = max(following, self._next)
+        try:
+            requests = self.post(given, timeout)
+        finally:
+            self._next = max(following, self._next)
         return [self.reply(it, timeout) for it in requests]
 
     def ask(self, line: bytes, timeout: Optional[float] = None) -> bytes:
@@ -153,23 +158,48 @@ class Document:
         return self.send([line], None, timeout)[0]
 
     def post(self, lines: Sequence[bytes], timeout: Optional[float] = None) -> range:
-        """Hands lines in, and returns their requests, for `reply`. Waits only where too many are on the way."""
+        """Hands lines in, and returns their requests, for `reply`. It waits if too many are on the way.
+
+        Raises `DocumentFull` or `ClientFull` if there is no room for them within the time limit.
+        """
         first, at = self._next, 0
-        for it in lines:
-            if b"\n" in it:
-                raise ValueError("a line has no newline in it")
+        if any(b"\n" in it for it in lines):
+            raise ValueError("a line has a newline in it")
+        # (a longer line is refused by its first byte too many, so the others need not be sent)
+        given = [it[: self.line + 1] for it in lines]
         until = self._until(timeout)
-        while at < len(lines):
+        while at < len(given):
             self._wait_for_room(until)
-            chunk = self._chunk(lines, at)
-            self._waiting.update(zip(range(first + at, first + at + len(chunk)), chunk))
-            self._next = first + at + len(chunk)
-            self._hand_in(first + at, chunk, until)
+            chunk = self._chunk(given, at)
+            self._post_chunk(first + at, chunk, until)
             at += len(chunk)
-        return range(first, first + len(lines))
+        return range(first, first + len(given))
+
+    def _post_chunk(self, first: int, chunk: List[bytes], until: float) -> None:
+        """Hands in the lines of one statement. Those that are refused are forgotten."""
+        self._waiting.update(zip(range(first, first + len(chunk)), chunk))
+        self._next = first + len(chunk)
+        try:
+            self._hand_in_when_there_is_room(first, chunk, until)
+        except Refused:
+            for it in range(first, first + len(chunk)):
+                self._waiting.pop(it, None)
+            self._next = first
+            raise
+
+    def _hand_in_when_there_is_room(self, first: int, lines: List[bytes], until: float) -> None:
+        pause = 0.05
+        while True:
+            try:
+                return self._hand_in(first, lines, until)
+            except (DocumentFull, ClientFull):
+                if time.monotonic() + pause > until:
+                    raise
+            time.sleep(pause)
+            pause = min(2 * pause, 1.0)
 
     def reply(self, request: int, timeout: Optional[float] = None) -> bytes:
-        """The reply to a request that was handed in; it is waited for."""
+        """Returns the reply to a request that was handed in, and waits for it."""
         until = self._until(timeout)
         while request not in self._answers:
             if request not in self._waiting:
@@ -177,7 +207,7 @@ class Document:
             if self._read(until):
                 until = self._until(timeout)
             elif time.monotonic() > until:
-                raise NotAnswered(f"{self.name}: request {request} of {self.client.id} was not answered")
+                raise NotAnswered(f"{escaped(self.name)}: request {request} of {self.client.id} was not answered")
             else:
                 self._wait(until)
         return self._answers.pop(request)
@@ -187,7 +217,7 @@ class Document:
 
     @staticmethod
     def _chunk(lines: Sequence[bytes], at: int) -> List[bytes]:
-        """The next lines that one statement hands in."""
+        """Returns the next lines that one statement hands in."""
         size, end = 0, at
         while end < len(lines) and end - at < CHUNK_LINES and (end == at or size + len(lines[end]) <= CHUNK_BYTES):
             size += len(lines[end])
@@ -195,7 +225,7 @@ class Document:
         return list(lines[at:end])
 
     def _hand_in(self, first: int, lines: List[bytes], until: float) -> None:
-        self._link.run("select huckleport.submit(%b, %b, %b, %b::bytea[])", (self.id, self.client.id, first, lines), until)
+        self._link.run(SUBMIT, (self.id, self.client.id, first, lines), until)
         if len(self._waiting) == len(lines):
             self._handed_in = self._link.times, time.monotonic()
 
@@ -204,7 +234,7 @@ class Document:
             if not self._read(until):
                 self._wait(until)
             if time.monotonic() > until:
-                raise NotAnswered(f"{self.name}: {len(self._waiting)} requests of {self.client.id} were not answered")
+                raise NotAnswered(f"{escaped(self.name)}: {len(self._waiting)} requests of {self.client.id} were not answered")
 
     def _read(self, until: float) -> int:
         """Reads the replies that are there, and returns how many came."""
@@ -212,14 +242,17 @@ class Document:
             return 0
         self._is_told = False
         rows = self._link.run(REPLIES, (self.id, self.client.id, next(iter(self._waiting)) - 1), until).fetchall()
+        if self._handed_in[0] != self._link.times:
+            # (While the connection was lost, another process may have used these numbers. To hand the lines in again finds it out.)
+            return 0
         count = len(self._waiting)
-        for request, _, reply in rows:
+        for request, reply in rows:
             if self._waiting.pop(request, None) is not None:
                 self._answers[request] = reply
         return count - len(self._waiting)
 
     def _wait(self, until: float) -> None:
-        """Waits to be told that there is more. What was handed in on a connection that was lost is handed in again."""
+        """Waits for a notification. Lines that were handed in on a connection that was lost are handed in again."""
         times, then = self._handed_in
         if times != self._link.times or time.monotonic() - then > AGAIN:
             self._hand_in_again(until)
@@ -232,45 +265,48 @@ class Document:
         at = 0
         while at < len(lines):
             chunk = self._chunk(lines, at)
-            self._link.run("select huckleport.submit(%b, %b, %b, %b::bytea[])", (self.id, self.client.id, requests[at], chunk), until)
+            self._link.run(SUBMIT, (self.id, self.client.id, requests[at], chunk), until)
             at += len(chunk)
-
-    def _check_before(self, lines: List[bytes], request: int) -> None:
-        """Refuses other lines under requests that were answered."""
-        words = "select request, line from huckleport.lines where document = %s and client = %s and request between %s and %s"
-        rows = self._link.run(words, (self.id, self.client.id, request, request + len(lines) - 1), self._until(None)).fetchall()
-        for number, line in rows:
-            if lines[number - request] != line:
-                raise OtherLine(f"{self.name}: request {number} of {self.client.id} was another line")
 
     # following
 
     def follow(self, behind: int = 0, timeout: Optional[float] = None) -> Iterator[Entry]:
-        """All lines of the document behind a number, with their replies, as they come; ends once none has come for so long.
+        """Iterates over the log of the document behind a number, with the lines that come. Ends once none has come for so long.
 
-        It has a connection of its own, which is made anew where it is lost.
+        The log has the lines that may change a document. Questions are not in it. It has a connection of its own, which is made anew if
+        it is lost.
         """
-        link = Link(self._conninfo, [f"listen huckleport_document_{self.id}"])
+        for page in self.pages(behind, timeout):
+            yield from page
+
+    def pages(self, behind: int = 0, timeout: Optional[float] = None) -> Iterator[List[Entry]]:
+        """Iterates over the same entries as `follow`, by lists of those that are there."""
+        link = Link(self._conninfo, [sql.SQL("listen {}").format(sql.Identifier(f"huckleport_document_{self.id}"))])
+        until = time.monotonic() + (float("inf") if timeout is None else timeout)
+        clients: Dict[str, uuid.UUID] = {}
+        last = behind
         try:
-            yield from self._followed(link, behind, timeout)
+            while time.monotonic() < until:
+                row = link.run(PAGE, (self.id, last, PAGE_LINES, PAGE_BYTES), max(until, self._until(None)), binary=True).fetchone()
+                if row is None:
+                    link.wait(min(1.0, until - time.monotonic()))
+                    continue
+                yield entries(last, row, clients)
+                last = row[0]
+                until = time.monotonic() + (float("inf") if timeout is None else timeout)
         finally:
             link.close()
 
-    def _followed(self, link: Link, last: int, timeout: Optional[float]) -> Iterator[Entry]:
-        until = time.monotonic() + (float("inf") if timeout is None else timeout)
-        while True:
-            rows = link.run(FOLLOWING, (self.id, last, 500), max(until, self._until(None))).fetchall()
-            for row in rows:
-                yield Entry(*row)
-            if rows:
-                last = rows[-1][0]
-                until = time.monotonic() + (float("inf") if timeout is None else timeout)
-            elif time.monotonic() > until:
-                return
-            else:
-                link.wait(min(1.0, until - time.monotonic()))
+
+def entries(behind: int, row: Tuple[Any, ...], clients: Dict[str, uuid.UUID]) -> List[Entry]:
+    """Returns the entries of a page, whose parts are joined."""
+    last, names, requests, lines, replies = row
+    ids = names.split(",")
+    clients.update((it, uuid.UUID(it)) for it in set(ids) - clients.keys())
+    fields = map(clients.__getitem__, ids), map(int, requests.split(",")), lines.split(b"\n"), replies.split(b"\n")
+    return list(map(Entry._make, zip(range(behind + 1, last + 1), *fields)))
 
 
-def connect(*conninfo: str, client: Optional[uuid.UUID] = None, timeout: float = 60.0) -> Client:
-    """A client of the database with these connection words (libpq's; none where its own variables name one), or of a list of databases."""
+def connect(*conninfo: str, client: Union[uuid.UUID, str, None] = None, timeout: float = 60.0) -> Client:
+    """Returns a client of the database with these connection words (libpq's; without them its variables are read), or of a list of databases."""
     return Client(*conninfo, client=client, timeout=timeout)

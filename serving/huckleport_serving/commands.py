@@ -7,16 +7,20 @@ import json
 import logging
 import os
 import signal
+import socket
 import subprocess
 import sys
 import uuid
 from typing import Any, Callable, Dict, Iterator, List, Optional, Sequence, Tuple
 
 import psycopg
+from psycopg import sql
 
 from . import __version__
-from .client import Client, Entry, NotAnswered, OtherLimits, OtherLine
-from .links import WrongTables, connected, create_tables, log
+from .client import Client, Entry
+from .faults import faults_of, rows, told
+from .links import WrongTables, connected, create_tables, escaped, log
+from .refusals import NotAnswered, OtherLimits, Refused
 from .trial import NoServer, Server
 from .verifying import Verdict, adopt, replayed
 from .worker import Bounds, Worker
@@ -31,14 +35,18 @@ def add_worker(parser: argparse.ArgumentParser) -> None:
     parser.add_argument("--documents", type=int, default=10_000, metavar="N", help="how many documents it has at most (10000)")
     parser.add_argument("--memory", type=int, default=2048, metavar="MB", help="how much memory it takes at most; growths past a quarter more are refused (2048)")
     parser.add_argument("--lines", type=int, default=4000, metavar="N", help="how many lines it answers before it records them (4000)")
-    parser.add_argument("--lease", type=float, default=10.0, metavar="SECONDS", help="how long the others wait for it where it says nothing (10)")
+    parser.add_argument("--processes", type=int, default=16, metavar="N", help="how many heavy documents have a process of their own at most (16)")
+    parser.add_argument("--lease", type=float, default=10.0, metavar="SECONDS", help="how long the others wait before they replace it (10)")
     parser.add_argument("--idle", type=float, default=300.0, metavar="SECONDS", help="after how long without a line it lets a document go (300)")
+    parser.add_argument("--no-adopt", action="store_true", help="leave documents of other versions alone, also if no worker has their version")
 
 
 def worker(given: argparse.Namespace) -> int:
     if len(given.database) > 1:
         sys.exit("a worker serves one database: run one for each")
-    bounds = Bounds(given.documents, given.memory * MEGABYTE, given.lines, lease=given.lease, idle=given.idle)
+    bounds = Bounds(
+        given.documents, given.memory * MEGABYTE, given.lines, processes=given.processes, lease=given.lease, idle=given.idle, adopts=not given.no_adopt
+    )
     found = Worker(given.database[0], bounds)
     for it in (signal.SIGTERM, signal.SIGINT):
         signal.signal(it, lambda *_: found.stop())
@@ -58,25 +66,29 @@ def add_send(parser: argparse.ArgumentParser) -> None:
     parser.add_argument("--timeout", type=float, default=60.0, metavar="SECONDS", help="how long a reply is waited for (60)")
 
 
-def chunks(file: Any, most: int = 1000) -> Iterator[List[bytes]]:
-    """Lines of a file: what is there, and at most so many at once."""
-    rest, is_open = b"", True
-    while is_open:
-        read = os.read(file.fileno(), 1 << 16)
-        is_open = bool(read)
-        found = (rest + read).split(b"\n")
-        rest = found.pop()
-        if not is_open and rest:
-            found.append(rest)
-        for at in range(0, len(found), most):
-            yield found[at : at + most]
+def chunks(file: Any, longest: int, most: int = 1000) -> Iterator[List[bytes]]:
+    """Reads the lines of a file as they come, and at most so many at once. Of a line past the longest its first bytes are read, and more."""
+    parts: List[bytes] = []
+    size = 0
+    while read := os.read(file.fileno(), 1 << 16):
+        *ended, rest = read.split(b"\n")
+        if ended:
+            found = [b"".join([*parts, ended[0]]), *ended[1:]]
+            parts, size = [], 0
+            for at in range(0, len(found), most):
+                yield found[at : at + most]
+        if rest and size <= longest:
+            parts.append(rest)
+            size += len(rest)
+    if parts:
+        yield [b"".join(parts)]
 
 
 def send(given: argparse.Namespace) -> int:
     """Sends the lines of standard input, and writes the replies."""
     with Client(*given.database, client=given.client, timeout=given.timeout) as client:
         document, request = client.document(given.name, given.numbers, given.line), given.request
-        for lines in chunks(sys.stdin.buffer):
+        for lines in chunks(sys.stdin.buffer, document.line):
             sys.stdout.buffer.writelines(it + b"\n" for it in document.send(lines, request))
             sys.stdout.buffer.flush()
             request = None if request is None else request + len(lines)
@@ -100,8 +112,8 @@ def shown(entry: Entry, is_bare: bool) -> bytes:
 def follow(given: argparse.Namespace) -> int:
     """Writes a document's lines as they come: number, client, request, line and reply, with tabs between."""
     with Client(*given.database) as client:
-        for entry in client.document(given.name).follow(given.behind, given.timeout):
-            sys.stdout.buffer.write(shown(entry, given.lines))
+        for page in client.document(given.name).pages(given.behind, given.timeout):
+            sys.stdout.buffer.writelines(shown(it, given.lines) for it in page)
             sys.stdout.buffer.flush()
     return 0
 
@@ -120,7 +132,7 @@ def verify(given: argparse.Namespace) -> int:
     found = [it for conninfo in given.database for it in verified(conninfo, given)]
     missing = set(given.names) - {it.name for it in found}
     if missing:
-        log.error("there is no document %s", ", ".join(sorted(missing)))
+        log.error("there is no document %s", ", ".join(map(escaped, sorted(missing))))
     return 1 if missing or any(it.wrong is not None for it in found) else 0
 
 
@@ -137,63 +149,120 @@ def verified(conninfo: str, given: argparse.Namespace) -> List[Verdict]:
     return found
 
 
+# ---- drop, grant and limits
+
+
+def add_drop(parser: argparse.ArgumentParser) -> None:
+    parser.add_argument("name", help="the document")
+    parser.add_argument("line", type=int, metavar="LINE", help="the waiting line, by its number as `status NAME` shows it")
+
+
+def on_one(databases: List[str], query: str, *parameters: Any) -> List[Any]:
+    """Executes a statement in each database, and returns the first columns of their rows."""
+    found = []
+    for conninfo in databases:
+        with connected(conninfo) as connection:
+            found += [row[0] for row in connection.execute(query, parameters)]
+    return found
+
+
+def drop(given: argparse.Namespace) -> int:
+    """Answers a waiting line with `dropped`, and does not do it."""
+    if any(on_one(given.database, "select huckleport.drop_line(%s, %s)", given.name, given.line)):
+        return 0
+    log.error("no line %d waits for a document %s", given.line, escaped(given.name))
+    return 1
+
+
+def add_grant(parser: argparse.ArgumentParser) -> None:
+    parser.add_argument("name", metavar="DOCUMENT", help="the document")
+    parser.add_argument("role", metavar="CLIENT", help="the role of the database, which is a member of huckleport_client")
+    parser.add_argument("--revoke", action="store_true", help="take the right away")
+
+
+def grant(given: argparse.Namespace) -> int:
+    """Lets a role use a document, or no longer."""
+    places = [it for it in given.database if on_one([it], "select true from huckleport.documents where name = %s", given.name)]
+    if not places:
+        log.error("there is no document %s", escaped(given.name))
+        return 1
+    words = "revoke_document" if given.revoke else "grant_document"
+    on_one(places, f"select huckleport.{words}(%s, %s)", given.name, given.role)
+    return 0
+
+
+LIMITS = ("memory", "seconds", "document_lines", "document_bytes", "client_lines", "client_bytes", "connections")
+
+
+def add_limits(parser: argparse.ArgumentParser) -> None:
+    parser.add_argument("values", nargs="*", metavar="NAME=VALUE", help=f"a new value of {', '.join(LIMITS)}")
+
+
+def limits(given: argparse.Namespace) -> int:
+    """Prints the limits of a database's documents and clients, or sets some of them."""
+    values = dict(it.partition("=")[::2] for it in given.values)
+    for conninfo in given.database:
+        with connected(conninfo) as connection:
+            for name, value in values.items():
+                if name not in LIMITS:
+                    sys.exit(f"no limit is called {name}")
+                connection.execute(sql.SQL("update huckleport.settings set {} = %s").format(sql.Identifier(name)), (value,))
+            print(", ".join(f"{name} {it}" for name, it in rows(connection, f"select {', '.join(LIMITS)} from huckleport.settings")[0].items()))
+    return 0
+
+
 # ---- status
 
 
 def add_status(parser: argparse.ArgumentParser) -> None:
     parser.add_argument("name", nargs="?", help="one document (the database)")
     parser.add_argument("--json", action="store_true", help="print it as JSON")
-
-
-WORKERS = """
-select id, name, version, extract(epoch from until - clock_timestamp())::float as lease, documents, lines, memory from huckleport.workers order by id
-"""
-DATABASE = """
-select (select databases from huckleport.settings) as databases, (select count(*) from huckleport.documents) as documents,
-    (select count(*) from huckleport.documents d join huckleport.workers w on w.id = d.owner where w.until > clock_timestamp()) as held,
-    (select count(*) from huckleport.documents where fault is not null) as faulty,
-    (select count(*) from huckleport.requests) as waiting, (select count(distinct document) from huckleport.requests) as documents_waiting,
-    (select count(*) from pg_stat_replication where sync_state in ('sync', 'quorum')) as standbys, current_setting('synchronous_standby_names') <> '' as waits_for_standby
-"""
-DOCUMENT = """
-select d.name, d.version, d.numbers, d.line, d.made::text, (select w.name from huckleport.workers w where w.id = d.owner and w.until > clock_timestamp()) as worker, d.epoch,
-    d.attempts, d.fault, (select coalesce(max(number), 0) from huckleport.lines where document = d.id) as lines,
-    (select count(*) from huckleport.requests where document = d.id) as waiting
-from huckleport.documents d where d.name = %s
-"""
-
-
-def rows(connection: psycopg.Connection[Any], query: str, *parameters: Any) -> List[Dict[str, Any]]:
-    with connection.cursor(row_factory=psycopg.rows.dict_row) as cursor:
-        return cursor.execute(query, parameters).fetchall()
+    parser.add_argument("--still", type=float, default=30.0, metavar="SECONDS", help="a line that waits for longer than this is a fault (30)")
 
 
 def status(given: argparse.Namespace) -> int:
-    """Prints what a database has: its workers and documents, and what waits; or one document."""
+    """Prints the workers and documents of a database, and how many lines wait; or one document. The status is 1 if there is a fault."""
     found = [row for conninfo in given.database for row in told(conninfo, given.name)]
     if given.json:
         print(json.dumps(found))
     else:
         print("\n".join(line for it in found for line in shown_rows(it)))
     if not found:
-        log.error("there is no document %s", given.name)
-    return 0 if found else 1
-
-
-def told(conninfo: str, name: Optional[str]) -> List[Dict[str, Any]]:
-    """What one database tells of itself, or of a document, if it has it."""
-    # (who asks why commits stand still is not to stand still)
-    with connected(conninfo, waits=False) as connection:
-        if name is not None:
-            return rows(connection, DOCUMENT, name)
-        return [{**rows(connection, DATABASE)[0], "workers": rows(connection, WORKERS)}]
+        log.error("there is no document %s", escaped(given.name))
+    faults = [fault for it in found for fault in faults_of(it, given.still)]
+    for fault in faults:
+        log.error("%s", fault)
+    return 1 if faults or not found else 0
 
 
 def shown_rows(found: Dict[str, Any]) -> Iterator[str]:
-    yield ", ".join(f"{name.replace('_', ' ')} {'none' if it is None else it}" for name, it in found.items() if name != "workers")
+    words = ((name.replace("_", " "), "none" if it is None else it) for name, it in found.items() if not isinstance(it, list))
+    yield ", ".join(f"{name} {escaped(str(it))}" for name, it in words)
     for it in found.get("workers", []):
-        lease = f"lease {it['lease']:.1f} s" if it["lease"] > 0 else f"GONE for {-it['lease']:.0f} s"
-        yield f"  worker {it['id']} ({it['name']}), version {it['version']}, {lease}, {it['documents']} documents, {it['lines']} lines, {it['memory'] // MEGABYTE} MB"
+        lease = f"lease {it['lease']:.1f} s" if it["is_running"] else "GONE"
+        yield f"  worker {it['id']} ({escaped(it['name'])}), version {it['version']}, {lease}, {it['documents']} documents, {it['lines']} lines, {it['memory'] // MEGABYTE} MB"
+    for it in found.get("first_lines", []):
+        yield f"  line {it['line']} waits: {it['bytes']} bytes of client {it['client']}, request {it['request']}, for {it['age']:.1f} s"
+
+
+def health(given: argparse.Namespace) -> int:
+    """Returns 0 if a worker of this machine has a lease that is running."""
+    words = "select exists (select from huckleport.workers w where w.name like %s and huckleport.is_running(w.until, w.lease))"
+    return 0 if any(on_one(given.database, words, f"{socket.gethostname()} %")) else 1
+
+
+def add_monitor(parser: argparse.ArgumentParser) -> None:
+    parser.add_argument("--listen", default="127.0.0.1:9187", metavar="HOST:PORT", help="where it listens (127.0.0.1:9187)")
+    parser.add_argument("--still", type=float, default=30.0, metavar="SECONDS", help="a line that waits for longer than this is a fault (30)")
+
+
+def monitor(given: argparse.Namespace) -> int:
+    """Serves /metrics for Prometheus, and /healthz."""
+    from .monitor import serve
+
+    host, _, port = given.listen.rpartition(":")
+    serve(given.database, host, int(port), given.still)
+    return 0
 
 
 # ---- create, spread and try
@@ -258,12 +327,17 @@ def started_as() -> List[str]:
 
 
 PARTS: Dict[str, Tuple[Callable[[argparse.Namespace], int], Callable[[argparse.ArgumentParser], None], str]] = {
-    "create": (create, lambda parser: None, "make the tables in a database, or in each of a list"),
+    "create": (create, lambda parser: None, "make or upgrade the tables in a database, or in each of a list"),
     "worker": (worker, add_worker, "serve a database's documents, until it is told to stop"),
     "send": (send, add_send, "send the lines of standard input to a document, and write the replies"),
     "follow": (follow, add_follow, "write a document's lines and replies as they come"),
     "verify": (verify, add_verify, "replay documents, and compare each reply byte for byte"),
-    "status": (status, add_status, "tell what a database has and what waits, or of one document"),
+    "status": (status, add_status, "print the workers and documents of a database, or one document; 1 if there is a fault"),
+    "drop": (drop, add_drop, "answer a waiting line by `dropped`, without doing it"),
+    "grant": (grant, add_grant, "let a role of the database use a document"),
+    "limits": (limits, add_limits, "print or set the limits of documents and clients"),
+    "monitor": (monitor, add_monitor, "serve metrics for Prometheus, and /healthz"),
+    "health": (health, lambda parser: None, "0 if a worker of this machine runs, for containers"),
     "try": (attempt, add_try, "start a database in a folder, and workers, for a try"),
 }
 
@@ -274,19 +348,36 @@ def parser() -> argparse.ArgumentParser:
     words = "libpq's words for a connection, as 'host=db1,db2 dbname=letters'; once for each of a list of databases (what PGHOST and the like say)"
     found.add_argument("--database", action="append", metavar="WORDS", help=words)
     found.add_argument("--log", default="info", choices=("debug", "info", "warning"), help="what is told on standard error (info)")
+    found.add_argument("--log-format", default="text", choices=("text", "json"), help="a line of text, or an object of JSON, for each message (text)")
     parts = found.add_subparsers(dest="part", metavar="COMMAND", required=True)
     for name, (_, add, about) in PARTS.items():
         add(parts.add_parser(name, help=about, description=about[0].upper() + about[1:] + "."))
     return found
 
 
+class JsonLines(logging.Formatter):
+    """Formats a message as an object on one line."""
+
+    def format(self, record: logging.LogRecord) -> str:
+        found = {"time": self.formatTime(record), "level": record.levelname, "process": record.process, "message": record.getMessage()}
+        return json.dumps(found, ensure_ascii=True)
+
+
+def begin_log(level: str, form: str) -> None:
+    """Sends messages to standard error."""
+    logging.raiseExceptions = False
+    handler = logging.StreamHandler()
+    handler.setFormatter(JsonLines() if form == "json" else logging.Formatter("%(asctime)s %(levelname)s %(message)s"))
+    logging.basicConfig(level=level.upper(), handlers=[handler])
+
+
 def main(words: Optional[Sequence[str]] = None) -> int:
     given = parser().parse_args(words)
     given.database = given.database or [os.environ.get("HUCKLEPORT_DATABASE", "")]
-    logging.basicConfig(level=given.log.upper(), format="%(asctime)s %(levelname)s %(message)s")
+    begin_log(given.log, given.log_format)
     try:
         return PARTS[given.part][0](given)
-    except (NotAnswered, OtherLimits, OtherLine, WrongTables, NoServer, psycopg.Error) as fault:
+    except (NotAnswered, OtherLimits, Refused, WrongTables, NoServer, psycopg.Error) as fault:
         log.error("%s", str(fault).strip())
         return 3
     except BrokenPipeError:

@@ -7,6 +7,7 @@ from dataclasses import dataclass
 from typing import Callable, Tuple
 
 import psycopg
+from psycopg import sql
 
 from .links import LOST, connected, first_line, log
 
@@ -36,7 +37,7 @@ class Lease:
     def _keep(self) -> None:
         while not self._over.is_set() and not self.has_ended:
             try:
-                with connected(self.conninfo, ["set synchronous_commit = off"]) as connection:
+                with connected(self.conninfo, [sql.SQL("set synchronous_commit = off")]) as connection:
                     self._renew(connection)
             except LOST as fault:
                 log.warning("the lease's connection was lost: %s", first_line(fault))

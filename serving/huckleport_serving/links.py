@@ -6,14 +6,45 @@ import logging
 import select
 import time
 from importlib import resources
-from typing import Any, Callable, Optional, Sequence
+from typing import Any, Callable, Optional, Sequence, Union
 
 import psycopg
+from psycopg import sql
 from psycopg.conninfo import conninfo_to_dict, make_conninfo
 
-log = logging.getLogger("huckleport_serving")
+from .questions import QUESTIONS
+from .refusals import ClientInUse, TooManyClients, refusal
 
-TABLES = 1
+
+
+class SafeLogger(logging.Logger):
+    """A logger that never raises, also if memory is short or nobody reads what it writes."""
+
+    def _log(self, *given: Any, **how: Any) -> None:
+        try:
+            super()._log(*given, **how)
+        except Exception:  # noqa: BLE001 (a worker is not to end for a message)
+            pass
+
+
+def safe_logger(name: str) -> logging.Logger:
+    before = logging.getLoggerClass()
+    logging.setLoggerClass(SafeLogger)
+    try:
+        return logging.getLogger(name)
+    finally:
+        logging.setLoggerClass(before)
+
+
+log = safe_logger("huckleport_serving")
+
+Setting = Union[sql.SQL, sql.Composed]
+"""A statement that is executed once for each connection."""
+
+SETTLING = 2.0
+"""For how long a client's first connection waits for another process of the same id to be gone, in seconds."""
+
+TABLES = 2
 """The version of the tables of `schema.sql`."""
 
 # Where a primary was lost, the hosts that are named are asked in turn for the one that takes writes.
@@ -39,6 +70,11 @@ def first_line(fault: Exception) -> str:
     return (str(fault).strip().splitlines() or [type(fault).__name__])[0]
 
 
+def escaped(name: str) -> str:
+    """Returns a name with its control characters escaped, for people and their terminals."""
+    return "".join(it if it.isprintable() and it != "\\" else it.encode("unicode_escape", "backslashreplace").decode("ascii") for it in name)
+
+
 def is_passing(fault: psycopg.Error) -> bool:
     """Whether it may be well the next time."""
     return fault.sqlstate is None or fault.sqlstate.startswith(PASSING)
@@ -49,7 +85,7 @@ def completed(conninfo: str) -> str:
     return make_conninfo(conninfo, **{name: it for name, it in DEFAULTS.items() if name not in conninfo_to_dict(conninfo)})
 
 
-def connected(conninfo: str, settings: Sequence[str] = (), waits: bool = True) -> psycopg.Connection[Any]:
+def connected(conninfo: str, settings: Sequence[Setting] = (), waits: bool = True) -> psycopg.Connection[Any]:
     """A connection each statement of which is a transaction. It has waited until all that it can see is safe, if it is asked to."""
     connection = psycopg.connect(completed(conninfo), autocommit=True)
     try:
@@ -67,22 +103,36 @@ def connected(conninfo: str, settings: Sequence[str] = (), waits: bool = True) -
 def check_tables(connection: psycopg.Connection[Any]) -> None:
     try:
         row = connection.execute("select tables from huckleport.settings").fetchone()
-    except psycopg.errors.UndefinedTable:
+    except (psycopg.errors.UndefinedTable, psycopg.errors.InvalidSchemaName):
         raise WrongTables("the database has no tables for documents: the command `create` makes them") from None
     if row is None or row[0] != TABLES:
-        raise WrongTables(f"the database has tables of version {row and row[0]}, and this is for version {TABLES}")
+        raise WrongTables(f"the database has tables of version {row and row[0]}, and version {TABLES} is needed: the command `create` upgrades older ones")
+
+
+def script(name: str) -> str:
+    return resources.files(__package__).joinpath(name).read_text("utf-8")
 
 
 def create_tables(conninfo: str) -> bool:
-    """Makes the tables in a database, and returns whether they were not there."""
+    """Makes the tables in a database, or upgrades older ones. Returns whether there were none."""
     with psycopg.connect(completed(conninfo)) as connection:
         # (two that make them at once would meet in the middle)
         connection.execute("select pg_advisory_xact_lock(hashtext('huckleport'))")
-        if connection.execute("select to_regnamespace('huckleport')").fetchone() != (None,):
-            check_tables(connection)
-            return False
-        connection.execute(resources.files(__package__).joinpath("schema.sql").read_text("utf-8"))
-    return True
+        is_new = connection.execute("select to_regnamespace('huckleport')").fetchone() == (None,)
+        first = "schema.sql" if is_new else upgrade(connection)
+        for it in (first, "added.sql", "calls.sql", "roles.sql") if first else ():
+            connection.execute(script(it))
+        connection.execute("update huckleport.settings set questions = %s where questions <> %s", (QUESTIONS, QUESTIONS))
+    return is_new
+
+
+def upgrade(connection: psycopg.Connection[Any]) -> Optional[str]:
+    """Returns the script that upgrades the tables of a database, or None if they are of this version."""
+    row = connection.execute("select tables from huckleport.settings").fetchone()
+    if row == (1,):
+        return "upgrade_1.sql"
+    check_tables(connection)
+    return None
 
 
 def ready(seconds: float, *files: int) -> bool:
@@ -91,29 +141,47 @@ def ready(seconds: float, *files: int) -> bool:
 
 
 class Link:
-    """A connection that is made anew where it was lost, until a time is over."""
+    """A connection that is made anew if it is lost, until a time is over."""
 
-    def __init__(self, conninfo: str, settings: Sequence[str] = (), on_notify: Optional[Callable[[str], None]] = None) -> None:
+    def __init__(self, conninfo: str, settings: Sequence[Setting] = (), on_notify: Optional[Callable[[str], None]] = None) -> None:
         self._conninfo, self._settings, self._on_notify = conninfo, settings, on_notify
         self._connection: Optional[psycopg.Connection[Any]] = None
         self.times = 0
         """How often a connection was made."""
 
-    def run(self, query: str, parameters: Sequence[Any] = (), until: float = float("inf")) -> psycopg.Cursor[Any]:
-        """Executes a statement that may be executed twice, and on another connection if need be. Raises what was wrong once the time is over."""
-        pause = 0.02
+    def run(self, query: str, parameters: Sequence[Any] = (), until: float = float("inf"), binary: bool = False) -> psycopg.Cursor[Any]:
+        """Executes a statement that may be executed twice, and on another connection if need be. Raises the fault once the time is over."""
+        pause, first = 0.02, time.monotonic()
         while True:
             try:
-                return self._connected().execute(query, parameters)
-            except LOST as fault:
-                self._lose(fault, pause)
-                if not is_passing(fault) or time.monotonic() + pause > until:
-                    raise
+                return self._execute(query, parameters, binary)
+            except psycopg.Error as fault:
+                self._pass(fault, pause, first, until)
             time.sleep(pause)
             pause = min(2 * pause, 1.0)
 
+    def _execute(self, query: str, parameters: Sequence[Any], binary: bool) -> psycopg.Cursor[Any]:
+        return self._connected().execute(query, parameters, binary=binary)
+
+    def _pass(self, fault: psycopg.Error, pause: float, first: float, until: float) -> None:
+        """Returns if the statement may be executed again, and raises otherwise."""
+        refused = refusal(fault)
+        if isinstance(refused, (ClientInUse, TooManyClients)):
+            # (a process that was just ended still has its connection for a moment)
+            self.close()
+            if time.monotonic() + pause > (until if self.times else min(until, first + SETTLING)):
+                raise refused from None
+        elif refused is not None:
+            raise refused from None
+        elif isinstance(fault, LOST):
+            self._lose(fault, pause)
+            if not is_passing(fault) or time.monotonic() + pause > until:
+                raise fault
+        else:
+            raise fault
+
     def wait(self, seconds: float) -> None:
-        """Waits until the server says something, at most so long."""
+        """Waits until the server sends something, at most so long."""
         if self._connection is not None and not self._connection.closed:
             ready(seconds, self._connection.fileno())
 
@@ -126,8 +194,8 @@ class Link:
         if self._connection is None:
             self._connection = connected(self._conninfo, self._settings)
             if self._on_notify is not None:
-                tell = self._on_notify
-                self._connection.add_notify_handler(lambda it: tell(it.payload))
+                notify = self._on_notify
+                self._connection.add_notify_handler(lambda it: notify(it.payload))
             self.times += 1
         return self._connection
 

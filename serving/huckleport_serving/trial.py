@@ -1,4 +1,4 @@
-"""A PostgreSQL server of one's own in a folder, for a try and for tests. It listens on a socket in that folder and nowhere else."""
+"""A PostgreSQL server of one's own in a folder, for a try and for tests. It listens only on a socket in that folder, which is its user's alone."""
 
 from __future__ import annotations
 
@@ -7,6 +7,7 @@ import os
 import pwd
 import shutil
 import signal
+import stat
 import subprocess
 import time
 from dataclasses import dataclass, field
@@ -15,7 +16,7 @@ from typing import Any, Dict, Optional
 import psycopg
 
 SERVES = "postgres"
-"""The user that the server has where root starts it, as which it would refuse to run."""
+"""The superuser of the database, and the user as which the server runs if root starts it."""
 
 
 class NoServer(Exception):
@@ -56,13 +57,21 @@ class Server:
 
     @property
     def conninfo(self) -> str:
-        return f"host={self.folder} dbname=postgres user={SERVES}"
+        port = self.settings.get("port", "5432")
+        return f"host={self.folder} port={port} dbname=postgres user={SERVES}"
 
     def make(self) -> None:
-        """Makes the data, where there are none."""
+        """Makes the data, if there are none. Only the user who runs this, and the server's own, may connect."""
         self.make_folder()
         if not os.path.exists(self.data):
-            self._run("initdb", "--auth=trust", f"--username={SERVES}", "--encoding=UTF8", "--locale=C", "-D", self.data)
+            self._run("initdb", "--auth=peer", f"--username={SERVES}", "--encoding=UTF8", "--locale=C", "-D", self.data)
+        self._write("pg_hba.conf", "".join(f"local {it} all peer map=owner\n" for it in ("all", "replication")))
+        names = {pwd.getpwuid(it).pw_name for it in (os.geteuid(), user().get("user", os.geteuid()))}
+        self._write("pg_ident.conf", "".join(f"owner {it} {SERVES}\n" for it in sorted(names)))
+
+    def _write(self, name: str, text: str) -> None:
+        with open(os.path.join(self.data, name), "w", encoding="ascii") as file:
+            file.write(text)
 
     def make_standby_of(self, primary: Server) -> None:
         """Makes the data as a copy of another server's, to follow it from then on under the name `standby`."""
@@ -71,16 +80,26 @@ class Server:
         self._run("pg_basebackup", "--checkpoint=fast", "--write-recovery-conf", "--wal-method=stream", "-d", source, "-D", self.data)
 
     def make_folder(self) -> None:
-        """Makes the folder, for the user that the server has."""
+        """Makes the folder, for the server's user alone. One that is there is refused unless it is such a folder."""
         if len(os.path.join(self.folder, ".s.PGSQL.5432.lock")) > 100:
             raise NoServer(f"{self.folder} is too long for the name of a socket")
-        os.makedirs(self.folder, mode=0o700, exist_ok=True)
-        if user():
-            os.chown(self.folder, user()["user"], user()["group"])
+        try:
+            os.mkdir(self.folder, 0o700)
+        except FileExistsError:
+            self._check_folder()
+        else:
+            if user():
+                os.chown(self.folder, user()["user"], user()["group"])
+
+    def _check_folder(self) -> None:
+        found = os.lstat(self.folder)
+        owner = user().get("user", os.geteuid())
+        if not stat.S_ISDIR(found.st_mode) or found.st_uid != owner or found.st_mode & 0o077:
+            raise NoServer(f"{self.folder} is there, and is no folder of the server's user alone (mode 0700): name a new one")
 
     def start(self) -> None:
         """Starts it, and waits until it answers."""
-        words = [os.path.join(programs(), "postgres"), "-D", self.data, "-k", self.folder, "-c", "listen_addresses="]
+        words = [os.path.join(programs(), "postgres"), "-D", self.data, "-k", self.folder, "-c", "listen_addresses=", "-c", "unix_socket_permissions=0700"]
         words += [word for name, it in self.settings.items() for word in ("-c", f"{name}={it}")]
         with open(os.path.join(self.folder, "log"), "ab") as log:
             self.process = subprocess.Popen(words, stdin=subprocess.DEVNULL, stdout=log, stderr=log, start_new_session=True, cwd="/", **user())
@@ -100,6 +119,10 @@ class Server:
     def promote(self) -> None:
         """Has a standby take writes from now on."""
         self._run("pg_ctl", "promote", "-w", "-D", self.data)
+
+    def reload(self) -> None:
+        """Has it read its files again."""
+        self._run("pg_ctl", "reload", "-D", self.data)
 
     def stop(self) -> None:
         """Ends it, with all connections."""

@@ -9,10 +9,11 @@ from typing import Any, Iterator, List, Optional, Protocol, Tuple
 
 import psycopg
 
-from .worlds import PROGRAM, Unanswered, World
+from .links import escaped
+from .worlds import LEFT_OUT, PROGRAM, Unanswered, World
 
 PIECE_LINES, PIECE_BYTES = 20_000, 16 << 20
-LOG = "select count, last, lines, replies from huckleport.log(array[%s::bigint], array[%s::bigint], %s, %s)"
+LOG = "select count, last, lines, replies from huckleport.piece(%s, %s, %s, %s)"
 
 
 class Answers(Protocol):
@@ -72,7 +73,8 @@ class Verdict:
     why: str = ""
 
     def __str__(self) -> str:
-        return f"{self.name}: {self.lines} lines, each reply the same" if self.wrong is None else f"{self.name}: WRONG at {self.wrong}: {self.why}"
+        name = escaped(self.name)
+        return f"{name}: {self.lines} lines, each reply the same" if self.wrong is None else f"{name}: WRONG at {self.wrong}: {self.why}"
 
 
 def pieces(connection: psycopg.Connection[Any], document: int) -> Iterator[Tuple[int, int, List[bytes], List[bytes]]]:
@@ -86,6 +88,13 @@ def pieces(connection: psycopg.Connection[Any], document: int) -> Iterator[Tuple
         last = row[1]
 
 
+def first_wrong(world: Answers, lines: List[bytes], replies: List[bytes]) -> Optional[int]:
+    """Answers lines, but for those that had no effect, and returns the index of the first whose reply is another one."""
+    places = [at for at, it in enumerate(replies) if it not in LEFT_OUT]
+    found = world.answers([lines[it] for it in places])
+    return next((at for at, reply in zip(places, found) if reply != replies[at]), None)
+
+
 def replayed(connection: psycopg.Connection[Any], name: str, program: Optional[str] = None) -> Verdict:
     """Replays a document from its first line on, by the library, or by a program."""
     row = connection.execute("select id, numbers, line, version from huckleport.documents where name = %s", (name,)).fetchone()
@@ -97,7 +106,7 @@ def replayed(connection: psycopg.Connection[Any], name: str, program: Optional[s
     seen = 0
     try:
         for count, last, lines, replies in pieces(connection, document):
-            wrong = next((at for at, (reply, due) in enumerate(zip(world.answers(lines), replies)) if reply != due), None)
+            wrong = first_wrong(world, lines, replies)
             if wrong is not None:
                 return Verdict(name, seen + wrong, seen + wrong + 1, f"another reply; it was answered by version {version}, and this is {program or PROGRAM}")
             if last != seen + count:

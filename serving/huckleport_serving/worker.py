@@ -13,14 +13,17 @@ import resource
 import socket
 import time
 from dataclasses import dataclass, field
-from itertools import islice
+from itertools import accumulate, islice
 from typing import Any, Dict, Iterable, List, Optional, Sequence, Set, Tuple
 
 import psycopg
+from psycopg import sql
 
+from .alone import Alone, Killed
 from .leases import Lease
 from .links import connected, first_line, log, ready
-from .worlds import PROGRAM, Unanswered, World, differs, resident
+from .questions import is_question
+from .worlds import OUT_OF_MEMORY, OUT_OF_TIME, PROGRAM, Unanswered, Watch, World, differs, resident, split
 
 CLAIM = 64
 """How many documents are claimed at once, so that workers that start together share what waits."""
@@ -40,31 +43,70 @@ SWEEP = 0.5
 AVOIDED = 10.0
 """For how long a worker leaves a document to others that it had no memory for, in seconds."""
 
+TURN = 0.2
+"""How long the lines of a turn are answered before they are recorded, in seconds."""
+
+SUSPECT = 3
+"""A document that was claimed so many times without a line of it recorded is given a process of its own."""
+
+MOST_DEATHS = 2
+"""How often a document's process is made anew after something else has killed it, without a line answered."""
+
+ALONE_LINES, ALONE_BYTES = 2_000, 4 << 20
+"""How much a document in a process of its own is given at once."""
+
+FORGET = 30.0
+"""How often a worker removes replies that nobody took, in seconds."""
+
 
 @dataclass(frozen=True)
 class Bounds:
-    """What a worker takes at most: documents, bytes of memory, and lines and bytes that are answered at once; and its lease and when a document is idle, in seconds."""
+    """The bounds of a worker: documents, bytes of memory, lines and bytes that are answered at once, processes for single documents, the
+    lease and when a document is idle, in seconds; and whether it adopts documents of versions that no worker has."""
 
     documents: int = 10_000
     memory: int = 2 << 30
     lines: int = 4_000
     bytes: int = 16 << 20
+    processes: int = 16
     lease: float = 10.0
     idle: float = 300.0
+    adopts: bool = True
 
 
 @dataclass
 class Held:
-    """A document that a worker has. `last` is the number of the last line that its world has seen, `size` the bytes of all of them."""
+    """A document that a worker has. `last` is the number of the last line that its world has seen, `size` the bytes of all of them, and
+    `grown` the memory that they took, as far as it was watched. One whose lines are heavy has a process of its own in place of a world here."""
 
     document: int
     epoch: int
-    world: World
+    numbers: int
+    line: int
     used: float
+    world: Optional[World] = None
+    alone: Optional[Alone] = None
     last: int = 0
     size: int = 0
+    grown: int = 0
     is_whole: bool = False
     is_fresh: bool = True
+    is_heavy: bool = False
+    # The lines that its process is answering, or the last number of those that it replays.
+    ids: List[int] = field(default_factory=list)
+    lines: List[bytes] = field(default_factory=list)
+    replayed: int = 0
+    deaths: int = 0
+
+    @property
+    def is_busy(self) -> bool:
+        return self.alone is not None and self.alone.is_busy
+
+    def close(self) -> None:
+        for it in (self.world, self.alone):
+            if it is not None:
+                it.close()
+        self.world = self.alone = None
 
 
 @dataclass
@@ -76,18 +118,26 @@ class Batch:
     ids: List[int] = field(default_factory=list)
     numbers: List[int] = field(default_factory=list)
     replies: List[bytes] = field(default_factory=list)
-    short: List[Tuple[Held, str]] = field(default_factory=list)
     size: int = 0
 
-    def add(self, held: Held, ids: Sequence[int], replies: List[bytes]) -> None:
-        count = len(replies)
-        self.parts.append((held, count))
-        self.places += [held.document] * count
-        self.ids += ids[:count]
-        self.numbers += range(held.last + 1, held.last + count + 1)
+    def add(self, held: Held, ids: Sequence[int], lines: Sequence[bytes], replies: List[bytes]) -> None:
+        """Adds the first lines of a document, which were answered. Questions get the number 0, and stay out of the log."""
+        last = held.last
+        for line, _ in zip(lines, replies):
+            if is_question(line):
+                self.numbers.append(0)
+            else:
+                last += 1
+                self.numbers.append(last)
+        self.parts.append((held, last))
+        self.places += [held.document] * len(replies)
+        self.ids += ids[: len(replies)]
         self.replies += replies
         self.size += sum(map(len, replies))
 
+
+REFUSED = (OUT_OF_MEMORY, OUT_OF_TIME)
+"""The replies to lines that were past the bounds of their document."""
 
 RECORD = "select * from huckleport.record(%s, %s::bigint[], %s::bigint[], %s::bigint[], %s::bigint[], %s::bigint[], %s::bigint[], %b::bytea[])"
 
@@ -122,8 +172,9 @@ class Tenure:
         self.elsewhere: Dict[int, float] = {}
         self.avoided: Dict[int, float] = {}
         self.told: Tuple[List[Any], List[int]] = ([], [])
-        self.swept = 0.0
-        self.connection = connected(conninfo, ["listen huckleport_requests"])
+        self.swept = self.forgot = 0.0
+        self.memory, self.seconds = 0, 0.0
+        self.connection = connected(conninfo, [sql.SQL("listen huckleport_requests")])
         self.connection.add_notify_handler(lambda it: self._notified(it.payload))
         self.id: int = self._row("select huckleport.register(%s, %s, make_interval(secs => %s))", name, PROGRAM, bounds.lease)[0]
         self.lease = Lease(conninfo, self.id, bounds.lease, lambda: (len(self.held), self.answered, resident()))
@@ -132,7 +183,7 @@ class Tenure:
         """Ends it, and hands all documents on at once if the database can be told."""
         self.lease.close()
         for it in self.held.values():
-            it.world.close()
+            it.close()
         self.held.clear()
         if not self.connection.closed:
             self._row("select huckleport.leave(%s)", self.id)
@@ -154,20 +205,28 @@ class Tenure:
             self.candidates.add(int(payload))
 
     def turn(self) -> None:
-        """One turn: answers what waits, replays a piece, claims, sweeps; waits where there was nothing to do."""
+        """One turn: answers lines that wait, replays a piece, claims, sweeps; waits if there was nothing to do."""
         if self.lease.has_ended:
             raise LeaseEnded
-        is_busy = self._serve() | self._replay() | self._claim(sorted(self.candidates))
+        is_busy = self._collect() | self._serve() | self._replay() | self._replay_alone() | self._claim(sorted(self.candidates))
         if time.monotonic() - self.swept > SWEEP:
             self._sweep()
-        elif not is_busy and not self.due and not self.told[0]:
-            ready(SWEEP, self.connection.fileno(), self.woken)
+        elif not is_busy and not self._can_serve() and not self.told[0]:
+            busy = [it.alone.fileno() for it in self.held.values() if it.alone is not None and it.is_busy]
+            ready(SWEEP, self.connection.fileno(), self.woken, *busy)
             self.connection.execute("select")
 
     # answering
 
+    def _can_serve(self) -> bool:
+        return any(self._is_ready(it) for it in self.due)
+
+    def _is_ready(self, document: int) -> bool:
+        held = self.held[document]
+        return held.is_whole and not held.is_busy
+
     def _serve(self) -> bool:
-        """Takes what waits for some documents, and answers and records it."""
+        """Takes lines that wait for some documents, and answers and records them."""
         documents = self._next_due()
         if not documents and not self.told[0]:
             return False
@@ -176,52 +235,122 @@ class Tenure:
         told, self.told = self.told, ([], [])
         words = "select document, ids, lines from huckleport.take(%s::bigint[], %s, %s, %s::uuid[], %s::bigint[])"
         rows = self.connection.execute(words, (array(documents), most, each, *told), binary=True).fetchall()
-        batch = Batch()
+        batch, until = Batch(), time.monotonic() + TURN
         for document, ids, lines in rows:
-            if batch.size > self.bounds.bytes:
+            held = self.held[document]
+            if held.alone is not None:
+                self._start_alone(held, ids, split(lines))
+            elif batch.size > self.bounds.bytes or time.monotonic() > until:
                 self.due[document] = None
             else:
-                self._answer(batch, self.held[document], ids, lines.split(b"\n"), most, each)
+                self._answer(batch, held, ids, split(lines), most, each)
         if batch.parts:
             self._record(batch)
         return bool(rows)
 
     def _next_due(self) -> List[int]:
-        """The documents that are served now. What comes for one from here on makes it due again."""
-        found = list(islice((it for it in self.due if self.held[it].is_whole), max(1, self.bounds.lines // FEWEST)))
+        """Returns the documents that are served now. Lines that come for one from here on make it due again."""
+        found = list(islice((it for it in self.due if self._is_ready(it)), max(1, self.bounds.lines // FEWEST)))
         for it in found:
             del self.due[it]
         return found
 
     def _answer(self, batch: Batch, held: Held, ids: List[int], lines: List[bytes], most: int, room: int) -> None:
-        """Answers lines of one document, until their replies are more than there is room for."""
+        """Answers lines of one document, until their replies are more than there is room for, or one of them is heavy."""
+        assert held.world is not None
         replies: List[bytes] = []
         held.size += sum(map(len, lines))
+        watch, until = Watch(held.grown), time.monotonic() + TURN
         try:
             for line in lines:
                 replies.append(held.world.answer(line))
                 room -= len(replies[-1])
-                if room < 0:
+                held.is_heavy = watch.is_heavy()
+                if held.is_heavy or room < 0 or time.monotonic() > until:
                     break
-        except Unanswered as fault:
-            batch.short.append((held, str(fault)))
-        batch.add(held, ids, replies)
-        if len(replies) < len(lines) or len(lines) >= most:
+        except Unanswered:
+            held.is_heavy = True
+        held.grown = watch.grown
+        if replies:
+            batch.add(held, ids, lines, replies)
+        if held.is_heavy or len(replies) < len(lines) or len(lines) >= most:
             self.due[held.document] = None
+        if held.is_heavy:
+            # (its process replays it once these lines are recorded)
+            held.is_whole = False
+
+    def _start_alone(self, held: Held, ids: List[int], lines: List[bytes]) -> None:
+        """Has a document's process answer lines."""
+        assert held.alone is not None
+        count = ALONE_LINES
+        for count, size in enumerate(accumulate(map(len, lines)), 1):
+            if size > ALONE_BYTES:
+                break
+        held.ids, held.lines = ids[:count], lines[:count]
+        held.size += sum(map(len, held.lines))
+        if len(held.lines) < len(lines) or len(lines) >= FEWEST:
+            self.due[held.document] = None
+        held.alone.answer(b"\n".join(held.lines), len(held.lines))
+
+    def _collect(self) -> bool:
+        """Records the lines that documents' own processes have answered, and goes on with those that have replayed some."""
+        done = [it for it in self.held.values() if it.alone is not None and it.is_busy and it.alone.is_done()]
+        batch, over = Batch(), []
+        for it in done:
+            try:
+                over += [it] if self._collect_one(batch, it) else []
+            except Killed as fault:
+                log.warning("document %d: %s", it.document, fault)
+                it.deaths += 1
+                over.append(it)
+            except Unanswered as fault:
+                self._give_up(it, str(fault))
+        if batch.parts:
+            self._record(batch)
+        for it in over:
+            if self.held.get(it.document) is it and it.deaths > MOST_DEATHS:
+                self._give_up(it, "its process was killed again and again")
+            elif self.held.get(it.document) is it:
+                self._move(it)
+        return bool(done)
+
+    def _collect_one(self, batch: Batch, held: Held) -> bool:
+        """Returns whether a document's process is to begin anew, since a line of it was past its bounds."""
+        assert held.alone is not None
+        if not held.is_whole:
+            wrong = held.alone.difference()
+            if wrong is not None:
+                raise Unanswered(f"line {held.last + wrong + 1} has another reply when it is replayed")
+            held.last = held.replayed
+            return False
+        replies = held.alone.replies()
+        is_over = replies[-1] in REFUSED
+        if is_over and held.alone.memory < self.memory:
+            # (a worker with more memory may answer it)
+            if len(replies) == 1:
+                raise Unanswered("more memory than this worker may take")
+            del replies[-1]
+        if is_over:
+            log.warning("document %d: request refused by %s", held.document, replies[-1].decode())
+        batch.add(held, held.ids, held.lines, replies)
+        if len(replies) < len(held.lines):
+            self.due[held.document] = None
+        return is_over
 
     def _record(self, batch: Batch) -> None:
-        """Records what was answered, of the documents that are still this worker's. The others are dropped."""
+        """Records lines that were answered, of the documents that are still this worker's. The others are dropped."""
         held = [it for it, _ in batch.parts]
         mine = array(it.document for it in held), array(it.epoch for it in held), array(it.document for it in held if it.is_fresh)
         row = self._row(RECORD, self.id, *mine, array(batch.places), array(batch.ids), array(batch.numbers), batch.replies)
         kept, now = set(row[0] or []), time.monotonic()
-        self.told = (row[1] or [], row[2] or [])
+        self.told = (self.told[0] + (row[1] or []), self.told[1] + (row[2] or []))
         self.answered += len(batch.replies)
-        for it, count in batch.parts:
-            it.last, it.used, it.is_fresh = it.last + count, now, it.is_fresh and not count
+        for it, last in batch.parts:
+            it.last, it.used, it.is_fresh, it.deaths = last, now, False, 0
         self._drop([it for it in held if it.document not in kept], "claimed by another worker")
-        for it, why in batch.short:
-            self._give_up(it, why)
+        for it in held:
+            if it.document in kept and it.is_heavy and it.alone is None:
+                self._move(it)
 
     # claiming and replaying
 
@@ -233,16 +362,62 @@ class Tenure:
             return False
         now = time.monotonic()
         self.avoided = {document: until for document, until in self.avoided.items() if until > now}
-        words = "select id, epoch, numbers, line from huckleport.claim(%s, %s, %s, %s::bigint[], %s::bigint[])"
+        words = "select id, epoch, numbers, line, attempts from huckleport.claim(%s, %s, %s, %s::bigint[], %s::bigint[], %s)"
         given = None if named is None else array(named)
-        rows = self.connection.execute(words, (self.id, PROGRAM, room, given, array(self.avoided))).fetchall()
-        for document, epoch, numbers, line in rows:
-            self.held[document] = Held(document, epoch, World(numbers, line), now)
+        rows = self.connection.execute(words, (self.id, PROGRAM, room, given, array(self.avoided), self.bounds.adopts)).fetchall()
+        for document, epoch, numbers, line, attempts in rows:
+            if document in self.held:
+                self._drop([self.held[document]], "claimed anew")
+            self.held[document] = held = Held(document, epoch, numbers, line, now, is_heavy=attempts >= SUSPECT)
+            if not held.is_heavy:
+                held.world = World(numbers, line)
         self.elsewhere.update((it, now + ELSEWHERE) for it in named or () if it not in self.held)
         return bool(rows)
 
+    def _move(self, held: Held) -> None:
+        """Has a document replayed in a process of its own, which is made when there is room for it."""
+        held.close()
+        held.last, held.size, held.is_whole, held.is_heavy = 0, 0, False, True
+
+    def _replay_alone(self) -> bool:
+        """Gives documents' own processes the next piece of their logs. A document without one gets it, if there is room."""
+        waiting = [it for it in self.held.values() if it.is_heavy and not it.is_whole and not it.is_busy]
+        is_busy = False
+        for it in waiting:
+            if it.alone is None and not self._has_process():
+                continue
+            if it.alone is None:
+                log.info("document %d gets a process of its own", it.document)
+                it.alone = Alone(it.numbers, it.line, min(self.memory, self.bounds.memory), self.seconds)
+            self._replay_piece_alone(it, it.alone)
+            is_busy = True
+        return is_busy
+
+    def _has_process(self) -> bool:
+        """Returns whether there is room for a process. If there is none, the document goes whose process was idle longest, if only for a second."""
+        alone = [it for it in self.held.values() if it.alone is not None]
+        if len(alone) < self.bounds.processes:
+            return True
+        idle = [it for it in alone if it.is_whole and not it.is_busy and it.document not in self.due and it.used < time.monotonic() - 1.0]
+        if idle:
+            self._let_go([min(idle, key=lambda it: it.used)])
+        return bool(idle)
+
+    def _replay_piece_alone(self, held: Held, alone: Alone) -> None:
+        words = "select count, last, lines, replies from huckleport.piece(%s, %s, %s, %s)"
+        row = self.connection.execute(words, (held.document, held.last, PIECE_LINES, ALONE_BYTES), binary=True).fetchone()
+        if row is None:
+            held.is_whole = True
+            self.due[held.document] = None
+        elif row[1] != held.last + row[0]:
+            self._give_up(held, f"a line behind {held.last} is missing")
+        else:
+            held.replayed = row[1]
+            held.size += len(row[2])
+            alone.replay(row[2], row[3], row[0])
+
     def _room(self) -> int:
-        """How many documents may be claimed. Where there is no room, those go that were idle longest, if only for a second."""
+        """Returns how many documents may be claimed. If there is no room, those go that were idle longest, if only for a second."""
         room = self.bounds.documents - len(self.held)
         if room > 0:
             return room
@@ -251,28 +426,39 @@ class Tenure:
 
     def _replay(self) -> bool:
         """Replays a piece of the logs of documents that were claimed, which are served once they have been to the end."""
-        loading = [it for it in self.held.values() if not it.is_whole][:CLAIM]
+        loading = [it for it in self.held.values() if not it.is_whole and it.world is not None and not it.is_heavy][:CLAIM]
         if not loading:
             return False
-        each = max(1, PIECE_LINES // len(loading)), PIECE_BYTES // len(loading)
-        words = "select document, count, last, lines, replies from huckleport.log(%s::bigint[], %s::bigint[], %s, %s)"
-        given = array(it.document for it in loading), array(it.last for it in loading), *each
-        rows = self.connection.execute(words, given, binary=True).fetchall()
+        rows = self._pieces(loading)
         for document, count, last, lines, replies in rows:
-            self._replay_piece(self.held[document], count, last, lines.split(b"\n"), replies.split(b"\n"))
+            self._replay_piece(self.held[document], count, last, split(lines), split(replies))
         for it in loading:
             if it.document not in {row[0] for row in rows}:
                 it.is_whole = True
                 self.due[it.document] = None
         return True
 
+    def _pieces(self, loading: List[Held]) -> List[Tuple[int, int, int, bytes, bytes]]:
+        """Returns the next pieces of logs: of each its document, how many lines, the last one's number, the lines and the replies."""
+        if len(loading) == 1:
+            words = "select %s::bigint, count, last, lines, replies from huckleport.piece(%s, %s, %s, %s)"
+            given: Tuple[Any, ...] = (loading[0].document, loading[0].document, loading[0].last, PIECE_LINES, PIECE_BYTES)
+        else:
+            words = "select document, count, last, lines, replies from huckleport.log(%s::bigint[], %s::bigint[], %s, %s)"
+            each = max(1, PIECE_LINES // len(loading)), PIECE_BYTES // len(loading)
+            given = array(it.document for it in loading), array(it.last for it in loading), *each
+        return self.connection.execute(words, given, binary=True).fetchall()
+
     def _replay_piece(self, held: Held, count: int, last: int, lines: List[bytes], replies: List[bytes]) -> None:
+        assert held.world is not None
         held.size += sum(map(len, lines))
+        watch = Watch(held.grown)
         try:
-            wrong = differs(held.world, lines, replies)
-        except Unanswered as fault:
-            self._give_up(held, str(fault))
+            wrong = differs(held.world, lines, replies, watch)
+        except Unanswered:
+            self._move(held)
             return
+        held.grown = watch.grown
         if last != held.last + count:
             self._give_up(held, f"a line behind {held.last} is missing")
         elif wrong is not None:
@@ -287,10 +473,15 @@ class Tenure:
             log.info("document %d: %s", it.document, why)
             self.held.pop(it.document, None)
             self.due.pop(it.document, None)
-            it.world.close()
+            it.close()
+
+    def _let_go(self, found: List[Held]) -> None:
+        """Hands documents on that are idle."""
+        self._row("select huckleport.release(%s, %s::bigint[])", self.id, array(it.document for it in found))
+        self._drop(found, "idle")
 
     def _give_up(self, held: Held, fault: str) -> None:
-        """Hands a document on that could not be answered here. What waits for it stays, and was not acknowledged."""
+        """Hands a document on that could not be answered here. Its waiting lines stay, and were not acknowledged."""
         log.warning("document %d is handed on: %s", held.document, fault)
         self.avoided[held.document] = time.monotonic() + AVOIDED
         self._drop([held], fault)
@@ -300,40 +491,48 @@ class Tenure:
     def _evict(self, idle: float, most: int) -> None:
         """Lets go of the documents for which nothing was answered for so long, the longest first."""
         since = time.monotonic() - idle
-        found = sorted((it for it in self.held.values() if it.used < since and it.is_whole and it.document not in self.due), key=lambda it: it.used)[:most]
+        free = (it for it in self.held.values() if it.used < since and it.is_whole and not it.is_busy and it.document not in self.due)
+        found = sorted(free, key=lambda it: it.used)[:most]
         if found:
-            self._row("select huckleport.release(%s, %s::bigint[])", self.id, array(it.document for it in found))
-            self._drop(found, "idle")
+            self._let_go(found)
             give_memory_back()
 
     def _sweep(self) -> None:
-        """Looks for itself at what is told as it happens, since what was told may have been lost; and at the bounds."""
+        """Looks at what notifications tell of, since some may have been lost; and at the bounds."""
         self.swept = time.monotonic()
         self.elsewhere.clear()
+        self.memory, self.seconds = self._row("select memory, seconds from huckleport.settings")
         for (document,) in self.connection.execute("select huckleport.sweep(%s)", (self.id,)).fetchall():
             if document in self.held:
                 self.due[document] = None
         self._claim(None)
         self._evict(self.bounds.idle, self.bounds.documents)
-        if resident() > self.bounds.memory:
+        if self._taken() > self.bounds.memory:
             self._shrink()
+        if self.swept - self.forgot > FORGET:
+            self.forgot = self.swept
+            self._row("select huckleport.forget_answers()")
+
+    def _taken(self) -> int:
+        """Returns the bytes of memory that the worker has, with the processes of single documents."""
+        return resident() + sum(it.alone.resident() for it in self.held.values() if it.alone is not None)
 
     def _shrink(self) -> None:
-        """Lets go of an eighth of the documents that nothing waits for; or of a large one, where that is not enough."""
+        """Lets go of an eighth of the documents for which no line waits; or of a large one, if that is not enough."""
         give_memory_back()
-        if resident() > self.bounds.memory:
+        if self._taken() > self.bounds.memory:
             self._evict(0.0, len(self.held) // 8 + 1)
-        if resident() > self.bounds.memory:
+        if self._taken() > self.bounds.memory:
             self.give_up_largest("more memory than this worker may take")
 
     def give_up_largest(self, fault: str) -> None:
-        """Hands on the document whose lines were the most bytes."""
+        """Hands on the document whose lines were the most bytes, of those with processes of their own if there are any."""
         if self.held:
-            self._give_up(max(self.held.values(), key=lambda it: it.size), fault)
+            self._give_up(max(self.held.values(), key=lambda it: (it.alone is not None, it.size)), fault)
 
 
 class Worker:
-    """A worker of one database, for as long as it is not told to stop."""
+    """A worker of one database, until it is stopped."""
 
     def __init__(self, conninfo: str, bounds: Bounds = Bounds()) -> None:
         self.conninfo, self.bounds = conninfo, bounds
@@ -344,13 +543,13 @@ class Worker:
         self._woken, self._wake = os.pipe()
 
     def stop(self) -> None:
-        """Has it end once what it is about is recorded. A signal handler may call it."""
+        """Ends it once the lines that it is answering are recorded. A signal handler may call this."""
         self.is_stopped = True
         os.write(self._wake, b".")
 
     def run(self) -> None:
-        """Serves until it is stopped. After a statement that failed, most often since the connection was lost, nothing is known of what was
-        recorded: all documents are dropped, and claimed and replayed again on a new connection.
+        """Serves until it is stopped. After a statement that failed, most often since the connection was lost, it does not know what was
+        recorded. So it drops all documents, and claims and replays them again on a new connection.
         """
         bound_memory(self.bounds.memory)
         while not self.is_stopped:

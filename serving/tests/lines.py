@@ -39,3 +39,12 @@ def commands(seed: object) -> Iterator[List[Any]]:
 def lines(seed: object, count: int) -> List[bytes]:
     drawn = commands(seed)
     return [json.dumps(next(drawn), ensure_ascii=False, separators=(",", ":")).encode() for _ in range(count)]
+
+
+READING = (b'["range"', b'["node"', b'["tree"', b'["root"')
+"""The questions of these tests, which are in no log."""
+
+
+def changes(given: List[bytes]) -> List[bytes]:
+    """The lines that stand in a log."""
+    return [it for it in given if not it.startswith(READING)]

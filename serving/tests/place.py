@@ -89,7 +89,7 @@ class Place:
     def conninfo(self) -> str:
         """Where the database is: at the primary, or at the standby once that was promoted."""
         folders = [it.folder for it in (self.primary, self.standby) if it]
-        ports = ",".join("5432" for _ in folders)
+        ports = ",".join([self.primary.settings.get("port", "5432"), "5432"][: len(folders)])
         return f"host={','.join(folders)} port={ports} dbname=postgres user=postgres"
 
     @staticmethod

@@ -2,6 +2,8 @@
 
 from __future__ import annotations
 
+import contextlib
+import io
 import json
 import os
 import signal
@@ -12,10 +14,10 @@ import unittest
 from typing import Any, ClassVar, Tuple
 
 import psycopg
-from lines import lines
+from lines import changes, lines
 from place import HERE, PROGRAM, Place, replies_of
 
-from huckleport_serving.commands import PARTS
+from huckleport_serving.commands import PARTS, main
 
 LETTER = b'["createElement",0,"p"]\n["appendChild",0,1]\n["root",1]\n'
 
@@ -26,7 +28,7 @@ class Commands(unittest.TestCase):
     @classmethod
     def setUpClass(cls) -> None:
         cls.place = cls.enterClassContext(Place())
-        cls.place.work(1, "--lease", "3")
+        cls.place.work(1, "--lease", "3", "--no-adopt")
 
     def said(self, *words: str, given: bytes = b"") -> Tuple[int, bytes, bytes]:
         """The status of a command, and what it writes."""
@@ -36,18 +38,23 @@ class Commands(unittest.TestCase):
 
     def test_help(self) -> None:
         for part in PARTS:
-            status, out, _ = self.said(part, "--help")
-            self.assertEqual((status, out[:6]), (0, b"usage:"), part)
-        self.assertEqual(self.said("nothing")[0], 2)
-        self.assertEqual(self.said("worker", "--documents", "many")[0], 2)
+            out = io.StringIO()
+            with contextlib.redirect_stdout(out), self.assertRaises(SystemExit) as ended:
+                main([part, "--help"])
+            self.assertEqual((ended.exception.code, out.getvalue()[:6]), (0, "usage:"), part)
+        for words in (["nothing"], ["worker", "--documents", "many"]):
+            with contextlib.redirect_stderr(io.StringIO()), self.assertRaises(SystemExit) as ended:
+                main(words)
+            self.assertEqual(ended.exception.code, 2)
 
     def test_send_then_follow(self) -> None:
         self.assertEqual(self.said("send", "letter", given=LETTER), (0, b'{"ok":1}\n{"ok":1}\n{"ok":0}\n', b""))
         status, out, _ = self.said("follow", "letter", "--timeout", "0.3")
         self.assertEqual(status, 0)
         rows = [it.split(b"\t") for it in out.splitlines()]
-        self.assertEqual([(row[0], row[2], row[3]) for row in rows], [(b"%d" % it, b"%d" % it, line) for it, line in enumerate(LETTER.splitlines(), 1)])
-        self.assertEqual(self.said("follow", "letter", "--lines", "--behind", "1", "--timeout", "0.3")[1], LETTER.partition(b"\n")[2])
+        due = [(b"%d" % it, b"%d" % it, line) for it, line in enumerate(changes(LETTER.splitlines()), 1)]
+        self.assertEqual([(row[0], row[2], row[3]) for row in rows], due)
+        self.assertEqual(self.said("follow", "letter", "--lines", "--behind", "1", "--timeout", "0.3")[1], LETTER.splitlines(True)[1])
 
     def test_send_again(self) -> None:
         words = ["send", "again", "--client", "00000000-0000-0000-0000-000000000001", "--request", "1"]
@@ -62,8 +69,9 @@ class Commands(unittest.TestCase):
 
     def test_verify(self) -> None:
         self.said("send", "to verify", given=b"".join(it + b"\n" for it in lines("verified", 500)))
+        due = b"to verify: %d lines, each reply the same\n" % len(changes(lines("verified", 500)))
         for words in ([], ["--program", PROGRAM]):
-            self.assertEqual(self.said("verify", "to verify", *words)[:2], (0, b"to verify: 500 lines, each reply the same\n"))
+            self.assertEqual(self.said("verify", "to verify", *words)[:2], (0, due))
         self.change("to verify", "update huckleport.lines set reply = reply || ' ' where document = %s and number = 77")
         status, out, _ = self.said("verify", "to verify")
         self.assertEqual(status, 1)
@@ -91,7 +99,7 @@ class Commands(unittest.TestCase):
         ((found,), (one,)) = [json.loads(self.said("status", *words, "--json")[1]) for words in ([], ["told of"])]
         self.assertEqual(len(found["workers"]), 1)
         self.assertGreater(found["workers"][0]["lease"], 0)
-        self.assertEqual((one["lines"], one["waiting"], one["fault"]), (3, 0, None))
+        self.assertEqual((one["lines"], one["waiting"], one["fault"]), (2, 0, None))
         self.assertIn(b"worker 1 ", self.said("status")[1])
         self.assertEqual(self.said("status", "nothing of that name")[0], 1)
 

@@ -13,9 +13,11 @@ from typing import Dict, List, Tuple
 
 import psycopg
 from editing import acknowledged, client_of, lines_of, name_of
+from lines import changes
 from place import PROGRAM, Place, told
 
 from huckleport_serving.links import completed
+from huckleport_serving.worlds import World
 
 EDITING = os.path.join(os.path.dirname(os.path.abspath(__file__)), "editing.py")
 LEASE = 3.0
@@ -139,7 +141,7 @@ class Losses(unittest.TestCase):
         logs: Dict[str, List] = {}
         for name, *row in rows:
             logs.setdefault(name, []).append(row)
-        self.assertEqual(len(rows), scene.total)
+        self.assertEqual(len(rows), sum(len(changes(it)) for it in sent.values()))
         for document in range(self.documents):
             self.check_log(logs[name_of(document)], document, sent, known)
 
@@ -148,11 +150,30 @@ class Losses(unittest.TestCase):
         self.assertEqual([row[0] for row in log], list(range(1, len(log) + 1)))
         ran = subprocess.run([PROGRAM], input=b"".join(row[3] + b"\n" for row in log), stdout=subprocess.PIPE, check=True)
         self.assertEqual(b"".join(row[4] + b"\n" for row in log), ran.stdout)
+        asked = []
         for client in {row[1].int - 1 for row in log}:
-            mine = [row for row in log if row[1] == client_of(client)]
-            self.assertEqual([row[2] for row in mine], list(range(1, len(mine) + 1)))
-            self.assertEqual([row[3] for row in mine], sent[client, document])
-            self.assertEqual([row[4] for row in mine], known[client][document])
+            mine = {row[2]: row for row in log if row[1] == client_of(client)}
+            self.assertEqual(list(mine), sorted(mine))
+            place = 0
+            for request, (line, reply) in enumerate(zip(sent[client, document], known[client][document], strict=True), 1):
+                if changes([line]):
+                    place = mine[request][0]
+                    self.assertEqual((mine[request][3], mine[request][4]), (line, reply))
+                else:
+                    asked.append((place, line, reply))
+        self.check_questions(log, asked)
+
+    def check_questions(self, log: List, asked: List[Tuple[int, bytes, bytes]]) -> None:
+        """Each question has the reply that the document gave behind the last line that its client had sent before, or later."""
+        world = World(2**32 - 1, 2**20)
+        waiting: List[Tuple[bytes, bytes]] = []
+        for place, line in [(0, b""), *((row[0], row[3]) for row in log)]:
+            if place:
+                world.answer(line)
+            waiting += [it[1:] for it in asked if it[0] == place]
+            waiting = [it for it in waiting if world.answer(it[0]) != it[1]]
+        world.close()
+        self.assertEqual(waiting, [])
 
 
 class Whole(Losses):

@@ -1,0 +1,511 @@
+-- The functions that clients, workers and operators call. They run with the rights of the owner of the tables, and roles.sql says who may call
+-- which. A client in any language needs enter, make, submit, replies, entries, and two channels: huckleport_client_ID notifies of a document's
+-- id when lines of that client were answered there, and huckleport_document_ID notifies when a document has new lines.
+-- (The planner settings keep plans to index look-ups, whatever the statistics say of tables that fill and empty all the time.)
+
+-- Every time here. (One place, so that a test can move it.)
+create function huckleport.now() returns timestamptz language sql as $$ select clock_timestamp() $$;
+
+-- Whether a lease is running. One that ends later than its length from now was renewed before the clock was set back, and has ended.
+create function huckleport.is_running(until timestamptz, lease interval) returns boolean language sql as $$
+    select is_running.until > huckleport.now() and is_running.until <= huckleport.now() + is_running.lease
+$$;
+
+-- ---- who may do what
+
+create function huckleport.is_operator() returns boolean language sql stable as $$
+    select pg_has_role(session_user, n.nspowner, 'member')
+        or exists (select from pg_roles r where r.rolname = 'huckleport_operator' and pg_has_role(session_user, r.oid, 'member'))
+    from pg_namespace n where n.nspname = 'huckleport'
+$$;
+
+create function huckleport.check_granted(document bigint) returns void language plpgsql stable as $$
+begin
+    -- (its callers run as the owner: whoever is that role has all rights, which is fast to see)
+    if not pg_has_role(session_user, current_user, 'member')
+        and not exists (select from huckleport.grants g where g.document = check_granted.document and g.role = session_user)
+        and not huckleport.is_operator() then
+        raise exception 'document % is not granted to %', document, session_user using errcode = 'insufficient_privilege';
+    end if;
+end $$;
+
+create function huckleport.grant_document(given text, role text) returns void language plpgsql
+security definer set search_path = pg_catalog, pg_temp set jit = off as $$
+begin
+    insert into huckleport.grants (document, role)
+    select d.id, r.rolname from huckleport.documents d, pg_roles r where d.name = grant_document.given and r.rolname = grant_document.role
+    on conflict do nothing;
+    if not exists (select from huckleport.grants g join huckleport.documents d on d.id = g.document
+            where d.name = grant_document.given and g.role = grant_document.role) then
+        raise exception 'there is no document %, or no role %', given, role using errcode = 'no_data_found';
+    end if;
+end $$;
+
+create function huckleport.revoke_document(given text, role text) returns void language sql
+security definer set search_path = pg_catalog, pg_temp set jit = off as $$
+    delete from huckleport.grants g using huckleport.documents d
+    where d.id = g.document and d.name = revoke_document.given and g.role = revoke_document.role
+$$;
+
+-- ---- what clients call
+
+-- Begins the session of a client on this connection. A client that runs in another process is refused, and so is one connection too many.
+create function huckleport.enter(client uuid) returns void language plpgsql
+security definer set search_path = pg_catalog, pg_temp set jit = off as $$
+declare
+    most int;
+    count int;
+begin
+    if not pg_try_advisory_lock(hashtextextended(enter.client::text, 18512)) then
+        raise exception 'client % is in use by another process', client using errcode = 'HP003';
+    end if;
+    perform pg_advisory_lock_shared(18512, 1);
+    select s.connections into most from huckleport.settings s;
+    select count(*) into count from pg_locks l
+    where l.locktype = 'advisory' and l.classid = 18512 and l.objid = 1 and l.objsubid = 2
+        and l.database = (select d.oid from pg_database d where d.datname = current_database());
+    if count > most then
+        perform pg_advisory_unlock_shared(18512, 1), pg_advisory_unlock(hashtextextended(enter.client::text, 18512));
+        raise exception 'there are % clients already', most using errcode = 'HP004', hint = 'The setting `connections` is their limit.';
+    end if;
+end $$;
+
+create function huckleport.check_databases(given int) returns void language plpgsql as $$
+declare
+    known int;
+begin
+    select s.databases into known from huckleport.settings s;
+    if known <> given then
+        raise exception 'the caller knows % databases, and there are %', given, known using errcode = 'invalid_parameter_value';
+    end if;
+end $$;
+
+-- The document of that name, or null. `among` is how many databases the caller knows.
+create function huckleport.find(given text, among int default 1) returns bigint language plpgsql
+security definer set search_path = pg_catalog, pg_temp set jit = off as $$
+declare
+    found bigint;
+begin
+    perform huckleport.check_databases(among);
+    select d.id into found from huckleport.documents d where d.name = given;
+    if found is not null then
+        perform huckleport.check_granted(found);
+    end if;
+    return found;
+end $$;
+
+-- The document of that name. It is made with these limits if there is none, which an operator may do. A caller that knows fewer databases
+-- than there are makes none: the row with their count is locked meanwhile.
+create function huckleport.make(given text, among int default 1, numbers bigint default 4294967295, line int default 1048576)
+returns bigint language plpgsql security definer set search_path = pg_catalog, pg_temp set jit = off as $$
+declare
+    made bigint := huckleport.find(given, among);
+begin
+    if made is not null then
+        return made;
+    end if;
+    if not huckleport.is_operator() then
+        raise exception 'there is no document %, and % may make none', given, session_user using errcode = 'insufficient_privilege';
+    end if;
+    perform from huckleport.settings s for share;
+    perform huckleport.check_databases(among);
+    insert into huckleport.documents (name, numbers, line) values (given, make.numbers, make.line) on conflict (name) do nothing;
+    return (select d.id from huckleport.documents d where d.name = given);
+end $$;
+
+-- The limits of a document.
+create function huckleport.about(document bigint) returns table (numbers bigint, line int) language plpgsql
+security definer set search_path = pg_catalog, pg_temp set jit = off as $$
+begin
+    perform huckleport.check_granted(document);
+    return query select d.numbers, d.line from huckleport.documents d where d.id = about.document;
+end $$;
+
+-- The largest request of a client that waits or was answered.
+create function huckleport.last_request(document bigint, client uuid) returns bigint language plpgsql
+security definer set search_path = pg_catalog, pg_temp set jit = off set enable_seqscan = off as $$
+begin
+    perform huckleport.check_granted(document);
+    return greatest(0,
+        (select max(l.request) from huckleport.lines l where l.document = last_request.document and l.client = last_request.client),
+        (select max(r.request) from huckleport.requests r where r.document = last_request.document and r.client = last_request.client),
+        (select max(a.request) from huckleport.answers a where a.document = last_request.document and a.client = last_request.client));
+end $$;
+
+-- Refuses lines while more of them wait than the settings allow. To count them takes as long as they are many. So they are counted once for a
+-- 64th of a limit that was handed in, and those of a client over all documents once for a 16th. Small limits are exact.
+create function huckleport.check_waiting(document bigint, client uuid, put int, put_bytes bigint, last_id bigint) returns void language plpgsql as $$
+declare
+    most record;
+    count bigint;
+    size bigint;
+begin
+    select s.document_lines, s.document_bytes, s.client_lines, s.client_bytes into most from huckleport.settings s;
+    if huckleport.is_due(most.document_lines, most.document_bytes, 64, put, put_bytes, last_id) then
+        select count(*), sum(octet_length(r.line)) into count, size from huckleport.requests r where r.document = check_waiting.document;
+        if count > most.document_lines or size > most.document_bytes then
+            raise exception '% lines of % bytes would wait for document %', count, size, document
+                using errcode = 'HP005', hint = 'The settings `document_lines` and `document_bytes` are the limit.';
+        end if;
+    end if;
+    if huckleport.is_due(most.client_lines, most.client_bytes, 16, put, put_bytes, last_id) then
+        select count(*), sum(octet_length(r.line)) into count, size from huckleport.requests r where r.client = check_waiting.client;
+        if count > most.client_lines or size > most.client_bytes then
+            raise exception '% lines of % bytes of client % would wait', count, size, client
+                using errcode = 'HP006', hint = 'The settings `client_lines` and `client_bytes` are the limit.';
+        end if;
+    end if;
+end $$;
+
+-- Whether lines that were put are to be counted: if the ids of all lines passed a multiple of a part of the limit, or if their bytes are such
+-- a part. Limits below 1,000 lines or 1 MiB are checked each time.
+create function huckleport.is_due(lines bigint, bytes bigint, parts int, put int, put_bytes bigint, last_id bigint) returns boolean language plpgsql as $$
+begin
+    return lines < 1000 or bytes < 1048576 or put_bytes >= bytes / parts or last_id / (lines / parts) <> (last_id - put) / (lines / parts);
+end $$;
+
+-- Hands lines in, as the requests `first`, `first` + 1 and so on of that client. A request that waits or was answered stays as it is if it is
+-- the same line, and the call is refused if it is another one. A line that is too long for the document is stored up to the byte behind its
+-- limit, so its reply is `line-too-long`.
+create function huckleport.submit(document bigint, client uuid, first bigint, lines bytea[]) returns void language plpgsql
+security definer set search_path = pg_catalog, pg_temp set jit = off set enable_seqscan = off set enable_bitmapscan = off as $$
+declare
+    last bigint := submit.first + cardinality(submit.lines) - 1;
+    longest int;
+    put int;
+    put_bytes bigint;
+    last_id bigint;
+begin
+    perform huckleport.check_granted(document);
+    select d.line + 1 into strict longest from huckleport.documents d where d.id = submit.document;
+    with placed as (
+        insert into huckleport.requests (document, client, request, line)
+        select submit.document, submit.client, submit.first + given.place - 1, substring(given.line for longest)
+        from unnest(submit.lines) with ordinality as given (line, place)
+        order by given.place
+        on conflict on constraint requests_client_document_request_key do nothing
+        returning id, octet_length(requests.line) as size)
+    select count(*), sum(placed.size), max(placed.id) into put, put_bytes, last_id from placed;
+    -- (Another statement, so it also sees what was recorded while the first one waited for a worker's row.)
+    if put < cardinality(lines) or exists (select from huckleport.lines l
+            where l.document = submit.document and l.client = submit.client and l.request >= submit.first)
+        or exists (select from huckleport.answers a
+            where a.document = submit.document and a.client = submit.client and a.request >= submit.first) then
+        perform huckleport.check_same(document, client, first, last, longest, lines);
+    end if;
+    if put > 0 then
+        perform huckleport.check_waiting(document, client, put, put_bytes, last_id);
+    end if;
+    perform pg_notify('huckleport_requests', submit.document::text);
+end $$;
+
+-- Refuses other lines under requests that wait or were answered, and removes those from the waiting ones that were answered. A number that is
+-- not the client's last and was not recorded was a question's, so it may be a question again, and nothing else.
+create function huckleport.check_same(document bigint, client uuid, first bigint, last bigint, longest int, lines bytea[])
+returns void language plpgsql
+set jit = off set enable_hashjoin = off set enable_mergejoin = off set enable_seqscan = off set enable_bitmapscan = off set enable_material = off as $$
+declare
+    other bigint;
+begin
+    with known as (
+        select l.request, l.line from huckleport.lines l
+        where l.document = check_same.document and l.client = check_same.client and l.request between first and last
+        union all
+        select a.request, a.line from huckleport.answers a
+        where a.document = check_same.document and a.client = check_same.client and a.request between first and last
+        union all
+        select r.request, r.line from huckleport.requests r
+        where r.document = check_same.document and r.client = check_same.client and r.request between first and last)
+    select min(known.request) into other from known
+    where known.line <> substring(check_same.lines[known.request - check_same.first + 1] for check_same.longest);
+    if other is null then
+        delete from huckleport.requests r
+        where r.document = check_same.document and r.client = check_same.client and r.request between first and last
+            and (exists (select from huckleport.lines l where l.document = r.document and l.client = r.client and l.request = r.request)
+                or exists (select from huckleport.answers a where a.document = r.document and a.client = r.client and a.request = r.request));
+        select min(r.request) into other from huckleport.requests r
+        where r.document = check_same.document and r.client = check_same.client and r.request between first and last
+            and r.request < (select max(l.request) from huckleport.lines l where l.document = r.document and l.client = r.client)
+            and not huckleport.is_question(r.line);
+    end if;
+    if other is not null then
+        raise exception 'request % of client % to document % is another line', other, client, document using errcode = 'HP001';
+    end if;
+end $$;
+
+-- Whether a line changes nothing, whatever its reply is.
+create function huckleport.is_question(line bytea) returns boolean language sql stable as $$
+    select encode(substring(is_question.line for 64), 'escape') ~ s.questions from huckleport.settings s
+$$;
+
+-- The replies to a client's requests behind a number. Replies to questions up to that number were taken, and are forgotten.
+create function huckleport.replies(document bigint, client uuid, behind bigint, most int default 1000)
+returns table (request bigint, reply bytea) language plpgsql security definer set search_path = pg_catalog, pg_temp
+set jit = off set enable_seqscan = off set enable_bitmapscan = off as $$
+begin
+    perform huckleport.check_granted(document);
+    if not exists (select from huckleport.answers a where a.document = replies.document and a.client = replies.client) then
+        return query
+        select l.request, l.reply from huckleport.lines l
+        where l.document = replies.document and l.client = replies.client and l.request > replies.behind order by l.request limit most;
+        return;
+    end if;
+    delete from huckleport.answers a where a.document = replies.document and a.client = replies.client and a.request <= replies.behind;
+    return query
+    (select l.request, l.reply from huckleport.lines l
+    where l.document = replies.document and l.client = replies.client and l.request > replies.behind order by l.request limit most)
+    union all
+    (select a.request, a.reply from huckleport.answers a
+    where a.document = replies.document and a.client = replies.client and a.request > replies.behind order by a.request limit most)
+    order by 1 limit most;
+end $$;
+
+-- The lines of a document behind a number, with their replies.
+create function huckleport.entries(document bigint, behind bigint, most int default 1000)
+returns table (number bigint, client uuid, request bigint, line bytea, reply bytea) language plpgsql
+security definer set search_path = pg_catalog, pg_temp set jit = off as $$
+begin
+    perform huckleport.check_granted(document);
+    return query
+    select l.number, l.client, l.request, l.line, l.reply from huckleport.lines l
+    where l.document = entries.document and l.number > entries.behind order by l.number limit most;
+end $$;
+
+-- The last number of a piece of a log that has at most so many lines and bytes, and at least one line.
+create function huckleport.piece_end(document bigint, behind bigint, most int, bytes bigint) returns bigint language plpgsql stable as $$
+declare
+    size bigint;
+begin
+    select sum(octet_length(l.line) + octet_length(l.reply)) into size from huckleport.lines l
+    where l.document = piece_end.document and l.number > piece_end.behind and l.number <= piece_end.behind + piece_end.most;
+    if size is null or size <= bytes then
+        return behind + most;
+    end if;
+    return greatest(behind + 1, (select max(it.number) from (
+        select l.number, sum(octet_length(l.line) + octet_length(l.reply)) over (order by l.number rows unbounded preceding) as upto
+        from huckleport.lines l
+        where l.document = piece_end.document and l.number > piece_end.behind and l.number <= piece_end.behind + piece_end.most) as it
+        where it.upto <= piece_end.bytes));
+end $$;
+
+-- The same in one row, which is faster to read: how many lines, the last one's number, and of each its client, its request, line and reply,
+-- joined by commas and by newlines.
+create function huckleport.page(document bigint, behind bigint, most int, bytes bigint)
+returns table (count bigint, last bigint, clients text, requests text, lines bytea, replies bytea) language plpgsql
+security definer set search_path = pg_catalog, pg_temp set jit = off set enable_bitmapscan = off set max_parallel_workers_per_gather = 0 as $$
+declare
+    ending bigint := huckleport.piece_end(document, behind, most, bytes);
+begin
+    perform huckleport.check_granted(document);
+    return query
+    select count(*), max(it.number), string_agg(it.client::text, ','), string_agg(it.request::text, ','), string_agg(it.line, '\x0a'::bytea), string_agg(it.reply, '\x0a'::bytea)
+    from (select l.* from huckleport.lines l where l.document = page.document and l.number > page.behind and l.number <= ending order by l.number) as it
+    having count(*) > 0;
+end $$;
+
+-- ---- what workers call
+
+-- Begins a worker's lease. Workers that have been gone for an hour are forgotten.
+create function huckleport.register(name text, version text, lease interval) returns bigint language sql
+security definer set search_path = pg_catalog, pg_temp set jit = off as $$
+    delete from huckleport.workers w where w.until < huckleport.now() - interval '1 hour';
+    insert into huckleport.workers (name, version, until, lease) values (name, version, huckleport.now() + register.lease, register.lease)
+    returning id
+$$;
+
+-- Renews a lease, and returns whether it had not ended before. (One that the clock's setting back made too long is shortened.)
+create function huckleport.renew(worker bigint, lease interval, documents int, lines bigint, memory bigint) returns boolean language sql
+security definer set search_path = pg_catalog, pg_temp set jit = off as $$
+    update huckleport.workers w
+    set until = huckleport.now() + renew.lease, documents = renew.documents, lines = renew.lines, memory = renew.memory
+    where w.id = renew.worker and w.until > huckleport.now()
+    returning true
+$$;
+
+-- Claims documents with waiting lines that no worker has whose lease is running: of those that are named, or of all. A document of another
+-- version is claimed if `adopts`, and if no worker of its version runs.
+-- (The workers are read once, ahead: a row that changed meanwhile is tested again by its new owner.)
+create function huckleport.claim(worker bigint, program text, most int, named bigint[], avoided bigint[], adopts boolean default false)
+returns table (id bigint, epoch bigint, numbers bigint, line int, attempts int) language sql
+security definer set search_path = pg_catalog, pg_temp set jit = off as $$
+    with free as (
+        select d.id, d.owner from huckleport.documents d
+        where d.id in (select r.document from huckleport.requests r where claim.named is null or r.document = any (claim.named))
+            and d.id <> all (claim.avoided)
+            and (d.version is null or d.version = claim.program or claim.adopts and d.version <> all (array(
+                select w.version from huckleport.workers w where huckleport.is_running(w.until, w.lease))))
+            and (d.not_before is null or d.not_before <= huckleport.now() or d.not_before > huckleport.now() + interval '1 minute')
+            and (d.owner is null or d.owner <> all (array(select w.id from huckleport.workers w where huckleport.is_running(w.until, w.lease))))
+        limit claim.most for no key update skip locked),
+    counted as (select count(nextval('huckleport.take_overs')) from free where free.owner is not null)
+    update huckleport.documents d
+    set owner = claim.worker, epoch = d.epoch + 1, attempts = d.attempts + 1,
+        not_before = case when d.attempts < 2 then null else huckleport.now() + interval '0.1 s' * 2 ^ least(d.attempts, 9) end
+    from free, counted where d.id = free.id
+    returning d.id, d.epoch, d.numbers, d.line, d.attempts
+$$;
+
+-- A piece of the log of one document, in the same form. (An aggregate of an ordered query without joins keeps its order, and sorts nothing.)
+create function huckleport.piece(document bigint, behind bigint, most int, bytes bigint)
+returns table (count bigint, last bigint, lines bytea, replies bytea) language plpgsql
+security definer set search_path = pg_catalog, pg_temp set jit = off set enable_bitmapscan = off set max_parallel_workers_per_gather = 0 as $$
+declare
+    ending bigint := huckleport.piece_end(document, behind, most, bytes);
+begin
+    return query
+    select count(*), max(it.number), string_agg(it.line, '\x0a'::bytea), string_agg(it.reply, '\x0a'::bytea)
+    from (select l.number, l.line, l.reply from huckleport.lines l
+        where l.document = piece.document and l.number > piece.behind and l.number <= ending order by l.number) as it
+    having count(*) > 0;
+end $$;
+
+-- A piece of the logs of some documents, each behind a number: how many lines, the last one's number, the lines and the replies by newlines.
+create function huckleport.log(documents bigint[], behind bigint[], most int, bytes bigint)
+returns table (document bigint, count bigint, last bigint, lines bytea, replies bytea) language sql stable
+security definer set search_path = pg_catalog, pg_temp set jit = off as $$
+    select given.document, count(*), max(it.number), string_agg(it.line, '\x0a'::bytea order by it.number), string_agg(it.reply, '\x0a'::bytea order by it.number)
+    from unnest(log.documents, log.behind) as given (document, behind)
+    cross join lateral (
+        select l.number, l.line, l.reply,
+            sum(octet_length(l.line) + octet_length(l.reply)) over (order by l.number rows unbounded preceding) as upto
+        from huckleport.lines l
+        where l.document = given.document and l.number > given.behind
+        order by l.number limit log.most) as it
+    where it.upto <= log.bytes or it.number = given.behind + 1
+    group by given.document
+$$;
+
+-- Notifies clients and followers of what was answered, and then returns what waits for some documents, so many lines and bytes of each.
+create function huckleport.take(documents bigint[], most int, bytes bigint, clients uuid[], answered bigint[])
+returns table (document bigint, ids bigint[], lines bytea) language plpgsql security definer set search_path = pg_catalog, pg_temp
+set jit = off set enable_hashjoin = off set enable_mergejoin = off set enable_seqscan = off set enable_bitmapscan = off set enable_material = off as $$
+begin
+    perform pg_notify('huckleport_client_' || it.client, it.document::text) from unnest(clients, answered) as it (client, document);
+    perform pg_notify('huckleport_document_' || it.document, '') from (select distinct unnest(answered)) as it (document);
+    return query
+    select given.document, array_agg(it.id order by it.id), string_agg(it.line, '\x0a'::bytea order by it.id)
+    from unnest(take.documents) as given (document)
+    cross join lateral (
+        select r.id, r.line,
+            sum(octet_length(r.line)) over (order by r.id rows unbounded preceding) as upto,
+            row_number() over (order by r.id) as place
+        from huckleport.requests r
+        where r.document = given.document
+            and not exists (
+                select from huckleport.lines l where l.document = r.document and l.client = r.client and l.request = r.request)
+        order by r.id limit take.most) as it
+    where it.upto <= take.bytes or it.place = 1
+    group by given.document;
+end $$;
+
+-- Moves requests to the logs of their documents with their replies: for each line its document, its id among the requests, its number and its
+-- reply. The number of a question is 0, and its reply is kept beside the log. Only documents that the worker has under the epoch that it
+-- claimed are written. It returns these, and which clients were answered where. Documents in `fresh` are recorded for the first time since
+-- they were claimed: from then on they have the worker's version.
+create function huckleport.record(
+    worker bigint, documents bigint[], epochs bigint[], fresh bigint[], places bigint[], ids bigint[], numbers bigint[], replies bytea[])
+returns table (held bigint[], clients uuid[], answered bigint[]) language plpgsql security definer set search_path = pg_catalog, pg_temp
+set jit = off set enable_hashjoin = off set enable_mergejoin = off set enable_seqscan = off set enable_bitmapscan = off set enable_material = off as $$
+declare
+    due bigint;
+    moved bigint;
+begin
+    select array_agg(it.id) into held from (
+        select d.id
+        from huckleport.documents d join unnest(record.documents, record.epochs) as given (document, epoch) on d.id = given.document
+        where d.owner = record.worker and d.epoch = given.epoch
+        order by d.id for no key update of d) as it;
+    select count(*) into due from unnest(record.places) as it (document) where it.document = any (held);
+    with gone as (
+        delete from huckleport.requests r
+        using unnest(record.places, record.ids, record.numbers, record.replies) as given (document, id, number, reply)
+        where given.document = any (held) and r.document = given.document and r.id = given.id
+        returning r.document, given.number, r.client, r.request, r.line, given.reply
+    ), put as (
+        insert into huckleport.lines (document, number, client, request, line, reply) select * from gone where gone.number > 0
+    ), kept as (
+        insert into huckleport.answers (document, client, request, line, reply)
+        select gone.document, gone.client, gone.request, gone.line, gone.reply from gone where gone.number = 0
+        on conflict on constraint answers_pkey do nothing
+    ), told as (select gone.client, gone.document, count(*) from gone group by gone.client, gone.document)
+    select sum(told.count), array_agg(told.client), array_agg(told.document) into moved, clients, answered from told;
+    if coalesce(moved, 0) <> due then
+        raise exception 'of % lines that were answered % waited', due, coalesce(moved, 0);
+    end if;
+    if cardinality(record.fresh) > 0 then
+        update huckleport.documents d
+        set attempts = 0, not_before = null, fault = null, version = (select w.version from huckleport.workers w where w.id = record.worker)
+        where d.id = any (record.fresh) and d.id = any (held);
+    end if;
+    return next;
+end $$;
+
+create function huckleport.drop_answered(worker bigint) returns table (document bigint, client uuid) language sql as $$
+    with gone as (
+        delete from huckleport.requests r
+        where r.document in (select d.id from huckleport.documents d where d.owner = drop_answered.worker)
+            and exists (select from huckleport.lines l where l.document = r.document and l.client = r.client and l.request = r.request)
+        returning r.document, r.client)
+    select distinct gone.document, gone.client from gone
+$$;
+
+-- The worker's own documents for which lines wait. Lines that were answered already (a retry that came late) are removed, and their client is
+-- notified. Replies to questions that nobody took are forgotten after a minute.
+create function huckleport.sweep(worker bigint) returns setof bigint language plpgsql security definer set search_path = pg_catalog, pg_temp
+set jit = off set enable_hashjoin = off set enable_mergejoin = off set enable_material = off as $$
+begin
+    perform pg_notify('huckleport_client_' || it.client, it.document::text) from huckleport.drop_answered(sweep.worker) as it;
+    return query
+    select d.id from huckleport.documents d
+    where d.owner = sweep.worker and d.id in (select r.document from huckleport.requests r);
+end $$;
+
+create function huckleport.forget_answers() returns void language sql security definer set search_path = pg_catalog, pg_temp set jit = off as $$
+    delete from huckleport.answers a where a.at < huckleport.now() - interval '1 minute' or a.at > huckleport.now() + interval '1 minute'
+$$;
+
+-- Hands documents on, for whichever worker comes first; with a fault, not at once.
+create function huckleport.release(worker bigint, given bigint[], fault text default null) returns void language plpgsql
+security definer set search_path = pg_catalog, pg_temp set jit = off as $$
+begin
+    update huckleport.documents d
+    set owner = null, fault = coalesce(release.fault, d.fault),
+        not_before = case when release.fault is null then d.not_before
+            else huckleport.now() + interval '0.1 s' * 2 ^ least(d.attempts, 9) end
+    where d.owner = release.worker and d.id = any (release.given);
+    if fault is not null then
+        perform nextval('huckleport.faults');
+    end if;
+    perform pg_notify('huckleport_requests', 'released');
+end $$;
+
+-- Ends a worker, and hands on all that it had.
+create function huckleport.leave(worker bigint) returns void language plpgsql security definer set search_path = pg_catalog, pg_temp set jit = off as $$
+begin
+    update huckleport.documents d set owner = null where d.owner = leave.worker;
+    delete from huckleport.workers w where w.id = leave.worker;
+    perform pg_notify('huckleport_requests', 'released');
+end $$;
+
+-- ---- what operators call
+
+-- Answers a waiting line with `dropped`. It is recorded, and replay leaves it out. Whoever has the document loses it, and claims it again.
+create function huckleport.drop_line(given text, line bigint) returns boolean language plpgsql
+security definer set search_path = pg_catalog, pg_temp set jit = off as $$
+declare
+    it bigint;
+    dropped record;
+begin
+    update huckleport.documents d set owner = null, epoch = d.epoch + 1, attempts = 0, not_before = null, fault = null
+    where d.name = given returning d.id into it;
+    delete from huckleport.requests r where r.document = it and r.id = drop_line.line returning r.* into dropped;
+    if dropped.id is null then
+        return false;
+    end if;
+    insert into huckleport.lines (document, number, client, request, line, reply)
+    select it, coalesce(max(l.number), 0) + 1, dropped.client, dropped.request, dropped.line, '{"error":"dropped"}'
+    from huckleport.lines l where l.document = it;
+    perform pg_notify('huckleport_client_' || dropped.client, it::text), pg_notify('huckleport_document_' || it, '');
+    perform pg_notify('huckleport_requests', 'released');
+    return true;
+end $$;

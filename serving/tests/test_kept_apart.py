@@ -1,0 +1,134 @@
+"""A document whose lines take too much memory or time: its own lines are refused by name, and no other document waits for it."""
+
+from __future__ import annotations
+
+import json
+import logging
+import os
+import subprocess
+import threading
+import time
+import unittest
+from typing import List
+
+from lines import lines
+from place import PROGRAM, told
+from test_documents import Served
+
+from huckleport_serving import connect
+from huckleport_serving.links import log
+
+MADE = [b'["createElement",0,"p"]', b'["appendChild",0,1]']
+REFUSED = {b'{"error":"out-of-memory"}', b'{"error":"out-of-time"}'}
+
+
+def doubling(times: int) -> List[bytes]:
+    """Lines that double a tree each time: its copy becomes a child of its root. Each copy has as many nodes as there were below the root."""
+    found, numbers, nodes = list(MADE), 2, 1
+    for _ in range(times):
+        found += [b'["cloneNode",1,true]', b'["appendChild",1,%d]' % numbers]
+        numbers, nodes = numbers + nodes, 2 * nodes
+    return found
+
+
+class Apart(Served):
+    others = 200 if os.environ.get("HUCKLEPORT_WHOLE") else 20
+
+    def tearDown(self) -> None:
+        self.place.stop_workers()
+        self.connection.execute("update huckleport.settings set memory = default, seconds = default")
+
+    def limited(self, **limits: float) -> None:
+        for name, it in limits.items():
+            self.connection.execute(f"update huckleport.settings set {name} = %s", (it,))
+
+    def test_one_that_takes_all_memory(self) -> None:
+        """One worker for all. The others are answered meanwhile, and the worker goes on under the lease with which it began."""
+        self.limited(memory=48 << 20)
+        self.place.work(1, "--lease", "20")
+        poison = self.client.document("poison")
+        poison.ask(MADE[0])
+        before = self.row("select id, started from huckleport.workers")
+        waits: List[float] = []
+        ended = threading.Event()
+        asking = threading.Thread(target=self.ask_others, args=(waits, ended))
+        asking.start()
+        try:
+            replies = poison.send(doubling(23)[1:], timeout=300)
+        finally:
+            ended.set()
+            asking.join()
+        self.assertIn(b'{"error":"out-of-memory"}', replies)
+        told(f"{len(waits)} lines of {self.others} other documents meanwhile, of which one waited {max(waits):.2f} s, and half {sorted(waits)[len(waits) // 2]:.3f} s")
+        self.assertGreater(len(waits), self.others)
+        self.assertEqual(self.row("select id, started from huckleport.workers"), before)
+        self.goes_on(poison, replies)
+
+    def ask_others(self, waits: List[float], ended: threading.Event) -> None:
+        with connect(self.place.conninfo, timeout=300) as client:
+            documents = [client.document(f"other {it}") for it in range(self.others)]
+            while not ended.is_set() or len(waits) <= self.others:
+                document = documents[len(waits) % self.others]
+                start = time.monotonic()
+                document.ask(MADE[0])
+                waits.append(time.monotonic() - start)
+
+    def goes_on(self, document, replies: List[bytes]) -> None:
+        """The document is as if the refused lines had not been sent, also for the program."""
+        entries = list(document.follow(timeout=0.2))
+        self.assertEqual([it.reply for it in entries[1:]], replies)
+        kept = [it for it in entries if it.reply not in REFUSED]
+        ran = subprocess.run([PROGRAM], input=b"".join(it.line + b"\n" for it in kept), stdout=subprocess.PIPE, check=True)
+        self.assertEqual(ran.stdout.split(b"\n")[:-1], [it.reply for it in kept])
+        self.assertEqual(document.ask(b'["root",0]', timeout=120), b'{"ok":0}')
+        ran = self.place.command("verify", document.name, stdout=subprocess.PIPE)
+        self.assertIn(b"each reply the same", ran.communicate()[0])
+
+    def test_a_line_that_takes_too_long(self) -> None:
+        self.limited(seconds=0.03)
+        self.place.work(1)
+        document = self.client.document("slow")
+        replies = document.send(doubling(20), timeout=300)
+        self.assertTrue(b'{"error":"out-of-time"}' in replies, replies[-1][:100])
+        self.assertEqual(document.ask(b'["root",0]', timeout=120), b'{"ok":0}')
+
+    def test_an_operator_drops_a_line(self) -> None:
+        document = self.client.document("dropped from")
+        requests = document.post([MADE[0], MADE[1], b'["createText",0,"t"]'])
+        ran = self.place.command("status", "dropped from", "--json", stdout=subprocess.PIPE)
+        (found,) = json.loads(ran.communicate()[0])
+        self.assertEqual([it["request"] for it in found["first_lines"]], [1, 2, 3])
+        line = str(found["first_lines"][0]["line"])
+        self.assertEqual([self.place.command("drop", "dropped from", line).wait() for _ in range(2)], [0, 1])
+        self.assertEqual(document.reply(requests[0]), b'{"error":"dropped"}')
+        self.place.work(1)
+        self.assertEqual([document.reply(it) for it in requests[1:]], [b'{"error":"no-such-object"}', b'{"ok":1}'])
+        self.assertEqual([it.reply for it in document.follow(timeout=0.1)], [b'{"error":"dropped"}', b'{"error":"no-such-object"}', b'{"ok":1}'])
+
+    def test_its_process_may_be_killed(self) -> None:
+        """A heavy document's process that is killed is replaced, and its lines are answered."""
+        self.place.work(1)
+        document = self.client.document("heavy")
+        document.send(doubling(19), timeout=300)
+        (worker,) = self.place.workers
+        children = subprocess.run(["ps", "--ppid", str(worker.pid), "-o", "pid="], stdout=subprocess.PIPE, check=True).stdout.split()
+        self.assertEqual(len(children), 1)
+        os.kill(int(children[0]), 9)
+        given = [it for it in lines("heavy", 30) if b"createRange" in it or b"Attribute" in it]
+        self.assertEqual(len(document.send(given, timeout=300)), len(given))
+        self.assertEqual(document.ask(b'["length",0]', timeout=120), b'{"ok":1}')
+
+
+class Messages(unittest.TestCase):
+    def test_a_message_never_raises(self) -> None:
+        class Short(logging.Handler):
+            def emit(self, record: logging.LogRecord) -> None:
+                raise MemoryError
+
+        handler = Short()
+        log.addHandler(handler)
+        try:
+            log.warning("begins anew: %s", "out of memory")
+            log.warning("%d", "no number")
+        finally:
+            log.removeHandler(handler)
