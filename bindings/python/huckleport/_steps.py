@@ -338,6 +338,20 @@ def steps_back(changes: List[Change]) -> List[Step]:
 
 
 def arrived(records: List[MutationRecord]) -> List[Node]:
-    """The nodes that came in from outside."""
-    added = {node for it in records for node in it.added_nodes}
-    return list(added.difference(node for it in records for node in it.removed_nodes))
+    """The nodes that came in from outside: those that came before they went."""
+    came: Dict[Node, bool] = {}
+    for it in records:
+        for node in it.removed_nodes:
+            came.setdefault(node, False)
+        for node in it.added_nodes:
+            came.setdefault(node, True)
+    return [node for node, is_new in came.items() if is_new]
+
+
+def single(steps: List[Step]) -> Iterator[Step]:
+    """Steps, with those that are done together one by one."""
+    for it in steps:
+        if isinstance(it, Several):
+            yield from single(it.steps)
+        else:
+            yield it
