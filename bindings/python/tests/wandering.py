@@ -20,11 +20,10 @@ class Wanderer(Editor):
         self.has_group = True
 
     def mark(self):
-        """A range is set, as groups alone tell it, where it is to be found again: below the root."""
-        if self.has_group:
-            found, start, end = self.picked.choice(self.ranges), super().pick(h.Node), super().pick(h.Node)
-            found.set_start(start, self.picked.randint(0, start.length))
-            found.set_end(end, self.picked.randint(0, end.length))
+        """A range is set where it is to be found again: below the root."""
+        found, start, end = self.picked.choice(self.ranges), super().pick(h.Node), super().pick(h.Node)
+        found.set_start(start, self.picked.randint(0, start.length))
+        found.set_end(end, self.picked.randint(0, end.length))
 
     def outside(self, kind):
         found = (it for it in self.known if not self.root.contains(it))
@@ -37,8 +36,11 @@ class Wanderer(Editor):
 
     def edit(self):
         """Makes an edit; what is refused has changed nothing."""
+        name = self.picked.choice(EDITS)
+        if name in OF_RANGES and not self.has_group:
+            return
         with contextlib.suppress(h.DOMException, AttributeError):
-            getattr(self, self.picked.choice(EDITS))()
+            getattr(self, name)()
         if self.root.parent_node is not self.document:
             self.document.replace_children(self.root)
         self.known += [it for it in self.root.descendants() if it not in self.known]
@@ -104,6 +106,8 @@ EDITS = (
     "put put_several remove move swap wrap replace replace_all content extract insert empty text split join attribute attribute cut mark"
     " back back back again out out abroad order order notify notify notify observe both".split()
 )
+# What may set a range and change nothing else, which is a group where a program asks for one alone.
+OF_RANGES = ("mark", "cut", "extract", "insert")
 
 
 def history_of(session, document, seed, groups=4):
