@@ -13,7 +13,7 @@ from contextlib import contextmanager
 from typing import Dict, Iterable, Iterator, List, NamedTuple, Optional, Tuple
 
 from ._steps import Move, Orders, Restore, Setting, Step, arrived, single, steps_back, with_values
-from .errors import Error, NoSuchObject
+from .errors import Error, GroupIsOpen, NoSuchObject
 from .nodes import Node
 from .observers import MutationRecord
 from .ranges import Range
@@ -230,7 +230,7 @@ class History:
         """Does the steps of a group, and gives those that lead back to the other list."""
         self.commit()
         if self._depth:
-            raise RuntimeError("a group is open")
+            raise GroupIsOpen(None, "", "a group is open")
         if not take:
             return False
         group = take[-1]

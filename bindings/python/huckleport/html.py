@@ -14,6 +14,7 @@ from typing import Any, Optional, Union
 
 from ._writing import COMMENT, INSTRUCTION, Style, markup, table
 from .documents import Document
+from .errors import NoParser
 from .nodes import DocumentFragment, Element, Node
 from .session import Session
 
@@ -46,7 +47,7 @@ def _parser() -> str:
     """Which parser is used."""
     found: str = globals()["PARSER"] if "PARSER" in globals() else __getattr__("PARSER")
     if not found:
-        raise ImportError(MISSING)
+        raise NoParser(None, "", MISSING)
     return found
 
 

@@ -6,11 +6,12 @@ Names are kept as they are written, with their prefixes, and declarations of nam
 from __future__ import annotations
 
 import re
-from typing import Optional, Union
+from typing import Any, Optional, Tuple, Union
 
 from ._calls import Builder
 from ._writing import COMMENT, INSTRUCTION, Style, markup, table
 from .documents import Document
+from .errors import Malformed, NotXML
 from .nodes import Node
 from .session import Session
 
@@ -22,12 +23,30 @@ NAME_START = ":A-Z_a-z\xc0-\xd6\xd8-\xf6\xf8-\u02ff\u0370-\u037d\u037f-\u1fff\u2
 NAME = re.compile(f"[{NAME_START}][{NAME_START}.0-9\xb7\u0300-\u036f\u203f-\u2040-]*")
 
 
+def _malformed(message: str, code: int, line: int, offset: int) -> Malformed:
+    """What is raised of a document that is not well-formed: an error of the package and of expat."""
+    # (in 3.12 an interpreter with a lock of its own has no expat, and all else of the package)
+    from xml.parsers.expat import ExpatError
+
+    class MalformedXML(Malformed, ExpatError):
+        """A document of XML that is not well-formed."""
+
+        def __reduce__(self) -> Tuple[Any, ...]:
+            return _malformed, (message, code, line, offset)
+
+    found = MalformedXML(None, "", message)
+    found.code, found.lineno, found.offset = code, line, offset
+    return found
+
+
 def _refuse(source: Union[str, bytes]) -> None:
     """Raises what expat says of a document that is not well-formed."""
-    # (in 3.12 an interpreter with a lock of its own has no expat, and all else of the package)
     from xml.parsers import expat
 
-    expat.ParserCreate().Parse(source, True)
+    try:
+        expat.ParserCreate().Parse(source, True)
+    except expat.ExpatError as fault:
+        raise _malformed(str(fault), fault.code, fault.lineno, fault.offset) from None
     raise MemoryError
 
 
@@ -54,7 +73,7 @@ def parse(source: Union[str, bytes, bytearray, memoryview], session: Optional[Se
 def _name(name: str) -> str:
     """The name, where XML can have it."""
     if not NAME.fullmatch(name):
-        raise ValueError(f"XML has no name {name!r}")
+        raise NotXML(None, "", f"XML has no name {name!r}")
     return name
 
 
@@ -66,7 +85,7 @@ STYLE = Style(table(IN_TEXT), table(IN_VALUE), (), (), True)
 
 def _doctype(name: str, public_id: str, system_id: str) -> str:
     if '"' in system_id and "'" in system_id or '"' in public_id:
-        raise ValueError(f"XML has no doctype with these ids: {public_id!r}, {system_id!r}")
+        raise NotXML(None, "", f"XML has no doctype with these ids: {public_id!r}, {system_id!r}")
     public = f' PUBLIC "{public_id}"' if public_id else " SYSTEM" if system_id else ""
     mark = "'" if '"' in system_id else '"'
     return f"<!DOCTYPE {name}{public}{f' {mark}{system_id}{mark}' if system_id or public_id else ''}>"
@@ -77,11 +96,11 @@ def _other(kind: int, name: Optional[str], data: Optional[str], public_id: Optio
     name, data = name or "", data or ""
     if kind == COMMENT:
         if "--" in data or data.endswith("-"):
-            raise ValueError(f"XML has no comment with two strokes, or one at its end: {data!r}")
+            raise NotXML(None, "", f"XML has no comment with two strokes, or one at its end: {data!r}")
         return f"<!--{data}-->"
     if kind == INSTRUCTION:
         if "?>" in data or name.lower() == "xml":
-            raise ValueError(f"XML has no such processing instruction: {name!r} {data!r}")
+            raise NotXML(None, "", f"XML has no such processing instruction: {name!r} {data!r}")
         return f"<?{_name(name)} {data}?>"
     return _doctype(_name(name), public_id or "", system_id or "")
 
@@ -93,5 +112,5 @@ def serialize(node: Node) -> str:
         _name(name)
     bad = NO_CHARACTER.search(found.text if found.is_doubtful else found.others)
     if bad:
-        raise ValueError(f"XML has no character {bad.group()!r}")
+        raise NotXML(None, "", f"XML has no character {bad.group()!r}")
     return found.text

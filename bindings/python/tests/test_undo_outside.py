@@ -201,9 +201,9 @@ class Pairs(unittest.TestCase):
 
     def go(self, step, states):
         for due in states:
-            if seen(self.document, []) != due:
+            # (a group whose changes end where they began shows nowhere)
+            while seen(self.document, []) != due:
                 self.assertTrue(step())
-                self.assertEqual(seen(self.document, []), due)
 
     def play(self, groups, is_told):
         states = [seen(self.document, [])]
@@ -241,9 +241,8 @@ class Pairs(unittest.TestCase):
         self.begin()
         edits = list(edits_of(self.root, self.children, self.outside))
         for at, (first, second, third) in enumerate(itertools.product(edits, repeat=3)):
-            if at % 13 == 0:
-                self.play([[first], [second, third]] if at % 2 else [[first, second], [third]], True)
-                self.begin()
+            self.play([[first], [second, third]] if at % 2 else [[first, second], [third]], at % 3 > 0)
+            self.begin()
 
 
 class Random(unittest.TestCase):
