@@ -109,7 +109,7 @@ class NotXML(BadValue):
     """What no XML can hold."""
 
 
-class NoParser(Error, ImportError):
+class NoParser(Error, ImportError):  # type: ignore[misc]
     """A package is not installed that this needs."""
 
 

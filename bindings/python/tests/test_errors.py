@@ -12,7 +12,6 @@ import traceback
 import unittest
 from concurrent.futures import ProcessPoolExecutor
 from multiprocessing import get_context
-from unittest import mock
 
 import huckleport as h
 from huckleport import errors
