@@ -174,7 +174,7 @@ def matcher(node: ParentNode, selectors: str, namespaces: Optional[Dict[str, str
     """What matches selectors for a node. Selectors that are none are refused."""
     try:
         found = sieve.compile(selectors, namespaces)
-    except (sieve.SelectorSyntaxError, TypeError, ValueError) as fault:
+    except (sieve.SelectorSyntaxError, NotImplementedError, TypeError, ValueError) as fault:
         raise BadValue(None, "select", f"{selectors!r} is no selector: {str(fault).splitlines()[0]}") from None
     return Match(found.selectors, node, found.namespaces, found.flags)
 

@@ -98,4 +98,7 @@ def xpath(node: Node, path: str, namespaces: Optional[Dict[str, str]]) -> Union[
         found = elementpath.select(tree, path, namespaces, elementpath.XPath1Parser, item=shadow.made.get(node))
     except elementpath.ElementPathError as fault:
         raise BadValue(None, "xpath", f"{path!r}: {fault}") from None
-    return [shadow.nodes.get(it, it) if hasattr(it, "tag") else it for it in found] if isinstance(found, list) else found
+    if not isinstance(found, list):
+        return found
+    shadow.nodes[tree] = root
+    return [shadow.nodes[it] if hasattr(it, "tag") or hasattr(it, "getroot") else it for it in found]

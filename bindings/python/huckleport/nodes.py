@@ -315,7 +315,10 @@ class ParentNode(Node):
         return next(iter(self.select(selectors, namespaces, 1)), None)
 
     def xpath(self, path: str, namespaces: Optional[Dict[str, str]] = None) -> Any:
-        """What a path of XPath 1.0 gives: a list of nodes and texts, or a text, a number or a truth. By elementpath."""
+        """What a path of XPath 1.0 gives: a list of nodes and texts, or a text, a number or a truth. By elementpath.
+
+        What stands beside the document's element is not found.
+        """
         from . import _xpath
 
         return _xpath.xpath(self, path, namespaces)
