@@ -4,6 +4,7 @@
 Each figure is of processor time, and the best of several rounds, which the libraries take in turn. It needs lxml (Debian's python3-lxml).
 """
 import argparse
+import copy
 import gc
 import sys
 import time
@@ -229,6 +230,10 @@ def over_pages(count):
     yield "an attribute of all", lambda: document._calls.read_attribute_of(elements, "id"), lambda: [it.get("id") for it in nodes], None
     yield "attributes of all, as dicts", lambda: document._calls.read_attributes_of(elements), lambda: [dict(it.attrib) for it in nodes], None
     yield "rows with name, attributes and data", document.tree, lambda: [(it, it.tag, tuple(it.attrib.items()), it.text, it.tail) for it in tree.iter()], None
+    yield "a deep copy", lambda: document.document_element.clone_node(True), lambda: copy.deepcopy(tree), None
+    links, their_links = document.get_elements_by_tag_name("b"), list(tree.iter("b"))
+    yield "a text of each b", lambda: [it.first_child.data for it in links], lambda: [it.text for it in their_links], None
+    yield "the text content of each b", lambda: [it.text_content for it in links], lambda: ["".join(it.itertext()) for it in their_links], None
     yield "serialize XML", lambda: h.xml.serialize(document), lambda: etree.tostring(tree, encoding="unicode"), lambda: their.toxml()
     yield "serialize XML, behind an edit", lambda: h.xml.serialize(edited()), lambda: etree.tostring(their_edited(), encoding="unicode"), None
     yield "serialize HTML", lambda: h.html.serialize(html_document), lambda: etree.tostring(html_tree, encoding="unicode", method="html"), None

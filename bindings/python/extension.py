@@ -16,6 +16,8 @@ ROOT = os.path.dirname(os.path.dirname(HERE))
 CORE = os.path.join(HERE, "core")
 MADE = os.path.join(CORE, "calls.h")
 MODULE = os.path.join(HERE, "huckleport", "_core.abi3.so")
+# The library takes its memory by the functions of core/memory.h.
+WRAPS = [f"-Wl,--wrap={it}" for it in ("malloc", "realloc", "free")]
 sys.dont_write_bytecode = True
 sys.path[:0] = [HERE, os.path.join(ROOT, "bindings/c")]
 from exports import SOURCES, modules
@@ -304,7 +306,7 @@ def build(given):
         sys.exit(f"the extension module can't be built: {missing}")
     words = [given.compiler, "-std=c99", "-O3", "-fPIC", "-shared", "-Wall", "-Wextra", "-Wno-missing-field-initializers", "-fvisibility=hidden"]
     words += [f"-I{sysconfig.get_path('include')}", f"-I{given.library}", f"-I{CORE}", os.path.join(CORE, "core.c")]
-    words += [os.path.join(given.library, "libhuckleport.a"), "-Wl,--exclude-libs,ALL", "-Wl,-z,noexecstack"]
+    words += [os.path.join(given.library, "libhuckleport.a"), "-Wl,--exclude-libs,ALL", "-Wl,-z,noexecstack", *WRAPS]
     if subprocess.run([*words, "-o", given.to + ".new"]).returncode:
         sys.exit("the extension module was not built")
     os.replace(given.to + ".new", given.to)

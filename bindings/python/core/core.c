@@ -3,6 +3,7 @@
  * Each function makes its call, copies the answer, and only then makes Python's objects of it; the lock of the interpreter is held all the
  * while. calls.h is written by bindings/python/extension.py from the exports. */
 #include "core.h"
+#include "memory.h"
 #include "members.h"
 #include "writing.h"
 #include "reading.h"
