@@ -100,12 +100,13 @@ static hp_session *session_at(PyObject *calls)
     return &((Calls *)calls)->session;
 }
 
-/* Whether another thread is in a long call of the session, which is raised. */
+/* Whether another thread is in a long call of the session, which is raised. (While it is raised that call may end.) */
 static bool is_busy(const Calls *it)
 {
-    if (it->is_busy)
-        raise_ours("SessionInUse", PyUnicode_FromString("another thread is in a long call of this session"));
-    return it->is_busy;
+    if (!it->is_busy)
+        return false;
+    raise_ours("SessionInUse", PyUnicode_FromString("another thread is in a long call of this session"));
+    return true;
 }
 
 /* Lets other threads run while the library does what may take long. Its memory is malloc's, which asks for no lock of Python. */

@@ -8,6 +8,7 @@ A page, there and back::
 
 from __future__ import annotations
 
+import warnings
 from importlib import import_module
 from importlib.util import find_spec
 from typing import Any, Optional, Union, overload
@@ -19,8 +20,9 @@ from .errors import NoParser
 from .nodes import DocumentFragment, Element, Node
 from .session import Session
 
-__all__ = ["PARSER", "Parser", "parse", "parse_fragment", "serialize", "tostring", "write"]  # noqa: F822
+__all__ = ["PARSER", "Parser", "SlowParser", "parse", "parse_fragment", "serialize", "tostring", "write"]  # noqa: F822
 
+SLOW = "pages are parsed by html5lib, since html5-parser is not here, which takes a tenth of the time: pip install html5-parser (or huckleport[quick-html])"
 MISSING = "HTML is parsed by html5-parser or html5lib, and neither is here: pip install html5lib (or huckleport[html])"
 
 
@@ -40,15 +42,22 @@ def __getattr__(name: str) -> Any:
     """``PARSER``: which parser is used, ``html5-parser`` or ``html5lib``; empty where there is none. It is looked for when it is asked."""
     if name != "PARSER":
         raise AttributeError(f"module {__name__!r} has no attribute {name!r}")
-    globals()[name] = _found()
-    return globals()[name]
+    return _found()
+
+
+class SlowParser(UserWarning):
+    """Pages are parsed by html5lib, which is in Python: html5-parser takes a tenth of the time."""
 
 
 def _parser() -> str:
-    """Which parser is used."""
-    found: str = globals()["PARSER"] if "PARSER" in globals() else __getattr__("PARSER")
+    """Which parser is used. It is told if that is the slow one."""
+    is_known = "PARSER" in globals()
+    found: str = globals()["PARSER"] if is_known else _found()
     if not found:
         raise NoParser(None, "", MISSING)
+    if found == "html5lib" and not is_known:
+        warnings.warn(SLOW, SlowParser, stacklevel=3)
+    globals()["PARSER"] = found
     return found
 
 

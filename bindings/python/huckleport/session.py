@@ -4,7 +4,6 @@ from __future__ import annotations
 
 import json
 import weakref
-from inspect import iscoroutinefunction
 from types import TracebackType
 from typing import Dict, List, NamedTuple, Optional, Sequence, Tuple, Type, TypeVar
 
@@ -14,7 +13,7 @@ from .documents import Document
 from .errors import BadType, Error, NoSuchObject, refusal, together
 from .nodes import CharacterData, Comment, DocumentFragment, DocumentType, Element, Node, ProcessingInstruction, Row, Text
 from .objects import SessionObject
-from .observers import Callback, MutationObserver, MutationRecord
+from .observers import Callback, MutationObserver, MutationRecord, is_async
 from .ranges import Range, StaticRange
 from .traversal import NodeIterator, TreeWalker
 
@@ -177,7 +176,7 @@ class Session:
 
         A callback is no ``async def``: ``notify`` awaits nothing.
         """
-        if iscoroutinefunction(callback):
+        if callback is not None and is_async(callback):
             raise BadType(None, "create_mutation_observer", "notify() does not await a callback by async def: give it one by def")
         found = self._make(MutationObserver, self._calls.create_observer())
         found.callback = callback

@@ -269,6 +269,31 @@ class LongCalls(unittest.TestCase):
         self.assertTrue(copied.is_equal_node(self.root))
 
 
+    def test_two_sessions_at_once(self):
+        """Copies in two threads, which take memory side by side, and give it back."""
+        sessions = [h.Session() for _ in range(2)]
+        counts = [[], []]
+
+        def work(at):
+            document = sessions[at].document
+            root = document.create_element("root")
+            root.append(*(f"text {it}" * (it % 40) for it in range(500)))
+            for _ in range(30):
+                copied = root.clone_node(True)
+                counts[at].append(copied.is_equal_node(root))
+                copied.first_child.data = "other"
+                del copied
+
+        threads = [threading.Thread(target=work, args=(it,)) for it in range(2)]
+        for it in threads:
+            it.start()
+        for it in threads:
+            it.join()
+        self.assertEqual(counts, [[True] * 30] * 2)
+        for it in sessions:
+            it.close()
+
+
 @unittest.skipUnless(importlib.util.find_spec("_testcapi"), "there is no _testcapi, by which Python's memory is made wanting")
 class Memory(unittest.TestCase):
     """Python's own memory is wanting once, at each place in turn, while observers are told: nobody's records are lost."""
