@@ -3,7 +3,7 @@
 from __future__ import annotations
 
 from importlib import import_module
-from typing import Any, Dict, List, Optional, Union
+from typing import Any, Dict, List, Optional
 from xml.etree import ElementTree
 
 from .errors import BadValue, NoParser
@@ -85,7 +85,7 @@ class Shadow:
         self.nodes[it], self.made[node] = node, it
 
 
-def xpath(node: Node, path: str, namespaces: Optional[Dict[str, str]]) -> Union[List[Any], str, float, bool]:
+def xpath(node: Node, path: str, namespaces: Optional[Dict[str, str]]) -> Any:
     """What a path gives at a node: nodes of the package, and texts, numbers and truths."""
     root = node.get_root_node()
     shadow = Shadow(root)

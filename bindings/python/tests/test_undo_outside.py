@@ -108,6 +108,22 @@ class Outside(unittest.TestCase):
         self.assertTrue(self.history.undo())
         self.assertEqual(self.node.get_attribute_names(), ["b", "c"])
 
+    def test_order_of_what_came_in_another(self):
+        """A node comes in below another, and leaves it in the same group."""
+        outer, inner = (self.document.create_element(it) for it in ("outer", "inner"))
+        outer.append(self.document.create_element("between"))
+        outer.first_child.append(inner)
+        for name in "bc":
+            inner.set_attribute(name, "1")
+        with self.history.group():
+            self.root.append(outer)
+            self.node.append(inner)
+            outer.remove()
+        with self.history.group():
+            inner.remove_attribute("b")
+        self.assertTrue(self.history.undo())
+        self.assertEqual(inner.get_attribute_names(), ["b", "c"])
+
     def test_a_group_is_whole(self):
         """Whatever is asked of a history amid a group, it is undone at once."""
         before = seen(self.document, [])
