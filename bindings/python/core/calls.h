@@ -2433,15 +2433,6 @@ static PyObject *member_Node_discard(PyObject *self, PyObject *nothing)
     return status ? refused_of(status, "discard", self, NULL, 0) : let_go(((Thing *)self)->calls, none());
 }
 
-static PyObject *member_Node_text_content(PyObject *self, PyObject *nothing)
-{
-    (void)nothing;
-    if (is_busy(((Thing *)self)->calls))
-        return NULL;
-    uint8_t status = hp_text_content(session_of(self), number_of(self));
-    return status ? refused_of(status, "text_content", self, NULL, 0) : text_answer(session_of(self));
-}
-
 static PyObject *member_Node_text_content_set(PyObject *self, PyObject *words, PyObject *named)
 {
     static const char *const names[] = { "text", NULL };
@@ -2997,7 +2988,6 @@ static PyMethodDef members_made[] = {
     { "Node.remove_child", (PyCFunction)(void (*)(void))member_Node_remove_child, METH_VARARGS | METH_KEYWORDS, NULL },
     { "Node.normalize", member_Node_normalize, METH_NOARGS, NULL },
     { "Node.discard", member_Node_discard, METH_NOARGS, NULL },
-    { "Node.text_content", member_Node_text_content, METH_NOARGS, NULL },
     { "Node.text_content=", (PyCFunction)(void (*)(void))member_Node_text_content_set, METH_VARARGS | METH_KEYWORDS, NULL },
     { "ChildNode.remove", member_ChildNode_remove, METH_NOARGS, NULL },
     { "Element.get_attribute", (PyCFunction)(void (*)(void))member_Element_get_attribute, METH_VARARGS | METH_KEYWORDS, NULL },

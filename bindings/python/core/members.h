@@ -381,6 +381,29 @@ static PyObject *node_owner_document(PyObject *self, PyObject *nothing)
     return links.document == number_of(self) ? none() : made_at(self, KIND_DOCUMENT, FAMILY_NODE, links.document);
 }
 
+/* Whether a node has one child, which is a Text: its data is lent. */
+static bool is_one_text(hp_session *session, uint32_t node, hp_text_view *to)
+{
+    uint32_t child = HP_NONE;
+    hp_node_links links;
+    if (hp_first_child(session, node, &child) != HP_OK || child == HP_NONE || hp_links(session, child, &links) != HP_OK)
+        return false;
+    return links.kind == KIND_TEXT && links.next == HP_NONE && hp_data_of(session, child, to) == HP_OK;
+}
+
+/* The text in a node. Fast path: a node with one child that is a Text, other than a Document, which has none. */
+static PyObject *node_text_content(PyObject *self, PyObject *nothing)
+{
+    (void)nothing;
+    if (is_busy(((Thing *)self)->calls))
+        return NULL;
+    hp_text_view view;
+    if (is_one_text(session_of(self), number_of(self), &view))
+        return text_from(view.units, view.length);
+    uint8_t status = hp_text_content(session_of(self), number_of(self));
+    return status ? refused_of(status, "text_content", self, NULL, 0) : text_answer(session_of(self));
+}
+
 static PyObject *node_has_child_nodes(PyObject *self, PyObject *nothing)
 {
     (void)nothing;
