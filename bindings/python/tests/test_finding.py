@@ -8,6 +8,7 @@ import sys
 import tempfile
 import unittest
 import warnings
+from unittest import mock
 
 import huckleport as h
 
@@ -324,6 +325,19 @@ class Files(unittest.TestCase):
             before = h.xml.serialize(root)
             self.assertEqual(h.xml.tostring(root, pretty=True), due)
             self.assertEqual(h.xml.serialize(root), before)
+
+
+class Parsers(unittest.TestCase):
+    def found(self, name):
+        """The parser that is used where one is found, and what is told of it."""
+        known = {key: it for key, it in vars(h.html).items() if key != "PARSER"}
+        with mock.patch.dict(vars(h.html), {**known, "_found": lambda: name}, clear=True), warnings.catch_warnings(record=True) as told:
+            warnings.simplefilter("always")
+            return h.html._parser(), h.html._parser(), h.html.PARSER, [it.category for it in told]
+
+    def test_the_slow_one_is_told(self):
+        self.assertEqual(self.found("html5lib"), (*["html5lib"] * 3, [h.html.SlowParser]))
+        self.assertEqual(self.found("html5-parser"), (*["html5-parser"] * 3, []))
 
 
 class LeftOut(unittest.TestCase):

@@ -252,11 +252,11 @@ class Pairs(unittest.TestCase):
 
     @unittest.skipUnless(IS_LONG, "HUCKLEPORT_LONG is not set")
     def test_three(self):
-        """Each two edits, and each of a third, in a group of two behind the first, or of two ahead of the third."""
+        """Of all three edits each thirty-first, as a group of two behind a single one, or ahead of it."""
         self.history = h.History(self.document)
         self.begin()
         edits = list(edits_of(self.root, self.children, self.outside))
-        for at, (first, second, third) in enumerate(itertools.product(edits, repeat=3)):
+        for at, (first, second, third) in enumerate(itertools.islice(itertools.product(edits, repeat=3), 0, None, 31)):
             self.play([[first], [second, third]] if at % 2 else [[first, second], [third]], at % 3 > 0)
             self.begin()
 
