@@ -1,9 +1,12 @@
 #!/usr/bin/env python3
 """Measures the package beside lxml, and minidom where that has the same, in one run, as a table: milliseconds of the same work, and ours over theirs.
+The last rows are beside html5lib and BeautifulSoup.
 
-Each figure is of processor time, and the best of several rounds, which the libraries take in turn. It needs lxml (Debian's python3-lxml).
+Each figure is of processor time, and the best of several rounds, which the libraries take in turn. It needs Debian's python3-lxml, python3-html5lib,
+python3-bs4 and python3-soupsieve.
 """
 import argparse
+import copy
 import gc
 import sys
 import time
@@ -13,7 +16,10 @@ HERE = __file__.rpartition("/")[0] or "."
 sys.dont_write_bytecode = True
 sys.path.insert(0, HERE)
 
+import bs4
+import html5lib
 import huckleport as h
+from huckleport._html5lib import parse as by_its_tree
 from lxml import etree
 
 CHILDREN = 1000
@@ -229,11 +235,30 @@ def over_pages(count):
     yield "an attribute of all", lambda: document._calls.read_attribute_of(elements, "id"), lambda: [it.get("id") for it in nodes], None
     yield "attributes of all, as dicts", lambda: document._calls.read_attributes_of(elements), lambda: [dict(it.attrib) for it in nodes], None
     yield "rows with name, attributes and data", document.tree, lambda: [(it, it.tag, tuple(it.attrib.items()), it.text, it.tail) for it in tree.iter()], None
+    yield "a deep copy", lambda: document.document_element.clone_node(True), lambda: copy.deepcopy(tree), None
+    links, their_links = document.get_elements_by_tag_name("b"), list(tree.iter("b"))
+    yield "a text of each b", lambda: [it.text_content for it in links], lambda: [it.text for it in their_links], None
     yield "serialize XML", lambda: h.xml.serialize(document), lambda: etree.tostring(tree, encoding="unicode"), lambda: their.toxml()
     yield "serialize XML, behind an edit", lambda: h.xml.serialize(edited()), lambda: etree.tostring(their_edited(), encoding="unicode"), None
     yield "serialize HTML", lambda: h.html.serialize(html_document), lambda: etree.tostring(html_tree, encoding="unicode", method="html"), None
     yield f"parse XML of {len(text) / 1e6:.1f} MB", lambda: h.xml.parse(text), lambda: etree.fromstring(text), lambda: minidom.parseString(text)
     yield f"parse HTML of {len(text) / 1e6:.1f} MB, by {h.html.PARSER}", lambda: h.html.parse(text), lambda: etree.fromstring(text, etree.HTMLParser()), None
+
+
+def beside_others(count):
+    """The works beside html5lib and BeautifulSoup, over a part of the page."""
+    text = page(count // 200)
+    document, soup = h.html.parse(text), bs4.BeautifulSoup(text, "html5lib")
+
+    def by_html5lib():
+        by_its_tree(h.Session().document, text)
+
+    yield "parse HTML by html5lib; html5lib", by_html5lib, lambda: html5lib.parse(text), None
+    yield "parse HTML; BeautifulSoup by html5lib", lambda: h.html.parse(text), lambda: bs4.BeautifulSoup(text, "html5lib"), None
+    yield "parse HTML; BeautifulSoup by lxml", lambda: h.html.parse(text), lambda: bs4.BeautifulSoup(text, "lxml"), None
+    yield "elements of a selector; BeautifulSoup", lambda: document.select("div > p b"), lambda: soup.select("div > p b"), None
+    yield "elements of a name; BeautifulSoup", lambda: document.get_elements_by_tag_name("b"), lambda: soup.find_all("b"), None
+    yield "serialize HTML; BeautifulSoup", lambda: h.html.serialize(document), lambda: str(soup), None
 
 
 WORKS = (building, setting, editing, naming, reading, children, one_by_one, siblings)
@@ -258,8 +283,8 @@ def main():
     parser.add_argument("--count", type=int, default=100000, help="how many calls a round has; a page has some half as many elements (100000)")
     parser.add_argument("--rounds", type=int, default=5, help="how many rounds (5)")
     given = parser.parse_args()
-    print("| milliseconds | ours | lxml | ours over lxml | minidom |\n|---|---|---|---|---|", flush=True)
-    for name, *works in (*(it(given.count) for it in WORKS), *over_pages(given.count)):
+    print("| milliseconds | ours | lxml, or the named one | ours over theirs | minidom |\n|---|---|---|---|---|", flush=True)
+    for name, *works in (*(it(given.count) for it in WORKS), *over_pages(given.count), *beside_others(given.count)):
         ours, theirs, dom = best(works, given.rounds)
         print(f"| {name} | {ours:.1f} | {theirs:.1f} | {ours / theirs:.2f} | {f'{dom:.1f}' if works[2] else ''} |", flush=True)
 

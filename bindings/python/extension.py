@@ -34,6 +34,8 @@ SLICES = {"uint8_t": "name_of", "uint16_t": "text_of", "uint32_t": "numbers_of"}
 LENT = {"hp_bytes": "name_from({0}.bytes, {0}.length)", "hp_text_view": "text_from({0}.units, {0}.length)"}
 NUMBERS = {"uint8_t": "PyBool_FromLong({})", "int8_t": "PyLong_FromLong({})", "uint32_t": "PyLong_FromUnsignedLong({})", "size_t": "PyLong_FromSize_t({})"}
 READ = {"numbers": "numbers_answer({})", "names": "names_answer({})", "text": "text_answer({})", "text?": "text_answer({})"}
+# Calls that may take long, while which other threads run; and the word that says whether one does.
+LONG = {"hp_clone_node": "deep", "hp_import_node": "deep", "hp_close": None}
 # Calls after which nodes may be gone.
 LETTING_GO = {"hp_discard", "hp_close", "hp_line"}
 # What members take out of a tree or put into one: the function that is told, with the object by its place in C.
@@ -145,6 +147,16 @@ def answer_of(outs, read):
     return NUMBERS[it.type].format(it.name) if it.type in NUMBERS else f"{it.type}_from((Calls *)self, &{it.name})"
 
 
+def made_call(name, calls, call, indent):
+    """What makes a call, and lets other threads run meanwhile where it may take long."""
+    if name not in LONG:
+        return f"{indent}uint8_t status = {call};\n"
+    is_long = LONG[name]
+    thread = f"begin_long({calls})" if is_long is None else f"{is_long} ? begin_long({calls}) : NULL"
+    end = f"{indent}end_long({calls}, thread);\n" if is_long is None else f"{indent}if (thread)\n{indent}    end_long({calls}, thread);\n"
+    return f"{indent}PyThreadState *thread = {thread};\n{indent}uint8_t status = {call};\n" + end
+
+
 def body(parts, reads, call, answer, refusal):
     """The body of a function that reads words, makes a call and answers, and lets its slices go."""
     name, calls = call.partition("(")[0], "(Calls *)self" if "session_at" in call else "((Thing *)self)->calls"
@@ -160,12 +172,13 @@ def body(parts, reads, call, answer, refusal):
     if name in LEAVING and "number_of(self)" in call:
         first.append(f"{LEAVING[name]}({calls}, number_of(self));")
     slices = [it.name for it in parts if it.kind == "slice"]
-    text = "    PyObject *found = NULL;\n" if reads or slices else ""
+    text = f"    if (is_busy({calls}))\n        return NULL;\n"
+    text += "    PyObject *found = NULL;\n" if reads or slices else ""
     text += "".join(f"    begin(&{it});\n" for it in slices)
     if not reads and not slices:
-        return "".join(f"    {it}\n" for it in first) + f"    uint8_t status = {call};\n    return status ? {refusal} : {answer};\n}}\n"
+        return text + "".join(f"    {it}\n" for it in first) + made_call(name, calls, call, "    ") + f"    return status ? {refusal} : {answer};\n}}\n"
     text += f"    if ({' && '.join(reads)}) {{\n" + "".join(f"        {it}\n" for it in first)
-    text += f"        uint8_t status = {call};\n        found = status ? {refusal} : {answer};\n    }}\n"
+    text += made_call(name, calls, call, "        ") + f"        found = status ? {refusal} : {answer};\n    }}\n"
     return text + "".join(f"    drop(&{it});\n" for it in slices) + "    return found;\n}\n"
 
 

@@ -47,7 +47,6 @@ Node.replace_child               | replace_child           | node:node child:nod
 Node.remove_child                | remove_child            | child:node               | given child
 Node.normalize                   | normalize               |                          | none
 Node.discard                     | discard                 |                          | none
-Node.text_content                | text_content            |                          | text
 Node.text_content=               | set_text_content        | text:text?               | none
 ChildNode.remove                 | remove                  |                          | none
 Element.get_attribute            | get_attribute           | name:name                | text

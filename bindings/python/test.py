@@ -23,7 +23,9 @@ DEBIAN = "/usr/bin/python3"
 OLDEST, NEWEST = "3.8", ("3.13", "3.12")
 KEPT = "~/.pyenv/versions/{}*/bin/python"
 # What some tests need.
-WANTED = ("html5_parser", "html5lib", "lxml")
+WANTED = ("html5_parser", "html5lib", "lxml", "soupsieve", "bs4", "elementpath", "cssselect")
+# Programs of lxml, minidom and BeautifulSoup that were ported.
+PORTS = ("shelf", "invoice", "market")
 # Where a run writes down what it skipped, and why.
 SKIPPED = "HUCKLEPORT_SKIPPED"
 sys.dont_write_bytecode = True
@@ -46,7 +48,7 @@ def are_types_right():
     if not mypy[-1] or not stubtest[-1]:
         print("left out: the types, since there is no mypy")
         return True
-    faults = fails(*mypy, "--strict", "huckleport")
+    faults = fails(*mypy, "--strict", "huckleport", *(f"tests/ports/{it}.py" for it in PORTS))
     return not fails(*stubtest, "huckleport._core", env={**os.environ, "PYTHONPATH": HERE, "PYTHONDONTWRITEBYTECODE": "1"}) and not faults
 
 

@@ -7,17 +7,12 @@
 
 /* ---- lists that grow */
 
-/* Numbers of nodes, and then the kind of each. */
-typedef struct {
-    uint32_t *at;
-    uint8_t *kinds;
-    size_t length, room;
-} Numbers;
-
-static void numbers_drop(Numbers *it)
+/* Room for so many numbers, in a list that has none. */
+static bool numbers_reserve(Numbers *it, size_t count)
 {
-    PyMem_Free(it->at);
-    PyMem_Free(it->kinds);
+    it->at = PyMem_Malloc((count + 1) * sizeof(uint32_t));
+    it->room = it->at ? count : 0;
+    return it->at || PyErr_NoMemory() != NULL;
 }
 
 static bool numbers_push(Numbers *it, uint32_t number)
@@ -456,14 +451,44 @@ static PyObject *records_made(const Records *of, PyObject *session, Calls *calls
     return found;
 }
 
-static PyObject *records_answer(PyObject *session, Calls *calls)
+/* Copies the records of the last answer; or nothing, with an exception. */
+static bool records_taken(Records *to, Calls *calls)
 {
-    Records records = { NULL, 0, { NULL, NULL, 0, 0 } };
     size_t count = 0;
     hp_count(&calls->session, &count);
-    bool done = records_copy(&records, &calls->session, 0, count) && numbers_ask(&records.nodes, calls);
+    *to = (Records){ NULL, 0, { NULL, NULL, 0, 0 } };
+    if (records_copy(to, &calls->session, 0, count) && numbers_ask(&to->nodes, calls))
+        return true;
+    records_drop(to);
+    return false;
+}
+
+/* Memory that is kept back until some is wanting: then it goes, and what has failed is tried once more. */
+enum { KEPT_BACK = 1 << 16 };
+
+static bool may_try_again(void **kept_back)
+{
+    if (!*kept_back || !PyErr_ExceptionMatches(PyExc_MemoryError))
+        return false;
+    PyErr_Clear();
+    PyMem_Free(*kept_back);
+    *kept_back = NULL;
+    return true;
+}
+
+/* The records of the last answer. They were taken and are told by nobody else, so what fails is tried again: the answer stays while it is
+ * copied, since no code of Python runs, and then there is the copy. */
+static PyObject *records_answer(PyObject *session, Calls *calls, void **kept_back)
+{
+    Records records;
+    PyObject *found = NULL;
+    bool is_taken = records_taken(&records, calls) || (may_try_again(kept_back) && records_taken(&records, calls));
+    if (!is_taken)
+        return NULL;
     calls->making++;
-    PyObject *found = done ? records_made(&records, session, calls) : NULL;
+    do
+        found = records_made(&records, session, calls);
+    while (!found && may_try_again(kept_back));
     calls->making--;
     records_drop(&records);
     return found;
@@ -485,15 +510,22 @@ static PyObject *observer_of(uint32_t number, PyObject *session, Calls *calls)
     return found;
 }
 
-/* An observer and the records of the last answer. */
-static PyObject *notice_answer(uint32_t number, PyObject *session, Calls *calls)
+/* Puts an observer and the records of the last answer in the place that is free at the end of a list. */
+static bool put_notice(PyObject *to, uint32_t number, PyObject *session, Calls *calls, void **kept_back)
 {
-    PyObject *records = records_answer(session, calls);
+    PyObject *notice = PyTuple_New(2);
+    PyObject *records = notice ? records_answer(session, calls, kept_back) : NULL;
     PyObject *observer = records ? observer_of(number, session, calls) : NULL;
-    PyObject *found = observer ? PyTuple_Pack(2, observer, records) : NULL;
-    Py_XDECREF(observer);
-    Py_XDECREF(records);
-    return found;
+    if (!observer && records && may_try_again(kept_back))
+        observer = observer_of(number, session, calls);
+    if (!observer) {
+        Py_XDECREF(records);
+        Py_XDECREF(notice);
+        return false;
+    }
+    PyTuple_SetItem(notice, 0, observer);
+    PyTuple_SetItem(notice, 1, records);
+    return PyList_SetItem(to, PyList_Size(to) - 1, notice) == 0;
 }
 
 /* The exception that is raised now, as an object with its traceback; it is raised no more. */
@@ -512,6 +544,21 @@ static PyObject *caught(void)
 /* What became of a notice: its observer has no callback, was told, or its callback raised. */
 typedef enum { WITHOUT_CALLBACK, WAS_TOLD, HAS_RAISED } Told;
 
+/* Whether a callback has run: one by async def has given a coroutine, which nobody awaits. It ends here, and that is raised. */
+static bool is_no_coroutine(PyObject *said)
+{
+    if (said == Py_None)
+        return true;
+    PyObject *name = PyObject_GetAttrString((PyObject *)Py_TYPE(said), "__name__");
+    bool is_one = name && PyUnicode_CompareWithASCIIString(name, "coroutine") == 0;
+    PyObject *ended = is_one ? PyObject_CallMethod(said, "close", NULL) : none();
+    Py_XDECREF(name);
+    Py_XDECREF(ended);
+    if (!is_one || !ended)
+        return name && ended;
+    return raise_ours("BadType", PyUnicode_FromString("a callback by async def is never awaited: notify() calls it and goes on"));
+}
+
 static Told call_back(PyObject *notice)
 {
     PyObject *observer = PyTuple_GetItem(notice, 0);
@@ -522,36 +569,63 @@ static Told call_back(PyObject *notice)
     }
     if (callback)
         said = PyObject_CallFunctionObjArgs(callback, PyTuple_GetItem(notice, 1), observer, NULL);
+    bool is_well = said && is_no_coroutine(said);
     Py_XDECREF(callback);
     Py_XDECREF(said);
-    return said ? WAS_TOLD : HAS_RAISED;
+    return is_well ? WAS_TOLD : HAS_RAISED;
 }
 
-/* The turns of one call: the lists that take what is told, and what of it is kept, and the first exception that was raised, or null. */
+/* The turns of one call: the lists that take what is told, what of it is kept, and the exceptions that were raised; and whether memory was
+ * wanting, so that the next call has to tell the rest. */
 typedef struct {
-    PyObject *session, *told, *kept, *fault;
+    PyObject *session, *told, *kept, *faults;
     Calls *calls;
+    void *kept_back;
+    bool is_short;
 } Turns;
 
 /* Takes the exception that is raised now, and goes on. */
 static void take_fault(Turns *it)
 {
     PyObject *fault = caught();
-    if (it->fault)
-        Py_XDECREF(fault);
-    else
-        it->fault = fault;
+    if (fault && PyList_Append(it->faults, fault) < 0)
+        PyErr_Clear();
+    Py_XDECREF(fault);
 }
 
-/* Calls the callback. What was told to an observer without one, or to one that was interrupted, is kept. */
+/* Whether a callback may not have run to its end by no fault of its own: it was interrupted, or memory was wanting. */
+static bool is_cut_short(void)
+{
+    return !PyErr_ExceptionMatches(PyExc_Exception) || PyErr_ExceptionMatches(PyExc_MemoryError);
+}
+
+/* A place at the end of a list, for what is to come. */
+static bool has_place(PyObject *list)
+{
+    return PyList_Append(list, Py_None) == 0;
+}
+
+/* Takes away the place at the end of a list that took nothing. */
+static void end_place(Turns *it, PyObject *list)
+{
+    Py_ssize_t last = PyList_Size(list) - 1;
+    if (PyList_SetSlice(list, last, last + 1, NULL) < 0)
+        take_fault(it);
+}
+
+/* Calls the callback. What was told to an observer without one, or to one that was cut short, is kept in the place for it. */
 static void tell(Turns *it, PyObject *notice)
 {
     Told told = call_back(notice);
-    bool is_kept = told == WITHOUT_CALLBACK || (told == HAS_RAISED && !PyErr_ExceptionMatches(PyExc_Exception));
+    bool is_kept = told == WITHOUT_CALLBACK || (told == HAS_RAISED && is_cut_short());
     if (told == HAS_RAISED)
         take_fault(it);
-    if (is_kept && PyList_Append(it->kept, notice) < 0)
-        take_fault(it);
+    if (!is_kept) {
+        end_place(it, it->kept);
+        return;
+    }
+    Py_INCREF(notice);
+    PyList_SetItem(it->kept, PyList_Size(it->kept) - 1, notice);
 }
 
 /* Whether an observer has records now that it is its turn; they are the last answer then. One that was released has none, and is no fault. */
@@ -568,28 +642,67 @@ static bool has_records(uint32_t observer, Calls *calls)
     return false;
 }
 
-static void take_turn(Turns *it, uint32_t observer)
+/* Takes the records of an observer, for which there are places, and tells them. */
+static void turn_taken(Turns *it, uint32_t observer)
 {
-    PyObject *notice = has_records(observer, it->calls) ? notice_answer(observer, it->session, it->calls) : NULL;
-    if (notice && PyList_Append(it->told, notice) == 0)
+    bool has_some = has_records(observer, it->calls);
+    if (has_some && put_notice(it->told, observer, it->session, it->calls, &it->kept_back)) {
+        PyObject *notice = PyList_GetItem(it->told, PyList_Size(it->told) - 1);
+        Py_INCREF(notice);
         tell(it, notice);
-    else if (PyErr_Occurred())
+        Py_DECREF(notice);
+        return;
+    }
+    it->is_short = has_some;
+    if (PyErr_Occurred())
         take_fault(it);
-    Py_XDECREF(notice);
+    end_place(it, it->told);
+    end_place(it, it->kept);
 }
 
-/* Tells observers one after another, also where callbacks raise, until one of them closes the session. */
-static void tell_all(Turns *it, const Numbers *observers)
+/* The turn of an observer, once there is a place for what it is told among that and among what is kept. */
+static void take_turn(Turns *it, uint32_t observer)
 {
-    for (size_t at = 0; at < observers->length && it->calls->session.is_open; at++)
+    bool has_one = has_place(it->told), has_both = has_one && has_place(it->kept);
+    if (has_both) {
+        turn_taken(it, observer);
+        return;
+    }
+    it->is_short = true;
+    take_fault(it);
+    if (has_one)
+        end_place(it, it->told);
+}
+
+/* Tells observers one after another, also where callbacks raise, until one of them closes the session or memory is wanting. The session keeps
+ * those that are still to be told. */
+static void tell_all(Turns *it, Numbers *observers)
+{
+    size_t at = 0;
+    for (; at < observers->length && it->calls->session.is_open; at++) {
         take_turn(it, observers->at[at]);
+        if (it->is_short)
+            break;
+    }
+    if (!it->is_short || !it->calls->session.is_open)
+        return;
+    observers->length -= at;
+    memmove(observers->at, observers->at + at, observers->length * sizeof(uint32_t));
+    numbers_drop(&it->calls->untold);
+    it->calls->untold = *observers;
+    *observers = (Numbers){ NULL, NULL, 0, 0 };
 }
 
 /* Where a callback raised, what is kept is left for later; else what was left before is told with the rest. */
 static bool leave(PyObject *told, PyObject *left, PyObject *kept, bool has_raised)
 {
+    Py_ssize_t end = PyList_Size(left);
+    if (has_raised && PyList_SetSlice(left, end, end, kept) < 0) {
+        PyErr_Clear();
+        return PyList_SetSlice(left, end, end, kept) == 0;
+    }
     if (has_raised)
-        return PyList_SetSlice(left, PyList_Size(left), PyList_Size(left), kept) == 0;
+        return true;
     return PyList_SetSlice(told, 0, 0, left) == 0 && PyList_SetSlice(left, 0, PyList_Size(left), NULL) == 0;
 }
 

@@ -268,6 +268,8 @@ static void abandon(Builder *it)
 
 static PyObject *builder_abandon(PyObject *self, PyObject *nothing)
 {
+    if (is_busy(((Builder *)self)->calls))
+        return NULL;
     (void)nothing;
     abandon((Builder *)self);
     return none();

@@ -201,6 +201,8 @@ static PyObject *call_open(PyObject *self, PyObject *words)
 {
     uint64_t numbers = 0;
     size_t line = 0;
+    if (is_busy((Calls *)self))
+        return NULL;
     PyObject *found = NULL;
     if (is_counted(words, 2, "open") && uint64_of(word(words, 0), &numbers) && size_of(word(words, 1), &line)) {
         moved((Calls *)self);
@@ -212,10 +214,14 @@ static PyObject *call_open(PyObject *self, PyObject *words)
 
 static PyObject *call_close(PyObject *self, PyObject *words)
 {
+    if (is_busy((Calls *)self))
+        return NULL;
     PyObject *found = NULL;
     if (is_counted(words, 0, "close")) {
         moved((Calls *)self);
+        PyThreadState *thread = begin_long((Calls *)self);
         uint8_t status = hp_close(session_at(self));
+        end_long((Calls *)self, thread);
         found = status ? refused(status, "close", self, words) : let_go((Calls *)self, none());
     }
     return found;
@@ -224,6 +230,8 @@ static PyObject *call_close(PyObject *self, PyObject *words)
 static PyObject *call_line(PyObject *self, PyObject *words)
 {
     Slice line;
+    if (is_busy((Calls *)self))
+        return NULL;
     PyObject *found = NULL;
     begin(&line);
     if (is_counted(words, 1, "line") && octets_of(word(words, 0), &line)) {
@@ -238,6 +246,8 @@ static PyObject *call_line(PyObject *self, PyObject *words)
 
 static PyObject *call_print(PyObject *self, PyObject *words)
 {
+    if (is_busy((Calls *)self))
+        return NULL;
     PyObject *found = NULL;
     if (is_counted(words, 0, "print")) {
         uint8_t status = hp_print(session_at(self));
@@ -249,6 +259,8 @@ static PyObject *call_print(PyObject *self, PyObject *words)
 static PyObject *call_text(PyObject *self, PyObject *words)
 {
     hp_text_view out;
+    if (is_busy((Calls *)self))
+        return NULL;
     PyObject *found = NULL;
     if (is_counted(words, 0, "text")) {
         uint8_t status = hp_text(session_at(self), &out);
@@ -261,6 +273,8 @@ static PyObject *call_name_at(PyObject *self, PyObject *words)
 {
     size_t index = 0;
     hp_bytes out;
+    if (is_busy((Calls *)self))
+        return NULL;
     PyObject *found = NULL;
     if (is_counted(words, 1, "name_at") && size_of(word(words, 0), &index)) {
         uint8_t status = hp_name_at(session_at(self), index, &out);
@@ -272,6 +286,8 @@ static PyObject *call_name_at(PyObject *self, PyObject *words)
 static PyObject *call_reply_line(PyObject *self, PyObject *words)
 {
     hp_bytes out;
+    if (is_busy((Calls *)self))
+        return NULL;
     PyObject *found = NULL;
     if (is_counted(words, 0, "reply_line")) {
         uint8_t status = hp_reply_line(session_at(self), &out);
@@ -283,6 +299,8 @@ static PyObject *call_reply_line(PyObject *self, PyObject *words)
 static PyObject *call_count(PyObject *self, PyObject *words)
 {
     size_t count = 0;
+    if (is_busy((Calls *)self))
+        return NULL;
     PyObject *found = NULL;
     if (is_counted(words, 0, "count")) {
         uint8_t status = hp_count(session_at(self), &count);
@@ -295,6 +313,8 @@ static PyObject *call_number_at(PyObject *self, PyObject *words)
 {
     size_t index = 0;
     uint32_t number = 0;
+    if (is_busy((Calls *)self))
+        return NULL;
     PyObject *found = NULL;
     if (is_counted(words, 1, "number_at") && size_of(word(words, 0), &index)) {
         uint8_t status = hp_number_at(session_at(self), index, &number);
@@ -307,6 +327,8 @@ static PyObject *call_node_name(PyObject *self, PyObject *words)
 {
     uint8_t part = 0;
     hp_bytes out;
+    if (is_busy((Calls *)self))
+        return NULL;
     PyObject *found = NULL;
     if (is_counted(words, 1, "node_name") && uint8_of(word(words, 0), &part)) {
         uint8_t status = hp_node_name(session_at(self), part, &out);
@@ -319,6 +341,8 @@ static PyObject *call_row_at(PyObject *self, PyObject *words)
 {
     size_t index = 0;
     hp_row row;
+    if (is_busy((Calls *)self))
+        return NULL;
     PyObject *found = NULL;
     if (is_counted(words, 1, "row_at") && size_of(word(words, 0), &index)) {
         uint8_t status = hp_row_at(session_at(self), index, &row);
@@ -332,6 +356,8 @@ static PyObject *call_row_name(PyObject *self, PyObject *words)
     size_t index = 0;
     uint8_t part = 0;
     hp_bytes out;
+    if (is_busy((Calls *)self))
+        return NULL;
     PyObject *found = NULL;
     if (is_counted(words, 2, "row_name") && size_of(word(words, 0), &index) && uint8_of(word(words, 1), &part)) {
         uint8_t status = hp_row_name(session_at(self), index, part, &out);
@@ -344,6 +370,8 @@ static PyObject *call_row_text(PyObject *self, PyObject *words)
 {
     size_t index = 0;
     hp_text_view out;
+    if (is_busy((Calls *)self))
+        return NULL;
     PyObject *found = NULL;
     if (is_counted(words, 1, "row_text") && size_of(word(words, 0), &index)) {
         uint8_t status = hp_row_text(session_at(self), index, &out);
@@ -357,6 +385,8 @@ static PyObject *call_row_attribute_name(PyObject *self, PyObject *words)
     size_t index = 0;
     size_t at = 0;
     hp_bytes out;
+    if (is_busy((Calls *)self))
+        return NULL;
     PyObject *found = NULL;
     if (is_counted(words, 2, "row_attribute_name") && size_of(word(words, 0), &index) && size_of(word(words, 1), &at)) {
         uint8_t status = hp_row_attribute_name(session_at(self), index, at, &out);
@@ -370,6 +400,8 @@ static PyObject *call_row_attribute_value(PyObject *self, PyObject *words)
     size_t index = 0;
     size_t at = 0;
     hp_text_view out;
+    if (is_busy((Calls *)self))
+        return NULL;
     PyObject *found = NULL;
     if (is_counted(words, 2, "row_attribute_value") && size_of(word(words, 0), &index) && size_of(word(words, 1), &at)) {
         uint8_t status = hp_row_attribute_value(session_at(self), index, at, &out);
@@ -382,6 +414,8 @@ static PyObject *call_notice_at(PyObject *self, PyObject *words)
 {
     size_t index = 0;
     hp_notice notice;
+    if (is_busy((Calls *)self))
+        return NULL;
     PyObject *found = NULL;
     if (is_counted(words, 1, "notice_at") && size_of(word(words, 0), &index)) {
         uint8_t status = hp_notice_at(session_at(self), index, &notice);
@@ -395,6 +429,8 @@ static PyObject *call_record_at(PyObject *self, PyObject *words)
     size_t notice = 0;
     size_t index = 0;
     hp_record record;
+    if (is_busy((Calls *)self))
+        return NULL;
     PyObject *found = NULL;
     if (is_counted(words, 2, "record_at") && size_of(word(words, 0), &notice) && size_of(word(words, 1), &index)) {
         uint8_t status = hp_record_at(session_at(self), notice, index, &record);
@@ -409,6 +445,8 @@ static PyObject *call_record_added_at(PyObject *self, PyObject *words)
     size_t index = 0;
     size_t at = 0;
     uint32_t node = 0;
+    if (is_busy((Calls *)self))
+        return NULL;
     PyObject *found = NULL;
     if (is_counted(words, 3, "record_added_at") && size_of(word(words, 0), &notice) && size_of(word(words, 1), &index) && size_of(word(words, 2), &at)) {
         uint8_t status = hp_record_added_at(session_at(self), notice, index, at, &node);
@@ -423,6 +461,8 @@ static PyObject *call_record_removed_at(PyObject *self, PyObject *words)
     size_t index = 0;
     size_t at = 0;
     uint32_t node = 0;
+    if (is_busy((Calls *)self))
+        return NULL;
     PyObject *found = NULL;
     if (is_counted(words, 3, "record_removed_at") && size_of(word(words, 0), &notice) && size_of(word(words, 1), &index) && size_of(word(words, 2), &at)) {
         uint8_t status = hp_record_removed_at(session_at(self), notice, index, at, &node);
@@ -436,6 +476,8 @@ static PyObject *call_record_name(PyObject *self, PyObject *words)
     size_t notice = 0;
     size_t index = 0;
     hp_bytes out;
+    if (is_busy((Calls *)self))
+        return NULL;
     PyObject *found = NULL;
     if (is_counted(words, 2, "record_name") && size_of(word(words, 0), &notice) && size_of(word(words, 1), &index)) {
         uint8_t status = hp_record_name(session_at(self), notice, index, &out);
@@ -449,6 +491,8 @@ static PyObject *call_record_old_value(PyObject *self, PyObject *words)
     size_t notice = 0;
     size_t index = 0;
     hp_text_view out;
+    if (is_busy((Calls *)self))
+        return NULL;
     PyObject *found = NULL;
     if (is_counted(words, 2, "record_old_value") && size_of(word(words, 0), &notice) && size_of(word(words, 1), &index)) {
         uint8_t status = hp_record_old_value(session_at(self), notice, index, &out);
@@ -460,6 +504,8 @@ static PyObject *call_record_old_value(PyObject *self, PyObject *words)
 static PyObject *call_new_document(PyObject *self, PyObject *words)
 {
     uint32_t document = 0;
+    if (is_busy((Calls *)self))
+        return NULL;
     PyObject *found = NULL;
     if (is_counted(words, 0, "new_document")) {
         let_go_noted((Calls *)self);
@@ -474,6 +520,8 @@ static PyObject *call_create_element(PyObject *self, PyObject *words)
     uint32_t document = 0;
     Slice name;
     uint32_t element = 0;
+    if (is_busy((Calls *)self))
+        return NULL;
     PyObject *found = NULL;
     begin(&name);
     if (is_counted(words, 2, "create_element") && uint32_of(word(words, 0), &document) && name_of(word(words, 1), &name)) {
@@ -490,6 +538,8 @@ static PyObject *call_create_text(PyObject *self, PyObject *words)
     uint32_t document = 0;
     Slice data;
     uint32_t text = 0;
+    if (is_busy((Calls *)self))
+        return NULL;
     PyObject *found = NULL;
     begin(&data);
     if (is_counted(words, 2, "create_text") && uint32_of(word(words, 0), &document) && text_of(word(words, 1), &data)) {
@@ -506,6 +556,8 @@ static PyObject *call_create_comment(PyObject *self, PyObject *words)
     uint32_t document = 0;
     Slice data;
     uint32_t comment = 0;
+    if (is_busy((Calls *)self))
+        return NULL;
     PyObject *found = NULL;
     begin(&data);
     if (is_counted(words, 2, "create_comment") && uint32_of(word(words, 0), &document) && text_of(word(words, 1), &data)) {
@@ -523,6 +575,8 @@ static PyObject *call_create_pi(PyObject *self, PyObject *words)
     Slice target;
     Slice data;
     uint32_t instruction = 0;
+    if (is_busy((Calls *)self))
+        return NULL;
     PyObject *found = NULL;
     begin(&target);
     begin(&data);
@@ -543,6 +597,8 @@ static PyObject *call_create_doctype(PyObject *self, PyObject *words)
     Slice public_id;
     Slice system_id;
     uint32_t doctype = 0;
+    if (is_busy((Calls *)self))
+        return NULL;
     PyObject *found = NULL;
     begin(&name);
     begin(&public_id);
@@ -562,6 +618,8 @@ static PyObject *call_create_fragment(PyObject *self, PyObject *words)
 {
     uint32_t document = 0;
     uint32_t fragment = 0;
+    if (is_busy((Calls *)self))
+        return NULL;
     PyObject *found = NULL;
     if (is_counted(words, 1, "create_fragment") && uint32_of(word(words, 0), &document)) {
         let_go_noted((Calls *)self);
@@ -576,6 +634,8 @@ static PyObject *call_insert_before(PyObject *self, PyObject *words)
     uint32_t parent = 0;
     uint32_t node = 0;
     uint32_t child = 0;
+    if (is_busy((Calls *)self))
+        return NULL;
     PyObject *found = NULL;
     if (is_counted(words, 3, "insert_before") && uint32_of(word(words, 0), &parent) && uint32_of(word(words, 1), &node) && uint32_of(word(words, 2), &child)) {
         moved((Calls *)self);
@@ -589,6 +649,8 @@ static PyObject *call_append_child(PyObject *self, PyObject *words)
 {
     uint32_t parent = 0;
     uint32_t node = 0;
+    if (is_busy((Calls *)self))
+        return NULL;
     PyObject *found = NULL;
     if (is_counted(words, 2, "append_child") && uint32_of(word(words, 0), &parent) && uint32_of(word(words, 1), &node)) {
         moved((Calls *)self);
@@ -602,6 +664,8 @@ static PyObject *call_adopt_node(PyObject *self, PyObject *words)
 {
     uint32_t document = 0;
     uint32_t node = 0;
+    if (is_busy((Calls *)self))
+        return NULL;
     PyObject *found = NULL;
     if (is_counted(words, 2, "adopt_node") && uint32_of(word(words, 0), &document) && uint32_of(word(words, 1), &node)) {
         moved((Calls *)self);
@@ -616,6 +680,8 @@ static PyObject *call_replace_child(PyObject *self, PyObject *words)
     uint32_t parent = 0;
     uint32_t node = 0;
     uint32_t child = 0;
+    if (is_busy((Calls *)self))
+        return NULL;
     PyObject *found = NULL;
     if (is_counted(words, 3, "replace_child") && uint32_of(word(words, 0), &parent) && uint32_of(word(words, 1), &node) && uint32_of(word(words, 2), &child)) {
         let_go_noted((Calls *)self);
@@ -630,6 +696,8 @@ static PyObject *call_remove_child(PyObject *self, PyObject *words)
 {
     uint32_t parent = 0;
     uint32_t child = 0;
+    if (is_busy((Calls *)self))
+        return NULL;
     PyObject *found = NULL;
     if (is_counted(words, 2, "remove_child") && uint32_of(word(words, 0), &parent) && uint32_of(word(words, 1), &child)) {
         let_go_noted((Calls *)self);
@@ -643,6 +711,8 @@ static PyObject *call_remove_child(PyObject *self, PyObject *words)
 static PyObject *call_remove(PyObject *self, PyObject *words)
 {
     uint32_t node = 0;
+    if (is_busy((Calls *)self))
+        return NULL;
     PyObject *found = NULL;
     if (is_counted(words, 1, "remove") && uint32_of(word(words, 0), &node)) {
         let_go_noted((Calls *)self);
@@ -657,6 +727,8 @@ static PyObject *call_replace_children(PyObject *self, PyObject *words)
 {
     uint32_t parent = 0;
     uint32_t node = 0;
+    if (is_busy((Calls *)self))
+        return NULL;
     PyObject *found = NULL;
     if (is_counted(words, 2, "replace_children") && uint32_of(word(words, 0), &parent) && uint32_of(word(words, 1), &node)) {
         let_go_noted((Calls *)self);
@@ -670,6 +742,8 @@ static PyObject *call_replace_children(PyObject *self, PyObject *words)
 static PyObject *call_normalize(PyObject *self, PyObject *words)
 {
     uint32_t node = 0;
+    if (is_busy((Calls *)self))
+        return NULL;
     PyObject *found = NULL;
     if (is_counted(words, 1, "normalize") && uint32_of(word(words, 0), &node)) {
         let_go_noted((Calls *)self);
@@ -684,6 +758,8 @@ static PyObject *call_set_text_content(PyObject *self, PyObject *words)
 {
     uint32_t node = 0;
     Slice text;
+    if (is_busy((Calls *)self))
+        return NULL;
     PyObject *found = NULL;
     begin(&text);
     if (is_counted(words, 2, "set_text_content") && uint32_of(word(words, 0), &node) && text_of(word(words, 1), &text)) {
@@ -699,6 +775,8 @@ static PyObject *call_set_text_content(PyObject *self, PyObject *words)
 static PyObject *call_discard(PyObject *self, PyObject *words)
 {
     uint32_t node = 0;
+    if (is_busy((Calls *)self))
+        return NULL;
     PyObject *found = NULL;
     if (is_counted(words, 1, "discard") && uint32_of(word(words, 0), &node)) {
         let_go_noted((Calls *)self);
@@ -715,10 +793,15 @@ static PyObject *call_import_node(PyObject *self, PyObject *words)
     uint32_t node = 0;
     bool deep = 0;
     uint32_t copy = 0;
+    if (is_busy((Calls *)self))
+        return NULL;
     PyObject *found = NULL;
     if (is_counted(words, 3, "import_node") && uint32_of(word(words, 0), &document) && uint32_of(word(words, 1), &node) && bool_of(word(words, 2), &deep)) {
         let_go_noted((Calls *)self);
+        PyThreadState *thread = deep ? begin_long((Calls *)self) : NULL;
         uint8_t status = hp_import_node(session_at(self), document, node, deep, &copy);
+        if (thread)
+            end_long((Calls *)self, thread);
         found = status ? refused(status, "import_node", self, words) : PyLong_FromUnsignedLong(copy);
     }
     return found;
@@ -729,10 +812,15 @@ static PyObject *call_clone_node(PyObject *self, PyObject *words)
     uint32_t node = 0;
     bool deep = 0;
     uint32_t copy = 0;
+    if (is_busy((Calls *)self))
+        return NULL;
     PyObject *found = NULL;
     if (is_counted(words, 2, "clone_node") && uint32_of(word(words, 0), &node) && bool_of(word(words, 1), &deep)) {
         let_go_noted((Calls *)self);
+        PyThreadState *thread = deep ? begin_long((Calls *)self) : NULL;
         uint8_t status = hp_clone_node(session_at(self), node, deep, &copy);
+        if (thread)
+            end_long((Calls *)self, thread);
         found = status ? refused(status, "clone_node", self, words) : PyLong_FromUnsignedLong(copy);
     }
     return found;
@@ -742,6 +830,8 @@ static PyObject *call_node(PyObject *self, PyObject *words)
 {
     uint32_t node = 0;
     hp_place place;
+    if (is_busy((Calls *)self))
+        return NULL;
     PyObject *found = NULL;
     if (is_counted(words, 1, "node") && uint32_of(word(words, 0), &node)) {
         uint8_t status = hp_node(session_at(self), node, &place);
@@ -753,6 +843,8 @@ static PyObject *call_node(PyObject *self, PyObject *words)
 static PyObject *call_children(PyObject *self, PyObject *words)
 {
     uint32_t node = 0;
+    if (is_busy((Calls *)self))
+        return NULL;
     PyObject *found = NULL;
     if (is_counted(words, 1, "children") && uint32_of(word(words, 0), &node)) {
         uint8_t status = hp_children(session_at(self), node);
@@ -765,6 +857,8 @@ static PyObject *call_index(PyObject *self, PyObject *words)
 {
     uint32_t node = 0;
     size_t index = 0;
+    if (is_busy((Calls *)self))
+        return NULL;
     PyObject *found = NULL;
     if (is_counted(words, 1, "index") && uint32_of(word(words, 0), &node)) {
         uint8_t status = hp_index(session_at(self), node, &index);
@@ -777,6 +871,8 @@ static PyObject *call_length(PyObject *self, PyObject *words)
 {
     uint32_t node = 0;
     size_t length = 0;
+    if (is_busy((Calls *)self))
+        return NULL;
     PyObject *found = NULL;
     if (is_counted(words, 1, "length") && uint32_of(word(words, 0), &node)) {
         uint8_t status = hp_length(session_at(self), node, &length);
@@ -789,6 +885,8 @@ static PyObject *call_root(PyObject *self, PyObject *words)
 {
     uint32_t node = 0;
     uint32_t root = 0;
+    if (is_busy((Calls *)self))
+        return NULL;
     PyObject *found = NULL;
     if (is_counted(words, 1, "root") && uint32_of(word(words, 0), &node)) {
         uint8_t status = hp_root(session_at(self), node, &root);
@@ -802,6 +900,8 @@ static PyObject *call_contains(PyObject *self, PyObject *words)
     uint32_t node = 0;
     uint32_t other = 0;
     uint8_t contains = 0;
+    if (is_busy((Calls *)self))
+        return NULL;
     PyObject *found = NULL;
     if (is_counted(words, 2, "contains") && uint32_of(word(words, 0), &node) && uint32_of(word(words, 1), &other)) {
         uint8_t status = hp_contains(session_at(self), node, other, &contains);
@@ -815,6 +915,8 @@ static PyObject *call_is_equal(PyObject *self, PyObject *words)
     uint32_t node = 0;
     uint32_t other = 0;
     uint8_t is_equal = 0;
+    if (is_busy((Calls *)self))
+        return NULL;
     PyObject *found = NULL;
     if (is_counted(words, 2, "is_equal") && uint32_of(word(words, 0), &node) && uint32_of(word(words, 1), &other)) {
         uint8_t status = hp_is_equal(session_at(self), node, other, &is_equal);
@@ -828,6 +930,8 @@ static PyObject *call_compare_position(PyObject *self, PyObject *words)
     uint32_t node = 0;
     uint32_t other = 0;
     uint32_t position = 0;
+    if (is_busy((Calls *)self))
+        return NULL;
     PyObject *found = NULL;
     if (is_counted(words, 2, "compare_position") && uint32_of(word(words, 0), &node) && uint32_of(word(words, 1), &other)) {
         uint8_t status = hp_compare_position(session_at(self), node, other, &position);
@@ -839,6 +943,8 @@ static PyObject *call_compare_position(PyObject *self, PyObject *words)
 static PyObject *call_text_content(PyObject *self, PyObject *words)
 {
     uint32_t node = 0;
+    if (is_busy((Calls *)self))
+        return NULL;
     PyObject *found = NULL;
     if (is_counted(words, 1, "text_content") && uint32_of(word(words, 0), &node)) {
         uint8_t status = hp_text_content(session_at(self), node);
@@ -850,6 +956,8 @@ static PyObject *call_text_content(PyObject *self, PyObject *words)
 static PyObject *call_tree(PyObject *self, PyObject *words)
 {
     uint32_t node = 0;
+    if (is_busy((Calls *)self))
+        return NULL;
     PyObject *found = NULL;
     if (is_counted(words, 1, "tree") && uint32_of(word(words, 0), &node)) {
         uint8_t status = hp_tree(session_at(self), node);
@@ -862,6 +970,8 @@ static PyObject *call_links(PyObject *self, PyObject *words)
 {
     uint32_t node = 0;
     hp_node_links links;
+    if (is_busy((Calls *)self))
+        return NULL;
     PyObject *found = NULL;
     if (is_counted(words, 1, "links") && uint32_of(word(words, 0), &node)) {
         uint8_t status = hp_links(session_at(self), node, &links);
@@ -874,6 +984,8 @@ static PyObject *call_first_child(PyObject *self, PyObject *words)
 {
     uint32_t node = 0;
     uint32_t child = 0;
+    if (is_busy((Calls *)self))
+        return NULL;
     PyObject *found = NULL;
     if (is_counted(words, 1, "first_child") && uint32_of(word(words, 0), &node)) {
         uint8_t status = hp_first_child(session_at(self), node, &child);
@@ -886,6 +998,8 @@ static PyObject *call_last_child(PyObject *self, PyObject *words)
 {
     uint32_t node = 0;
     uint32_t child = 0;
+    if (is_busy((Calls *)self))
+        return NULL;
     PyObject *found = NULL;
     if (is_counted(words, 1, "last_child") && uint32_of(word(words, 0), &node)) {
         uint8_t status = hp_last_child(session_at(self), node, &child);
@@ -899,6 +1013,8 @@ static PyObject *call_child_at(PyObject *self, PyObject *words)
     uint32_t node = 0;
     size_t index = 0;
     uint32_t child = 0;
+    if (is_busy((Calls *)self))
+        return NULL;
     PyObject *found = NULL;
     if (is_counted(words, 2, "child_at") && uint32_of(word(words, 0), &node) && size_of(word(words, 1), &index)) {
         uint8_t status = hp_child_at(session_at(self), node, index, &child);
@@ -911,6 +1027,8 @@ static PyObject *call_data_of(PyObject *self, PyObject *words)
 {
     uint32_t node = 0;
     hp_text_view out;
+    if (is_busy((Calls *)self))
+        return NULL;
     PyObject *found = NULL;
     if (is_counted(words, 1, "data_of") && uint32_of(word(words, 0), &node)) {
         uint8_t status = hp_data_of(session_at(self), node, &out);
@@ -922,6 +1040,8 @@ static PyObject *call_data_of(PyObject *self, PyObject *words)
 static PyObject *call_in_use(PyObject *self, PyObject *words)
 {
     hp_counts counts;
+    if (is_busy((Calls *)self))
+        return NULL;
     PyObject *found = NULL;
     if (is_counted(words, 0, "in_use")) {
         uint8_t status = hp_in_use(session_at(self), &counts);
@@ -933,6 +1053,8 @@ static PyObject *call_in_use(PyObject *self, PyObject *words)
 static PyObject *call_data(PyObject *self, PyObject *words)
 {
     uint32_t node = 0;
+    if (is_busy((Calls *)self))
+        return NULL;
     PyObject *found = NULL;
     if (is_counted(words, 1, "data") && uint32_of(word(words, 0), &node)) {
         uint8_t status = hp_data(session_at(self), node);
@@ -945,6 +1067,8 @@ static PyObject *call_set_data(PyObject *self, PyObject *words)
 {
     uint32_t node = 0;
     Slice data;
+    if (is_busy((Calls *)self))
+        return NULL;
     PyObject *found = NULL;
     begin(&data);
     if (is_counted(words, 2, "set_data") && uint32_of(word(words, 0), &node) && text_of(word(words, 1), &data)) {
@@ -959,6 +1083,8 @@ static PyObject *call_append_data(PyObject *self, PyObject *words)
 {
     uint32_t node = 0;
     Slice data;
+    if (is_busy((Calls *)self))
+        return NULL;
     PyObject *found = NULL;
     begin(&data);
     if (is_counted(words, 2, "append_data") && uint32_of(word(words, 0), &node) && text_of(word(words, 1), &data)) {
@@ -974,6 +1100,8 @@ static PyObject *call_insert_data(PyObject *self, PyObject *words)
     uint32_t node = 0;
     uint32_t offset = 0;
     Slice data;
+    if (is_busy((Calls *)self))
+        return NULL;
     PyObject *found = NULL;
     begin(&data);
     if (is_counted(words, 3, "insert_data") && uint32_of(word(words, 0), &node) && uint32_of(word(words, 1), &offset) && text_of(word(words, 2), &data)) {
@@ -989,6 +1117,8 @@ static PyObject *call_delete_data(PyObject *self, PyObject *words)
     uint32_t node = 0;
     uint32_t offset = 0;
     uint32_t count = 0;
+    if (is_busy((Calls *)self))
+        return NULL;
     PyObject *found = NULL;
     if (is_counted(words, 3, "delete_data") && uint32_of(word(words, 0), &node) && uint32_of(word(words, 1), &offset) && uint32_of(word(words, 2), &count)) {
         uint8_t status = hp_delete_data(session_at(self), node, offset, count);
@@ -1003,6 +1133,8 @@ static PyObject *call_replace_data(PyObject *self, PyObject *words)
     uint32_t offset = 0;
     uint32_t count = 0;
     Slice data;
+    if (is_busy((Calls *)self))
+        return NULL;
     PyObject *found = NULL;
     begin(&data);
     if (is_counted(words, 4, "replace_data") && uint32_of(word(words, 0), &node) && uint32_of(word(words, 1), &offset) && uint32_of(word(words, 2), &count) && text_of(word(words, 3), &data)) {
@@ -1018,6 +1150,8 @@ static PyObject *call_substring_data(PyObject *self, PyObject *words)
     uint32_t node = 0;
     uint32_t offset = 0;
     uint32_t count = 0;
+    if (is_busy((Calls *)self))
+        return NULL;
     PyObject *found = NULL;
     if (is_counted(words, 3, "substring_data") && uint32_of(word(words, 0), &node) && uint32_of(word(words, 1), &offset) && uint32_of(word(words, 2), &count)) {
         uint8_t status = hp_substring_data(session_at(self), node, offset, count);
@@ -1031,6 +1165,8 @@ static PyObject *call_split_text(PyObject *self, PyObject *words)
     uint32_t text = 0;
     uint32_t offset = 0;
     uint32_t rest = 0;
+    if (is_busy((Calls *)self))
+        return NULL;
     PyObject *found = NULL;
     if (is_counted(words, 2, "split_text") && uint32_of(word(words, 0), &text) && uint32_of(word(words, 1), &offset)) {
         let_go_noted((Calls *)self);
@@ -1046,6 +1182,8 @@ static PyObject *call_set_attribute(PyObject *self, PyObject *words)
     uint32_t element = 0;
     Slice name;
     Slice value;
+    if (is_busy((Calls *)self))
+        return NULL;
     PyObject *found = NULL;
     begin(&name);
     begin(&value);
@@ -1063,6 +1201,8 @@ static PyObject *call_get_attribute(PyObject *self, PyObject *words)
 {
     uint32_t element = 0;
     Slice name;
+    if (is_busy((Calls *)self))
+        return NULL;
     PyObject *found = NULL;
     begin(&name);
     if (is_counted(words, 2, "get_attribute") && uint32_of(word(words, 0), &element) && name_of(word(words, 1), &name)) {
@@ -1078,6 +1218,8 @@ static PyObject *call_has_attribute(PyObject *self, PyObject *words)
     uint32_t element = 0;
     Slice name;
     uint8_t is_there = 0;
+    if (is_busy((Calls *)self))
+        return NULL;
     PyObject *found = NULL;
     begin(&name);
     if (is_counted(words, 2, "has_attribute") && uint32_of(word(words, 0), &element) && name_of(word(words, 1), &name)) {
@@ -1092,6 +1234,8 @@ static PyObject *call_remove_attribute(PyObject *self, PyObject *words)
 {
     uint32_t element = 0;
     Slice name;
+    if (is_busy((Calls *)self))
+        return NULL;
     PyObject *found = NULL;
     begin(&name);
     if (is_counted(words, 2, "remove_attribute") && uint32_of(word(words, 0), &element) && name_of(word(words, 1), &name)) {
@@ -1109,6 +1253,8 @@ static PyObject *call_toggle_attribute(PyObject *self, PyObject *words)
     Slice name;
     uint8_t force = 0;
     uint8_t is_there = 0;
+    if (is_busy((Calls *)self))
+        return NULL;
     PyObject *found = NULL;
     begin(&name);
     if (is_counted(words, 3, "toggle_attribute") && uint32_of(word(words, 0), &element) && name_of(word(words, 1), &name) && uint8_of(word(words, 2), &force)) {
@@ -1123,6 +1269,8 @@ static PyObject *call_toggle_attribute(PyObject *self, PyObject *words)
 static PyObject *call_attribute_names(PyObject *self, PyObject *words)
 {
     uint32_t element = 0;
+    if (is_busy((Calls *)self))
+        return NULL;
     PyObject *found = NULL;
     if (is_counted(words, 1, "attribute_names") && uint32_of(word(words, 0), &element)) {
         uint8_t status = hp_attribute_names(session_at(self), element);
@@ -1135,6 +1283,8 @@ static PyObject *call_create_range(PyObject *self, PyObject *words)
 {
     uint32_t document = 0;
     uint32_t range = 0;
+    if (is_busy((Calls *)self))
+        return NULL;
     PyObject *found = NULL;
     if (is_counted(words, 1, "create_range") && uint32_of(word(words, 0), &document)) {
         let_go_noted((Calls *)self);
@@ -1148,6 +1298,8 @@ static PyObject *call_clone_range(PyObject *self, PyObject *words)
 {
     uint32_t range = 0;
     uint32_t copy = 0;
+    if (is_busy((Calls *)self))
+        return NULL;
     PyObject *found = NULL;
     if (is_counted(words, 1, "clone_range") && uint32_of(word(words, 0), &range)) {
         let_go_noted((Calls *)self);
@@ -1161,6 +1313,8 @@ static PyObject *call_range(PyObject *self, PyObject *words)
 {
     uint32_t range = 0;
     hp_ends ends;
+    if (is_busy((Calls *)self))
+        return NULL;
     PyObject *found = NULL;
     if (is_counted(words, 1, "range") && uint32_of(word(words, 0), &range)) {
         uint8_t status = hp_range(session_at(self), range, &ends);
@@ -1174,6 +1328,8 @@ static PyObject *call_set_start(PyObject *self, PyObject *words)
     uint32_t range = 0;
     uint32_t node = 0;
     uint32_t offset = 0;
+    if (is_busy((Calls *)self))
+        return NULL;
     PyObject *found = NULL;
     if (is_counted(words, 3, "set_start") && uint32_of(word(words, 0), &range) && uint32_of(word(words, 1), &node) && uint32_of(word(words, 2), &offset)) {
         uint8_t status = hp_set_start(session_at(self), range, node, offset);
@@ -1187,6 +1343,8 @@ static PyObject *call_set_end(PyObject *self, PyObject *words)
     uint32_t range = 0;
     uint32_t node = 0;
     uint32_t offset = 0;
+    if (is_busy((Calls *)self))
+        return NULL;
     PyObject *found = NULL;
     if (is_counted(words, 3, "set_end") && uint32_of(word(words, 0), &range) && uint32_of(word(words, 1), &node) && uint32_of(word(words, 2), &offset)) {
         uint8_t status = hp_set_end(session_at(self), range, node, offset);
@@ -1199,6 +1357,8 @@ static PyObject *call_set_start_before(PyObject *self, PyObject *words)
 {
     uint32_t range = 0;
     uint32_t node = 0;
+    if (is_busy((Calls *)self))
+        return NULL;
     PyObject *found = NULL;
     if (is_counted(words, 2, "set_start_before") && uint32_of(word(words, 0), &range) && uint32_of(word(words, 1), &node)) {
         uint8_t status = hp_set_start_before(session_at(self), range, node);
@@ -1211,6 +1371,8 @@ static PyObject *call_set_start_after(PyObject *self, PyObject *words)
 {
     uint32_t range = 0;
     uint32_t node = 0;
+    if (is_busy((Calls *)self))
+        return NULL;
     PyObject *found = NULL;
     if (is_counted(words, 2, "set_start_after") && uint32_of(word(words, 0), &range) && uint32_of(word(words, 1), &node)) {
         uint8_t status = hp_set_start_after(session_at(self), range, node);
@@ -1223,6 +1385,8 @@ static PyObject *call_set_end_before(PyObject *self, PyObject *words)
 {
     uint32_t range = 0;
     uint32_t node = 0;
+    if (is_busy((Calls *)self))
+        return NULL;
     PyObject *found = NULL;
     if (is_counted(words, 2, "set_end_before") && uint32_of(word(words, 0), &range) && uint32_of(word(words, 1), &node)) {
         uint8_t status = hp_set_end_before(session_at(self), range, node);
@@ -1235,6 +1399,8 @@ static PyObject *call_set_end_after(PyObject *self, PyObject *words)
 {
     uint32_t range = 0;
     uint32_t node = 0;
+    if (is_busy((Calls *)self))
+        return NULL;
     PyObject *found = NULL;
     if (is_counted(words, 2, "set_end_after") && uint32_of(word(words, 0), &range) && uint32_of(word(words, 1), &node)) {
         uint8_t status = hp_set_end_after(session_at(self), range, node);
@@ -1247,6 +1413,8 @@ static PyObject *call_collapse(PyObject *self, PyObject *words)
 {
     uint32_t range = 0;
     bool to_start = 0;
+    if (is_busy((Calls *)self))
+        return NULL;
     PyObject *found = NULL;
     if (is_counted(words, 2, "collapse") && uint32_of(word(words, 0), &range) && bool_of(word(words, 1), &to_start)) {
         uint8_t status = hp_collapse(session_at(self), range, to_start);
@@ -1259,6 +1427,8 @@ static PyObject *call_select_node(PyObject *self, PyObject *words)
 {
     uint32_t range = 0;
     uint32_t node = 0;
+    if (is_busy((Calls *)self))
+        return NULL;
     PyObject *found = NULL;
     if (is_counted(words, 2, "select_node") && uint32_of(word(words, 0), &range) && uint32_of(word(words, 1), &node)) {
         uint8_t status = hp_select_node(session_at(self), range, node);
@@ -1271,6 +1441,8 @@ static PyObject *call_select_node_contents(PyObject *self, PyObject *words)
 {
     uint32_t range = 0;
     uint32_t node = 0;
+    if (is_busy((Calls *)self))
+        return NULL;
     PyObject *found = NULL;
     if (is_counted(words, 2, "select_node_contents") && uint32_of(word(words, 0), &range) && uint32_of(word(words, 1), &node)) {
         uint8_t status = hp_select_node_contents(session_at(self), range, node);
@@ -1282,6 +1454,8 @@ static PyObject *call_select_node_contents(PyObject *self, PyObject *words)
 static PyObject *call_release_range(PyObject *self, PyObject *words)
 {
     uint32_t range = 0;
+    if (is_busy((Calls *)self))
+        return NULL;
     PyObject *found = NULL;
     if (is_counted(words, 1, "release_range") && uint32_of(word(words, 0), &range)) {
         uint8_t status = hp_release_range(session_at(self), range);
@@ -1296,6 +1470,8 @@ static PyObject *call_compare_boundary_points(PyObject *self, PyObject *words)
     uint32_t how = 0;
     uint32_t source = 0;
     int8_t order = 0;
+    if (is_busy((Calls *)self))
+        return NULL;
     PyObject *found = NULL;
     if (is_counted(words, 3, "compare_boundary_points") && uint32_of(word(words, 0), &range) && uint32_of(word(words, 1), &how) && uint32_of(word(words, 2), &source)) {
         uint8_t status = hp_compare_boundary_points(session_at(self), range, how, source, &order);
@@ -1310,6 +1486,8 @@ static PyObject *call_compare_point(PyObject *self, PyObject *words)
     uint32_t node = 0;
     uint32_t offset = 0;
     int8_t order = 0;
+    if (is_busy((Calls *)self))
+        return NULL;
     PyObject *found = NULL;
     if (is_counted(words, 3, "compare_point") && uint32_of(word(words, 0), &range) && uint32_of(word(words, 1), &node) && uint32_of(word(words, 2), &offset)) {
         uint8_t status = hp_compare_point(session_at(self), range, node, offset, &order);
@@ -1324,6 +1502,8 @@ static PyObject *call_is_point_in_range(PyObject *self, PyObject *words)
     uint32_t node = 0;
     uint32_t offset = 0;
     uint8_t is_in = 0;
+    if (is_busy((Calls *)self))
+        return NULL;
     PyObject *found = NULL;
     if (is_counted(words, 3, "is_point_in_range") && uint32_of(word(words, 0), &range) && uint32_of(word(words, 1), &node) && uint32_of(word(words, 2), &offset)) {
         uint8_t status = hp_is_point_in_range(session_at(self), range, node, offset, &is_in);
@@ -1337,6 +1517,8 @@ static PyObject *call_intersects_node(PyObject *self, PyObject *words)
     uint32_t range = 0;
     uint32_t node = 0;
     uint8_t intersects = 0;
+    if (is_busy((Calls *)self))
+        return NULL;
     PyObject *found = NULL;
     if (is_counted(words, 2, "intersects_node") && uint32_of(word(words, 0), &range) && uint32_of(word(words, 1), &node)) {
         uint8_t status = hp_intersects_node(session_at(self), range, node, &intersects);
@@ -1349,6 +1531,8 @@ static PyObject *call_common_ancestor(PyObject *self, PyObject *words)
 {
     uint32_t range = 0;
     uint32_t ancestor = 0;
+    if (is_busy((Calls *)self))
+        return NULL;
     PyObject *found = NULL;
     if (is_counted(words, 1, "common_ancestor") && uint32_of(word(words, 0), &range)) {
         uint8_t status = hp_common_ancestor(session_at(self), range, &ancestor);
@@ -1364,6 +1548,8 @@ static PyObject *call_create_static_range(PyObject *self, PyObject *words)
     uint32_t end = 0;
     uint32_t end_offset = 0;
     uint32_t range = 0;
+    if (is_busy((Calls *)self))
+        return NULL;
     PyObject *found = NULL;
     if (is_counted(words, 4, "create_static_range") && uint32_of(word(words, 0), &start) && uint32_of(word(words, 1), &start_offset) && uint32_of(word(words, 2), &end) && uint32_of(word(words, 3), &end_offset)) {
         let_go_noted((Calls *)self);
@@ -1377,6 +1563,8 @@ static PyObject *call_static_range(PyObject *self, PyObject *words)
 {
     uint32_t range = 0;
     hp_static_ends ends;
+    if (is_busy((Calls *)self))
+        return NULL;
     PyObject *found = NULL;
     if (is_counted(words, 1, "static_range") && uint32_of(word(words, 0), &range)) {
         uint8_t status = hp_static_range(session_at(self), range, &ends);
@@ -1388,6 +1576,8 @@ static PyObject *call_static_range(PyObject *self, PyObject *words)
 static PyObject *call_release_static_range(PyObject *self, PyObject *words)
 {
     uint32_t range = 0;
+    if (is_busy((Calls *)self))
+        return NULL;
     PyObject *found = NULL;
     if (is_counted(words, 1, "release_static_range") && uint32_of(word(words, 0), &range)) {
         uint8_t status = hp_release_static_range(session_at(self), range);
@@ -1399,6 +1589,8 @@ static PyObject *call_release_static_range(PyObject *self, PyObject *words)
 static PyObject *call_range_text(PyObject *self, PyObject *words)
 {
     uint32_t range = 0;
+    if (is_busy((Calls *)self))
+        return NULL;
     PyObject *found = NULL;
     if (is_counted(words, 1, "range_text") && uint32_of(word(words, 0), &range)) {
         uint8_t status = hp_range_text(session_at(self), range);
@@ -1410,6 +1602,8 @@ static PyObject *call_range_text(PyObject *self, PyObject *words)
 static PyObject *call_delete_contents(PyObject *self, PyObject *words)
 {
     uint32_t range = 0;
+    if (is_busy((Calls *)self))
+        return NULL;
     PyObject *found = NULL;
     if (is_counted(words, 1, "delete_contents") && uint32_of(word(words, 0), &range)) {
         let_go_noted((Calls *)self);
@@ -1424,6 +1618,8 @@ static PyObject *call_extract_contents(PyObject *self, PyObject *words)
 {
     uint32_t range = 0;
     uint32_t fragment = 0;
+    if (is_busy((Calls *)self))
+        return NULL;
     PyObject *found = NULL;
     if (is_counted(words, 1, "extract_contents") && uint32_of(word(words, 0), &range)) {
         let_go_noted((Calls *)self);
@@ -1438,6 +1634,8 @@ static PyObject *call_clone_contents(PyObject *self, PyObject *words)
 {
     uint32_t range = 0;
     uint32_t fragment = 0;
+    if (is_busy((Calls *)self))
+        return NULL;
     PyObject *found = NULL;
     if (is_counted(words, 1, "clone_contents") && uint32_of(word(words, 0), &range)) {
         let_go_noted((Calls *)self);
@@ -1451,6 +1649,8 @@ static PyObject *call_insert_node(PyObject *self, PyObject *words)
 {
     uint32_t range = 0;
     uint32_t node = 0;
+    if (is_busy((Calls *)self))
+        return NULL;
     PyObject *found = NULL;
     if (is_counted(words, 2, "insert_node") && uint32_of(word(words, 0), &range) && uint32_of(word(words, 1), &node)) {
         moved((Calls *)self);
@@ -1464,6 +1664,8 @@ static PyObject *call_surround_contents(PyObject *self, PyObject *words)
 {
     uint32_t range = 0;
     uint32_t parent = 0;
+    if (is_busy((Calls *)self))
+        return NULL;
     PyObject *found = NULL;
     if (is_counted(words, 2, "surround_contents") && uint32_of(word(words, 0), &range) && uint32_of(word(words, 1), &parent)) {
         let_go_noted((Calls *)self);
@@ -1482,6 +1684,8 @@ static PyObject *call_create_iterator(PyObject *self, PyObject *words)
     Slice lengths;
     Slice verdicts;
     uint32_t iterator = 0;
+    if (is_busy((Calls *)self))
+        return NULL;
     PyObject *found = NULL;
     begin(&names);
     begin(&lengths);
@@ -1505,6 +1709,8 @@ static PyObject *call_create_walker(PyObject *self, PyObject *words)
     Slice lengths;
     Slice verdicts;
     uint32_t walker = 0;
+    if (is_busy((Calls *)self))
+        return NULL;
     PyObject *found = NULL;
     begin(&names);
     begin(&lengths);
@@ -1524,6 +1730,8 @@ static PyObject *call_iterator(PyObject *self, PyObject *words)
 {
     uint32_t iterator = 0;
     hp_iterator_at place;
+    if (is_busy((Calls *)self))
+        return NULL;
     PyObject *found = NULL;
     if (is_counted(words, 1, "iterator") && uint32_of(word(words, 0), &iterator)) {
         uint8_t status = hp_iterator(session_at(self), iterator, &place);
@@ -1536,6 +1744,8 @@ static PyObject *call_next_node(PyObject *self, PyObject *words)
 {
     uint32_t iterator = 0;
     uint32_t node = 0;
+    if (is_busy((Calls *)self))
+        return NULL;
     PyObject *found = NULL;
     if (is_counted(words, 1, "next_node") && uint32_of(word(words, 0), &iterator)) {
         uint8_t status = hp_next_node(session_at(self), iterator, &node);
@@ -1548,6 +1758,8 @@ static PyObject *call_previous_node(PyObject *self, PyObject *words)
 {
     uint32_t iterator = 0;
     uint32_t node = 0;
+    if (is_busy((Calls *)self))
+        return NULL;
     PyObject *found = NULL;
     if (is_counted(words, 1, "previous_node") && uint32_of(word(words, 0), &iterator)) {
         uint8_t status = hp_previous_node(session_at(self), iterator, &node);
@@ -1560,6 +1772,8 @@ static PyObject *call_walker(PyObject *self, PyObject *words)
 {
     uint32_t walker = 0;
     hp_walker_at place;
+    if (is_busy((Calls *)self))
+        return NULL;
     PyObject *found = NULL;
     if (is_counted(words, 1, "walker") && uint32_of(word(words, 0), &walker)) {
         uint8_t status = hp_walker(session_at(self), walker, &place);
@@ -1572,6 +1786,8 @@ static PyObject *call_set_current(PyObject *self, PyObject *words)
 {
     uint32_t walker = 0;
     uint32_t node = 0;
+    if (is_busy((Calls *)self))
+        return NULL;
     PyObject *found = NULL;
     if (is_counted(words, 2, "set_current") && uint32_of(word(words, 0), &walker) && uint32_of(word(words, 1), &node)) {
         uint8_t status = hp_set_current(session_at(self), walker, node);
@@ -1585,6 +1801,8 @@ static PyObject *call_walk(PyObject *self, PyObject *words)
     uint32_t walker = 0;
     uint8_t direction = 0;
     uint32_t node = 0;
+    if (is_busy((Calls *)self))
+        return NULL;
     PyObject *found = NULL;
     if (is_counted(words, 2, "walk") && uint32_of(word(words, 0), &walker) && uint8_of(word(words, 1), &direction)) {
         uint8_t status = hp_walk(session_at(self), walker, direction, &node);
@@ -1596,6 +1814,8 @@ static PyObject *call_walk(PyObject *self, PyObject *words)
 static PyObject *call_release_iterator(PyObject *self, PyObject *words)
 {
     uint32_t iterator = 0;
+    if (is_busy((Calls *)self))
+        return NULL;
     PyObject *found = NULL;
     if (is_counted(words, 1, "release_iterator") && uint32_of(word(words, 0), &iterator)) {
         uint8_t status = hp_release_iterator(session_at(self), iterator);
@@ -1607,6 +1827,8 @@ static PyObject *call_release_iterator(PyObject *self, PyObject *words)
 static PyObject *call_release_walker(PyObject *self, PyObject *words)
 {
     uint32_t walker = 0;
+    if (is_busy((Calls *)self))
+        return NULL;
     PyObject *found = NULL;
     if (is_counted(words, 1, "release_walker") && uint32_of(word(words, 0), &walker)) {
         uint8_t status = hp_release_walker(session_at(self), walker);
@@ -1618,6 +1840,8 @@ static PyObject *call_release_walker(PyObject *self, PyObject *words)
 static PyObject *call_create_observer(PyObject *self, PyObject *words)
 {
     uint32_t observer = 0;
+    if (is_busy((Calls *)self))
+        return NULL;
     PyObject *found = NULL;
     if (is_counted(words, 0, "create_observer")) {
         let_go_noted((Calls *)self);
@@ -1634,6 +1858,8 @@ static PyObject *call_observe(PyObject *self, PyObject *words)
     hp_options options;
     Slice names;
     Slice lengths;
+    if (is_busy((Calls *)self))
+        return NULL;
     PyObject *found = NULL;
     begin(&names);
     begin(&lengths);
@@ -1649,6 +1875,8 @@ static PyObject *call_observe(PyObject *self, PyObject *words)
 static PyObject *call_disconnect(PyObject *self, PyObject *words)
 {
     uint32_t observer = 0;
+    if (is_busy((Calls *)self))
+        return NULL;
     PyObject *found = NULL;
     if (is_counted(words, 1, "disconnect") && uint32_of(word(words, 0), &observer)) {
         uint8_t status = hp_disconnect(session_at(self), observer);
@@ -1660,6 +1888,8 @@ static PyObject *call_disconnect(PyObject *self, PyObject *words)
 static PyObject *call_take_records(PyObject *self, PyObject *words)
 {
     uint32_t observer = 0;
+    if (is_busy((Calls *)self))
+        return NULL;
     PyObject *found = NULL;
     if (is_counted(words, 1, "take_records") && uint32_of(word(words, 0), &observer)) {
         uint8_t status = hp_take_records(session_at(self), observer);
@@ -1670,6 +1900,8 @@ static PyObject *call_take_records(PyObject *self, PyObject *words)
 
 static PyObject *call_notify(PyObject *self, PyObject *words)
 {
+    if (is_busy((Calls *)self))
+        return NULL;
     PyObject *found = NULL;
     if (is_counted(words, 0, "notify")) {
         uint8_t status = hp_notify(session_at(self));
@@ -1680,6 +1912,8 @@ static PyObject *call_notify(PyObject *self, PyObject *words)
 
 static PyObject *call_pending(PyObject *self, PyObject *words)
 {
+    if (is_busy((Calls *)self))
+        return NULL;
     PyObject *found = NULL;
     if (is_counted(words, 0, "pending")) {
         uint8_t status = hp_pending(session_at(self));
@@ -1690,6 +1924,8 @@ static PyObject *call_pending(PyObject *self, PyObject *words)
 
 static PyObject *call_take_pending(PyObject *self, PyObject *words)
 {
+    if (is_busy((Calls *)self))
+        return NULL;
     PyObject *found = NULL;
     if (is_counted(words, 0, "take_pending")) {
         uint8_t status = hp_take_pending(session_at(self));
@@ -1701,6 +1937,8 @@ static PyObject *call_take_pending(PyObject *self, PyObject *words)
 static PyObject *call_tell_observer(PyObject *self, PyObject *words)
 {
     uint32_t observer = 0;
+    if (is_busy((Calls *)self))
+        return NULL;
     PyObject *found = NULL;
     if (is_counted(words, 1, "tell_observer") && uint32_of(word(words, 0), &observer)) {
         uint8_t status = hp_tell_observer(session_at(self), observer);
@@ -1712,6 +1950,8 @@ static PyObject *call_tell_observer(PyObject *self, PyObject *words)
 static PyObject *call_release_observer(PyObject *self, PyObject *words)
 {
     uint32_t observer = 0;
+    if (is_busy((Calls *)self))
+        return NULL;
     PyObject *found = NULL;
     if (is_counted(words, 1, "release_observer") && uint32_of(word(words, 0), &observer)) {
         uint8_t status = hp_release_observer(session_at(self), observer);
@@ -1723,6 +1963,8 @@ static PyObject *call_release_observer(PyObject *self, PyObject *words)
 static PyObject *call_read_children(PyObject *self, PyObject *words)
 {
     uint32_t node = 0;
+    if (is_busy((Calls *)self))
+        return NULL;
     PyObject *found = NULL;
     if (is_counted(words, 1, "children") && uint32_of(word(words, 0), &node)) {
         uint8_t status = hp_children(session_at(self), node);
@@ -1733,6 +1975,8 @@ static PyObject *call_read_children(PyObject *self, PyObject *words)
 
 static PyObject *call_read_pending(PyObject *self, PyObject *words)
 {
+    if (is_busy((Calls *)self))
+        return NULL;
     PyObject *found = NULL;
     if (is_counted(words, 0, "pending")) {
         uint8_t status = hp_pending(session_at(self));
@@ -1744,6 +1988,8 @@ static PyObject *call_read_pending(PyObject *self, PyObject *words)
 static PyObject *call_read_attribute_names(PyObject *self, PyObject *words)
 {
     uint32_t element = 0;
+    if (is_busy((Calls *)self))
+        return NULL;
     PyObject *found = NULL;
     if (is_counted(words, 1, "attribute_names") && uint32_of(word(words, 0), &element)) {
         uint8_t status = hp_attribute_names(session_at(self), element);
@@ -1755,6 +2001,8 @@ static PyObject *call_read_attribute_names(PyObject *self, PyObject *words)
 static PyObject *call_read_data(PyObject *self, PyObject *words)
 {
     uint32_t node = 0;
+    if (is_busy((Calls *)self))
+        return NULL;
     PyObject *found = NULL;
     if (is_counted(words, 1, "data") && uint32_of(word(words, 0), &node)) {
         uint8_t status = hp_data(session_at(self), node);
@@ -1768,6 +2016,8 @@ static PyObject *call_read_substring_data(PyObject *self, PyObject *words)
     uint32_t node = 0;
     uint32_t offset = 0;
     uint32_t count = 0;
+    if (is_busy((Calls *)self))
+        return NULL;
     PyObject *found = NULL;
     if (is_counted(words, 3, "substring_data") && uint32_of(word(words, 0), &node) && uint32_of(word(words, 1), &offset) && uint32_of(word(words, 2), &count)) {
         uint8_t status = hp_substring_data(session_at(self), node, offset, count);
@@ -1779,6 +2029,8 @@ static PyObject *call_read_substring_data(PyObject *self, PyObject *words)
 static PyObject *call_read_range_text(PyObject *self, PyObject *words)
 {
     uint32_t range = 0;
+    if (is_busy((Calls *)self))
+        return NULL;
     PyObject *found = NULL;
     if (is_counted(words, 1, "range_text") && uint32_of(word(words, 0), &range)) {
         uint8_t status = hp_range_text(session_at(self), range);
@@ -1790,6 +2042,8 @@ static PyObject *call_read_range_text(PyObject *self, PyObject *words)
 static PyObject *call_read_text_content(PyObject *self, PyObject *words)
 {
     uint32_t node = 0;
+    if (is_busy((Calls *)self))
+        return NULL;
     PyObject *found = NULL;
     if (is_counted(words, 1, "text_content") && uint32_of(word(words, 0), &node)) {
         uint8_t status = hp_text_content(session_at(self), node);
@@ -1802,6 +2056,8 @@ static PyObject *call_read_get_attribute(PyObject *self, PyObject *words)
 {
     uint32_t element = 0;
     Slice name;
+    if (is_busy((Calls *)self))
+        return NULL;
     PyObject *found = NULL;
     begin(&name);
     if (is_counted(words, 2, "get_attribute") && uint32_of(word(words, 0), &element) && name_of(word(words, 1), &name)) {
@@ -1942,6 +2198,8 @@ static PyObject *member_Node_node_type(PyObject *self, PyObject *nothing)
 {
     (void)nothing;
     hp_node_links links;
+    if (is_busy(((Thing *)self)->calls))
+        return NULL;
     uint8_t status = hp_links(session_of(self), number_of(self), &links);
     return status ? refused_of(status, "links", self, NULL, 0) : PyLong_FromSize_t(links.kind);
 }
@@ -1950,6 +2208,8 @@ static PyObject *member_Node_node_document(PyObject *self, PyObject *nothing)
 {
     (void)nothing;
     hp_node_links links;
+    if (is_busy(((Thing *)self)->calls))
+        return NULL;
     uint8_t status = hp_links(session_of(self), number_of(self), &links);
     return status ? refused_of(status, "links", self, NULL, 0) : made_at(self, KIND_DOCUMENT, FAMILY_NODE, links.document);
 }
@@ -1958,6 +2218,8 @@ static PyObject *member_Node_parent_node(PyObject *self, PyObject *nothing)
 {
     (void)nothing;
     hp_node_links links;
+    if (is_busy(((Thing *)self)->calls))
+        return NULL;
     uint8_t status = hp_links(session_of(self), number_of(self), &links);
     return status ? refused_of(status, "links", self, NULL, 0) : node_or_none_at(self, links.parent);
 }
@@ -1966,6 +2228,8 @@ static PyObject *member_Node_previous_sibling(PyObject *self, PyObject *nothing)
 {
     (void)nothing;
     hp_node_links links;
+    if (is_busy(((Thing *)self)->calls))
+        return NULL;
     uint8_t status = hp_links(session_of(self), number_of(self), &links);
     return status ? refused_of(status, "links", self, NULL, 0) : node_or_none_at(self, links.previous);
 }
@@ -1974,6 +2238,8 @@ static PyObject *member_Node_next_sibling(PyObject *self, PyObject *nothing)
 {
     (void)nothing;
     hp_node_links links;
+    if (is_busy(((Thing *)self)->calls))
+        return NULL;
     uint8_t status = hp_links(session_of(self), number_of(self), &links);
     return status ? refused_of(status, "links", self, NULL, 0) : node_or_none_at(self, links.next);
 }
@@ -1982,6 +2248,8 @@ static PyObject *member_Node_first_child(PyObject *self, PyObject *nothing)
 {
     (void)nothing;
     uint32_t child = 0;
+    if (is_busy(((Thing *)self)->calls))
+        return NULL;
     uint8_t status = hp_first_child(session_of(self), number_of(self), &child);
     return status ? refused_of(status, "first_child", self, NULL, 0) : node_or_none_at(self, child);
 }
@@ -1990,6 +2258,8 @@ static PyObject *member_Node_last_child(PyObject *self, PyObject *nothing)
 {
     (void)nothing;
     uint32_t child = 0;
+    if (is_busy(((Thing *)self)->calls))
+        return NULL;
     uint8_t status = hp_last_child(session_of(self), number_of(self), &child);
     return status ? refused_of(status, "last_child", self, NULL, 0) : node_or_none_at(self, child);
 }
@@ -1998,6 +2268,8 @@ static PyObject *member_Node_index(PyObject *self, PyObject *nothing)
 {
     (void)nothing;
     size_t index = 0;
+    if (is_busy(((Thing *)self)->calls))
+        return NULL;
     uint8_t status = hp_index(session_of(self), number_of(self), &index);
     return status ? refused_of(status, "index", self, NULL, 0) : PyLong_FromSize_t(index);
 }
@@ -2006,6 +2278,8 @@ static PyObject *member_Node_length(PyObject *self, PyObject *nothing)
 {
     (void)nothing;
     hp_node_links links;
+    if (is_busy(((Thing *)self)->calls))
+        return NULL;
     uint8_t status = hp_links(session_of(self), number_of(self), &links);
     return status ? refused_of(status, "links", self, NULL, 0) : PyLong_FromSize_t(links.length);
 }
@@ -2014,6 +2288,8 @@ static PyObject *member_Node_get_root_node(PyObject *self, PyObject *nothing)
 {
     (void)nothing;
     uint32_t root = 0;
+    if (is_busy(((Thing *)self)->calls))
+        return NULL;
     uint8_t status = hp_root(session_of(self), number_of(self), &root);
     return status ? refused_of(status, "root", self, NULL, 0) : node_at(self, root);
 }
@@ -2024,6 +2300,8 @@ static PyObject *member_Node_contains(PyObject *self, PyObject *words, PyObject 
     PyObject *given[1];
     uint32_t other = HP_NONE;
     uint8_t contains = 0;
+    if (is_busy(((Thing *)self)->calls))
+        return NULL;
     PyObject *found = NULL;
     if (sort(words, named, names, 0, given, "contains") && node_or_none_of(self, given[0], &other)) {
         uint8_t status = hp_contains(session_of(self), number_of(self), other, &contains);
@@ -2038,6 +2316,8 @@ static PyObject *member_Node_is_equal_node(PyObject *self, PyObject *words, PyOb
     PyObject *given[1];
     uint32_t other = HP_NONE;
     uint8_t is_equal = 0;
+    if (is_busy(((Thing *)self)->calls))
+        return NULL;
     PyObject *found = NULL;
     if (sort(words, named, names, 0, given, "is_equal_node") && node_or_none_of(self, given[0], &other)) {
         uint8_t status = hp_is_equal(session_of(self), number_of(self), other, &is_equal);
@@ -2052,6 +2332,8 @@ static PyObject *member_Node_compare_document_position(PyObject *self, PyObject 
     PyObject *given[1];
     uint32_t other = 0;
     uint32_t position = 0;
+    if (is_busy(((Thing *)self)->calls))
+        return NULL;
     PyObject *found = NULL;
     if (sort(words, named, names, 1, given, "compare_document_position") && node_of(self, given[0], &other)) {
         uint8_t status = hp_compare_position(session_of(self), number_of(self), other, &position);
@@ -2065,6 +2347,8 @@ static PyObject *member_Node_append_child(PyObject *self, PyObject *words, PyObj
     static const char *const names[] = { "node", NULL };
     PyObject *given[1];
     uint32_t node = 0;
+    if (is_busy(((Thing *)self)->calls))
+        return NULL;
     PyObject *found = NULL;
     if (sort(words, named, names, 1, given, "append_child") && node_of(self, given[0], &node)) {
         moved(((Thing *)self)->calls);
@@ -2080,6 +2364,8 @@ static PyObject *member_Node_insert_before(PyObject *self, PyObject *words, PyOb
     PyObject *given[2];
     uint32_t node = 0;
     uint32_t child = HP_NONE;
+    if (is_busy(((Thing *)self)->calls))
+        return NULL;
     PyObject *found = NULL;
     if (sort(words, named, names, 1, given, "insert_before") && node_of(self, given[0], &node) && node_or_none_of(self, given[1], &child)) {
         moved(((Thing *)self)->calls);
@@ -2095,6 +2381,8 @@ static PyObject *member_Node_replace_child(PyObject *self, PyObject *words, PyOb
     PyObject *given[2];
     uint32_t node = 0;
     uint32_t child = 0;
+    if (is_busy(((Thing *)self)->calls))
+        return NULL;
     PyObject *found = NULL;
     if (sort(words, named, names, 2, given, "replace_child") && node_of(self, given[0], &node) && node_of(self, given[1], &child)) {
         let_go_noted(((Thing *)self)->calls);
@@ -2110,6 +2398,8 @@ static PyObject *member_Node_remove_child(PyObject *self, PyObject *words, PyObj
     static const char *const names[] = { "child", NULL };
     PyObject *given[1];
     uint32_t child = 0;
+    if (is_busy(((Thing *)self)->calls))
+        return NULL;
     PyObject *found = NULL;
     if (sort(words, named, names, 1, given, "remove_child") && node_of(self, given[0], &child)) {
         let_go_noted(((Thing *)self)->calls);
@@ -2123,6 +2413,8 @@ static PyObject *member_Node_remove_child(PyObject *self, PyObject *words, PyObj
 static PyObject *member_Node_normalize(PyObject *self, PyObject *nothing)
 {
     (void)nothing;
+    if (is_busy(((Thing *)self)->calls))
+        return NULL;
     let_go_noted(((Thing *)self)->calls);
     moved(((Thing *)self)->calls);
     note_texts(((Thing *)self)->calls, number_of(self));
@@ -2133,17 +2425,12 @@ static PyObject *member_Node_normalize(PyObject *self, PyObject *nothing)
 static PyObject *member_Node_discard(PyObject *self, PyObject *nothing)
 {
     (void)nothing;
+    if (is_busy(((Thing *)self)->calls))
+        return NULL;
     let_go_noted(((Thing *)self)->calls);
     moved(((Thing *)self)->calls);
     uint8_t status = hp_discard(session_of(self), number_of(self));
     return status ? refused_of(status, "discard", self, NULL, 0) : let_go(((Thing *)self)->calls, none());
-}
-
-static PyObject *member_Node_text_content(PyObject *self, PyObject *nothing)
-{
-    (void)nothing;
-    uint8_t status = hp_text_content(session_of(self), number_of(self));
-    return status ? refused_of(status, "text_content", self, NULL, 0) : text_answer(session_of(self));
 }
 
 static PyObject *member_Node_text_content_set(PyObject *self, PyObject *words, PyObject *named)
@@ -2151,6 +2438,8 @@ static PyObject *member_Node_text_content_set(PyObject *self, PyObject *words, P
     static const char *const names[] = { "text", NULL };
     PyObject *given[1];
     Slice text;
+    if (is_busy(((Thing *)self)->calls))
+        return NULL;
     PyObject *found = NULL;
     begin(&text);
     if (sort(words, named, names, 0, given, "text_content") && text_or_none_of(given[0], &text)) {
@@ -2167,6 +2456,8 @@ static PyObject *member_Node_text_content_set(PyObject *self, PyObject *words, P
 static PyObject *member_ChildNode_remove(PyObject *self, PyObject *nothing)
 {
     (void)nothing;
+    if (is_busy(((Thing *)self)->calls))
+        return NULL;
     let_go_noted(((Thing *)self)->calls);
     moved(((Thing *)self)->calls);
     uint8_t status = hp_remove(session_of(self), number_of(self));
@@ -2178,6 +2469,8 @@ static PyObject *member_Element_get_attribute(PyObject *self, PyObject *words, P
     static const char *const names[] = { "name", NULL };
     PyObject *given[1];
     Slice name;
+    if (is_busy(((Thing *)self)->calls))
+        return NULL;
     PyObject *found = NULL;
     begin(&name);
     if (sort(words, named, names, 1, given, "get_attribute") && name_of(given[0], &name)) {
@@ -2194,6 +2487,8 @@ static PyObject *member_Element_set_attribute(PyObject *self, PyObject *words, P
     PyObject *given[2];
     Slice name;
     Slice value;
+    if (is_busy(((Thing *)self)->calls))
+        return NULL;
     PyObject *found = NULL;
     begin(&name);
     begin(&value);
@@ -2213,6 +2508,8 @@ static PyObject *member_Element_has_attribute(PyObject *self, PyObject *words, P
     PyObject *given[1];
     Slice name;
     uint8_t is_there = 0;
+    if (is_busy(((Thing *)self)->calls))
+        return NULL;
     PyObject *found = NULL;
     begin(&name);
     if (sort(words, named, names, 1, given, "has_attribute") && name_of(given[0], &name)) {
@@ -2228,6 +2525,8 @@ static PyObject *member_Element_remove_attribute(PyObject *self, PyObject *words
     static const char *const names[] = { "name", NULL };
     PyObject *given[1];
     Slice name;
+    if (is_busy(((Thing *)self)->calls))
+        return NULL;
     PyObject *found = NULL;
     begin(&name);
     if (sort(words, named, names, 1, given, "remove_attribute") && name_of(given[0], &name)) {
@@ -2242,6 +2541,8 @@ static PyObject *member_Element_remove_attribute(PyObject *self, PyObject *words
 static PyObject *member_Element_get_attribute_names(PyObject *self, PyObject *nothing)
 {
     (void)nothing;
+    if (is_busy(((Thing *)self)->calls))
+        return NULL;
     uint8_t status = hp_attribute_names(session_of(self), number_of(self));
     return status ? refused_of(status, "attribute_names", self, NULL, 0) : names_answer(session_of(self));
 }
@@ -2250,6 +2551,8 @@ static PyObject *member_CharacterData_data(PyObject *self, PyObject *nothing)
 {
     (void)nothing;
     hp_text_view out;
+    if (is_busy(((Thing *)self)->calls))
+        return NULL;
     uint8_t status = hp_data_of(session_of(self), number_of(self), &out);
     return status ? refused_of(status == HP_NOT_THERE ? HP_TYPE_ERROR : status, "data_of", self, NULL, 0) : text_from(out.units, out.length);
 }
@@ -2259,6 +2562,8 @@ static PyObject *member_CharacterData_data_set(PyObject *self, PyObject *words, 
     static const char *const names[] = { "data", NULL };
     PyObject *given[1];
     Slice data;
+    if (is_busy(((Thing *)self)->calls))
+        return NULL;
     PyObject *found = NULL;
     begin(&data);
     if (sort(words, named, names, 1, given, "data") && text_of(given[0], &data)) {
@@ -2275,6 +2580,8 @@ static PyObject *member_CharacterData_substring_data(PyObject *self, PyObject *w
     PyObject *given[2];
     uint32_t offset = 0;
     uint32_t count = 0;
+    if (is_busy(((Thing *)self)->calls))
+        return NULL;
     PyObject *found = NULL;
     if (sort(words, named, names, 2, given, "substring_data") && uint32_of(given[0], &offset) && uint32_of(given[1], &count)) {
         uint8_t status = hp_substring_data(session_of(self), number_of(self), offset, count);
@@ -2288,6 +2595,8 @@ static PyObject *member_CharacterData_append_data(PyObject *self, PyObject *word
     static const char *const names[] = { "data", NULL };
     PyObject *given[1];
     Slice data;
+    if (is_busy(((Thing *)self)->calls))
+        return NULL;
     PyObject *found = NULL;
     begin(&data);
     if (sort(words, named, names, 1, given, "append_data") && text_of(given[0], &data)) {
@@ -2304,6 +2613,8 @@ static PyObject *member_CharacterData_insert_data(PyObject *self, PyObject *word
     PyObject *given[2];
     uint32_t offset = 0;
     Slice data;
+    if (is_busy(((Thing *)self)->calls))
+        return NULL;
     PyObject *found = NULL;
     begin(&data);
     if (sort(words, named, names, 2, given, "insert_data") && uint32_of(given[0], &offset) && text_of(given[1], &data)) {
@@ -2320,6 +2631,8 @@ static PyObject *member_CharacterData_delete_data(PyObject *self, PyObject *word
     PyObject *given[2];
     uint32_t offset = 0;
     uint32_t count = 0;
+    if (is_busy(((Thing *)self)->calls))
+        return NULL;
     PyObject *found = NULL;
     if (sort(words, named, names, 2, given, "delete_data") && uint32_of(given[0], &offset) && uint32_of(given[1], &count)) {
         uint8_t status = hp_delete_data(session_of(self), number_of(self), offset, count);
@@ -2335,6 +2648,8 @@ static PyObject *member_CharacterData_replace_data(PyObject *self, PyObject *wor
     uint32_t offset = 0;
     uint32_t count = 0;
     Slice data;
+    if (is_busy(((Thing *)self)->calls))
+        return NULL;
     PyObject *found = NULL;
     begin(&data);
     if (sort(words, named, names, 3, given, "replace_data") && uint32_of(given[0], &offset) && uint32_of(given[1], &count) && text_of(given[2], &data)) {
@@ -2351,6 +2666,8 @@ static PyObject *member_Text_split_text(PyObject *self, PyObject *words, PyObjec
     PyObject *given[1];
     uint32_t offset = 0;
     uint32_t rest = 0;
+    if (is_busy(((Thing *)self)->calls))
+        return NULL;
     PyObject *found = NULL;
     if (sort(words, named, names, 1, given, "split_text") && uint32_of(given[0], &offset)) {
         let_go_noted(((Thing *)self)->calls);
@@ -2367,6 +2684,8 @@ static PyObject *member_Document_create_element(PyObject *self, PyObject *words,
     PyObject *given[1];
     Slice name;
     uint32_t element = 0;
+    if (is_busy(((Thing *)self)->calls))
+        return NULL;
     PyObject *found = NULL;
     begin(&name);
     if (sort(words, named, names, 1, given, "create_element") && name_of(given[0], &name)) {
@@ -2384,6 +2703,8 @@ static PyObject *member_Document_create_text_node(PyObject *self, PyObject *word
     PyObject *given[1];
     Slice data;
     uint32_t text = 0;
+    if (is_busy(((Thing *)self)->calls))
+        return NULL;
     PyObject *found = NULL;
     begin(&data);
     if (sort(words, named, names, 1, given, "create_text_node") && text_of(given[0], &data)) {
@@ -2401,6 +2722,8 @@ static PyObject *member_Document_create_comment(PyObject *self, PyObject *words,
     PyObject *given[1];
     Slice data;
     uint32_t comment = 0;
+    if (is_busy(((Thing *)self)->calls))
+        return NULL;
     PyObject *found = NULL;
     begin(&data);
     if (sort(words, named, names, 1, given, "create_comment") && text_of(given[0], &data)) {
@@ -2419,6 +2742,8 @@ static PyObject *member_Document_create_processing_instruction(PyObject *self, P
     Slice target;
     Slice data;
     uint32_t instruction = 0;
+    if (is_busy(((Thing *)self)->calls))
+        return NULL;
     PyObject *found = NULL;
     begin(&target);
     begin(&data);
@@ -2436,6 +2761,8 @@ static PyObject *member_Document_create_document_fragment(PyObject *self, PyObje
 {
     (void)nothing;
     uint32_t fragment = 0;
+    if (is_busy(((Thing *)self)->calls))
+        return NULL;
     let_go_noted(((Thing *)self)->calls);
     uint8_t status = hp_create_fragment(session_of(self), number_of(self), &fragment);
     return status ? refused_of(status, "create_fragment", self, NULL, 0) : own(made_at(self, KIND_DOCUMENT_FRAGMENT, FAMILY_NODE, fragment));
@@ -2446,6 +2773,8 @@ static PyObject *member_Document_adopt_node(PyObject *self, PyObject *words, PyO
     static const char *const names[] = { "node", NULL };
     PyObject *given[1];
     uint32_t node = 0;
+    if (is_busy(((Thing *)self)->calls))
+        return NULL;
     PyObject *found = NULL;
     if (sort(words, named, names, 1, given, "adopt_node") && node_of(self, given[0], &node)) {
         moved(((Thing *)self)->calls);
@@ -2459,6 +2788,8 @@ static PyObject *member_Document_create_range(PyObject *self, PyObject *nothing)
 {
     (void)nothing;
     uint32_t range = 0;
+    if (is_busy(((Thing *)self)->calls))
+        return NULL;
     let_go_noted(((Thing *)self)->calls);
     uint8_t status = hp_create_range(session_of(self), number_of(self), &range);
     return status ? refused_of(status, "create_range", self, NULL, 0) : own(made_at(self, KIND_RANGE, FAMILY_RANGE, range));
@@ -2468,6 +2799,8 @@ static PyObject *member_Range_start_container(PyObject *self, PyObject *nothing)
 {
     (void)nothing;
     hp_ends ends;
+    if (is_busy(((Thing *)self)->calls))
+        return NULL;
     uint8_t status = hp_range(session_of(self), number_of(self), &ends);
     return status ? refused_of(status, "range", self, NULL, 0) : node_at(self, ends.start);
 }
@@ -2476,6 +2809,8 @@ static PyObject *member_Range_start_offset(PyObject *self, PyObject *nothing)
 {
     (void)nothing;
     hp_ends ends;
+    if (is_busy(((Thing *)self)->calls))
+        return NULL;
     uint8_t status = hp_range(session_of(self), number_of(self), &ends);
     return status ? refused_of(status, "range", self, NULL, 0) : PyLong_FromSize_t(ends.start_offset);
 }
@@ -2484,6 +2819,8 @@ static PyObject *member_Range_end_container(PyObject *self, PyObject *nothing)
 {
     (void)nothing;
     hp_ends ends;
+    if (is_busy(((Thing *)self)->calls))
+        return NULL;
     uint8_t status = hp_range(session_of(self), number_of(self), &ends);
     return status ? refused_of(status, "range", self, NULL, 0) : node_at(self, ends.end);
 }
@@ -2492,6 +2829,8 @@ static PyObject *member_Range_end_offset(PyObject *self, PyObject *nothing)
 {
     (void)nothing;
     hp_ends ends;
+    if (is_busy(((Thing *)self)->calls))
+        return NULL;
     uint8_t status = hp_range(session_of(self), number_of(self), &ends);
     return status ? refused_of(status, "range", self, NULL, 0) : PyLong_FromSize_t(ends.end_offset);
 }
@@ -2502,6 +2841,8 @@ static PyObject *member_Range_set_start(PyObject *self, PyObject *words, PyObjec
     PyObject *given[2];
     uint32_t node = 0;
     uint32_t offset = 0;
+    if (is_busy(((Thing *)self)->calls))
+        return NULL;
     PyObject *found = NULL;
     if (sort(words, named, names, 2, given, "set_start") && node_of(self, given[0], &node) && uint32_of(given[1], &offset)) {
         uint8_t status = hp_set_start(session_of(self), number_of(self), node, offset);
@@ -2516,6 +2857,8 @@ static PyObject *member_Range_set_end(PyObject *self, PyObject *words, PyObject 
     PyObject *given[2];
     uint32_t node = 0;
     uint32_t offset = 0;
+    if (is_busy(((Thing *)self)->calls))
+        return NULL;
     PyObject *found = NULL;
     if (sort(words, named, names, 2, given, "set_end") && node_of(self, given[0], &node) && uint32_of(given[1], &offset)) {
         uint8_t status = hp_set_end(session_of(self), number_of(self), node, offset);
@@ -2529,6 +2872,8 @@ static PyObject *member_Range_select_node(PyObject *self, PyObject *words, PyObj
     static const char *const names[] = { "node", NULL };
     PyObject *given[1];
     uint32_t node = 0;
+    if (is_busy(((Thing *)self)->calls))
+        return NULL;
     PyObject *found = NULL;
     if (sort(words, named, names, 1, given, "select_node") && node_of(self, given[0], &node)) {
         uint8_t status = hp_select_node(session_of(self), number_of(self), node);
@@ -2542,6 +2887,8 @@ static PyObject *member_Range_select_node_contents(PyObject *self, PyObject *wor
     static const char *const names[] = { "node", NULL };
     PyObject *given[1];
     uint32_t node = 0;
+    if (is_busy(((Thing *)self)->calls))
+        return NULL;
     PyObject *found = NULL;
     if (sort(words, named, names, 1, given, "select_node_contents") && node_of(self, given[0], &node)) {
         uint8_t status = hp_select_node_contents(session_of(self), number_of(self), node);
@@ -2557,6 +2904,8 @@ static PyObject *member_Range_is_point_in_range(PyObject *self, PyObject *words,
     uint32_t node = 0;
     uint32_t offset = 0;
     uint8_t is_in = 0;
+    if (is_busy(((Thing *)self)->calls))
+        return NULL;
     PyObject *found = NULL;
     if (sort(words, named, names, 2, given, "is_point_in_range") && node_of(self, given[0], &node) && uint32_of(given[1], &offset)) {
         uint8_t status = hp_is_point_in_range(session_of(self), number_of(self), node, offset, &is_in);
@@ -2571,6 +2920,8 @@ static PyObject *member_Range_intersects_node(PyObject *self, PyObject *words, P
     PyObject *given[1];
     uint32_t node = 0;
     uint8_t intersects = 0;
+    if (is_busy(((Thing *)self)->calls))
+        return NULL;
     PyObject *found = NULL;
     if (sort(words, named, names, 1, given, "intersects_node") && node_of(self, given[0], &node)) {
         uint8_t status = hp_intersects_node(session_of(self), number_of(self), node, &intersects);
@@ -2582,6 +2933,8 @@ static PyObject *member_Range_intersects_node(PyObject *self, PyObject *words, P
 static PyObject *member_Range_release(PyObject *self, PyObject *nothing)
 {
     (void)nothing;
+    if (is_busy(((Thing *)self)->calls))
+        return NULL;
     uint8_t status = hp_release_range(session_of(self), number_of(self));
     return status ? refused_of(status, "release_range", self, NULL, 0) : none();
 }
@@ -2590,6 +2943,8 @@ static PyObject *member_NodeIterator_next_node(PyObject *self, PyObject *nothing
 {
     (void)nothing;
     uint32_t node = 0;
+    if (is_busy(((Thing *)self)->calls))
+        return NULL;
     uint8_t status = hp_next_node(session_of(self), number_of(self), &node);
     return status ? refused_of(status, "next_node", self, NULL, 0) : node_or_none_at(self, node);
 }
@@ -2598,6 +2953,8 @@ static PyObject *member_NodeIterator_previous_node(PyObject *self, PyObject *not
 {
     (void)nothing;
     uint32_t node = 0;
+    if (is_busy(((Thing *)self)->calls))
+        return NULL;
     uint8_t status = hp_previous_node(session_of(self), number_of(self), &node);
     return status ? refused_of(status, "previous_node", self, NULL, 0) : node_or_none_at(self, node);
 }
@@ -2605,6 +2962,8 @@ static PyObject *member_NodeIterator_previous_node(PyObject *self, PyObject *not
 static PyObject *member_NodeIterator_release(PyObject *self, PyObject *nothing)
 {
     (void)nothing;
+    if (is_busy(((Thing *)self)->calls))
+        return NULL;
     uint8_t status = hp_release_iterator(session_of(self), number_of(self));
     return status ? refused_of(status, "release_iterator", self, NULL, 0) : none();
 }
@@ -2629,7 +2988,6 @@ static PyMethodDef members_made[] = {
     { "Node.remove_child", (PyCFunction)(void (*)(void))member_Node_remove_child, METH_VARARGS | METH_KEYWORDS, NULL },
     { "Node.normalize", member_Node_normalize, METH_NOARGS, NULL },
     { "Node.discard", member_Node_discard, METH_NOARGS, NULL },
-    { "Node.text_content", member_Node_text_content, METH_NOARGS, NULL },
     { "Node.text_content=", (PyCFunction)(void (*)(void))member_Node_text_content_set, METH_VARARGS | METH_KEYWORDS, NULL },
     { "ChildNode.remove", member_ChildNode_remove, METH_NOARGS, NULL },
     { "Element.get_attribute", (PyCFunction)(void (*)(void))member_Element_get_attribute, METH_VARARGS | METH_KEYWORDS, NULL },

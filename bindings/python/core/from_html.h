@@ -138,6 +138,8 @@ static const TheirDocument *document_in(PyObject *capsule)
  * and it returns False. */
 static PyObject *builder_add_page(PyObject *self, PyObject *words)
 {
+    if (is_busy(((Builder *)self)->calls))
+        return NULL;
     Builder *it = (Builder *)self;
     bool is_exact = false;
     if (!is_counted(words, 2, "add_page") || !bool_of(word(words, 1), &is_exact))
@@ -158,6 +160,8 @@ static PyObject *builder_add_page(PyObject *self, PyObject *words)
 /* Adds the nodes of a part of a page, which stand under the root. */
 static PyObject *builder_add_part(PyObject *self, PyObject *capsule)
 {
+    if (is_busy(((Builder *)self)->calls))
+        return NULL;
     const TheirDocument *document = document_in(capsule);
     const Theirs *root = document ? document->children : NULL;
     while (root && root->type != THEIR_ELEMENT)

@@ -160,6 +160,8 @@ static bool add_xml(Builder *builder, const char *octets, size_t length, bool is
 /* Adds the nodes of a document of XML. Returns False where it is not well-formed. */
 static PyObject *builder_add_xml(PyObject *self, PyObject *source)
 {
+    if (is_busy(((Builder *)self)->calls))
+        return NULL;
     bool is_text = PyUnicode_Check(source);
     PyObject *octets = is_text ? PyUnicode_AsUTF8String(source) : same(source);
     char *at = NULL;

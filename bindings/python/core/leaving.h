@@ -8,6 +8,19 @@
 #include "labels.h"
 #include "table.h"
 
+/* Numbers of nodes, and then the kind of each. */
+typedef struct {
+    uint32_t *at;
+    uint8_t *kinds;
+    size_t length, room;
+} Numbers;
+
+static void numbers_drop(Numbers *it)
+{
+    PyMem_Free(it->at);
+    PyMem_Free(it->kinds);
+}
+
 /* Numbers of what may go. */
 typedef struct {
     uint32_t *at;
@@ -62,6 +75,10 @@ typedef struct {
     size_t making;
     /* What iterators have found. */
     Waiting *waiting;
+    /* Observers whose turn was to come when memory was wanting. */
+    Numbers untold;
+    /* Whether a thread is in a long call, which lets other threads run. */
+    bool is_busy;
     /* Whether a line was answered. Lines name nodes by their numbers, so none goes by itself then. */
     bool has_lines;
 } Calls;

@@ -106,6 +106,8 @@ static PyObject *calls_make(PyObject *self, PyObject *words)
 static PyObject *calls_let_all_go(PyObject *self, PyObject *nothing)
 {
     (void)nothing;
+    if (is_busy((Calls *)self))
+        return NULL;
     let_all_go((Calls *)self);
     return none();
 }
@@ -123,6 +125,8 @@ static PyObject *calls_note(PyObject *self, PyObject *nodes)
 
 static PyObject *calls_node_object(PyObject *self, PyObject *words)
 {
+    if (is_busy((Calls *)self))
+        return NULL;
     uint32_t number = 0;
     if (!is_counted(words, 2, "node_object") || !uint32_of(word(words, 1), &number))
         return NULL;
@@ -137,6 +141,8 @@ static PyObject *name_answer(hp_session *session, uint8_t part)
 
 static PyObject *calls_read_name(PyObject *self, PyObject *words)
 {
+    if (is_busy((Calls *)self))
+        return NULL;
     uint32_t node = 0;
     uint8_t part = 0;
     hp_place place;
@@ -158,6 +164,8 @@ static PyObject *line_answer(hp_session *session)
 /* The status of a line, and the line of its reply. */
 static PyObject *calls_read_line(PyObject *self, PyObject *words)
 {
+    if (is_busy((Calls *)self))
+        return NULL;
     Slice line;
     if (!is_counted(words, 1, "read_line") || !octets_of(word(words, 0), &line))
         return NULL;
@@ -174,6 +182,8 @@ static PyObject *calls_read_line(PyObject *self, PyObject *words)
 /* The line that prints a node. */
 static PyObject *calls_read_printed(PyObject *self, PyObject *words)
 {
+    if (is_busy((Calls *)self))
+        return NULL;
     uint32_t node = 0;
     hp_place place;
     if (!is_counted(words, 1, "read_printed") || !uint32_of(word(words, 0), &node))
@@ -191,6 +201,8 @@ static PyObject *tree_of(PyObject *self, PyObject *session, PyObject *words, uin
 
 static PyObject *calls_read_tree(PyObject *self, PyObject *words)
 {
+    if (is_busy((Calls *)self))
+        return NULL;
     uint32_t node = 0;
     size_t most = SIZE_MAX;
     if (!is_counted(words, 3, "read_tree") || !uint32_of(word(words, 1), &node))
@@ -205,46 +217,72 @@ static PyObject *calls_read_tree(PyObject *self, PyObject *words)
 
 static PyObject *calls_read_records(PyObject *self, PyObject *words)
 {
+    if (is_busy((Calls *)self))
+        return NULL;
     uint32_t observer = 0;
     if (!is_counted(words, 2, "read_records") || !uint32_of(word(words, 1), &observer))
         return NULL;
     PyObject *asked = PyTuple_GetSlice(words, 1, 2), *found = NULL;
+    void *kept_back = PyMem_Malloc(KEPT_BACK);
     uint8_t status = asked ? hp_take_records(session_at(self), observer) : HP_OK;
     if (asked)
-        found = status ? refused(status, "take_records", self, asked) : records_answer(word(words, 0), (Calls *)self);
+        found = status ? refused(status, "take_records", self, asked) : records_answer(word(words, 0), (Calls *)self, &kept_back);
+    PyMem_Free(kept_back);
     Py_XDECREF(asked);
     return found;
 }
 
-/* Takes the observers that wait to be told, and raises where that is refused. */
-static bool is_pending_taken(Numbers *to, PyObject *self)
+/* Raises where taking the observers that wait is refused. */
+static bool is_pending_answered(uint8_t status, PyObject *self)
 {
-    uint8_t status = hp_take_pending(session_at(self));
     PyObject *words = status ? PyTuple_New(0) : NULL;
     if (words)
         refused(status, "take_pending", self, words);
     Py_XDECREF(words);
-    return status == HP_OK && numbers_read(to, session_at(self));
+    return status == HP_OK;
 }
 
-/* Tells the observers of a session in turn. A list takes what is told, another has what was left by an earlier call. Returns what was raised, or
- * None. */
+/* Takes the observers that wait to be told, behind those that an earlier call could not tell, once there is room for all of them. */
+static bool is_pending_taken(Numbers *to, PyObject *self)
+{
+    hp_session *session = session_at(self);
+    Numbers *untold = &((Calls *)self)->untold;
+    size_t count = 0;
+    if (!is_pending_answered(hp_pending(session), self) || hp_count(session, &count) || !numbers_reserve(to, untold->length + count))
+        return false;
+    if (!is_pending_answered(hp_take_pending(session), self))
+        return false;
+    to->length = untold->length;
+    for (size_t at = 0; at < untold->length; at++)
+        to->at[at] = untold->at[at];
+    numbers_drop(untold);
+    *untold = (Numbers){ NULL, NULL, 0, 0 };
+    hp_numbers_into(session, to->at + to->length, to->room - to->length, &count);
+    to->length += count;
+    return true;
+}
+
+/* Tells the observers of a session in turn. A list takes what is told, another has what was left by an earlier call. Returns a list of what was
+ * raised, or None. */
 static PyObject *calls_tell(PyObject *self, PyObject *words)
 {
+    if (is_busy((Calls *)self))
+        return NULL;
     if (!is_counted(words, 3, "tell"))
         return NULL;
     Numbers pending = { NULL, NULL, 0, 0 };
-    Turns turns = { word(words, 0), word(words, 1), PyList_New(0), NULL, (Calls *)self };
-    bool is_done = turns.kept && is_pending_taken(&pending, self);
+    Turns turns = { word(words, 0), word(words, 1), PyList_New(0), PyList_New(0), (Calls *)self, PyMem_Malloc(KEPT_BACK), false };
+    bool is_done = turns.kept && turns.faults && is_pending_taken(&pending, self);
     if (is_done) {
         tell_all(&turns, &pending);
-        is_done = leave(turns.told, word(words, 2), turns.kept, turns.fault != NULL);
+        is_done = leave(turns.told, word(words, 2), turns.kept, PyList_Size(turns.faults) > 0);
     }
     numbers_drop(&pending);
+    PyMem_Free(turns.kept_back);
     Py_XDECREF(turns.kept);
     if (!is_done)
-        Py_CLEAR(turns.fault);
-    return turns.fault || !is_done ? turns.fault : none();
+        Py_CLEAR(turns.faults);
+    return turns.faults;
 }
 
 static PyObject *calls_is_open(PyObject *self, void *closure)
@@ -302,30 +340,40 @@ static PyObject *part_of_name(PyObject *self, const char *call, uint8_t part, bo
 static PyObject *node_node_name(PyObject *self, PyObject *nothing)
 {
     (void)nothing;
+    if (is_busy(((Thing *)self)->calls))
+        return NULL;
     return part_of_name(self, "node", 0, true);
 }
 
 static PyObject *node_first_name(PyObject *self, PyObject *nothing)
 {
     (void)nothing;
+    if (is_busy(((Thing *)self)->calls))
+        return NULL;
     return part_of_name(self, "node", 0, false);
 }
 
 static PyObject *node_public_id(PyObject *self, PyObject *nothing)
 {
     (void)nothing;
+    if (is_busy(((Thing *)self)->calls))
+        return NULL;
     return part_of_name(self, "node", 1, false);
 }
 
 static PyObject *node_system_id(PyObject *self, PyObject *nothing)
 {
     (void)nothing;
+    if (is_busy(((Thing *)self)->calls))
+        return NULL;
     return part_of_name(self, "node", 2, false);
 }
 
 static PyObject *node_owner_document(PyObject *self, PyObject *nothing)
 {
     (void)nothing;
+    if (is_busy(((Thing *)self)->calls))
+        return NULL;
     hp_node_links links;
     uint8_t status = hp_links(session_of(self), number_of(self), &links);
     if (status)
@@ -333,9 +381,34 @@ static PyObject *node_owner_document(PyObject *self, PyObject *nothing)
     return links.document == number_of(self) ? none() : made_at(self, KIND_DOCUMENT, FAMILY_NODE, links.document);
 }
 
+/* Whether a node has one child, which is a Text: its data is lent. */
+static bool is_one_text(hp_session *session, uint32_t node, hp_text_view *to)
+{
+    uint32_t child = HP_NONE;
+    hp_node_links links;
+    if (hp_first_child(session, node, &child) != HP_OK || child == HP_NONE || hp_links(session, child, &links) != HP_OK)
+        return false;
+    return links.kind == KIND_TEXT && links.next == HP_NONE && hp_data_of(session, child, to) == HP_OK;
+}
+
+/* The text in a node. Fast path: a node with one child that is a Text, other than a Document, which has none. */
+static PyObject *node_text_content(PyObject *self, PyObject *nothing)
+{
+    (void)nothing;
+    if (is_busy(((Thing *)self)->calls))
+        return NULL;
+    hp_text_view view;
+    if (is_one_text(session_of(self), number_of(self), &view))
+        return text_from(view.units, view.length);
+    uint8_t status = hp_text_content(session_of(self), number_of(self));
+    return status ? refused_of(status, "text_content", self, NULL, 0) : text_answer(session_of(self));
+}
+
 static PyObject *node_has_child_nodes(PyObject *self, PyObject *nothing)
 {
     (void)nothing;
+    if (is_busy(((Thing *)self)->calls))
+        return NULL;
     uint32_t child = HP_NONE;
     uint8_t status = hp_first_child(session_of(self), number_of(self), &child);
     return status ? refused_of(status, "first_child", self, NULL, 0) : PyBool_FromLong(child != HP_NONE);
@@ -344,6 +417,8 @@ static PyObject *node_has_child_nodes(PyObject *self, PyObject *nothing)
 static PyObject *node_tree(PyObject *self, PyObject *nothing)
 {
     (void)nothing;
+    if (is_busy(((Thing *)self)->calls))
+        return NULL;
     Thing *it = (Thing *)self;
     PyObject *words = Py_BuildValue("(O)", self);
     PyObject *found = words ? tree_of((PyObject *)it->calls, it->session, words, it->number, SIZE_MAX) : NULL;

@@ -1,27 +1,171 @@
-/* The library's memory is Python's: its calls of malloc, realloc and free are linked to these (--wrap). Python's own allocator has nodes of a size
- * side by side, and the lock of the interpreter, which it asks for, is held whenever the library runs. */
+/* The library's memory: its calls of malloc, realloc and free are linked to these (--wrap). Blocks of a size stand side by side in slabs, and one
+ * that is freed is the next to be taken. A long call runs without the lock of the interpreter, so there is a lock here. */
 #ifndef HUCKLEPORT_MEMORY_H
 #define HUCKLEPORT_MEMORY_H
 
 #include "core.h"
 
+#include <sched.h>
+
+void *__real_malloc(size_t size);
+void *__real_realloc(void *at, size_t size);
+void __real_free(void *at);
 void *__wrap_malloc(size_t size);
 void *__wrap_realloc(void *at, size_t size);
 void __wrap_free(void *at);
 
-void *__wrap_malloc(size_t size)
+/* A block is so many grains, of which a word ahead of what is handed out tells how many: none for one that malloc has made. */
+enum { GRAIN = 16, WORD = 8, MOST_GRAINS = 33, SLAB = 1 << 18 };
+/* So many slabs stay for later when no block is in use: 16 MB. */
+enum { MOST_SPARE = 64 };
+
+typedef struct Block {
+    struct Block *next;
+} Block;
+
+/* Freed blocks by their sizes; the slabs, each of which begins with the next, and those that are spare; where the last goes on and ends; and how
+ * many blocks are in use. */
+static struct {
+    Block *free[MOST_GRAINS];
+    Block *slabs, *spare;
+    char *at, *end;
+    size_t used;
+    bool is_locked;
+} memory;
+
+static void memory_lock(void)
 {
-    return PyMem_Malloc(size);
+    for (int tries = 0; __atomic_test_and_set(&memory.is_locked, __ATOMIC_ACQUIRE); tries++) {
+        if (tries % 64 == 63)
+            sched_yield();
+    }
 }
 
-void *__wrap_realloc(void *at, size_t size)
+static void memory_unlock(void)
 {
-    return PyMem_Realloc(at, size);
+    __atomic_clear(&memory.is_locked, __ATOMIC_RELEASE);
+}
+
+static size_t *word_of(void *at)
+{
+    return (size_t *)((char *)at - WORD);
+}
+
+/* Begins a slab, where there is memory for it. */
+static bool slab_made(void)
+{
+    Block *slab = memory.spare ? memory.spare : __real_malloc(SLAB);
+    if (!slab)
+        return false;
+    memory.spare = memory.spare ? slab->next : NULL;
+    slab->next = memory.slabs;
+    memory.slabs = slab;
+    memory.at = (char *)slab + GRAIN;
+    memory.end = (char *)slab + SLAB;
+    return true;
+}
+
+/* A new block at the end of the last slab. What is left of a slab that has no room for it stays unused until all slabs go. */
+static void *block_made(size_t grains)
+{
+    if ((size_t)(memory.end - memory.at) < (grains + 1) * GRAIN && !slab_made())
+        return NULL;
+    void *found = memory.at + GRAIN;
+    memory.at += grains * GRAIN;
+    *word_of(found) = grains;
+    return found;
+}
+
+static void *block_taken(size_t grains)
+{
+    memory_lock();
+    Block *found = memory.free[grains];
+    if (found)
+        memory.free[grains] = found->next;
+    else
+        found = block_made(grains);
+    memory.used += found != NULL;
+    memory_unlock();
+    return found;
+}
+
+/* Once no block is in use some slabs are kept as spare ones. Returns the others, which can go. */
+static Block *slabs_left(void)
+{
+    Block *slabs = memory.slabs;
+    size_t spare = 0;
+    memset(memory.free, 0, sizeof(memory.free));
+    memory.at = memory.end = NULL;
+    memory.slabs = NULL;
+    for (Block *it = memory.spare; it; it = it->next)
+        spare++;
+    for (; slabs && spare < MOST_SPARE; spare++) {
+        Block *next = slabs->next;
+        slabs->next = memory.spare;
+        memory.spare = slabs;
+        slabs = next;
+    }
+    return slabs;
+}
+
+static void slabs_freed(Block *slabs)
+{
+    while (slabs) {
+        Block *next = slabs->next;
+        __real_free(slabs);
+        slabs = next;
+    }
+}
+
+static void block_left(Block *it, size_t grains)
+{
+    memory_lock();
+    it->next = memory.free[grains];
+    memory.free[grains] = it;
+    Block *slabs = --memory.used ? NULL : slabs_left();
+    memory_unlock();
+    slabs_freed(slabs);
+}
+
+/* A block of malloc's own. */
+static void *large_made(char *found)
+{
+    if (!found)
+        return NULL;
+    *word_of(found + GRAIN) = 0;
+    return found + GRAIN;
+}
+
+void *__wrap_malloc(size_t size)
+{
+    size_t grains = size > GRAIN * MOST_GRAINS ? MOST_GRAINS : (size + WORD + GRAIN - 1) / GRAIN;
+    if (grains < MOST_GRAINS)
+        return block_taken(grains);
+    return size > SIZE_MAX - GRAIN ? NULL : large_made(__real_malloc(size + GRAIN));
 }
 
 void __wrap_free(void *at)
 {
-    PyMem_Free(at);
+    size_t grains = at ? *word_of(at) : 0;
+    if (grains)
+        block_left(at, grains);
+    else if (at)
+        __real_free((char *)at - GRAIN);
+}
+
+void *__wrap_realloc(void *at, size_t size)
+{
+    size_t grains = at ? *word_of(at) : 0, room = grains * GRAIN - (grains ? WORD : 0);
+    if (at && !grains && size > SLAB / 256)
+        return size > SIZE_MAX - GRAIN ? NULL : large_made(__real_realloc((char *)at - GRAIN, size + GRAIN));
+    if (grains && size <= room)
+        return at;
+    void *found = __wrap_malloc(size);
+    if (found && at)
+        memcpy(found, at, grains && room < size ? room : size);
+    if (found)
+        __wrap_free(at);
+    return found;
 }
 
 #endif

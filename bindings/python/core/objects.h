@@ -100,6 +100,28 @@ static hp_session *session_at(PyObject *calls)
     return &((Calls *)calls)->session;
 }
 
+/* Whether another thread is in a long call of the session, which is raised. (While it is raised that call may end.) */
+static bool is_busy(const Calls *it)
+{
+    if (!it->is_busy)
+        return false;
+    raise_ours("SessionInUse", PyUnicode_FromString("another thread is in a long call of this session"));
+    return true;
+}
+
+/* Lets other threads run while the library does what may take long. Its memory is malloc's, which asks for no lock of Python. */
+static PyThreadState *begin_long(Calls *it)
+{
+    it->is_busy = true;
+    return PyEval_SaveThread();
+}
+
+static void end_long(Calls *it, PyThreadState *thread)
+{
+    PyEval_RestoreThread(thread);
+    it->is_busy = false;
+}
+
 static PyObject *calls_new(PyTypeObject *type, PyObject *words, PyObject *named)
 {
     (void)words;
@@ -119,6 +141,7 @@ static void calls_dealloc(PyObject *self)
     table_drop(&it->kept);
     labels_drop(&it->labels);
     order_drop(&it->order);
+    numbers_drop(&it->untold);
     leaving_end(it);
     if (it->state)
         state_let_go(it->state);
@@ -290,10 +313,8 @@ static bool object_of(PyObject *self, PyObject *other, uint8_t family, const cha
     Thing *it = (Thing *)other;
     if (!PyObject_TypeCheck(other, ((Thing *)self)->calls->state->thing_type) || it->family != family)
         return is_not_due(due, other);
-    if (it->session != ((Thing *)self)->session) {
-        PyErr_Format(PyExc_ValueError, "the %s is of another session", due);
-        return false;
-    }
+    if (it->session != ((Thing *)self)->session)
+        return is_of_another(due);
     *to = it->number;
     return true;
 }

@@ -195,18 +195,24 @@ static PyObject *children_of(PyObject *self, KindBits bits, Make *make)
 static PyObject *node_child_nodes(PyObject *self, PyObject *nothing)
 {
     (void)nothing;
+    if (is_busy(((Thing *)self)->calls))
+        return NULL;
     return children_of(self, ALL_KINDS, spots_made);
 }
 
 static PyObject *node_children(PyObject *self, PyObject *nothing)
 {
     (void)nothing;
+    if (is_busy(((Thing *)self)->calls))
+        return NULL;
     return children_of(self, (KindBits)1 << KIND_ELEMENT, spots_made);
 }
 
 static PyObject *node_iter(PyObject *self, PyObject *nothing)
 {
     (void)nothing;
+    if (is_busy(((Thing *)self)->calls))
+        return NULL;
     return children_of(self, ALL_KINDS, walk_over);
 }
 
@@ -225,17 +231,23 @@ static PyObject *siblings(PyObject *self, Direction direction)
 static PyObject *node_next_siblings(PyObject *self, PyObject *nothing)
 {
     (void)nothing;
+    if (is_busy(((Thing *)self)->calls))
+        return NULL;
     return siblings(self, NEXT);
 }
 
 static PyObject *node_previous_siblings(PyObject *self, PyObject *nothing)
 {
     (void)nothing;
+    if (is_busy(((Thing *)self)->calls))
+        return NULL;
     return siblings(self, PREVIOUS);
 }
 
 static PyObject *node_descendants(PyObject *self, PyObject *words, PyObject *named)
 {
+    if (is_busy(((Thing *)self)->calls))
+        return NULL;
     static const char *const names[] = { "kind", NULL };
     PyObject *given[1];
     Thing *it = (Thing *)self;
@@ -292,6 +304,8 @@ static PyObject *elements_found(PyObject *self, const Slice *name, const Slice *
 
 static PyObject *node_elements_by_tag_name(PyObject *self, PyObject *words, PyObject *named)
 {
+    if (is_busy(((Thing *)self)->calls))
+        return NULL;
     static const char *const names[] = { "name", NULL };
     PyObject *given[1], *found = NULL;
     Slice name;
@@ -304,6 +318,8 @@ static PyObject *node_elements_by_tag_name(PyObject *self, PyObject *words, PyOb
 
 static PyObject *node_element_by_id(PyObject *self, PyObject *words, PyObject *named)
 {
+    if (is_busy(((Thing *)self)->calls))
+        return NULL;
     static const char *const names[] = { "id", NULL };
     PyObject *given[1], *list = NULL, *found = NULL;
     Slice name = { "id", NULL, 2, { 0 } }, value;
@@ -344,10 +360,8 @@ static bool own_node_of(PyObject *self, PyObject *node, uint32_t *to)
     Thing *it = (Thing *)node;
     if (!PyObject_TypeCheck(node, ((Calls *)self)->state->thing_type) || it->family != FAMILY_NODE)
         return is_not_due("Node", node);
-    if (it->calls != (Calls *)self) {
-        PyErr_SetString(PyExc_ValueError, "the Node is of another session");
-        return false;
-    }
+    if (it->calls != (Calls *)self)
+        return is_of_another("Node");
     *to = it->number;
     return true;
 }
@@ -384,11 +398,15 @@ static PyObject *read_data(PyObject *self, PyObject *node, const void *how)
 
 static PyObject *calls_read_data_of(PyObject *self, PyObject *nodes)
 {
+    if (is_busy((Calls *)self))
+        return NULL;
     return read_each(self, nodes, read_data, NULL);
 }
 
 static PyObject *calls_read_text_content_of(PyObject *self, PyObject *nodes)
 {
+    if (is_busy((Calls *)self))
+        return NULL;
     const Question how = { hp_text_content, "text_content" };
     return read_each(self, nodes, read_answer, &how);
 }
@@ -405,6 +423,8 @@ static PyObject *read_attribute(PyObject *self, PyObject *node, const void *how)
 
 static PyObject *calls_read_attribute_of(PyObject *self, PyObject *words)
 {
+    if (is_busy((Calls *)self))
+        return NULL;
     Slice name;
     PyObject *found = NULL;
     begin(&name);
@@ -444,6 +464,8 @@ static PyObject *read_attributes(PyObject *self, PyObject *node, const void *how
 
 static PyObject *calls_read_attributes_of(PyObject *self, PyObject *nodes)
 {
+    if (is_busy((Calls *)self))
+        return NULL;
     return read_each(self, nodes, read_attributes, NULL);
 }
 
@@ -483,6 +505,8 @@ static bool put_order(PyObject *to, hp_session *session, size_t at)
 /* (While the collector stops nothing of Python runs, so the answer stays until all of it is read.) */
 static PyObject *calls_read_orders(PyObject *self, PyObject *words)
 {
+    if (is_busy((Calls *)self))
+        return NULL;
     uint32_t node = 0;
     size_t count = 0;
     State *state = ((Calls *)self)->state;

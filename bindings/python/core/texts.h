@@ -41,13 +41,33 @@ static void *take_room(Slice *to, size_t size)
     return to->owned;
 }
 
+/* Raises an error of the package, by the name of its class. It takes the sentence. */
+static bool raise_ours(const char *kind, PyObject *sentence)
+{
+    PyObject *errors = sentence ? PyImport_ImportModule("huckleport.errors") : NULL;
+    PyObject *found = errors ? PyObject_GetAttrString(errors, kind) : NULL;
+    PyObject *fault = found ? PyObject_CallFunction(found, "OsO", Py_None, "", sentence) : NULL;
+    if (fault)
+        PyErr_SetObject(found, fault);
+    Py_XDECREF(fault);
+    Py_XDECREF(found);
+    Py_XDECREF(errors);
+    Py_XDECREF(sentence);
+    return false;
+}
+
 static bool is_not_due(const char *due, PyObject *value)
 {
     PyObject *name = PyObject_GetAttrString((PyObject *)Py_TYPE(value), "__name__");
-    if (name)
-        PyErr_Format(PyExc_TypeError, "a %s is due, and not %U", due, name);
+    PyObject *sentence = name ? PyUnicode_FromFormat("a %s is due, and not %U", due, name) : NULL;
     Py_XDECREF(name);
-    return false;
+    return raise_ours("BadType", sentence);
+}
+
+/* An object of another session than the one that it is handed to. */
+static bool is_of_another(const char *due)
+{
+    return raise_ours("BadValue", PyUnicode_FromFormat("the %s is of another session", due));
 }
 
 static uint8_t *push_units(uint8_t *to, const Py_UCS4 *from, Py_ssize_t count)
@@ -149,13 +169,17 @@ static bool octets_of(PyObject *value, Slice *to)
 static bool whole_of(PyObject *value, uint64_t most, uint64_t *to)
 {
     PyObject *number = PyNumber_Index(value);
+    if (!number && PyErr_ExceptionMatches(PyExc_TypeError)) {
+        PyErr_Clear();
+        return is_not_due("whole number", value);
+    }
     if (!number)
         return false;
     *to = PyLong_AsUnsignedLongLong(number);
     bool fits = !PyErr_Occurred() && *to <= most;
     if (!fits && (!PyErr_Occurred() || PyErr_ExceptionMatches(PyExc_OverflowError))) {
         PyErr_Clear();
-        PyErr_Format(PyExc_OverflowError, "%S is not from 0 to %llu", number, (unsigned long long)most);
+        raise_ours("BadNumber", PyUnicode_FromFormat("%S is not from 0 to %llu", number, (unsigned long long)most));
     }
     Py_DECREF(number);
     return fits;

@@ -472,6 +472,8 @@ static bool is_there(PyObject *self, PyObject *words, uint32_t node)
 /* A node and all below it as markup: a list of texts, with nodes of other kinds between, the set of all names, and whether it is doubtful in XML. */
 static PyObject *calls_read_markup(PyObject *self, PyObject *words)
 {
+    if (is_busy((Calls *)self))
+        return NULL;
     uint32_t node = 0;
     Writing it;
     bool is_plain_above = false;

@@ -12,7 +12,26 @@ from . import html, xml
 from ._lxml import from_lxml, to_lxml
 from .attributes import Attributes
 from .documents import Document
-from .errors import BadValue, DOMException, DOMTypeError, Error, InUse, LimitReached, NoSuchObject, OutOfMemory, SessionClosed
+from .errors import (
+    BadIndex,
+    BadNumber,
+    BadType,
+    BadValue,
+    DOMException,
+    DOMTypeError,
+    Error,
+    GroupIsOpen,
+    InUse,
+    LimitReached,
+    Malformed,
+    NoParser,
+    NoSuchAttribute,
+    NoSuchObject,
+    NotXML,
+    OutOfMemory,
+    SessionClosed,
+    SessionInUse,
+)
 from .history import History
 from .moves import move
 from .nodes import (
@@ -39,6 +58,9 @@ __version__ = "0.1.0"
 __all__ = [
     "AbstractRange",
     "Attributes",
+    "BadIndex",
+    "BadNumber",
+    "BadType",
     "BadValue",
     "CharacterData",
     "ChildNode",
@@ -51,15 +73,20 @@ __all__ = [
     "DocumentType",
     "Element",
     "Error",
+    "GroupIsOpen",
     "History",
     "InUse",
     "LimitReached",
+    "Malformed",
     "MutationObserver",
     "MutationRecord",
+    "NoParser",
+    "NoSuchAttribute",
     "NoSuchObject",
     "Node",
     "NodeFilter",
     "NodeIterator",
+    "NotXML",
     "OutOfMemory",
     "ParentNode",
     "ProcessingInstruction",
@@ -67,6 +94,7 @@ __all__ = [
     "Row",
     "Session",
     "SessionClosed",
+    "SessionInUse",
     "StaticRange",
     "Text",
     "TreeWalker",

@@ -2,7 +2,7 @@
 
 from __future__ import annotations
 
-from typing import Dict, Iterator, List, NamedTuple, Optional, Tuple, Union, cast
+from typing import Dict, Iterator, List, NamedTuple, Optional, Set, Tuple, Union, cast
 
 from .errors import NoSuchObject
 from .nodes import CharacterData, Element, Node, Row
@@ -338,6 +338,38 @@ def steps_back(changes: List[Change]) -> List[Step]:
 
 
 def arrived(records: List[MutationRecord]) -> List[Node]:
-    """The nodes that came in from outside."""
-    added = {node for it in records for node in it.added_nodes}
-    return list(added.difference(node for it in records for node in it.removed_nodes))
+    """Returns the nodes that came in from outside: those inserted before they were removed, and those that came in below one of them."""
+    first: Dict[Node, Optional[Node]] = {}
+    for it in records:
+        for node in it.removed_nodes:
+            first.setdefault(node, it.target)
+        for node in it.added_nodes:
+            first.setdefault(node, None)
+    found = {node for node, parent in first.items() if parent is None}
+    left = {node: parent for node, parent in first.items() if parent is not None}
+    is_growing = bool(found)
+    while is_growing:
+        below = {node for node, parent in left.items() if is_below(parent, found)}
+        is_growing = bool(below)
+        found |= below
+        left = {node: parent for node, parent in left.items() if node not in below}
+    return [node for node in first if node in found]
+
+
+def is_below(node: Optional[Node], nodes: Set[Node]) -> bool:
+    """Checks whether a node is one of some nodes, or has one of them above it."""
+    try:
+        while node is not None and node not in nodes:
+            node = node.parent_node
+    except NoSuchObject:
+        return False
+    return node is not None
+
+
+def single(steps: List[Step]) -> Iterator[Step]:
+    """Steps, with those that are done together one by one."""
+    for it in steps:
+        if isinstance(it, Several):
+            yield from single(it.steps)
+        else:
+            yield it

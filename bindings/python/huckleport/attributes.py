@@ -4,6 +4,8 @@ from __future__ import annotations
 
 from typing import TYPE_CHECKING, Iterator, MutableMapping
 
+from .errors import NoSuchAttribute
+
 if TYPE_CHECKING:
     from .nodes import Element
 
@@ -19,7 +21,7 @@ class Attributes(MutableMapping[str, str]):
     def __getitem__(self, name: str) -> str:
         found = self.element.get_attribute(name)
         if found is None:
-            raise KeyError(name)
+            raise NoSuchAttribute(None, "", f"there is no attribute {name!r}")
         return found
 
     def __setitem__(self, name: str, value: str) -> None:
@@ -27,7 +29,7 @@ class Attributes(MutableMapping[str, str]):
 
     def __delitem__(self, name: str) -> None:
         if name not in self:
-            raise KeyError(name)
+            raise NoSuchAttribute(None, "", f"there is no attribute {name!r}")
         self.element.remove_attribute(name)
 
     def __contains__(self, name: object) -> bool:

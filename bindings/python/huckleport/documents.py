@@ -28,6 +28,37 @@ class Document(ParentNode):
         """The doctype among its children, or None."""
         return next((it for it in self.child_nodes if isinstance(it, DocumentType)), None)
 
+    @property
+    def head(self) -> Optional[Element]:
+        """The first ``head`` in its element ``html``, or None."""
+        return self._in_html("head")
+
+    @property
+    def body(self) -> Optional[Element]:
+        """The first ``body`` or ``frameset`` in its element ``html``, or None."""
+        return self._in_html("body", "frameset")
+
+    def _in_html(self, *names: str) -> Optional[Element]:
+        """The first child of the element ``html`` that has one of some names."""
+        root = self.document_element
+        found = root.children if root is not None and root.local_name == "html" else []
+        return next((it for it in found if it.local_name in names), None)
+
+    @property
+    def title(self) -> str:
+        """The text of its first ``title``, with single spaces for white space. Setting it makes one in the ``head``, if there is a ``head``."""
+        found = next(iter(self.get_elements_by_tag_name("title")), None)
+        texts = [] if found is None else [it.data for it in found.child_nodes if isinstance(it, Text)]
+        return " ".join("".join(texts).split())
+
+    @title.setter
+    def title(self, title: str) -> None:
+        found, head = next(iter(self.get_elements_by_tag_name("title")), None), self.head
+        if found is None and head is not None:
+            found = head.append_child(self.create_element("title"))
+        if found is not None:
+            found.text_content = title
+
     def create_element(self, name: str) -> Element:
         """A new element of that name."""
         raise InCore

@@ -2,22 +2,33 @@
 
 from __future__ import annotations
 
-from typing import Any, Dict, Optional, Sequence, Type
+import builtins
+from typing import Any, Dict, Optional, Sequence, Tuple, Type
 
 from . import _signatures as made
 
 
 class Error(Exception):
-    """A refusal: nothing has changed. ``name`` is how replies print it, ``call`` what was refused, ``reason`` why, where that is known."""
+    """What the package raises. ``name`` is how replies print it, ``call`` what was refused, ``reason`` why, where that is known.
 
-    def __init__(self, status: int, call: str, reason: Optional[str] = None) -> None:
+    After a refusal by the library nothing has changed; ``status`` is its number. What the package refuses by itself has none.
+    """
+
+    def __init__(self, status: Optional[int] = None, call: str = "", reason: Optional[str] = None) -> None:
         self.status = status
-        self.name = made.WORDS.get(status, str(status))
+        self.name = type(self).__name__ if status is None else made.WORDS.get(status, str(status))
         self.call = call
         self.reason = reason
-        meaning = made.MEANINGS.get(status)
-        said = f"{self.name} ({meaning})" if meaning and not reason else self.name
-        super().__init__(f"{call}: {reason}: {said}" if reason else f"{call}: {said}")
+        super().__init__(self._sentence())
+
+    def _sentence(self) -> str:
+        """What it says."""
+        meaning = None if self.status is None or self.reason else made.MEANINGS.get(self.status)
+        name = None if self.status is None else f"{self.name} ({meaning})" if meaning else self.name
+        return ": ".join(it for it in (self.call, self.reason, name) if it)
+
+    def __reduce__(self) -> Tuple[Any, ...]:
+        return type(self), (self.status, self.call, self.reason), self.__dict__
 
 
 class DOMException(Error):
@@ -26,7 +37,7 @@ class DOMException(Error):
     @property
     def code(self) -> int:
         """The standard's number of it."""
-        return self.status
+        return self.status or 0
 
 
 class DOMTypeError(DOMException, TypeError):
@@ -59,7 +70,47 @@ class SessionClosed(Error, ValueError):
 
 
 class BadValue(Error, ValueError):
-    """A name that is no text in UTF-8, a number that stands for no choice, or limits out of their range."""
+    """A value that can't be: a name that is no text in UTF-8, a number that stands for no choice, an object of another session."""
+
+
+class BadNumber(BadValue, OverflowError):
+    """A number that no offset, count or length is: one below 0, or too large."""
+
+
+class BadType(Error, TypeError):
+    """An object of a class that is not due."""
+
+
+class SessionInUse(Error, RuntimeError):
+    """Another thread is in a long call of the session: a deep copy, or its end."""
+
+
+class BadIndex(Error, IndexError):
+    """An index or an offset beyond the end of a text."""
+
+
+class NoSuchAttribute(Error, KeyError):
+    """An element has no attribute of that name."""
+
+    __str__ = Exception.__str__
+
+
+class GroupIsOpen(Error, RuntimeError):
+    """Undo and redo have to wait for the end of a group."""
+
+
+class Malformed(BadValue):
+    """A document that is not well-formed. ``lineno``, ``offset`` and ``code`` tell where and why, as those of expat do."""
+
+    lineno = offset = code = 0
+
+
+class NotXML(BadValue):
+    """What no XML can hold."""
+
+
+class NoParser(Error, ImportError):  # type: ignore[misc]
+    """A package is not installed that this needs."""
 
 
 class NotThere(Error, LookupError):
@@ -79,6 +130,21 @@ KINDS: Dict[int, Type[Error]] = {
     made.HP_BAD_LENGTHS: BadValue,
     made.HP_BAD_CHOICE: BadValue,
 }
+
+
+def together(faults: Sequence[BaseException]) -> BaseException:
+    """One exception for several: what ends the program, else a group, and before Python 3.11 the first with the others as its notes."""
+    ending = [it for it in faults if not isinstance(it, Exception)]
+    first = (ending or list(faults))[0]
+    if len(faults) == 1:
+        return first
+    group: Any = getattr(builtins, "ExceptionGroup", None)
+    if group and not ending:
+        found: BaseException = group("callbacks of observers raised", list(faults))
+        return found
+    notes = [f"a callback of another observer raised {it!r}" for it in faults if it is not first]
+    setattr(first, "__notes__", [*getattr(first, "__notes__", ()), *notes])
+    return first
 
 
 # What the calls of the library are called here, where it is another name.

@@ -12,8 +12,8 @@ from __future__ import annotations
 from contextlib import contextmanager
 from typing import Dict, Iterable, Iterator, List, NamedTuple, Optional, Tuple
 
-from ._steps import Move, Orders, Restore, Setting, Step, arrived, steps_back, with_values
-from .errors import Error, NoSuchObject
+from ._steps import Move, Orders, Restore, Setting, Step, arrived, single, steps_back, with_values
+from .errors import Error, GroupIsOpen, NoSuchObject
 from .nodes import Node
 from .observers import MutationRecord
 from .ranges import Range
@@ -69,8 +69,9 @@ class History:
         self._orders = Orders()
         self._orders.learn_anew(iter([root]))
         self._is_closed = False
-        self._observer = root.session.create_mutation_observer(lambda records, observer: self._records.extend(records))
-        self._watch()
+        self._watches_outside = False
+        self._observer = root.session.create_mutation_observer(lambda records, observer: self._see(records))
+        self._watch(root)
         self._places = self._places_now()
 
     def keep(self, bookmark: Range) -> Range:
@@ -100,8 +101,8 @@ class History:
                 self._close_group(True)
 
     def commit(self) -> bool:
-        """Makes a group of what changed outside of a ``with`` since the last group. Returns whether anything did."""
-        return self._close_group(False)
+        """Makes a group of what changed outside of a ``with`` since the last group. Returns whether anything did; within a ``with`` nothing does."""
+        return self._depth == 0 and self._close_group(False)
 
     def _close_group(self, has_moves: bool) -> bool:
         """Makes a group of what changed. That a range was moved and nothing else changed is a group where the program asked for one."""
@@ -137,8 +138,8 @@ class History:
         return bool(self._undone)
 
     def clear(self) -> None:
-        """Forgets all groups."""
-        self.commit()
+        """Forgets all groups, and what changed until now in one that is open."""
+        self._close_group(False)
         self._done.clear()
         self._undone.clear()
 
@@ -153,24 +154,47 @@ class History:
 
     # how it is done
 
-    def _watch(self) -> None:
-        """Watches its node and what is below it."""
-        self._observer.observe(self.root, child_list=True, character_data_old_value=True, attribute_old_value=True, subtree=True)
+    def _watch(self, node: Node) -> None:
+        """Watches a node and what is below it. In one that was discarded nothing changes any more."""
+        try:
+            self._observer.observe(node, child_list=True, character_data_old_value=True, attribute_old_value=True, subtree=True)
+        except NoSuchObject:
+            pass
+
+    def _see(self, records: List[MutationRecord]) -> None:
+        """Takes records that ``notify`` tells, which ends the watching of what was taken out: so that is watched by itself until its group ends."""
+        self._records.extend(records)
+        for it in self._outside(node for record in records for node in record.removed_nodes):
+            self._watch(it)
+            self._watches_outside = True
+
+    def _outside(self, nodes: Iterable[Node]) -> List[Node]:
+        """Those of some nodes that stand outside now, and were not discarded."""
+        found = []
+        for it in dict.fromkeys(nodes):
+            try:
+                found += [] if self.root.contains(it) else [it]
+            except NoSuchObject:
+                # (it can't be put back)
+                pass
+        return found
 
     def _take(self) -> List[MutationRecord]:
         """Takes what changed."""
-        records, self._records = self._records + self._observer.take_records(), []
+        told = set(map(id, self._records))
+        # (a callback that was interrupted is told again)
+        records = self._records + [it for it in self._observer.take_records() if id(it) not in told]
+        self._records = []
         if records and not self._is_closed:
             self._watch_anew()
         return records
 
     def _watch_anew(self) -> None:
         """Watches nodes no longer that were taken out, for which more memory is taken at each change; until now their changes were seen."""
-        try:
-            self._watch()
-        except NoSuchObject:
-            # (its node was discarded: nothing changes in it any more)
-            pass
+        if self._watches_outside:
+            self._observer.disconnect()
+            self._watches_outside = False
+        self._watch(self.root)
 
     def _keep_to_limit(self) -> None:
         """Forgets the oldest groups beyond the limit, and now and then the orders of attributes that no group can ask for."""
@@ -200,20 +224,13 @@ class History:
 
     def _left_outside(self, nodes: Iterable[Node]) -> List[Step]:
         """What gives nodes that stand outside now what they have now, before they are put back."""
-        found: List[Step] = []
-        for it in dict.fromkeys(nodes):
-            try:
-                found += [] if self.root.contains(it) else [Restore(it, it.tree())]
-            except NoSuchObject:
-                # (it was discarded, and can't be put back)
-                pass
-        return found
+        return [Restore(it, it.tree()) for it in self._outside(nodes)]
 
     def _step(self, take: List[Group], give: List[Group]) -> bool:
         """Does the steps of a group, and gives those that lead back to the other list."""
         self.commit()
         if self._depth:
-            raise RuntimeError("a group is open")
+            raise GroupIsOpen(None, "", "a group is open")
         if not take:
             return False
         group = take[-1]
@@ -252,5 +269,5 @@ class History:
         """Takes its own changes from what it watches."""
         self._take()
         self._places = self._places_now()
-        for element in {it.node for it in steps if isinstance(it, Setting)}:
+        for element in {it.node for it in single(steps) if isinstance(it, Setting)}:
             self._orders.read(element)

@@ -8,17 +8,21 @@ A page, there and back::
 
 from __future__ import annotations
 
+import warnings
 from importlib import import_module
 from importlib.util import find_spec
-from typing import Any, Optional, Union
+from typing import Any, Optional, Union, overload
 
+from ._sources import Pieces, Source, Target, indented, read, write as write_bytes
 from ._writing import COMMENT, INSTRUCTION, Style, markup, table
 from .documents import Document
+from .errors import NoParser
 from .nodes import DocumentFragment, Element, Node
 from .session import Session
 
-__all__ = ["PARSER", "parse", "parse_fragment", "serialize"]  # noqa: F822
+__all__ = ["PARSER", "Parser", "SlowParser", "parse", "parse_fragment", "serialize", "tostring", "write"]  # noqa: F822
 
+SLOW = "pages are parsed by html5lib, since html5-parser is not here, which takes a tenth of the time: pip install html5-parser (or huckleport[quick-html])"
 MISSING = "HTML is parsed by html5-parser or html5lib, and neither is here: pip install html5lib (or huckleport[html])"
 
 
@@ -38,15 +42,22 @@ def __getattr__(name: str) -> Any:
     """``PARSER``: which parser is used, ``html5-parser`` or ``html5lib``; empty where there is none. It is looked for when it is asked."""
     if name != "PARSER":
         raise AttributeError(f"module {__name__!r} has no attribute {name!r}")
-    globals()[name] = _found()
-    return globals()[name]
+    return _found()
+
+
+class SlowParser(UserWarning):
+    """Pages are parsed by html5lib, which is in Python: html5-parser takes a tenth of the time."""
 
 
 def _parser() -> str:
-    """Which parser is used."""
-    found: str = globals()["PARSER"] if "PARSER" in globals() else __getattr__("PARSER")
+    """Which parser is used. It is told if that is the slow one."""
+    is_known = "PARSER" in globals()
+    found: str = globals()["PARSER"] if is_known else _found()
     if not found:
-        raise ImportError(MISSING)
+        raise NoParser(None, "", MISSING)
+    if found == "html5lib" and not is_known:
+        warnings.warn(SLOW, SlowParser, stacklevel=3)
+    globals()["PARSER"] = found
     return found
 
 
@@ -67,18 +78,29 @@ def _fill(document: Document, source: Union[str, bytes]) -> None:
     parse_exactly(document, source)
 
 
-def parse(source: Union[str, bytes], session: Optional[Session] = None) -> Document:
-    """The Document of a page, in a session or in a new one. Attributes whose names the library refuses are left out."""
+def parse(source: Source, session: Optional[Session] = None) -> Document:
+    """The Document of a page, in a session or in a new one: of a text, of bytes, of a path (a ``Path``, not a ``str``) or of a file.
+
+    Attributes whose names the library refuses are left out.
+    """
     _parser()
+    given = read(source)
     document = Session().document if session is None else session.create_document()
     try:
-        _fill(document, source)
+        _fill(document, given)
     except BaseException:
         # (of what is refused nothing stays in the session)
         if session is not None:
             document.discard()
         raise
     return document
+
+
+class Parser(Pieces[Document]):
+    """Takes a page piece by piece: ``feed(data)``, and ``close()`` returns the Document."""
+
+    def __init__(self, session: Optional[Session] = None) -> None:
+        super().__init__(lambda source: parse(source, session))
 
 
 def parse_fragment(source: Union[str, bytes], container: str = "div", document: Optional[Document] = None) -> DocumentFragment:
@@ -113,3 +135,29 @@ def serialize(node: Node, inner: bool = False) -> str:
     parent = node.parent_node
     is_plain = parent is not None and parent.node_name in PLAIN
     return markup(node, STYLE, is_plain, _other).text
+
+
+# Elements in which white space is kept.
+KEPT = PLAIN | {"pre", "textarea", "listing"}
+
+
+@overload
+def tostring(node: Node, pretty: bool = False, encoding: None = None) -> str: ...
+
+
+@overload
+def tostring(node: Node, pretty: bool = False, *, encoding: str) -> bytes: ...
+
+
+def tostring(node: Node, pretty: bool = False, encoding: Optional[str] = None) -> Union[str, bytes]:
+    """A node and all below it as HTML: a str, or bytes in an encoding; ``pretty`` puts it in lines.
+
+    A character that the encoding has not is written as a number. Lines come between elements whose parent has no Text, and not in ``pre``.
+    """
+    text = indented(node, lambda it: it.tag_name in KEPT, serialize) if pretty else serialize(node)
+    return text if encoding is None else text.encode(encoding, "xmlcharrefreplace")
+
+
+def write(node: Node, target: Target, pretty: bool = False, encoding: str = "utf-8") -> None:
+    """Writes a node and all below it as HTML to a path, or to a file that is open for bytes."""
+    write_bytes(target, tostring(node, pretty, encoding=encoding))

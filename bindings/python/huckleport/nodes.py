@@ -2,9 +2,10 @@
 
 from __future__ import annotations
 
-from typing import TYPE_CHECKING, Iterator, List, NamedTuple, Optional, Tuple, Type, TypeVar, Union, overload
+from typing import TYPE_CHECKING, Any, Dict, Iterator, List, NamedTuple, Optional, Tuple, Type, TypeVar, Union, overload
 
 from . import _signatures as made
+from . import _tree
 from ._calls import InCore, quick
 from .attributes import Attributes
 from .errors import Error
@@ -250,6 +251,29 @@ class ParentNode(Node):
     def __iter__(self) -> Iterator[Node]:
         raise InCore
 
+    @property
+    def first_element_child(self) -> Optional[Element]:
+        """The first child that is an element, or None."""
+        return next(iter(self.children), None)
+
+    @property
+    def last_element_child(self) -> Optional[Element]:
+        """The last child that is an element, or None."""
+        return next(iter(self.children[::-1]), None)
+
+    @property
+    def child_element_count(self) -> int:
+        """How many children are elements."""
+        return len(self.children)
+
+    def iter(self, *names: str) -> Iterator[Element]:
+        """Itself if it is an element, and all elements below it, in tree order, as they stand now; with names those that have one of these."""
+        return _tree.elements_named(self, list(names))
+
+    def itertext(self) -> Iterator[str]:
+        """The data of all Texts below it, in tree order."""
+        return (it.data for it in self.descendants(Text))
+
     def append(self, *nodes: Union[Node, str]) -> None:
         """Puts nodes, or strings as new Texts, behind its last child."""
         self.append_child(self._together(nodes))
@@ -276,6 +300,29 @@ class ParentNode(Node):
         """The first element below it, in tree order, whose attribute ``id`` has that value, or None."""
         raise InCore
 
+    def get_elements_by_class_name(self, names: str) -> List[Element]:
+        """The elements below it that have all these classes, told with spaces between, in tree order, as a list of now."""
+        return _tree.elements_of_classes(self, names.split())
+
+    def select(self, selectors: str, namespaces: Optional[Dict[str, str]] = None, limit: int = 0) -> List[Element]:
+        """The elements below it that match selectors of CSS, in tree order; at most so many if there is a limit. By soupsieve."""
+        from . import _select
+
+        return _select.select(self, selectors, namespaces, limit)
+
+    def select_one(self, selectors: str, namespaces: Optional[Dict[str, str]] = None) -> Optional[Element]:
+        """The first element below it that matches selectors of CSS, or None. By soupsieve."""
+        return next(iter(self.select(selectors, namespaces, 1)), None)
+
+    def xpath(self, path: str, namespaces: Optional[Dict[str, str]] = None) -> Any:
+        """What a path of XPath 1.0 gives: a list of nodes and texts, or a text, a number or a truth. By elementpath.
+
+        What stands beside the document's element is not found.
+        """
+        from . import _xpath
+
+        return _xpath.xpath(self, path, namespaces)
+
 
 @quick
 class ChildNode(Node):
@@ -286,6 +333,21 @@ class ChildNode(Node):
     def remove(self) -> None:
         """Takes it from its parent, where it has one."""
         raise InCore
+
+    @property
+    def next_element_sibling(self) -> Optional[Element]:
+        """The nearest element behind it under the same parent, or None."""
+        return next((it for it in self.next_siblings() if isinstance(it, Element)), None)
+
+    @property
+    def previous_element_sibling(self) -> Optional[Element]:
+        """The nearest element before it under the same parent, or None."""
+        return next((it for it in self.previous_siblings() if isinstance(it, Element)), None)
+
+    @property
+    def tail(self) -> Optional[str]:
+        """The text behind it, up to the next node that is no Text, as in lxml; None if there is none. It is only read."""
+        return _tree.texts_from(self.next_sibling)
 
     def _beside(self, nodes: Tuple[Union[Node, str], ...], is_behind: bool) -> Optional[Node]:
         """The next sibling before or behind it that is none of the nodes, which move."""
@@ -361,6 +423,70 @@ class Element(ParentNode, ChildNode):
     def tag_name(self) -> str:
         """Its name, as it was given."""
         raise InCore
+
+    @property
+    def local_name(self) -> str:
+        """Its name without a prefix."""
+        return self.tag_name.rpartition(":")[2]
+
+    @property
+    def prefix(self) -> Optional[str]:
+        """What stands ahead of the colon in its name, or None."""
+        return self.tag_name.rpartition(":")[0] or None
+
+    @property
+    def namespace_uri(self) -> Optional[str]:
+        """The namespace that the declarations on it and above it give its prefix, or None. The tree itself knows none."""
+        return _tree.namespace_of(self, self.prefix)
+
+    def lookup_namespace_uri(self, prefix: Optional[str]) -> Optional[str]:
+        """The namespace of a prefix here, or of no prefix, or None."""
+        return _tree.namespace_of(self, prefix)
+
+    @property
+    def text(self) -> Optional[str]:
+        """The text in it ahead of its first child that is no Text, as in lxml; None if there is none. It is only read."""
+        return _tree.texts_from(self.first_child)
+
+    def matches(self, selectors: str, namespaces: Optional[Dict[str, str]] = None) -> bool:
+        """Whether it matches selectors of CSS. By soupsieve."""
+        from . import _select
+
+        return _select.matches(self, selectors, namespaces)
+
+    def closest(self, selectors: str, namespaces: Optional[Dict[str, str]] = None) -> Optional[Element]:
+        """Itself or the nearest element above it that matches selectors of CSS, or None. By soupsieve."""
+        from . import _select
+
+        return _select.closest(self, selectors, namespaces)
+
+    @property
+    def inner_html(self) -> str:
+        """What is below it as HTML. Setting it parses a part of a page, which comes in place of all children."""
+        from . import html
+
+        return html.serialize(self, inner=True)
+
+    @inner_html.setter
+    def inner_html(self, source: str) -> None:
+        from . import html
+
+        self.replace_children(html.parse_fragment(source, self.local_name, self.node_document))
+
+    @property
+    def outer_html(self) -> str:
+        """It and all below it as HTML. Setting it parses a part of a page, which comes in its place; nothing happens if it has no parent."""
+        from . import html
+
+        return html.serialize(self)
+
+    @outer_html.setter
+    def outer_html(self, source: str) -> None:
+        from . import html
+
+        above = self.parent_node
+        if above is not None:
+            self.replace_with(html.parse_fragment(source, above.local_name if isinstance(above, Element) else "body", self.node_document))
 
     @property
     def attributes(self) -> Attributes:

@@ -6,6 +6,7 @@ from typing import TYPE_CHECKING, Optional, Type, TypeVar
 
 from ._calls import Thing
 from ._signatures import HP_NONE
+from .errors import BadType, BadValue, Error
 
 if TYPE_CHECKING:
     from .session import Session
@@ -23,9 +24,9 @@ class SessionObject(Thing):
     def _of(self, other: object, kind: Type[SessionObject]) -> int:
         """The number of an object that is handed in, which has to be of this session."""
         if not isinstance(other, kind):
-            raise TypeError(f"a {kind.__name__} is due, and not {type(other).__name__}")
+            raise BadType(None, "", f"a {kind.__name__} is due, and not {type(other).__name__}")
         if other.session is not self.session:
-            raise ValueError(f"the {kind.__name__} is of another session")
+            raise BadValue(None, "", f"the {kind.__name__} is of another session")
         return other.number
 
     def _of_maybe(self, other: object, kind: Type[SessionObject]) -> int:
@@ -40,13 +41,11 @@ class SessionObject(Thing):
         return f"<{type(self).__name__} {self.number}{' ' + said if said else ''}>"
 
     def __reduce__(self) -> str:
-        raise TypeError(f"a {type(self).__name__} of a session can't be copied or pickled")
+        raise BadType(None, "", f"a {type(self).__name__} of a session can't be copied or pickled")
 
 
 def _or_fault(it: SessionObject) -> str:
     """What is said of an object; a repr never raises."""
-    from .errors import Error
-
     try:
         return it._said()
     except Error as fault:

@@ -35,6 +35,13 @@ class MutationRecord(NamedTuple):
 Callback = Callable[[List[MutationRecord], "MutationObserver"], object]
 
 
+def is_async(callback: Callback) -> bool:
+    """Whether a function is one by ``async def``, which nobody would await."""
+    from inspect import iscoroutinefunction
+
+    return iscoroutinefunction(callback)
+
+
 class MutationObserver(SessionObject):
     """Watches nodes. ``session.notify()`` calls its callback with the records and the observer."""
 

@@ -10,10 +10,10 @@ from typing import Dict, List, NamedTuple, Optional, Sequence, Tuple, Type, Type
 from ._calls import Calls, settle
 from ._signatures import HP_NO_SUCH_OBJECT, HP_NONE, hp_options
 from .documents import Document
-from .errors import Error, NoSuchObject, refusal
+from .errors import BadType, Error, NoSuchObject, refusal, together
 from .nodes import CharacterData, Comment, DocumentFragment, DocumentType, Element, Node, ProcessingInstruction, Row, Text
 from .objects import SessionObject
-from .observers import Callback, MutationObserver, MutationRecord
+from .observers import Callback, MutationObserver, MutationRecord, is_async
 from .ranges import Range, StaticRange
 from .traversal import NodeIterator, TreeWalker
 
@@ -83,7 +83,7 @@ class Session:
         return "<Session, closed>" if self.closed else "<Session>"
 
     def __reduce__(self) -> str:
-        raise TypeError("a session can't be copied or pickled")
+        raise BadType(None, "", "a session can't be copied or pickled")
 
     # objects by numbers
 
@@ -172,7 +172,12 @@ class Session:
         return self._make(StaticRange, self._calls.create_static_range(start, start_offset, end, end_offset))
 
     def create_mutation_observer(self, callback: Optional[Callback] = None) -> MutationObserver:
-        """A new observer, whose callback ``notify`` calls with the records and the observer. The session keeps it while it observes."""
+        """A new observer, whose callback ``notify`` calls with the records and the observer. The session keeps it while it observes.
+
+        A callback is no ``async def``: ``notify`` awaits nothing.
+        """
+        if callback is not None and is_async(callback):
+            raise BadType(None, "create_mutation_observer", "notify() does not await a callback by async def: give it one by def")
         found = self._make(MutationObserver, self._calls.create_observer())
         found.callback = callback
         return found
@@ -185,13 +190,14 @@ class Session:
         One that an earlier callback disconnected or released, or whose records it took, is told nothing. What a callback changes is told by the
         next ``notify()``, or in its turn to an observer that is still to come.
 
-        Where callbacks raise, the others are still called, and then the first exception is raised. What was told to observers without a
-        callback, or to one that was interrupted, is then kept for the next ``notify()`` to return, or the observer's next ``take_records()``.
+        If callbacks raise, the others are still called. Then the exception is raised, or several as an ``ExceptionGroup`` (before Python 3.11
+        the first one, with the others as its notes). What was told to observers without a callback, or to one that was cut short (by an interrupt or for want of memory), is then
+        kept for the next ``notify()`` to return, or the observer's next ``take_records()``.
         """
         told: List[Notice] = []
-        fault = self._calls.tell(self, told, self._left)
-        if fault is not None:
-            raise fault
+        faults = self._calls.tell(self, told, self._left)
+        if faults:
+            raise together(faults)
         return told
 
     def _take_left(self, observer: MutationObserver) -> List[MutationRecord]:
@@ -235,7 +241,7 @@ class Session:
     def line(self, line: bytes) -> bytes:
         """Answers a line of JSON as the program does, and returns the line of the reply with its newline."""
         if not isinstance(line, (bytes, bytearray, memoryview)):
-            raise TypeError(f"a line is bytes, and not {type(line).__name__}")
+            raise BadType(None, "", f"a line is bytes, and not {type(line).__name__}")
         status, reply = self._calls.read_line(bytes(line))
         if reply is None:
             raise refusal(status, "line")

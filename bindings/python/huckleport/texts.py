@@ -5,6 +5,8 @@ from __future__ import annotations
 import sys
 from typing import List, Sequence
 
+from .errors import BadIndex, BadValue
+
 # UTF-16 as the library has it: units of this machine, without a mark.
 UTF16 = f"utf-16-{'le' if sys.byteorder == 'little' else 'be'}"
 
@@ -17,7 +19,7 @@ def utf16_length(text: str) -> int:
 def utf16_offset(text: str, index: int) -> int:
     """The offset in units of the character at an index of a str."""
     if not 0 <= index <= len(text):
-        raise IndexError(f"{index} is not from 0 to {len(text)}")
+        raise BadIndex(None, "", f"{index} is not from 0 to {len(text)}")
     return utf16_length(text[:index])
 
 
@@ -31,9 +33,9 @@ def utf16_index(text: str, offset: int) -> int:
     else:
         index = len(text)
     if offset < 0 or offset > at:
-        raise IndexError(f"{offset} is not from 0 to {at}")
+        raise BadIndex(None, "", f"{offset} is not from 0 to {at}")
     if offset < at:
-        raise ValueError(f"{offset} is within a character")
+        raise BadValue(None, "", f"{offset} is within a character")
     return index
 
 

@@ -139,7 +139,7 @@ class WithoutParser(unittest.TestCase):
         package = os.path.dirname(os.path.dirname(os.path.abspath(h.__file__)))
         ran = subprocess.run([sys.executable, "-S", "-E", "-c", f"import sys; sys.path.insert(0, {package!r}); {words}"], stdout=subprocess.PIPE, stderr=subprocess.PIPE)
         self.assertEqual((ran.returncode, ran.stdout), (1, b"''\n"))
-        self.assertIn(b"ImportError: HTML is parsed by html5-parser or html5lib, and neither is here: pip install html5lib", ran.stderr)
+        self.assertIn(b"NoParser: HTML is parsed by html5-parser or html5lib, and neither is here: pip install html5lib", ran.stderr)
 
 
 class Written(unittest.TestCase):

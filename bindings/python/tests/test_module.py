@@ -13,6 +13,7 @@ STABLE = set(
     PyDescr_NewMethod PyDict_DelItem PyDict_GetItem PyDict_GetItemString PyDict_New PyDict_SetItem PyDict_Size PyErr_Clear
     PyErr_ExceptionMatches PyErr_Fetch PyErr_Format PyErr_NoMemory PyErr_NormalizeException PyErr_Occurred PyErr_SetObject PyErr_SetString
     PyExc_AttributeError PyExc_Exception PyExc_ImportError PyExc_KeyError PyExc_OverflowError PyExc_RuntimeError PyExc_TypeError PyExc_ValueError
+    PyEval_RestoreThread PyEval_SaveThread PyExc_MemoryError PyUnicode_CompareWithASCIIString PyUnicode_FromFormat
     PyException_SetTraceback PyImport_ImportModule PyIter_Next PyList_Append PyList_GetItem PyList_New PyList_SetItem PyList_SetSlice
     PyList_Size PyLong_AsUnsignedLong PyLong_AsUnsignedLongLong PyLong_FromLong PyLong_FromSize_t PyLong_FromUnsignedLong PyMem_Free
     PyMem_Malloc PyMem_Realloc PyModuleDef_Init PyModule_AddObject PyModule_GetState PyNumber_Index PyObject_CallFunction

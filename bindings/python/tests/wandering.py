@@ -1,0 +1,159 @@
+"""Random edits of nodes that stand in a tree or outside of it, in two documents, amid notices and callbacks that edit."""
+import contextlib
+
+import huckleport as h
+from tests.editing import Editor, seen
+
+
+class Refused(Exception):
+    """What a group ends with."""
+
+
+class Wanderer(Editor):
+    """Edits what stands below a root, and what was taken out of it; observers are told now and then, and some of their callbacks edit."""
+
+    def __init__(self, document, root, ranges, seed):
+        super().__init__(document, root, ranges, seed)
+        self.other = document.session.create_document()
+        self.known = list(root.descendants())
+        self.observers = []
+        self.has_group = True
+
+    def mark(self):
+        """A range is set where it is to be found again: below the root."""
+        found, start, end = self.picked.choice(self.ranges), super().pick(h.Node), super().pick(h.Node)
+        found.set_start(start, self.picked.randint(0, start.length))
+        found.set_end(end, self.picked.randint(0, end.length))
+
+    def outside(self, kind):
+        found = (it for it in self.known if not self.root.contains(it))
+        return [it for it in found if isinstance(it, kind)]
+
+    def pick(self, kind):
+        """A node below the root, or now and then one that stands outside."""
+        outside = self.outside(kind) if self.picked.random() < 0.3 else []
+        return self.picked.choice(outside) if outside else super().pick(kind)
+
+    def edit(self):
+        """Makes an edit; what is refused has changed nothing."""
+        name = self.picked.choice(EDITS)
+        if name in OF_RANGES and not self.has_group:
+            return
+        with contextlib.suppress(h.DOMException, AttributeError):
+            getattr(self, name)()
+        if self.root.parent_node is not self.document:
+            self.document.replace_children(self.root)
+        self.known += [it for it in self.root.descendants() if it not in self.known]
+
+    def back(self):
+        """A node that stands outside comes in again, or stands last once more."""
+        outside = self.outside(h.ChildNode)
+        node = self.picked.choice(outside) if outside else super().pick(h.ChildNode)
+        parent = super().pick(h.Element)
+        parent.insert_before(node, self.picked.choice([*parent.child_nodes, None]))
+
+    def again(self):
+        """A node comes in, and is put in its place again."""
+        node, parent = self.document.create_element("again"), super().pick(h.Element)
+        for name in "abc":
+            node.set_attribute(name, "1")
+        parent.append_child(node)
+        parent.append_child(node)
+
+    def out(self):
+        found = super().pick(h.ChildNode)
+        if found is not self.root:
+            found.remove()
+
+    def abroad(self):
+        """A node goes to another document, or under one that stands outside."""
+        found, outside = super().pick(h.ChildNode), self.outside(h.Element)
+        if found is self.root:
+            return
+        if outside and self.picked.random() < 0.5:
+            self.picked.choice(outside).append_child(found)
+        else:
+            self.other.adopt_node(found)
+
+    def order(self):
+        """An attribute goes to the end."""
+        found, name = self.pick(h.Element), self.picked.choice("abc")
+        value = found.get_attribute(name)
+        found.remove_attribute(name)
+        found.set_attribute(name, value or "0")
+
+    def notify(self):
+        self.document.session.notify()
+
+    def observe(self):
+        """An observer comes, goes, or edits when it is told."""
+        if len(self.observers) > 3:
+            it = self.observers.pop(0)
+            self.picked.choice((it.disconnect, it.release))()
+            return
+        left = [self.picked.randint(0, 2)]
+
+        def callback(records, observer):
+            while left[0]:
+                left[0] -= 1
+                self.edit()
+
+        self.observers.append(self.document.session.create_mutation_observer(callback))
+        self.observers[-1].observe(self.pick(h.Node), subtree=True, child_list=True, attributes=True, character_data=True)
+
+
+EDITS = (
+    "put put_several remove move swap wrap replace replace_all content extract insert empty text split join attribute attribute cut mark"
+    " back back back again out out abroad order order notify notify notify observe both".split()
+)
+# What may set a range and change nothing else, which is a group where a program asks for one alone.
+OF_RANGES = ("mark", "cut", "extract", "insert")
+
+
+def history_of(session, document, seed, groups=4):
+    """A history of random groups, some of them nested and some that end with an exception; what was seen after each; and its ranges."""
+    root = document.append_child(document.create_element("root"))
+    for child in (document.create_element("x"), "some text", document.create_element("y")):
+        root.append(child)
+    root.first_child.append("in it", document.create_element("z"))
+    for at, it in enumerate(root.descendants(h.Element)):
+        for name in "cab"[at % 3 :]:
+            it.set_attribute(name, "1")
+    ranges = [document.create_range() for _ in range(2)]
+    editor = Wanderer(document, root, ranges, seed)
+    for _ in ranges:
+        editor.mark()
+    history = h.History(document, ranges)
+    states = [seen(document, ranges)]
+    for _ in range(groups):
+        make_group(history, editor)
+        states.append(seen(document, ranges))
+        if editor.picked.random() < 0.3:
+            editor.has_group = False
+            session.notify()
+            history.commit()
+            editor.has_group = True
+            states.append(seen(document, ranges))
+    return history, editor, states, ranges
+
+
+def make_group(history, editor):
+    """A group of edits, with a group in it or an exception at its end."""
+    how = editor.picked.random()
+    with contextlib.suppress(Refused), history.group():
+        for _ in range(editor.picked.randint(1, 4)):
+            editor.edit()
+        if how < 0.3:
+            with history.group():
+                editor.edit()
+            editor.edit()
+        if how > 0.8:
+            raise Refused
+
+
+def leave(history, editor):
+    """Lets all of a history go."""
+    history.close()
+    for it in editor.observers:
+        it.release()
+    editor.root.remove()
