@@ -13,6 +13,7 @@ import {
   createFragment,
   createInstruction,
   createText,
+  dataChanged,
   dataOf,
   documentOf,
   firstChildOf,
@@ -32,6 +33,7 @@ const isText = (node) => node !== null && kindOf(node) === TEXT;
 function appendData(text, data) {
   const session = sessionOf(text);
   native.hp_append_data(session.index, numberOf(text), data);
+  dataChanged(text);
   session.changed();
 }
 
