@@ -146,7 +146,8 @@ export const History = known({
   },
 });
 
-const platform = { linux: "Linux", darwin: "MacIntel", win32: "Win32" }[process.platform] ?? "";
+const PLATFORMS = { linux: "Linux", darwin: "MacIntel", win32: "Win32" };
+const platform = globalThis.process ? (PLATFORMS[globalThis.process.platform] ?? "") : (globalThis.navigator?.platform ?? "");
 
 /** What the standard has of a browser of WebKit's kind (HTML Standard, section 8.10.1). */
 const NAVIGATOR = {
