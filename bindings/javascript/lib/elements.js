@@ -147,11 +147,10 @@ function listOf(node, key, make) {
 }
 
 function getElementsByTagName(node, qualified) {
-  const read = () => {
-    const ofHtml = isOfDocument(node).isHtml ? small(qualified) : qualified;
-    return byName(node, (name) => qualified === "*" || name.qualified === (name.namespace === HTML ? ofHtml : qualified));
-  };
-  return listOf(node, `tag ${qualified}`, () => htmlCollection(node, read));
+  // (the Document counts in which the list is made, also when its root has left that)
+  const ofHtml = isOfDocument(node).isHtml ? small(qualified) : qualified;
+  const fits = (name) => qualified === "*" || name.qualified === (name.namespace === HTML ? ofHtml : qualified);
+  return listOf(node, `tag ${ofHtml} ${qualified}`, () => htmlCollection(node, () => byName(node, fits)));
 }
 
 function getElementsByTagNameNS(node, namespace, local) {

@@ -4,5 +4,11 @@ export const isInNode = typeof globalThis.process?.getBuiltinModule === "functio
 /** A module of node's own by its name. */
 export const builtin = (name) => globalThis.process.getBuiltinModule(name);
 
+/** The global object of a context: its own, if what `vm.createContext` answers is given. */
+export function globalOf(given) {
+  const vm = isInNode ? builtin("node:vm") : null;
+  return vm?.isContext(given) ? vm.runInContext("globalThis", given) : given;
+}
+
 /** The address of this file, from which node's files and libraries are found. */
 export const here = import.meta.url;

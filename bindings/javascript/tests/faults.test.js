@@ -112,14 +112,15 @@ test("a collection has elements by their ids and names", () => {
   assert.equal(list.one, undefined);
 });
 
-test("a kept list of tags follows its root into a Document of XML", () => {
+test("a kept list of tags stays one of the Document that it was made in", () => {
   const { document, root, items } = listOf(1);
   const list = root.getElementsByTagName("LI");
   assert.deepEqual([...list], items);
   createWindow();
   const xml = createDocument({ beside: document, xml: true });
   xml.adoptNode(root);
-  assert.deepEqual([...list], []);
+  assert.deepEqual([...list], items);
+  assert.deepEqual([...root.getElementsByTagName("LI")], []);
   assert.deepEqual([...root.getElementsByTagName("li")], items);
   document.adoptNode(root);
   assert.deepEqual([...list], items);

@@ -46,13 +46,15 @@ before(() => {
 });
 after(() => rmSync(folder, { recursive: true }));
 
+const env = { ...process.env, NODE_PATH: [process.env.NODE_PATH, "/usr/share/nodejs"].filter(Boolean).join(":") };
+
 function written(name, text) {
   writeFileSync(join(folder, name), text);
   return join(folder, name);
 }
 
 function ran(file) {
-  const { stdout, stderr, status } = spawnSync(process.execPath, [file], { cwd: folder, encoding: "utf8" });
+  const { stdout, stderr, status } = spawnSync(process.execPath, [file], { cwd: folder, encoding: "utf8", env });
   assert.equal(status, 0, stderr);
   assert.equal(stderr, "");
   return stdout.trim();
@@ -72,12 +74,11 @@ describe("in node", () => {
 
   test("a bundler makes one file for node, beside which the module is named", { skip: hasBundler() ? withoutParser : "there is no esbuild" }, () => {
     const to = bundle(written("server.mjs", `${IMPORTS}${PROGRAM}console.log(shown);`), ["--platform=node", "--format=esm", "--outfile=bundled.mjs"]);
-    assert.equal(spawnSync(process.execPath, [to], { encoding: "utf8", env: { ...process.env, HUCKLEPORT_MODULE: join(PACKAGE, "out/huckleport.wasm") } }).stdout.trim(), DUE);
+    assert.equal(spawnSync(process.execPath, [to], { encoding: "utf8", env: { ...env, HUCKLEPORT_MODULE: join(PACKAGE, "out/huckleport.wasm") } }).stdout.trim(), DUE);
   });
 });
 
 function bundle(entry, words) {
-  const env = { ...process.env, NODE_PATH: [process.env.NODE_PATH, "/usr/share/nodejs"].filter(Boolean).join(":") };
   const ran = spawnSync("esbuild", [entry, "--bundle", "--log-level=warning", ...words], { cwd: folder, encoding: "utf8", env, maxBuffer: 1 << 28 });
   assert.equal(ran.status, 0, ran.stderr);
   assert.equal(ran.stderr, "");

@@ -10,11 +10,11 @@ export { Element, isElement, names as attributeNames } from "../elements.js";
 export { DocumentFragment, Document, newDocument, xmlIs } from "../documents.js";
 export { HTML, small, SVG, XML, XMLNS } from "../names.js";
 export { wanted } from "../libraries.js";
-export { contentsOf, documentOf, nameOf, Node, parentOf, setContents } from "../nodes.js";
+export { adoptNode, contentsOf, documentOf, emptyContents, nameOf, Node, parentOf } from "../nodes.js";
 export { htmlCollection, stillNodeList } from "../lists.js";
 export { serializeInner } from "../serializing.js";
-export { addMembers, convertible, converted, known, makeInterface, refuseType } from "../webidl.js";
-export { isNode, keptOf, kindOf, makeThing, numberOf, realmOf, sessionOf, Thing, thingOf, Wrapper } from "../wrappers.js";
+export { addMembers, convertible, converted, known, makeInterface, otherNodes, refuseType } from "../webidl.js";
+export { isNode, isThing, keptOf, kindOf, makeThing, numberOf, realmOf, sessionOf, Thing, thingOf, Wrapper } from "../wrappers.js";
 
 /** The standard's codes of the exceptions that the page throws. */
 const CODES = {

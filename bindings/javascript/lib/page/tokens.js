@@ -1,5 +1,5 @@
 /** DOMTokenList and DOMStringMap: live views of attributes (DOM Standard, section 7.1; HTML Standard, section 3.2.6.6). */
-import { keptOf, known, realmOf, refuse } from "./core.js";
+import { keptOf, known, realmOf, refuse, refuseType } from "./core.js";
 import { borrow, knownOf, makeLegacy } from "./legacy.js";
 
 const parsed = (text) => [...new Set(text.split(/[\t\n\f\r ]+/).filter(Boolean))];
@@ -74,7 +74,7 @@ function replace(list, token, other) {
 
 function supports(list, token) {
   const { supported } = tokensOf(list);
-  if (!supported) throw new TypeError("these tokens have no list of what is supported");
+  if (!supported) refuseType("these tokens have no list of what is supported");
   return supported.includes(token.toLowerCase());
 }
 
