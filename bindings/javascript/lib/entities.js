@@ -9,7 +9,8 @@ const REFERENCE = /<!--[\s\S]*?-->|<!\[CDATA\[[\s\S]*?\]\]>|<\?[\s\S]*?\?>|&([^\
 /** So long may a document become, so that a few lines can't fill the memory. */
 const LONGEST = 10000000;
 
-const characters = (text) => text.replace(CHARACTER, (_, hexadecimal, decimal) => String.fromCodePoint(hexadecimal ? parseInt(hexadecimal, 16) : Number(decimal)));
+const characterOf = (_, hexadecimal, decimal) => String.fromCodePoint(hexadecimal ? parseInt(hexadecimal, 16) : Number(decimal));
+const characters = (text) => text.replace(CHARACTER, characterOf);
 
 /** The entities of a subset, by name; the first declaration of each counts. */
 function declaredIn(subset) {
