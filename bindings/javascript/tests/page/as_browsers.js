@@ -62,7 +62,8 @@ const nodes = {
       const owner = template.content.ownerDocument;
       const copy = template.cloneNode(true);
       const inner = template.content.querySelector("template");
-      const said = [owner === document, owner.defaultView, owner.URL, template.content.firstChild.ownerDocument === owner, copy.content.ownerDocument === owner];
+      const owners = [template.content.firstChild.ownerDocument, copy.content.ownerDocument].map((it) => it === owner);
+      const said = [owner === document, owner.defaultView, owner.URL, ...owners];
       return [...said, inner.content.ownerDocument === owner, document.importNode(template.content, true).ownerDocument === document];
     },
     [false, null, "about:blank", true, true, true, true],
@@ -101,7 +102,8 @@ const forms = {
     ({ document }) => {
       const form = document.createElement("form");
       form.innerHTML = "<input name=a><input name=b><input name=b><input id=c>";
-      return [form.a === form[0], form.b.length, form.c === form[3], form.nosuch === undefined, form[9] === undefined, form instanceof document.defaultView.HTMLElement];
+      const { HTMLElement } = document.defaultView;
+      return [form.a === form[0], form.b.length, form.c === form[3], form.nosuch === undefined, form[9] === undefined, form instanceof HTMLElement];
     },
     [true, 2, true, true, true, true],
   ],
