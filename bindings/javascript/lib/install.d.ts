@@ -5,5 +5,11 @@ export const EMPTY: string;
 /** Where that page is. */
 export const ADDRESS: string;
 
+/** How a page is put on the global object: the options of a page, which is put nowhere else. */
+export interface InstallOptions extends Omit<PageOptions, "global"> {
+  /** The page; an empty one if not given. */
+  html?: string;
+}
+
 /** Puts a page on the global object, and returns a function that takes it away again. */
-export function install(options?: Omit<PageOptions, "global"> & { html?: string }): () => void;
+export function install(options?: InstallOptions): () => void;

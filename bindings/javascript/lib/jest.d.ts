@@ -1,7 +1,15 @@
+/** The settings that jest gives an environment. */
+export interface EnvironmentConfig {
+  /** Of the project; its `testEnvironmentOptions` has the page's `html`, `url` and `handlers`. */
+  projectConfig: object;
+  /** Of the whole run. */
+  globalConfig: object;
+}
+
 /** An environment of jest, as its `testEnvironment` names it. */
 export default class PageEnvironment {
-  /** Makes the page for a test file; `testEnvironmentOptions` has its `html`, `url` and `handlers`. */
-  constructor(config: { projectConfig: object; globalConfig: object }, context: object);
+  /** Makes the page for a test file. */
+  constructor(config: EnvironmentConfig, context: object);
   /** The global object of the test file. */
   global: typeof globalThis;
   /** Before the tests of a file. */

@@ -1,3 +1,15 @@
+/** What an environment leaves: how its page is taken away. */
+export interface Environment {
+  /** Takes the page away. */
+  teardown(): void;
+}
+
+/** A context of its own, for pools of contexts. */
+export interface ContextEnvironment extends Environment {
+  /** The context that tests run in. */
+  getVmContext(): object;
+}
+
 /** An environment of vitest, as a file that is named as `environment` exports it. */
 declare const environment: {
   /** Its name. */
@@ -7,8 +19,8 @@ declare const environment: {
   /** The same, from vitest 4 on. */
   viteEnvironment: "client";
   /** Puts a page on the global object. */
-  setup(global: object, options: Record<string, unknown>): { teardown(): void };
+  setup(global: object, options: Record<string, unknown>): Environment;
   /** Makes a context with a page. */
-  setupVM(options: Record<string, unknown>): { getVmContext(): object; teardown(): void };
+  setupVM(options: Record<string, unknown>): ContextEnvironment;
 };
 export default environment;
