@@ -41,11 +41,16 @@ class Holders {
     return this.#found;
   }
 
+  /** What the objects of all of them know. */
+  all(session) {
+    return this.#found ?? this.#find(session);
+  }
+
   /** The object of the first of them below a root, or null. */
   firstBelow(root) {
     const { session } = root;
     let first = null;
-    for (const it of this.#found ?? this.#find(session)) {
+    for (const it of this.all(session)) {
       if (it !== root && it.root() === root) first = first === null ? it : earlier(session, first, it);
     }
     this.root = root;
@@ -56,7 +61,9 @@ class Holders {
 }
 
 /** Notes that an element has an id in place of another one; null is none. */
-export function noteId(session, number, before, after) {
+export const noteId = (its, before, after) => note(its.session, its.number, before, after);
+
+function note(session, number, before, after) {
   if (before === after) return;
   if (before !== null) forget(session, number, before);
   if (after === null || after === "") return;
@@ -74,7 +81,7 @@ function forget(session, number, id) {
 /** Notes the ids of a tree that has just been made. */
 export function noteIdsBelow(session, root) {
   if (session.ids.size === 0) return;
-  for (const [number, id] of holdersOf(session, root, ID)) noteId(session, number, null, id);
+  for (const [number, id] of holdersOf(session, root, ID)) note(session, number, null, id);
 }
 
 Session.forgetIds = (session, root) => {

@@ -14,6 +14,7 @@ import {
   createFragment,
   createInstruction,
   createText,
+  dataChanged,
   dataOf,
   documentOf,
   firstChildOf,
@@ -24,7 +25,7 @@ import {
   parentOf,
   previousOf,
   remove,
-  emptyContents,
+  setTemplateContents,
 } from "./nodes.js";
 import { documentIs, kindOf, numberOf, sessionOf, wrapChild } from "./wrappers.js";
 
@@ -33,6 +34,7 @@ const isText = (node) => node !== null && kindOf(node) === TEXT;
 function appendData(text, data) {
   const session = sessionOf(text);
   native.hp_append_data(session.index, numberOf(text), data);
+  dataChanged(text);
   session.changed();
 }
 
@@ -85,7 +87,7 @@ export function treeAdapter(document) {
     setDocumentType: (its, ...words) => void appendChild(its, createDoctype(its, ...words)),
     setDocumentMode,
     getDocumentMode: (its) => (its.compatMode === "BackCompat" ? "quirks" : "no-quirks"),
-    setTemplateContent: emptyContents,
+    setTemplateContent: setTemplateContents,
     getTemplateContent: (element) => contentsOf(element) ?? createFragment(documentOf(element)),
     getFirstChild: firstChildOf,
     getChildNodes: (node) => childNumbers(node).map((number) => wrapChild(node, number)),

@@ -112,7 +112,7 @@ test("a collection has elements by their ids and names", () => {
   assert.equal(list.one, undefined);
 });
 
-test("a kept list of tags stays one of the Document that it was made in", () => {
+test("a kept list of tags means what it meant when it was asked for, also in a Document of XML", () => {
   const { document, root, items } = listOf(1);
   const list = root.getElementsByTagName("LI");
   assert.deepEqual([...list], items);

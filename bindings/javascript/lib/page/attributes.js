@@ -5,6 +5,7 @@
 import {
   adoptNode,
   attributeNames,
+  attributesKept,
   converted,
   convertible,
   documentOf,
@@ -12,6 +13,7 @@ import {
   HTML,
   isNode,
   documentKnown,
+  itsOf,
   keptOf,
   known,
   makeThing,
@@ -31,6 +33,13 @@ import { borrow, knownOf, makeLegacy } from "./legacy.js";
 import { styleChanged } from "./styles.js";
 import { alsoTarget } from "./targets.js";
 
+/** The value that an element has now of an attribute of a namespace and a local name. */
+function valueNow(its, { namespace, local }) {
+  const known = attributesKept(its);
+  for (let at = 0; at < known.length; at += 2) if (known[at].local === local && known[at].namespace === namespace) return known[at + 1];
+  return "";
+}
+
 /** What an Attr knows: its name, its element or none, and its value where it has none. */
 class AttrIs {
   element = null;
@@ -43,7 +52,7 @@ class AttrIs {
 
   get value() {
     const { element, name } = this;
-    return element === null ? this.kept : (element.getAttributeNS(name.namespace, name.local) ?? "");
+    return element === null ? this.kept : valueNow(itsOf(element), name);
   }
 }
 
@@ -55,17 +64,18 @@ otherNodes(isAttr);
 
 // ---- The Attr objects that were asked for, of each element, by namespace and local name.
 
-const keyOf = ({ namespace, local }) => `${namespace ?? ""} ${local}`;
+const keyOf = ({ namespace, local }) => (namespace === null ? local : `${namespace} ${local}`);
 
 function attrFor(element, name) {
   const its = (keptOf(element).attrs ??= new Map());
   const key = keyOf(name);
-  if (!its.has(key)) {
-    const made = makeThing(realmOf(element), "Attr", new AttrIs(documentOf(element), name, ""));
-    attrOf(made).element = element;
-    its.set(key, made);
-  }
-  return its.get(key);
+  const found = its.get(key);
+  if (found !== undefined) return found;
+  const known = new AttrIs(documentOf(element), name, "");
+  known.element = element;
+  const made = makeThing(realmOf(element), "Attr", known);
+  its.set(key, made);
+  return made;
 }
 
 /** Has the Attr of a name, where somebody holds it, keep its value, since the element is about to lose it. */
@@ -114,7 +124,7 @@ function changed(element, name) {
   else pageOf(element)?.handlers.changed(element, its);
 }
 
-function setAttribute(element, qualified, value) {
+export function setAttributeOf(element, qualified, value) {
   base.setAttribute[1](element, qualified, value);
   changed(element, qualified);
 }
@@ -124,7 +134,7 @@ function setAttributeNS(element, namespace, qualified, value) {
   changed(element, qualified);
 }
 
-function removeAttribute(element, qualified) {
+export function removeAttributeOf(element, qualified) {
   const name = keptOf(element).attrs ? byQualified(element, qualified) : undefined;
   if (name) release(element, name);
   base.removeAttribute[1](element, qualified);
@@ -179,11 +189,11 @@ class MapIs {
   }
 
   get length() {
-    return attributeNames(this.element).length;
+    return attributesKept(itsOf(this.element)).length / 2;
   }
 
   at(index) {
-    return orNull(this.element, attributeNames(this.element)[index]);
+    return orNull(this.element, attributesKept(itsOf(this.element))[2 * index]);
   }
 
   names() {
@@ -387,9 +397,9 @@ export const inDocuments = {
 export const inElements = {
   attributes: { attributes },
   operations: {
-    setAttribute: [["DOMString", "DOMString"], setAttribute],
+    setAttribute: [["DOMString", "DOMString"], setAttributeOf],
     setAttributeNS: [["DOMString?", "DOMString", "DOMString"], setAttributeNS],
-    removeAttribute: [["DOMString"], removeAttribute],
+    removeAttribute: [["DOMString"], removeAttributeOf],
     removeAttributeNS: [OF_NAMESPACE, removeAttributeNS],
     toggleAttribute: [["DOMString", "any = undefined"], toggleAttribute],
     getAttributeNode: [["DOMString"], (element, name) => orNull(element, byQualified(element, name))],
