@@ -47,6 +47,14 @@ export const memory = Object.freeze({
   get held() {
     return native.held();
   },
+  /**
+   * Has so many bytes more be there, so that sessions can take them without a growth of the memory. A RangeError says that there are not so many; no
+   * session has ended then.
+   */
+  reserve(bytes) {
+    if (!(bytes >= 0 && bytes <= 4294967295)) throw new RangeError("a reserve is a number of bytes, up to 4294967295");
+    if (!native.reserve(bytes)) throw new RangeError(`out of memory: there are no ${bytes} bytes more`);
+  },
   /** Has it not grow past so many bytes; 0 takes the bound away. A call for which there is no memory left ends its session (RangeError). */
   limit(bytes) {
     if (!(bytes >= 0 && bytes <= 4294967295)) throw new RangeError("a bound is a number of bytes, up to 4294967295");

@@ -218,6 +218,12 @@ const own = {
   held: () => module.held() >>> 0,
   /** The bytes of memory that there are, and that there may be at most: 0 for as many as the module can have. */
   size: () => octets.length,
+  /** Has the memory grow until so many bytes are free in one piece; returns whether it could. */
+  reserve(size) {
+    const isThere = reserve(size) !== 0;
+    if (size > LARGE) reserve(SHORT_NAME);
+    return isThere;
+  },
   bound: module.bound,
 };
 
