@@ -1,9 +1,10 @@
 #!/usr/bin/env python3
-"""Puts the module beside the package: out/huckleport.wasm and out/calls.js, from bindings/web/out.
+"""Puts the module beside the package: out/huckleport.wasm and out/calls.js, from bindings/web/out; and out/bytes.js, the module as a text for pages.
 
-They are made there by bindings/web/make.py where they are missing; --module takes another folder that has both.
+bindings/web/make.py makes the first two if they are missing; --module takes another folder that has both.
 """
 import argparse
+import base64
 import importlib.util
 import os
 import shutil
@@ -25,6 +26,20 @@ def module(name, path):
     return found
 
 
+def script_of(module):
+    """Returns the module's bytes as a script that exports them in base64."""
+    with open(module, "rb") as file:
+        return f'export default "{base64.b64encode(file.read()).decode()}";\n'
+
+
+def put_script(folder):
+    """Writes the script of the module beside it, whole."""
+    to = os.path.join(folder, "bytes.js")
+    with open(f"{to}.new", "w", encoding="ascii") as file:
+        file.write(script_of(os.path.join(folder, FILES[0])))
+    os.replace(f"{to}.new", to)
+
+
 def has_module(folder):
     return all(os.path.isfile(os.path.join(folder, it)) for it in FILES)
 
@@ -41,6 +56,7 @@ def build(given):
         to = os.path.join(given.to, it)
         shutil.copy(os.path.join(given.module, it), f"{to}.new")
         os.replace(f"{to}.new", to)
+    put_script(given.to)
     return os.path.join(given.to, FILES[0])
 
 

@@ -80,7 +80,7 @@ def types():
     if not shutil.which("tsc"):
         print("left out: the types, since there is no tsc")
         return False
-    words = ["tsc", "--strict", "--noEmit", "--target", "es2022", "--module", "es2022", "--moduleResolution", "node", "tests/types.ts"]
+    words = ["tsc", "--strict", "--noEmit", "--target", "es2022", "--module", "es2022", "--moduleResolution", "node", "tests/types.ts", "tests/dom_types.ts"]
     return run("the types", words)
 
 

@@ -328,7 +328,7 @@ function copied(node, document, call, ...given) {
   const session = sessionOf(node);
   check(native[call](session.index, ...given));
   const copy = out[0];
-  const made = kindOf(node) === DOCUMENT ? wrapDocument(session, copy, { ...isOfDocument(node) }) : wrapMade(document, copy, kindOf(node));
+  const made = kindOf(node) === DOCUMENT ? wrapDocument(session, copy, { ...isOfDocument(node), inert: undefined }) : wrapMade(document, copy, kindOf(node));
   noteIdsBelow(session, copy);
   return made;
 }
@@ -341,9 +341,30 @@ function withContents(node, copy, deep) {
 
 function copyContents(node, copy) {
   const { contents } = keptOf(node);
-  if (contents) setContents(copy, importNode(documentOf(contents), contents, true));
+  if (contents) setContents(copy, importNode(inertDocument(documentOf(copy)), contents, true));
   for (let from = firstChildOf(node), to = firstChildOf(copy); from && to; from = nextOf(from), to = nextOf(to)) copyContents(from, to);
 }
+
+/** The Document of the contents of a Document's templates, which no window shows; that of such a Document is itself. */
+export function inertDocument(document) {
+  const session = sessionOf(document);
+  const its = documentIs(session, numberOf(document));
+  if (its.isInert) return document;
+  if (!its.inert) {
+    check(native.hp_new_document(session.index));
+    its.inert = wrapDocument(session, out[0], { realm: its.realm, isHtml: its.isHtml, contentType: its.contentType, url: "about:blank", isInert: true });
+  }
+  return its.inert;
+}
+
+/** Gives an element contents that are empty. */
+export function emptyContents(node) {
+  setContents(node, createFragment(inertDocument(documentOf(node))));
+  return contentsOf(node);
+}
+
+/** Gives a template its contents, a fragment, which goes into the Document of such contents. */
+export const setTemplateContents = (node, fragment) => setContents(node, adoptNode(inertDocument(documentOf(node)), fragment));
 
 /** Gives an element contents, a fragment. */
 export function setContents(node, fragment) {
@@ -563,10 +584,10 @@ export const Node = known({
     isSameNode: [["Node?"], (node, other) => node === other],
     compareDocumentPosition: [["Node"], comparePosition],
     contains: [["Node?"], (node, other) => isBeside(node, other) && compared("hp_contains", node, other) === 1],
-    insertBefore: [["Node", "Node?"], insertBefore],
+    insertBefore: [["Node", "child Node?"], insertBefore],
     appendChild: [["Node"], appendChild],
-    replaceChild: [["Node", "Node"], replaceChild],
-    removeChild: [["Node"], removeChild],
+    replaceChild: [["Node", "child Node"], replaceChild],
+    removeChild: [["child Node"], removeChild],
   },
   finish(realm, made) {
     const shown = { value: inspected, writable: true, configurable: true };

@@ -52,6 +52,8 @@ class Traversal {
     this.isAsking = true;
     try {
       return this.asked(node.object);
+    } catch (fault) {
+      throw isRevoked(this.filter) ? new Refusal(native.HP_TYPE_ERROR, "the filter is a proxy that was revoked") : fault;
     } finally {
       this.isAsking = false;
     }
@@ -63,6 +65,15 @@ class Traversal {
     const accept = filter.acceptNode;
     if (typeof accept !== "function") refuseType("acceptNode is no function");
     return Number(accept.call(filter, node)) & 0xffff;
+  }
+}
+
+/** Whether something is a proxy that was revoked, of which nothing can be asked. */
+function isRevoked(it) {
+  try {
+    return Array.isArray(it) && false;
+  } catch {
+    return true;
   }
 }
 

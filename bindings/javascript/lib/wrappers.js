@@ -743,7 +743,7 @@ export const isOfParents = (node) => mayHaveChildren(kindOf(node));
 
 // ---- What is no node.
 
-export let thingOf;
+export let thingOf, isThing;
 
 /** An object of an interface that is no node, with what it knows. */
 export class Thing {
@@ -754,6 +754,7 @@ export class Thing {
   }
 
   static {
+    isThing = (it) => #its in it;
     // (the class itself is compared, since a look through prototypes takes longer than most of what is asked)
     thingOf = (it, kind) => {
       if (typeof it !== "object" || it === null || !(#its in it)) return undefined;

@@ -197,3 +197,21 @@ test("the memory of the module can be bounded, and what is refused then ends its
   assert.ok(made.length > 0);
   assert.equal(other.document.createElement("p").nodeName, "P");
 });
+
+test("memory is reserved ahead, or refused without the end of a session", () => {
+  const document = createDocument();
+  const root = document.appendChild(document.createElement("p"));
+  memory.limit(memory.size + 33554432);
+  try {
+    assert.throws(() => memory.reserve(67108864), { name: "RangeError", message: /67108864/u });
+    root.append("x");
+    memory.reserve(16777216);
+    const { size } = memory;
+    for (let at = 0; at < 40; at++) root.append("y".repeat(100000));
+    assert.equal(memory.size, size);
+    assert.equal(root.textContent.length, 4000001);
+  } finally {
+    memory.limit(0);
+  }
+  assert.throws(() => memory.reserve(-1), RangeError);
+});

@@ -3,19 +3,26 @@
  * for one of them as long as the element has it, and keeps its value when it has left.
  */
 import {
+  adoptNode,
   attributeNames,
   attributesKept,
+  converted,
+  convertible,
   documentOf,
   Element,
   HTML,
+  isNode,
   documentKnown,
   itsOf,
   keptOf,
   known,
   makeThing,
+  Node,
+  otherNodes,
   pageOf,
   realmOf,
   refuse,
+  refuseType,
   small,
   stillNodeList,
   thingOf,
@@ -53,6 +60,7 @@ const attrOf = (it) => thingOf(it, AttrIs);
 const isAttr = (it) => attrOf(it) !== undefined;
 
 alsoTarget(isAttr);
+otherNodes(isAttr);
 
 // ---- The Attr objects that were asked for, of each element, by namespace and local name.
 
@@ -238,10 +246,13 @@ const orEmpty = { type: "DOMString?", get: value.get, set: (attr, text) => setVa
 const none = () => null;
 const named = (part) => (attr) => attrOf(attr).name[part];
 
-function copy(attr) {
-  const { document, name, value: its } = attrOf(attr);
+/** A copy of an Attr, for a Document. */
+function copyFor(document, attr) {
+  const { name, value: its } = attrOf(attr);
   return makeThing(realmOf(document), "Attr", new AttrIs(document, name, its));
 }
+
+const copy = (attr) => copyFor(attrOf(attr).document, attr);
 
 function isEqual(attr, other) {
   if (!isAttr(other)) return false;
@@ -252,6 +263,27 @@ function isEqual(attr, other) {
 const isSame = (attr, other) => attr === other;
 const childless = () => refuse("HierarchyRequestError", "an attribute has no children");
 const DISCONNECTED = 1 | 32 | 4;
+const PRECEDING = 2;
+const CONTAINS = 8;
+const CONTAINED = 16 | 4;
+const CONTAINING = CONTAINS | PRECEDING;
+
+/** Where an Attr is, seen from a node: its element stands for it, and holds it. */
+function positionFrom(node, attr) {
+  const { element } = attrOf(attr);
+  if (element === null) return DISCONNECTED;
+  const position = element === node ? CONTAINED : comparePosition(node, element);
+  return (position & CONTAINS) === 0 ? position : PRECEDING;
+}
+
+/** Where a node is, seen from an Attr. */
+function positionOf(attr, other) {
+  const { element } = attrOf(attr);
+  if (attr === other) return 0;
+  if (element === null || !isNode(other)) return DISCONNECTED;
+  const position = element === other ? CONTAINING : comparePosition(element, other);
+  return (position & 16) === 0 ? position : 4;
+}
 
 /** An Attr says of itself what a node of the core is asked. */
 const asNode = {
@@ -279,7 +311,7 @@ const asNode = {
     isEqualNode: [["any"], isEqual],
     isSameNode: [["any"], isSame],
     contains: [["any"], isSame],
-    compareDocumentPosition: [["any"], (attr, other) => (attr === other ? 0 : DISCONNECTED)],
+    compareDocumentPosition: [["any"], positionOf],
     lookupPrefix: [["DOMString?"], (attr, namespace) => attrOf(attr).element?.lookupPrefix(namespace) ?? null],
     lookupNamespaceURI: [["DOMString?"], (attr, prefix) => attrOf(attr).element?.lookupNamespaceURI(prefix) ?? null],
     isDefaultNamespace: [["DOMString?"], (attr, namespace) => attrOf(attr).element?.isDefaultNamespace(namespace) ?? namespace === null],
@@ -318,8 +350,42 @@ function created(document, give) {
   return makeThing(realmOf(document), "Attr", new AttrIs(document, nameOn(document, give), ""));
 }
 
+const [, comparePosition] = Node.operations.compareDocumentPosition;
+
+convertible("Node or Attr", (value) => (isNode(value) || isAttr(value) ? value : refuseType("this is no Node")));
+convertible("Node or Attr?", (value) => (value === null || value === undefined ? null : converted("Node or Attr", value)));
+
+/** A question of a node about another, which an Attr answers in its own way. */
+function about(name, ofAttr) {
+  const [[type], ask] = Node.operations[name];
+  return [[type.replace("Node", "Node or Attr")], (node, other) => (isAttr(other) ? ofAttr(node, other) : ask(node, other))];
+}
+
+const never = () => false;
+
+/** What nodes answer about an Attr. */
+export const inNodes = {
+  contains: about("contains", never),
+  isEqualNode: about("isEqualNode", never),
+  isSameNode: about("isSameNode", never),
+  compareDocumentPosition: about("compareDocumentPosition", positionFrom),
+};
+
+/** Brings a node, or an Attr without its element, into a Document. */
+function adopt(document, node) {
+  if (!isAttr(node)) return adoptNode(document, node);
+  const its = attrOf(node);
+  if (its.element !== null) removeAttributeNode(its.element, node);
+  its.document = document;
+  return node;
+}
+
+/** Makes of a function that copies nodes into a Document one that copies an Attr too. */
+export const importing = (importNode) => [["Node or Attr", "boolean = false"], (document, node, isDeep) => (isAttr(node) ? copyFor(document, node) : importNode(document, node, isDeep))];
+
 /** What Documents have of attributes. */
 export const inDocuments = {
+  adoptNode: [["Node or Attr"], adopt],
   createAttribute: [
     ["DOMString"],
     (document, local) => created(document, (trial) => base.setAttribute[1](trial, documentKnown(document).isHtml ? small(local) : local, "")),

@@ -17,11 +17,11 @@ export {
 export { DocumentFragment, Document, newDocument, xmlIs } from "../documents.js";
 export { HTML, small, SVG, XML, XMLNS } from "../names.js";
 export { wanted } from "../libraries.js";
-export { contentsOf, dataOf, documentOf, nameKnown, nameOf, Node, parentOf, setContents } from "../nodes.js";
+export { adoptNode, contentsOf, dataOf, documentOf, emptyContents, nameKnown, nameOf, Node, parentOf } from "../nodes.js";
 export { htmlCollection, numbersIn, stillNodeList } from "../lists.js";
 export { serializeInner } from "../serializing.js";
-export { addMembers, convertible, converted, known, makeInterface, refuseType } from "../webidl.js";
-export { isNode, itsOf, keptOf, kindOf, makeThing, numberOf, realmOf, rootOf, sessionOf, Thing, thingOf, wrap, Wrapper } from "../wrappers.js";
+export { addMembers, convertible, converted, known, makeInterface, otherNodes, refuseType } from "../webidl.js";
+export { isNode, isThing, itsOf, keptOf, kindOf, makeThing, numberOf, realmOf, rootOf, sessionOf, Thing, thingOf, wrap, Wrapper } from "../wrappers.js";
 
 /** The standard's codes of the exceptions that the page throws. */
 const CODES = {

@@ -1,5 +1,5 @@
 /** DOMTokenList and DOMStringMap: live views of attributes (DOM Standard, section 7.1; HTML Standard, section 3.2.6.6). */
-import { isBlank, itsOf, keptOf, known, namesKept, realmOf, refuse, valueKept, wordsKept } from "./core.js";
+import { isBlank, itsOf, keptOf, known, namesKept, realmOf, refuse, refuseType, valueKept, wordsKept } from "./core.js";
 import { removeAttributeOf, setAttributeOf } from "./attributes.js";
 import { borrow, knownOf, makeLegacy } from "./legacy.js";
 
@@ -81,7 +81,7 @@ function replace(list, token, other) {
 
 function supports(list, token) {
   const { supported } = tokensOf(list);
-  if (!supported) throw new TypeError("these tokens have no list of what is supported");
+  if (!supported) refuseType("these tokens have no list of what is supported");
   return supported.includes(token.toLowerCase());
 }
 

@@ -1,5 +1,6 @@
 /** Inputs (HTML Standard, section 4.10.5): values by their types, boxes, and what is selected of a text. */
-import { convertible, pageOf, refuse, refuseType } from "../core.js";
+import { convertible, pageOf, realmOf, refuse, refuseType } from "../core.js";
+import { valueAsDate } from "./dates.js";
 import { flags, oneOf, text, texts, url, whole } from "./reflect.js";
 import { formOf, isNamed, stateOf } from "./states.js";
 import { boundsOf, isNumber, numberOf, step } from "./steps.js";
@@ -206,10 +207,13 @@ export const textSelection = {
   },
 };
 
+/** The files that were chosen: none, unless a program put them there. */
+const filesOf = (input) => (input.type === "file" ? (stateOf(input).files ??= Object.freeze(realmOf(input).array([]))) : null);
+
 export const inputMembers = {
   attributes: {
-    ...texts("accept", "align", "alt", "autocomplete", "dirName", "max", "min", "name", "pattern", "placeholder", "step", "useMap"),
-    ...flags("autofocus", "disabled", "formNoValidate", "multiple", "readOnly", "required"),
+    ...texts("accept", "align", "alt", "autocomplete", "dirName", "max", "min", "name", "pattern", "placeholder", "step", "useMap", "capture"),
+    ...flags("autofocus", "disabled", "formNoValidate", "multiple", "readOnly", "required", "webkitdirectory"),
     formAction: url("formaction"),
     formEnctype: text("formenctype"),
     formMethod: text("formmethod"),
@@ -230,6 +234,8 @@ export const inputMembers = {
       get: (input) => stateOf(input).indeterminate,
       set: (input, its) => void (stateOf(input).indeterminate = its),
     },
+    files: { type: "any", get: filesOf, set: (input, files) => files && input.type === "file" && void (stateOf(input).files = files) },
+    valueAsDate,
     valueAsNumber: { type: "any", get: numberOf, set: (input, its) => value.set(input, Number.isNaN(its) ? "" : `${its}`) },
     form: formOf,
     list: (input) => {

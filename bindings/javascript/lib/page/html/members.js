@@ -75,6 +75,7 @@ const aria = (name) => [`aria${name[0].toUpperCase()}${name.slice(1)}`, textOrNu
 const every = {
   attributes: {
     classList: tokens("class"),
+    part: tokens("part"),
     slot: text("slot"),
     role: textOrNull("role"),
     shadowRoot: () => null,
@@ -172,6 +173,41 @@ function click(element) {
   pageOf(element).click(element);
 }
 
+// ---- Texts as they are shown. Nothing is rendered here, so what is read is the text content, as the standard says.
+
+function renderedText(element, value) {
+  const document = element.ownerDocument;
+  const fragment = document.createDocumentFragment();
+  value.split(/\r\n|\n|\r/).forEach((line, at) => {
+    if (at > 0) fragment.append(document.createElement("br"));
+    if (line !== "") fragment.append(line);
+  });
+  return fragment;
+}
+
+function setOuterText(element, value) {
+  const { previousSibling: previous, nextSibling: next, parentNode } = element;
+  if (!parentNode) refuse("NoModificationAllowedError", "the element has no parent");
+  const fragment = renderedText(element, value);
+  if (!fragment.firstChild) fragment.append("");
+  element.replaceWith(fragment);
+  mergeText(next?.previousSibling);
+  mergeText(previous);
+}
+
+/** Joins a Text with the Text behind it. */
+function mergeText(text) {
+  const next = text?.nextSibling;
+  if (text?.nodeType !== TEXT || next?.nodeType !== TEXT) return;
+  text.appendData(next.data);
+  next.remove();
+}
+
+const TEXT = 3;
+const textContent = (element) => element.textContent;
+const innerText = { type: "DOMString or empty", get: textContent, set: (element, value) => element.replaceChildren(renderedText(element, value)) };
+const outerText = { type: "DOMString or empty", get: textContent, set: setOuterText };
+
 const shared = { ...handlerAttributes, ...styleAttribute, ...tabbing, dataset, nonce: text("nonce"), autofocus: flags("autofocus").autofocus };
 
 const html = {
@@ -185,6 +221,9 @@ const html = {
     draggable: { ...worded("draggable", false), get: (element) => worded("draggable", isDraggable(element)).get(element) },
     contentEditable,
     isContentEditable,
+    autocapitalize: oneOf("autocapitalize", ["none", "sentences", "words", "characters"], "", "sentences"),
+    innerText,
+    outerText,
     offsetParent: () => null,
     ...zeros("offsetTop", "offsetLeft", "offsetWidth", "offsetHeight"),
   },

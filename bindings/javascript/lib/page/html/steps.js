@@ -7,7 +7,10 @@ const NUMERIC = ["number", "range"];
 /** Whether a text is a number, as the standard has one. */
 export const isNumber = (text) => NUMBER.test(text);
 
-const numberOr = (text, absent) => (text !== null && isNumber(text) ? Number(text) : absent);
+/** The number that a text is, or null. */
+export const numberIn = (text) => (text !== null && isNumber(text) ? Number(text) : null);
+
+const numberOr = (text, absent) => numberIn(text) ?? absent;
 const isNumeric = (input) => NUMERIC.includes(input.type);
 const isRange = (input) => input.type === "range";
 
