@@ -189,7 +189,7 @@ export const PAGE_SCENES = {
   },
   "a list gone through": {
     says: "an element of getElementsByTagName read by its index, ten times",
-    share: 0.1,
+    share: 0.03,
     ready(window, count) {
       const list = tableOf(window, count).document.getElementsByTagName("td");
       return () => {

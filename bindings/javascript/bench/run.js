@@ -15,7 +15,7 @@ const HELP = `Nanoseconds of processor time a step of scenes, by this package an
 
   --count N     how many steps a scene has (20000); some have a share of it
   --times N     how often each runs a scene at most (7), and at least twice
-  --seconds N   after how many seconds a scene is not run again (2)
+  --seconds N   after how many seconds of processor time a scene is not run again (1.5)
   --scene NAME  only this scene; more of them with commas between: ${Object.keys(SCENES).join(", ")}
   --help        this text
 `;
@@ -23,7 +23,7 @@ const HELP = `Nanoseconds of processor time a step of scenes, by this package an
 const OPTIONS = {
   count: { type: "string", default: "20000" },
   times: { type: "string", default: "7" },
-  seconds: { type: "string", default: "2" },
+  seconds: { type: "string", default: "1.5" },
   scene: { type: "string" },
   inside: { type: "boolean" },
   help: { type: "boolean" },
@@ -79,8 +79,8 @@ async function runAll(scene, { count, times, seconds }) {
   const players = found("jsdom") ? ["huckleport", "jsdom"] : ["huckleport"];
   const windows = {};
   for (const by of players) windows[by] = await WINDOWS[by](SCENES[scene]);
-  const end = performance.now() + 1000 * seconds;
-  for (let time = 0; time < LEAST || (time < times && performance.now() < end); time++) {
+  const end = taken() + 1e6 * seconds;
+  for (let time = 0; time < LEAST || (time < times && taken() < end); time++) {
     for (const by of players) await runOnce(by, windows[by], scene, count);
   }
   process.exit(0);
