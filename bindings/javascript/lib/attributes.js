@@ -35,6 +35,9 @@ function readAttributes(its) {
 /** The names (see names.js) and the values of an element's attributes, in turn. */
 export const attributesKept = (its) => its.values ?? (its.values = readAttributes(its));
 
+/** Keeps that a new element has none; what it is given from then on is kept. */
+export const keepNone = (its) => void (its.values = NONE_THERE);
+
 const placeOf = (known, name) => {
   for (let at = 0; at < known.length; at += 2) if (known[at].number === name.number) return at;
   return -1;

@@ -4,9 +4,9 @@
  * Nothing here tells what a document is; each question goes to the module, which answers a status. A refusal is thrown as a Refusal, which is no
  * Error: an interface's method turns it into an exception of its own realm.
  */
-import { has, native, out, STUCK, textFrom, TOO_LONG, words } from "./native.js";
+import { beforeChange, has, native, out, STUCK, textFrom, TOO_LONG, words } from "./native.js";
 
-export { has, native, out, STUCK, textFrom, TOO_LONG, words };
+export { beforeChange, has, native, out, STUCK, textFrom, TOO_LONG, words };
 
 export const NONE = native.HP_NONE;
 export const OK = native.HP_OK;

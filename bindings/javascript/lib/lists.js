@@ -180,6 +180,7 @@ class Indexed {
   }
 
   get(target, key, receiver) {
+    if (key === "length") return this.#its.length;
     const index = indexOf(key);
     if (index < 0) return Reflect.get(target, key, receiver);
     return this.#its.at(index) ?? undefined;
@@ -249,6 +250,7 @@ class Named extends Indexed {
   }
 
   get(target, key, receiver) {
+    if (key === "length") return this.#its.length;
     const index = indexOf(key);
     if (index >= 0) return this.#its.at(index) ?? undefined;
     return typeof key !== "string" || Reflect.has(target, key) ? Reflect.get(target, key, receiver) : (namedIn(this.#its, key) ?? undefined);

@@ -227,7 +227,35 @@ const own = {
   bound: module.bound,
 };
 
-export const native = { ...calls, ...NUMBERS, ...own };
+// ---- What waits for a change of a tree.
+
+/** Calls that may change what stands where, or that end what is in a session. */
+const MOVING = `hp_line hp_insert_before hp_append_child hp_adopt_node hp_replace_child hp_remove_child hp_remove hp_replace_children hp_normalize
+  hp_set_text_content hp_discard hp_split_text hp_delete_contents hp_extract_contents hp_insert_node hp_surround_contents hp_release_iterator
+  hp_next_node hp_previous_node close`.split(/\s+/);
+
+let waiting = null;
+
+/** Has something be done before the next call that may change a tree; what waited before is done now. */
+export function beforeChange(does) {
+  if (waiting !== null) doNow();
+  waiting = does;
+}
+
+function doNow() {
+  const does = waiting;
+  waiting = null;
+  does();
+}
+
+const guarded = (call) => (one, two, three, four, five) => {
+  if (waiting !== null) doNow();
+  return call(one, two, three, four, five);
+};
+
+const all = { ...calls, ...NUMBERS, ...own };
+
+export const native = { ...all, ...Object.fromEntries(MOVING.filter((name) => name in all).map((name) => [name, guarded(all[name])])) };
 
 /** Whether the library has a call of that name. */
 export const has = (call) => typeof native[call] === "function";

@@ -52,7 +52,8 @@ function recentNow() {
   return recent;
 }
 
-function recall(session, number) {
+/** What the object of a number knows where it was made or found of late, else undefined. */
+export function recall(session, number) {
   const it = (recent ?? recentNow())[number & MASK];
   return it !== undefined && it.number === number && it.session === session ? it : undefined;
 }

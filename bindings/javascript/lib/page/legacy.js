@@ -37,6 +37,7 @@ class Traps {
     const its = this.#its;
     const index = its.at ? indexOf(key) : -1;
     if (index >= 0) return its.at(index) ?? undefined;
+    if (key === "length" && its.at && !its.isOverriding) return its.length;
     const named = this.#visible(target, key);
     return named === undefined ? Reflect.get(target, key, receiver) : named;
   }

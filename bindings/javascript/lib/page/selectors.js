@@ -75,16 +75,14 @@ function byList(node, { handle }) {
   return numbersIn(handle.type === "class" ? elementsOfClass(node, handle.name) : elementsOfName(node, "*", handle.name));
 }
 
-/** The only element of an id in the tree of a node: null if there is none, undefined if there are more, or if that is not known. */
+/** What the object of the only element of an id knows in the tree of a node: null if there is none, undefined if there are more, or if that is not known. */
 function byId(node, { handle }) {
   if (handle?.type !== "id") return undefined;
   const { session } = itsOf(node);
   if (session.hasSpoken) return undefined;
   const there = session.ids.get(handle.name);
   if (there === undefined) return null;
-  if (there.numbers.size > 1) return undefined;
-  const its = there.all(session)[0];
-  return its.root() === itsOf(rootOf(node)) ? its : null;
+  return there.size > 1 ? undefined : there.firstBelow(itsOf(rootOf(node)));
 }
 
 function isBelow(its, node) {
@@ -100,7 +98,8 @@ function withId(node, selector, question) {
   return found !== null && isBelow(found, node) && selector.test(found, question) ? [found.object] : [];
 }
 
-function gone(root, selector, question, most) {
+/** The first elements below a node that fit, so many at most. */
+function fitting(root, selector, question, most) {
   const found = [];
   const { test } = selector;
   for (let it = nodeAfter(root, root); it !== null; it = nodeAfter(it, root)) {
@@ -124,7 +123,7 @@ function querySelector(node, text) {
   const selector = compiled(node, text);
   const root = itsOf(node);
   const question = new Question(root);
-  const found = withId(node, selector, question) ?? gone(root, selector, question, 1);
+  const found = withId(node, selector, question) ?? fitting(root, selector, question, 1);
   return found[0] ?? null;
 }
 
@@ -133,7 +132,7 @@ function querySelectorAll(node, text) {
   const root = itsOf(node);
   const question = new Question(root);
   const numbers = byList(node, selector);
-  const found = numbers ? among(node, numbers, selector, question) : (withId(node, selector, question) ?? gone(root, selector, question, Infinity));
+  const found = numbers ? among(node, numbers, selector, question) : (withId(node, selector, question) ?? fitting(root, selector, question, Infinity));
   return stillNodeList(realmOf(node), found);
 }
 
