@@ -56,7 +56,7 @@ function walkOnce(root) {
 const FEW = 0.1;
 
 export const PAGE_SCENES = {
-  "selectors": {
+  selectors: {
     says: `a node of a page of 1,000 asked by querySelectorAll("tr > td.k0:first-child + td"), 20 times`,
     share: FEW,
     ready: asked("tr > td.k0:first-child + td"),
@@ -76,7 +76,7 @@ export const PAGE_SCENES = {
     share: FEW,
     ready: asked(".k1", moved),
   },
-  "matching": {
+  matching: {
     says: `matches("tr > .k1, [title]:not(.k2)") and closest("tr") of a cell`,
     ready: each((cell) => cell.matches("tr > .k1, [title]:not(.k2)") && cell.closest("tr").nodeType),
   },
@@ -89,7 +89,7 @@ export const PAGE_SCENES = {
       if (length < 20) throw new Error("an attribute is missing");
     }),
   },
-  "texts": {
+  texts: {
     says: "nodeValue of a Text read, ten times",
     ready(window, count) {
       const texts = tableOf(window, count / 10).cells.map((it) => it.firstChild);

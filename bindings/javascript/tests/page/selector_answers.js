@@ -26,7 +26,7 @@ const selectors = {
     },
     [2, 2, 1, 1, 1, 0, 0, 0, 0, 0, 0, 2, 1],
   ],
-  "positions": [
+  positions: [
     ({ document }, attempt) => {
       document.body.innerHTML = "<ul><li>1</li>x<li class=n>2</li><li>3</li><!--c--><li class=n>4</li><b>5</b><li class=n>6</li></ul>";
       const texts = [":nth-child(2 of .n)", ":nth-last-child(1 of .n, b)", "li:nth-child(odd)", "li:nth-child(-n+2)", "li:nth-child( 2n + 1 )", "li:nth-last-child(2)", "li:nth-of-type(5)", "b:nth-last-of-type(1)", "li:last-of-type", "b:only-of-type", "li:nth-child(n+4)", "b:nth-last-child(2)"];
@@ -62,7 +62,7 @@ const selectors = {
       ["body", "", true, "p,i"],
     ],
   ],
-  "escapes": [
+  escapes: [
     ({ document }, attempt) => {
       const found = (id, selector) => {
         document.body.innerHTML = "";
@@ -81,7 +81,7 @@ const selectors = {
       [1, 1, 1, 1, "SyntaxError"],
     ],
   ],
-  "attributes": [
+  attributes: [
     ({ document }) => {
       document.body.innerHTML = '<input type=TEXT data-x=A><p class="a  b c" title="a-b" data-x=a></p>';
       const texts = ["[type=text]", "[data-x=a]", "[data-x=a i]", "[class~=b]", "[class~='a b']", "[title|=a]", "[title^='']", "[title*='']", "[title$=b]", "[DATA-X]", "[data-x='A' I]", "[class~='']", "[ data-x = a ]"];
