@@ -66,7 +66,18 @@ const taken = () => {
 /** Waits until the program would wait, and what the engine compiles beside it is done. */
 const settled = () => new Promise((does) => void setTimeout(does, 50));
 
+/** Runs a scene once; answers whether it runs at all. */
 async function runOnce(by, window, scene, count) {
+  try {
+    await timed(by, window, scene, count);
+    return true;
+  } catch (fault) {
+    if (by === "huckleport") throw fault;
+    return false;
+  }
+}
+
+async function timed(by, window, scene, count) {
   const does = SCENES[scene].ready(window, countOf(scene, count));
   await settled();
   const before = taken();
@@ -76,12 +87,12 @@ async function runOnce(by, window, scene, count) {
 
 /** Runs a scene a few times by each in turn, and prints the nanoseconds a step of each time. */
 async function runAll(scene, { count, times, seconds }) {
-  const players = found("jsdom") ? ["huckleport", "jsdom"] : ["huckleport"];
+  let players = found("jsdom") ? ["huckleport", "jsdom"] : ["huckleport"];
   const windows = {};
   for (const by of players) windows[by] = await WINDOWS[by](SCENES[scene]);
   const end = taken() + 1e6 * seconds;
   for (let time = 0; time < LEAST || (time < times && taken() < end); time++) {
-    for (const by of players) await runOnce(by, windows[by], scene, count);
+    for (const by of [...players]) if (!(await runOnce(by, windows[by], scene, count))) players = players.filter((it) => it !== by);
   }
   process.exit(0);
 }
