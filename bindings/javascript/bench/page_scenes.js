@@ -198,13 +198,15 @@ export const PAGE_SCENES = {
     },
   },
   "first ids": {
-    says: "getElementById of each of 1,000, the first time",
-    share: 0.05,
+    says: "getElementById of each of 1,000, the first time, in 20 Documents",
     ready({ document }, count) {
-      const made = document.implementation.createHTMLDocument("");
-      for (let at = 0; at < count; at++) made.body.appendChild(made.createElement("p")).id = `id${at}`;
+      const made = Array.from({ length: 20 }, () => document.implementation.createHTMLDocument(""));
+      for (let at = 0; at < count; at++) {
+        const { body } = made[at % 20];
+        body.appendChild(body.ownerDocument.createElement("p")).id = `id${at}`;
+      }
       return () => {
-        for (let at = 0; at < count; at++) if (!made.getElementById(`id${at}`)) throw new Error("an id is missing");
+        for (let at = 0; at < count; at++) if (!made[at % 20].getElementById(`id${at}`)) throw new Error("an id is missing");
       };
     },
   },
