@@ -50,10 +50,33 @@ function get(input) {
 }
 
 function set(input, given) {
+  if (given !== null && Object.prototype.toString.call(given) !== "[object Date]") refuseType("this is no Date");
   const kind = kindOf(input);
   if (!kind) refuse("InvalidStateError", `an input of type ${input.type} has no date`);
-  if (given !== null && Object.prototype.toString.call(given) !== "[object Date]") refuseType("this is no Date");
   input.value = given === null || Number.isNaN(Number(given)) ? "" : kind[1](new Date(Number(given)));
 }
 
 export const valueAsDate = { type: "any", get, set };
+
+// ---- The same as a number: milliseconds, or months.
+
+const LOCAL = "datetime-local";
+const FIRST_YEAR = 1970;
+
+/** Whether a type of input is one of a date or a time. */
+export const hasDate = (input) => kindOf(input) !== null || input.type === LOCAL;
+
+export function dateNumber(input) {
+  if (input.type === LOCAL) return input.value === "" ? NaN : Date.parse(`${input.value}Z`);
+  const at = kindOf(input)[0](input.value);
+  if (input.type !== "month" || Number.isNaN(at)) return at;
+  return (new Date(at).getUTCFullYear() - FIRST_YEAR) * 12 + new Date(at).getUTCMonth();
+}
+
+export function setDateNumber(input, number) {
+  const date = input.type === "month" ? new Date(Date.UTC(FIRST_YEAR, number)) : new Date(number);
+  const isNone = Number.isNaN(date.getTime());
+  if (input.type !== LOCAL) return set(input, isNone ? null : date);
+  input.value = isNone ? "" : `${KINDS.date[1](date)}T${time(date)}`;
+  return undefined;
+}

@@ -1,6 +1,6 @@
 /** Media elements of a page without a network (HTML Standard, section 4.8.11): nothing is ever loaded, so each answers as one with no resource does. */
-import { keptOf, realmOf, refuse } from "../core.js";
-import { flags, texts, urls } from "./reflect.js";
+import { keptOf, realmOf, refuse, refuseType } from "../core.js";
+import { flags, oneOf, urls } from "./reflect.js";
 
 /** The settings of an element that its attributes do not have. */
 class Settings {
@@ -29,6 +29,15 @@ const volume = {
   },
 };
 
+const srcObject = {
+  type: "any",
+  get: (media) => settingsOf(media).srcObject,
+  set(media, value) {
+    if (typeof (value ?? null) !== "object") refuseType("this is no source of media");
+    settingsOf(media).srcObject = value ?? null;
+  },
+};
+
 const CONSTANTS = {
   ...{ NETWORK_EMPTY: 0, NETWORK_IDLE: 1, NETWORK_LOADING: 2, NETWORK_NO_SOURCE: 3 },
   ...{ HAVE_NOTHING: 0, HAVE_METADATA: 1, HAVE_CURRENT_DATA: 2, HAVE_FUTURE_DATA: 3, HAVE_ENOUGH_DATA: 4 },
@@ -44,12 +53,12 @@ export const mediaMembers = {
   constants: CONSTANTS,
   attributes: {
     ...urls("src"),
-    ...texts("preload"),
+    preload: oneOf("preload", ["none", "metadata", "auto"], "metadata"),
     ...flags("autoplay", "controls", "loop"),
     defaultMuted: flags("muted").muted,
     ...Object.fromEntries(["muted", "preservesPitch"].map((name) => setting("boolean", name))),
     ...Object.fromEntries(["playbackRate", "defaultPlaybackRate", "currentTime"].map((name) => setting("double", name))),
-    ...Object.fromEntries([setting("any", "srcObject")]),
+    srcObject,
     volume,
     currentSrc: () => "",
     networkState: () => CONSTANTS.NETWORK_EMPTY,

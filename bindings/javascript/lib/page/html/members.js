@@ -1,9 +1,9 @@
 /** What all elements have of a page, and those of HTML, SVG and MathML (DOM, CSSOM View, HTML): rectangles are zero, for there is no layout. */
-import { known, makeThing, pageOf, realmOf, refuse, thingOf } from "../core.js";
+import { keptOf, known, makeThing, pageOf, realmOf, refuse, thingOf } from "../core.js";
 import { handlerAttributes } from "../handlers.js";
 import { isShown, styleAttribute } from "../styles.js";
 import { dataset, tokens } from "../tokens.js";
-import { flags, oneOf, text, textOrNull, texts, whole } from "./reflect.js";
+import { flags, oneOf, text, textOrNull, texts, whole, words } from "./reflect.js";
 import { isDisabled, isNamed } from "./states.js";
 
 // ---- Rectangles.
@@ -208,15 +208,27 @@ const textContent = (element) => element.textContent;
 const innerText = { type: "DOMString or empty", get: textContent, set: (element, value) => element.replaceChildren(renderedText(element, value)) };
 const outerText = { type: "DOMString or empty", get: textContent, set: setOuterText };
 
-const shared = { ...handlerAttributes, ...styleAttribute, ...tabbing, dataset, nonce: text("nonce"), autofocus: flags("autofocus").autofocus };
+/** A nonce that is set stays out of the attribute, so that styles can't read it. */
+const nonce = {
+  type: "DOMString",
+  get: (element) => keptOf(element).nonce ?? element.getAttribute("nonce") ?? "",
+  set: (element, value) => void (keptOf(element).nonce = value),
+};
+
+const shared = { ...handlerAttributes, ...styleAttribute, ...tabbing, dataset, nonce, autofocus: flags("autofocus").autofocus };
 
 const html = {
   attributes: {
     ...shared,
-    ...texts("title", "lang", "accessKey", "inputMode", "enterKeyHint"),
+    ...texts("title", "lang", "accessKey"),
+    ...words("inputMode", "enterKeyHint"),
     ...flags("hidden", "inert"),
     dir: oneOf("dir", ["ltr", "rtl", "auto"], ""),
-    translate: { ...worded("translate", true), get: (element) => (element.getAttribute("translate") ?? "yes").toLowerCase() !== "no" },
+    translate: {
+      type: "boolean",
+      get: (element) => (element.getAttribute("translate") ?? "yes").toLowerCase() !== "no",
+      set: (element, value) => element.setAttribute("translate", value ? "yes" : "no"),
+    },
     spellcheck: worded("spellcheck", true),
     draggable: { ...worded("draggable", false), get: (element) => worded("draggable", isDraggable(element)).get(element) },
     contentEditable,

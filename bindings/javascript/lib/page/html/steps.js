@@ -11,7 +11,8 @@ export const isNumber = (text) => NUMBER.test(text);
 export const numberIn = (text) => (text !== null && isNumber(text) ? Number(text) : null);
 
 const numberOr = (text, absent) => numberIn(text) ?? absent;
-const isNumeric = (input) => NUMERIC.includes(input.type);
+/** Whether a type of input has a number. */
+export const isNumeric = (input) => NUMERIC.includes(input.type);
 const isRange = (input) => input.type === "range";
 
 /** The value as a number, or NaN. */
