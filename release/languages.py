@@ -1,6 +1,7 @@
 """The packages for Python, Rust and JavaScript, each with the library inside."""
 import base64
 import hashlib
+import importlib.util
 import json
 import os
 import re
@@ -134,12 +135,22 @@ def manifest():
     return files.text(json.dumps(found, indent=2) + "\n")
 
 
+def javascript():
+    """The script that puts the package together in the repository."""
+    spec = importlib.util.spec_from_file_location("javascript_make", os.path.join(BINDINGS, "javascript/make.py"))
+    found = importlib.util.module_from_spec(spec)
+    spec.loader.exec_module(found)
+    return found
+
+
 def npm(work, to):
     """The package for npm, with the module, which has no platform in it."""
     if not has_module(work):
         return "there is no module (bindings/web/make.py makes it)"
     found = files.under(os.path.join(BINDINGS, "javascript/lib"), (".js", ".ts"), "lib")
     found.update({f"out/{it}": files.of(os.path.join(work, it)) for it in MODULE_FILES})
-    found.update({"package.json": manifest(), "README.md": page("docs/javascript.md")} | licenses())
+    found["out/bytes.js"] = files.text(javascript().script_of(os.path.join(work, MODULE_FILES[0])))
+    found.update({"package.json": manifest(), "README.md": page("bindings/javascript/README.md", ("javascript.md",))} | licenses())
+    found["docs/javascript.md"] = page("docs/javascript.md")
     files.tar(found, "package", os.path.join(to, f"{NAME}.tgz"))
     return None

@@ -1,13 +1,13 @@
 #!/usr/bin/env python3
-"""Puts the module beside the package: out/huckleport.wasm and out/calls.js.
+"""Puts the module beside the package: out/huckleport.wasm and out/calls.js; and out/bytes.js, the module as a text for pages.
 
-They are taken from generated/, where they were made of the sources that are here. Where they were not, or with --prove, bindings/web/make.py makes them in
+The first two are taken from generated/ if they were made of the sources that are here. Otherwise, or with --prove, bindings/web/make.py makes them in
 bindings/web/out. --module takes another folder that has both.
 """
 import argparse
+import base64
 import importlib.util
 import os
-import shutil
 import subprocess
 import sys
 
@@ -28,6 +28,20 @@ def module(name, path):
     sys.dont_write_bytecode = True
     spec.loader.exec_module(found)
     return found
+
+
+def script_of(module):
+    """Returns the module's bytes as a script that exports them in base64."""
+    with open(module, "rb") as file:
+        return f'export default "{base64.b64encode(file.read()).decode()}";\n'
+
+
+def put_script(folder):
+    """Writes the script of the module beside it, whole."""
+    to = os.path.join(folder, "bytes.js")
+    with open(f"{to}.new", "w", encoding="ascii") as file:
+        file.write(script_of(os.path.join(folder, FILES[0])))
+    os.replace(f"{to}.new", to)
 
 
 def has_module(folder):
@@ -73,6 +87,7 @@ def build(given):
         with open(f"{to}.new", "wb") as file:
             file.write(whole)
         os.replace(f"{to}.new", to)
+    put_script(given.to)
     return os.path.join(given.to, FILES[0])
 
 

@@ -19,7 +19,6 @@ from make import build, has_module, module, WEB, why_made, words_of
 PACKAGES = {
     "parse5": "parsing HTML",
     "saxes": "parsing XML",
-    "css-select": "the page's selectors",
     "cssstyle": "the page's styles",
     "w3c-xmlserializer": "serializing XML",
     "typescript": "comments of the declarations",
@@ -80,7 +79,7 @@ def types():
     if not shutil.which("tsc"):
         print("left out: the types, since there is no tsc")
         return False
-    words = ["tsc", "--strict", "--noEmit", "--target", "es2022", "--module", "es2022", "--moduleResolution", "node", "tests/types.ts"]
+    words = ["tsc", "--strict", "--noEmit", "--target", "es2022", "--module", "es2022", "--moduleResolution", "node", "tests/types.ts", "tests/dom_types.ts"]
     return run("the types", words)
 
 

@@ -658,7 +658,100 @@ SHOWN(content)(uint32_t index, uint32_t node)
     return refused ? refused : lent(session, hp_text_content(session, node));
 }
 
+/* The attributes of an element in their order: their count, the number of each name, and then the values. */
+SHOWN(attributes)(uint32_t index, uint32_t element)
+{
+    hp_session *session;
+    hp_bytes its;
+    hp_text_view value = { NULL, 0 };
+    size_t count = 0;
+    uint32_t refused = enter(index, &session);
+    if (refused)
+        return refused;
+    begin_words();
+    uint32_t status = hp_attribute_names(session, element);
+    if (status == HP_OK)
+        status = hp_count(session, &count);
+    if (status == HP_OK && !has_words(count + 1))
+        status = HP_OUT_OF_MEMORY;
+    if (status == HP_OK)
+        put((uint32_t)count);
+    for (size_t each = 0; each < count && status == HP_OK; each++)
+        if (!put_name(hp_name_at(session, each, &its), &its))
+            status = HP_OUT_OF_MEMORY;
+    for (size_t each = 0; each < count && status == HP_OK; each++) {
+        name *known = &names[words[each + 1]];
+        status = hp_get_attribute(session, element, known->bytes, known->length);
+        if (status == HP_OK && !put_text(hp_text(session, &value), &value))
+            status = HP_OUT_OF_MEMORY;
+    }
+    return end_words(status);
+}
+
+/* ---- Nodes ahead of a walk. */
+
+/* Puts a node: number, kind, depth, the number of its name where it is an element or else HP_NONE, and how many children it has. */
+static uint32_t put_node(hp_session *session, uint32_t node, uint32_t depth, hp_node_links *links)
+{
+    uint32_t number = HP_NONE, status = hp_links(session, node, links);
+    if (status == HP_OK && links->kind == ELEMENT)
+        status = name_of(session, node, &number);
+    if (status == HP_OK && !has_words(5))
+        status = HP_OUT_OF_MEMORY;
+    if (status != HP_OK)
+        return status;
+    put(node);
+    put(links->kind);
+    put(depth);
+    put(number);
+    put((uint32_t)links->children);
+    return HP_OK;
+}
+
+/* From the links of a node that has no child to go to: the next node in tree order, above which it goes up; HP_NONE behind the last of depth 0. */
+static uint32_t next_over(hp_session *session, hp_node_links *links, uint32_t *depth)
+{
+    while (links->next == HP_NONE && *depth) {
+        if (hp_links(session, links->parent, links) != HP_OK)
+            return HP_NONE;
+        --*depth;
+    }
+    return links->next;
+}
+
+/* A node, its siblings behind it and what is below them, in tree order, so many at most; the third number says whether these are all. */
+SHOWN(nodes_from)(uint32_t index, uint32_t node, uint32_t most)
+{
+    hp_session *session;
+    hp_node_links links;
+    uint32_t depth = 0, status = enter(index, &session);
+    if (status)
+        return status;
+    begin_words();
+    for (uint32_t count = 0; count < most && node != HP_NONE && status == HP_OK; count++) {
+        status = put_node(session, node, depth, &links);
+        if (status == HP_OK && links.first_child != HP_NONE)
+            depth++;
+        if (status == HP_OK)
+            node = links.first_child != HP_NONE ? links.first_child : next_over(session, &links, &depth);
+    }
+    numbers[2] = node == HP_NONE;
+    return end_words(status);
+}
+
 /* ---- Walkers and observers. */
+
+/* Moves an iterator forth, or back, by so many steps. */
+SHOWN(iterate)(uint32_t index, uint32_t iterator, uint32_t is_back, uint32_t steps)
+{
+    hp_session *session;
+    uint32_t status = enter(index, &session);
+    if (status)
+        return status;
+    for (uint32_t step = 0; step < steps && status == HP_OK; step++)
+        status = is_back ? hp_previous_node(session, iterator, numbers) : hp_next_node(session, iterator, numbers);
+    return leave(status);
+}
 
 /* Where a walker comes from a node by a move. It stands on node 0 else, so that it keeps no other node in use. */
 SHOWN(step)(uint32_t index, uint32_t walker, uint32_t node, uint32_t move)

@@ -1,9 +1,11 @@
 // Nanoseconds of processor time a step of scenes, by this package and by jsdom where that is there, with NODE_PATH at the folder that has jsdom
 // (Debian's node-jsdom: /usr/share/nodejs): `node bench/run.js [--count N] [--times N] [--scene NAME]`.
 //
-// Each scene is run a few times by each, in a process of its own, each time over things that are made anew. Told is the quickest run, in which the engine
-// has compiled what is hot, and beside it how the first runs compare, most of which is compiling. The ratio is jsdom's over ours.
+// Each scene has a process of its own, in which both run it in turn, each time over things that are made anew, until its time is over. Told is the quickest
+// run of each, in which the engine has compiled what is hot, and beside it how the first runs compare, most of which is compiling. The ratio is jsdom's
+// over ours: what else the machine does tells in both.
 import { spawnSync } from "node:child_process";
+import { readFileSync } from "node:fs";
 import { createRequire } from "node:module";
 import { fileURLToPath } from "node:url";
 import { parseArgs } from "node:util";
@@ -13,22 +15,26 @@ import { SCENES } from "./scenes.js";
 const HELP = `Nanoseconds of processor time a step of scenes, by this package and by jsdom where that is there.
 
   --count N     how many steps a scene has (20000); some have a share of it
-  --times N     how often each scene is run (5)
-  --scene NAME  only this scene: ${Object.keys(SCENES).join(", ")}
+  --times N     how often each runs a scene at most (7), and at least twice
+  --seconds N   after how many seconds of processor time a scene is not run again (1.5)
+  --scene NAME  only this scene; more of them with commas between: ${Object.keys(SCENES).join(", ")}
   --help        this text
 `;
 
 const OPTIONS = {
   count: { type: "string", default: "20000" },
-  times: { type: "string", default: "5" },
+  times: { type: "string", default: "7" },
+  seconds: { type: "string", default: "1.5" },
   scene: { type: "string" },
-  by: { type: "string" },
+  inside: { type: "boolean" },
   help: { type: "boolean" },
 };
 
-function jsdom() {
+const LEAST = 2;
+
+function found(name) {
   try {
-    return createRequire(import.meta.url)("jsdom");
+    return createRequire(import.meta.url)(name);
   } catch {
     return null;
   }
@@ -42,83 +48,102 @@ const WINDOWS = {
     return Object.assign(window, { serializing: (node) => () => serialize(node), parsing: (text) => parse(text) });
   },
   jsdom: async () => {
-    const { JSDOM } = jsdom();
+    const { JSDOM } = found("jsdom");
     return Object.assign(new JSDOM("").window, { serializing: (node) => () => node.outerHTML, parsing: (text) => new JSDOM(text) });
   },
 };
 
 const countOf = (scene, count) => Math.ceil(count * (SCENES[scene].share ?? 1));
 
-/** The scenes that need a library which is not there. */
-function missing(scene) {
-  if (scene !== "updates") return false;
+/** Whether a scene needs a library which is not there. */
+const lacks = (scene) => scene === "updates" && found("preact") === null;
+
+const THREAD = "/proc/thread-self/schedstat";
+
+/**
+ * The microseconds of processor time that the thread has taken which runs the program: other work on the machine tells less in it than in the time by the
+ * clock, and so does the engine's collector, which marks what the other has left. Where the system does not say it, that of the process.
+ */
+function taken() {
   try {
-    createRequire(import.meta.url).resolve("preact");
-    return false;
+    return Number(readFileSync(THREAD, "utf8").split(" ")[0]) / 1000;
   } catch {
-    return true;
+    const { user, system } = process.cpuUsage();
+    return user + system;
   }
 }
 
-/** The microseconds of processor time that this process has taken: other work on the machine tells less in it than in the time by the clock. */
-const taken = () => {
-  const { user, system } = process.cpuUsage();
-  return user + system;
-};
+/** Waits until the program would wait, and what the engine compiles beside it is done; young objects that the other has left are collected. */
+async function settled() {
+  await new Promise((does) => void setTimeout(does, 50));
+  for (let time = 0; time < 2; time++) globalThis.gc({ type: "minor" });
+}
 
-/** Waits until the program would wait, and what the engine compiles beside it is done. */
-const settled = () => new Promise((does) => void setTimeout(does, 100));
+/** Runs a scene once; answers whether it runs at all. */
+async function runOnce(by, window, scene, count) {
+  try {
+    await timed(by, window, scene, count);
+    return true;
+  } catch (fault) {
+    if (by === "huckleport") throw fault;
+    return false;
+  }
+}
 
-/** Runs a scene a few times in this process, and prints the nanoseconds of each time. */
-async function once(by, scene, { count, times }) {
-  const window = await WINDOWS[by](SCENES[scene]);
-  for (let time = 0; time < times; time++) {
-    const does = SCENES[scene].ready(window, countOf(scene, count));
-    await settled();
-    const before = taken();
-    does();
-    process.stdout.write(`${(taken() - before) * 1000}\n`);
+async function timed(by, window, scene, count) {
+  const does = SCENES[scene].ready(window, countOf(scene, count));
+  await settled();
+  const before = taken();
+  does();
+  process.stdout.write(`${by} ${((taken() - before) * 1000) / countOf(scene, count)}\n`);
+}
+
+/** Runs a scene a few times by each in turn, and prints the nanoseconds a step of each time. */
+async function runAll(scene, { count, times, seconds }) {
+  let players = found("jsdom") ? ["huckleport", "jsdom"] : ["huckleport"];
+  const windows = {};
+  for (const by of players) windows[by] = await WINDOWS[by](SCENES[scene]);
+  const end = taken() + 1e6 * seconds;
+  for (let time = 0; time < LEAST || (time < times && taken() < end); time++) {
+    for (const by of [...players]) if (!(await runOnce(by, windows[by], scene, count))) players = players.filter((it) => it !== by);
   }
   process.exit(0);
 }
 
-/** The nanoseconds a step of the quickest run and of the first, or NaN where the scene does not run. */
-function measured(by, scene, { count, times }) {
-  const words = [fileURLToPath(import.meta.url), "--by", by, "--scene", scene, "--count", `${count}`, "--times", `${times}`];
-  const ran = spawnSync(process.execPath, words, { encoding: "utf8", stdio: ["ignore", "pipe", by === "jsdom" ? "ignore" : "inherit"] });
-  if (ran.status !== 0) return { quickest: NaN, first: NaN };
-  const found = ran.stdout.trim().split("\n").map((it) => Number(it) / countOf(scene, count));
-  return { quickest: Math.min(...found), first: found[0] };
+/** The nanoseconds a step of the quickest run of each, and of the first. */
+function measured(scene, { count, times, seconds }) {
+  const words = ["--inside", "--scene", scene, "--count", `${count}`, "--times", `${times}`, "--seconds", `${seconds}`];
+  const ran = spawnSync(process.execPath, ["--expose-gc", fileURLToPath(import.meta.url), ...words], { encoding: "utf8", stdio: ["ignore", "pipe", "inherit"] });
+  const told = ran.stdout.trim().split("\n").map((line) => line.split(" "));
+  const of = (by) => told.filter(([its]) => its === by).map(([, its]) => Number(its));
+  return Object.fromEntries(Object.keys(WINDOWS).map((by) => [by, { quickest: Math.min(...of(by)), first: of(by)[0] ?? NaN }]));
 }
 
-const shown = (number) => (Number.isNaN(number) ? "does not run" : Math.round(number).toLocaleString("en"));
-const ratio = (its, own) => (Number.isNaN(its) ? "" : (its / own).toPrecision(2));
+const shown = (number) => (Number.isFinite(number) ? Math.round(number).toLocaleString("en") : "");
+const ratio = (its, own) => (Number.isFinite(its / own) ? (its / own).toPrecision(2) : "");
 
-function row(scene, given, hasJsdom) {
-  const own = measured("huckleport", scene, given);
-  const its = hasJsdom ? measured("jsdom", scene, given) : { quickest: NaN, first: NaN };
-  const figures = [shown(own.quickest), hasJsdom ? shown(its.quickest) : "", ratio(its.quickest, own.quickest), ratio(its.first, own.first)];
+function row(scene, given) {
+  const { huckleport: own, jsdom: its } = measured(scene, given);
+  const figures = [shown(own.quickest), shown(its.quickest), ratio(its.quickest, own.quickest), ratio(its.first, own.first)];
   return `| ${scene}: ${SCENES[scene].says} | ${figures.join(" | ")} |\n`;
 }
 
 function table(given) {
-  const hasJsdom = jsdom() !== null;
-  if (!hasJsdom) process.stdout.write("left out: jsdom, since it is not installed\n");
+  if (!found("jsdom")) process.stdout.write("left out: jsdom, since it is not installed\n");
   process.stdout.write(`| scene of ${given.count} | ns a step | jsdom | ratio | of first runs |\n|---|---|---|---|---|\n`);
-  for (const scene of given.scenes) process.stdout.write(missing(scene) ? `left out: ${scene}, since preact is not installed\n` : row(scene, given, hasJsdom));
+  for (const scene of given.scenes) process.stdout.write(lacks(scene) ? `left out: ${scene}, since preact is not installed\n` : row(scene, given));
 }
 
 function main() {
   const { values } = parseArgs({ options: OPTIONS });
+  const [count, times, seconds] = [values.count, values.times, values.seconds].map(Number);
+  const scenes = values.scene ? values.scene.split(",") : Object.keys(SCENES);
   if (values.help) return void process.stdout.write(HELP);
-  const [count, times] = [Number(values.count), Number(values.times)];
-  const scenes = values.scene ? [values.scene] : Object.keys(SCENES);
-  if (!(count >= 100 && times >= 1) || scenes.some((it) => !(it in SCENES))) {
+  if (!(count >= 100 && times >= 1 && seconds >= 0) || scenes.some((it) => !(it in SCENES))) {
     process.stderr.write(HELP);
     process.exit(2);
   }
-  if (values.by) return once(values.by, values.scene, { count, times });
-  return table({ count, times, scenes });
+  return values.inside ? runAll(values.scene, { count, times, seconds }) : table({ count, times, seconds, scenes });
 }
 
 await main();

@@ -1,6 +1,8 @@
 // The scenes: each is made ready by a window and a count, and answers what is measured. The same code serves each window.
 import { createRequire } from "node:module";
 
+import { PAGE_SCENES } from "./page_scenes.js";
+
 /** Numbers below a limit, the same at each run. */
 function numbers() {
   let state = 1;
@@ -174,7 +176,7 @@ export const SCENES = {
   },
   contents: {
     says: "ten children extracted and inserted again",
-    share: 0.05,
+    share: 0.01,
     ready(window, count) {
       const { document } = window;
       const root = document.implementation.createHTMLDocument("").body;
@@ -191,6 +193,7 @@ export const SCENES = {
   },
   "building and moving": {
     says: "an element and a Text made, appended, and an element of before moved to the front",
+    share: 0.2,
     ready({ document }, count) {
       const root = document.implementation.createHTMLDocument("").body;
       const below = numbers();
@@ -277,7 +280,8 @@ export const SCENES = {
     },
   },
   "tags and edits": {
-    says: "a class and a text set on each of a list of elements by their tag",
+    says: "a class and a text set on each of a list of 400 elements by their tag",
+    share: 0.02,
     ready({ document }, count) {
       const root = document.implementation.createHTMLDocument("").body;
       for (let at = 0; at < count; at++) root.appendChild(root.ownerDocument.createElement("p")).append("some text");
@@ -316,4 +320,5 @@ export const SCENES = {
       };
     },
   },
+  ...Object.fromEntries(Object.entries(PAGE_SCENES).map(([name, scene]) => [name, { needsPage: true, ...scene }])),
 };

@@ -1,6 +1,6 @@
 /**
- * Names of the standards that are not there: reading or setting one throws, and says what it belongs to, so that none becomes a property that a program
- * keeps on a node. What an interface has is left as it is, so a page, which has more, names less.
+ * Names of the standards that the package lacks without a page: reading or setting one throws, and says what it belongs to, so that none becomes a property
+ * that a program keeps on a node. A page has most of them, and refuses none that it lacks.
  */
 
 const words = (text) => text.trim().split(/\s+/);
@@ -66,68 +66,6 @@ const OF_HTML = {
     onanimationcancel onanimationend onanimationiteration onanimationstart ontransitioncancel ontransitionend ontransitionrun ontransitionstart`,
 };
 
-/** What single elements of HTML have, and a page lacks. */
-const OF_PAGES = {
-  HTMLElement: OF_HTML,
-  HTMLButtonElement: { popovers: "popoverTargetElement popoverTargetAction", commands: "command commandForElement" },
-  HTMLCanvasElement: { drawing: "getContext toDataURL toBlob transferControlToOffscreen captureStream" },
-  HTMLDialogElement: { dialogs: "show showModal close requestClose returnValue closedBy" },
-  HTMLFormElement: { lists: "relList" },
-  HTMLIFrameElement: { frames: "contentWindow contentDocument getSVGDocument sandbox" },
-  HTMLFrameElement: { frames: "contentWindow contentDocument" },
-  HTMLImageElement: { layout: "x y", loading: "decode fetchPriority" },
-  HTMLInputElement: { files: "files", dates: "valueAsDate", pickers: "showPicker", popovers: "popoverTargetElement popoverTargetAction", colours: "colorSpace alpha" },
-  HTMLSelectElement: { pickers: "showPicker" },
-  HTMLLinkElement: { styles: "sheet", loading: "sizes blocking fetchPriority" },
-  HTMLMapElement: { lists: "areas" },
-  HTMLMediaElement: {
-    media: `error currentSrc networkState buffered load canPlayType readyState seeking seekable currentTime fastSeek duration getStartDate paused
-      defaultPlaybackRate playbackRate preservesPitch played ended play pause volume muted audioTracks videoTracks textTracks addTextTrack srcObject`,
-  },
-  HTMLMeterElement: { meters: "value min max low high optimum" },
-  HTMLObjectElement: { frames: "contentDocument contentWindow getSVGDocument", validation: "willValidate validity validationMessage checkValidity reportValidity setCustomValidity" },
-  HTMLFieldSetElement: { validation: "willValidate validity validationMessage checkValidity reportValidity setCustomValidity" },
-  HTMLOutputElement: { validation: "willValidate validity validationMessage checkValidity reportValidity setCustomValidity" },
-  HTMLProgressElement: { progress: "value max position" },
-  HTMLScriptElement: { loading: "blocking fetchPriority" },
-  HTMLSlotElement: { "shadow trees": "assign assignedNodes assignedElements" },
-  HTMLStyleElement: { styles: "sheet disabled blocking" },
-  HTMLTemplateElement: { "shadow trees": "shadowRootMode shadowRootDelegatesFocus shadowRootClonable shadowRootSerializable shadowRootCustomElementRegistry" },
-  HTMLTrackElement: { media: "readyState track" },
-  HTMLVideoElement: { media: "videoWidth videoHeight requestPictureInPicture disablePictureInPicture getVideoPlaybackQuality" },
-  SVGElement: { styles: "attributeStyleMap" },
-  SVGGraphicsElement: { layout: "transform getBBox getCTM getScreenCTM nearestViewportElement farthestViewportElement requiredExtensions systemLanguage" },
-  SVGSVGElement: {
-    layout: `x y width height currentScale currentTranslate viewBox preserveAspectRatio getIntersectionList getEnclosureList checkIntersection checkEnclosure
-      createSVGNumber createSVGLength createSVGAngle createSVGPoint createSVGMatrix createSVGRect createSVGTransform createSVGTransformFromMatrix
-      suspendRedraw unsuspendRedraw unsuspendRedrawAll forceRedraw`,
-    lookups: "getElementById deselectAll zoomAndPan",
-    animations: "pauseAnimations unpauseAnimations animationsPaused getCurrentTime setCurrentTime",
-  },
-  HTMLEmbedElement: { frames: "getSVGDocument" },
-  HTMLMarqueeElement: { marquees: "loop scrollAmount scrollDelay start stop" },
-  InputEvent: { editing: "getTargetRanges" },
-  MathMLElement: { styles: "attributeStyleMap" },
-  MouseEvent: { layout: "layerX layerY" },
-  Navigator: {
-    "the host": `clipboard connection credentials geolocation gpu locks mediaCapabilities mediaDevices mediaSession mimeTypes permissions plugins
-      registerProtocolHandler requestMediaKeySystemAccess sendBeacon serviceWorker share storage unregisterProtocolHandler userActivation vibrate wakeLock webdriver`,
-  },
-  Selection: { editing: "modify", "shadow trees": "getComposedRanges" },
-};
-
-/** What windows have, and a page lacks. */
-const OF_WINDOWS = {
-  "custom elements": "customElements",
-  storage: "localStorage sessionStorage indexedDB caches cookieStore",
-  windows: "open print alert confirm prompt stop postMessage moveTo moveBy resizeTo resizeBy showModalDialog",
-  styles: "matchMedia",
-  "idle callbacks": "requestIdleCallback cancelIdleCallback",
-  "the window of old": "status external find captureEvents releaseEvents",
-  navigation: "navigation visualViewport",
-  bars: "locationbar menubar personalbar scrollbars statusbar toolbar",
-};
-
 const VERBS = { one: "is", many: "are" };
 const verbOf = (what) => (/s$/.test(what) ? VERBS.many : VERBS.one);
 
@@ -144,15 +82,12 @@ function refuseOn(realm, target, where, groups) {
   }
 }
 
-/** Has the names that the interfaces of a realm lack refuse. Without HTML's interfaces, elements lack what is HTML's too. */
+/** Has the names that the interfaces of a realm lack refuse. */
 export function refuseAbsent(realm) {
   const { interfaces } = realm;
-  for (const [where, groups] of Object.entries({ ...ABSENT, ...OF_PAGES })) if (interfaces[where]) refuseOn(realm, interfaces[where].prototype, where, groups);
-  if (!interfaces.HTMLElement) refuseOn(realm, interfaces.Element.prototype, "Element", OF_HTML);
+  for (const [where, groups] of Object.entries(ABSENT)) refuseOn(realm, interfaces[where].prototype, where, groups);
+  refuseOn(realm, interfaces.Element.prototype, "Element", OF_HTML);
 }
-
-/** Has those that a window lacks refuse; one that is defined over them (`Object.defineProperty`) is as any other. */
-export const refuseAbsentOfWindow = (realm, window) => refuseOn(realm, window, "window", OF_WINDOWS);
 
 /** Whether a property is one that refuses. */
 export function isRefused(target, name) {

@@ -4,9 +4,9 @@
  * Nothing here tells what a document is; each question goes to the module, which answers a status. A refusal is thrown as a Refusal, which is no
  * Error: an interface's method turns it into an exception of its own realm.
  */
-import { has, native, out, STUCK, textFrom, TOO_LONG, words } from "./native.js";
+import { beforeChange, has, native, out, STUCK, textFrom, TOO_LONG, words } from "./native.js";
 
-export { has, native, out, STUCK, textFrom, TOO_LONG, words };
+export { beforeChange, has, native, out, STUCK, textFrom, TOO_LONG, words };
 
 export const NONE = native.HP_NONE;
 export const OK = native.HP_OK;
@@ -66,7 +66,7 @@ const sessions = new FinalizationRegistry((index) => native.close(index));
 // ---- Turns of the event loop.
 
 /** Does something once the program waits. Node does not stay up for it. */
-const soon = globalThis.setImmediate ? (does) => void globalThis.setImmediate(does).unref?.() : (does) => void setTimeout(does);
+export const soon = globalThis.setImmediate ? (does) => void globalThis.setImmediate(does).unref?.() : (does) => void setTimeout(does);
 
 function limit(value, most, what) {
   const number = typeof value === "bigint" || typeof value === "symbol" ? NaN : Number(value);
@@ -96,9 +96,12 @@ class Marks {
 export class Session {
   /** The module's index, where it is open. */
   index;
-  /** One count for each kind of change, by which it is known whether what was read is old: what stands where, and attributes. */
+  /** One count for each kind of change, by which it is known whether what was read is old: what stands where, attributes, and classes alone. */
   structure = 0;
   attributes = 0;
+  classes = 0;
+  /** The lists that follow edits until the program waits (see following.js). */
+  lists = [];
   /** Grows where the wrappers' own links (see wrappers.js) may have become wrong, so that they are read anew. */
   links = 0;
   /** Which numbers have had wrappers. */
@@ -158,8 +161,10 @@ export class Session {
     const status = native.hp_line(this.index, bytes);
     if (status === STUCK) check(status);
     this.hasSpoken = true;
+    Session.forgetRecent();
     this.renewed();
     this.attributes++;
+    this.classes++;
     // (what the line refuses stands in the reply)
     return lent(native.hp_reply_line(this.index));
   }
@@ -185,11 +190,48 @@ export class Session {
     });
   }
 
-  /** Nodes came, went or moved, and the wrappers' links have followed. */
+  /** Nodes came, went or moved, and the wrappers' links have followed; lists have to be read anew. */
   moved() {
     this.structure++;
+    if (this.lists.length > 0) this.dropLists();
     this.changed();
   }
+
+  /** The same of one node, which left a parent and came into another, null for none: what its object knows, which has followed. */
+  movedOne(its, from, to) {
+    const { structure, classes } = this;
+    this.structure++;
+    if (this.lists.length > 0) Session.listsMoved(this, its, from, to, { structure, classes });
+    this.changed();
+  }
+
+  /** Nodes came, went or moved of which none is an element. */
+  movedTexts() {
+    this.movedOne(null, null, null);
+  }
+
+  /** The classes of an element have changed. */
+  reclassed(its) {
+    const { structure, classes } = this;
+    this.classes++;
+    if (this.lists.length > 0) Session.listsReclassed(this, its, { structure, classes });
+  }
+
+  /** Has a list follow edits until the program waits. */
+  follow(list) {
+    list.isFollowed = true;
+    this.lists.push(list);
+    if (this.lists.length === 1) soon(() => this.dropLists());
+  }
+
+  dropLists() {
+    for (const it of this.lists) it.isFollowed = false;
+    this.lists = [];
+  }
+
+  /** How lists follow (following.js says it). */
+  static listsMoved;
+  static listsReclassed;
 
   /** Nodes came, went or moved. */
   renewed() {
@@ -261,8 +303,9 @@ export class Session {
     });
   }
 
-  /** How a wrapper that was held is kept (wrappers.js says it). */
+  /** How a wrapper that was held is kept, and how those that were found last are forgotten (wrappers.js says it). */
   static settle;
+  static forgetRecent;
 
   /** The wrapper that is kept under a number, or undefined. */
   known(number) {

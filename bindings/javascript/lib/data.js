@@ -1,6 +1,6 @@
 /** CharacterData, Text, Comment and ProcessingInstruction. */
 import { check, COMMENT, INSTRUCTION, lent, native, out, TEXT } from "./core.js";
-import { childNode, createComment, createText, dataOf, hasData, namePart, nextOf, parentOf, previousOf, setData, siblings } from "./nodes.js";
+import { childNode, createComment, createText, dataChanged, dataOf, hasData, namePart, nextOf, parentOf, previousOf, setData, siblings } from "./nodes.js";
 import { known } from "./webidl.js";
 import { arrived, documentOf, isNode, kindOf, numberOf, sessionOf, wrapChild, wrapMade } from "./wrappers.js";
 
@@ -8,6 +8,7 @@ import { arrived, documentOf, isNode, kindOf, numberOf, sessionOf, wrapChild, wr
 const changing = (call) => (node, ...words) => {
   const session = sessionOf(node);
   check(native[call](session.index, numberOf(node), ...words));
+  dataChanged(node);
   session.changed();
 };
 
@@ -52,9 +53,10 @@ function splitText(text, offset) {
   const next = parent && nextOf(text);
   check(native.hp_split_text(session.index, numberOf(text), offset));
   const number = out[0];
+  dataChanged(text);
   const rest = parent ? wrapChild(parent, number) : wrapMade(documentOf(text), number, TEXT);
   if (parent) arrived(rest, parent, next);
-  session.moved();
+  session.movedTexts();
   return rest;
 }
 

@@ -1,4 +1,5 @@
 /** Document, DocumentType, DocumentFragment and DOMImplementation. */
+import { keepNone } from "./attributes.js";
 import { check, DOCTYPE, DOCUMENT, ELEMENT, FRAGMENT, native, out, Refusal } from "./core.js";
 import { byId, elementsBelow, isElement } from "./elements.js";
 import { elementName, extractedElement, HTML, markedElement, small, SVG } from "./names.js";
@@ -22,7 +23,7 @@ import {
 import { createRange } from "./ranges.js";
 import { createNodeIterator, createTreeWalker } from "./traversal.js";
 import { known } from "./webidl.js";
-import { documentIs, isNode, keptOf, kindOf, makeThing, numberOf, realmOf, sessionOf, thingOf, wrapDocument } from "./wrappers.js";
+import { documentIs, isNode, itsOf, keptOf, kindOf, makeThing, numberOf, realmOf, sessionOf, thingOf, wrapDocument } from "./wrappers.js";
 
 // ---- New Documents.
 
@@ -55,13 +56,19 @@ function htmlName(session, given) {
 function createElement(document, name) {
   const session = sessionOf(document);
   const { isHtml, contentType } = isOf(document);
-  if (isHtml) return createElementNamed(document, session.htmlNames.get(name) ?? htmlName(session, name));
-  return createElementNamed(document, nameIn(session, contentType === XHTML_TYPE ? HTML : null, name));
+  if (isHtml) return made(createElementNamed(document, session.htmlNames.get(name) ?? htmlName(session, name)));
+  return made(createElementNamed(document, nameIn(session, contentType === XHTML_TYPE ? HTML : null, name)));
+}
+
+/** An element that a program has made, which has no attribute. */
+function made(element) {
+  keepNone(itsOf(element));
+  return element;
 }
 
 export function createElementNS(document, namespace, qualified) {
   const session = sessionOf(document);
-  return createElementMarked(document, markedElement(session, extractedElement(session, namespace, qualified)));
+  return made(createElementMarked(document, markedElement(session, extractedElement(session, namespace, qualified))));
 }
 
 function createCDATASection() {

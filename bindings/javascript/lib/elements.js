@@ -1,7 +1,8 @@
 /** Element: its names, its attributes, and the elements below it. */
+import { attributesKept, hasWord, keepRemoved, keepSet, namesKept, valueKept, valueOfName, wordsKept } from "./attributes.js";
 import { check, ELEMENT, lent, native, out, Refusal, wordsOf } from "./core.js";
 import { elementById, holdersOf, noteId } from "./ids.js";
-import { htmlCollection } from "./lists.js";
+import { followingCollection } from "./lists.js";
 import { attributeName, elementByNumber, extractedAttribute, HTML, markedAttribute, plainAttribute, small } from "./names.js";
 import {
   childNode,
@@ -10,6 +11,7 @@ import {
   firstChildOf,
   insertBefore,
   isOfDocument,
+  nameKnown,
   nameOf,
   nextOf,
   parentNode,
@@ -18,7 +20,7 @@ import {
   tagName,
 } from "./nodes.js";
 import { known } from "./webidl.js";
-import { forgetValues, isNode, keptOf, kindOf, numberOf, sessionOf, valuesOf } from "./wrappers.js";
+import { isNode, itsOf, keptOf, kindOf, numberOf, sessionOf } from "./wrappers.js";
 
 const { value, setValue } = native;
 
@@ -32,22 +34,14 @@ const CAPITALS = /[A-Z]/;
 const sought = (element, name) => (CAPITALS.test(name) && isOfHtml(element) ? small(name) : name);
 
 /** The names of all attributes, in their order. */
-export function names(element) {
-  const session = sessionOf(element);
-  check(native.hp_attribute_names(session.index, numberOf(element)));
-  check(native.hp_count(session.index));
-  const count = out[0];
-  const found = [];
-  for (let at = 0; at < count; at++) found.push(attributeName(session, lent(native.hp_name_at(session.index, at))));
-  return found;
-}
+export const names = (element) => namesKept(itsOf(element));
 
-/** The core's name of the first attribute with a qualified name. Only where a session has marked attributes can it differ. */
-function byQualified(element, name) {
+/** The name of the first attribute with a qualified name. Only where a session has marked attributes can it differ from the plain one. */
+function byQualified(element, qualified) {
   const session = sessionOf(element);
-  const plain = plainAttribute(session, name);
+  const plain = attributeName(session, plainAttribute(session, qualified));
   if (!session.hasMarkedAttributes) return plain;
-  return names(element).find((it) => it.qualified === name)?.core ?? plain;
+  return names(element).find((it) => it.qualified === qualified) ?? plain;
 }
 
 function byNamespace(element, namespace, local) {
@@ -55,75 +49,91 @@ function byNamespace(element, namespace, local) {
   return names(element).find((it) => it.namespace === its && it.local === local);
 }
 
-function valueOf(element, core) {
-  const session = sessionOf(element);
-  return lent(value(session.index, numberOf(element), attributeName(session, core).number));
-}
+/** The value of an attribute by its qualified name. */
+export const getAttribute = (element, name) => valueKept(itsOf(element), sought(element, name));
 
-/** The value of an attribute by its qualified name. It is kept until an attribute of the element changes, but for a name with capitals, whose meaning may. */
-function getAttribute(element, name) {
-  const values = valuesOf(element);
-  const kept = values.get(name);
-  if (kept !== undefined) return kept;
-  const found = valueOf(element, byQualified(element, sought(element, name)));
-  if (!CAPITALS.test(name)) values.set(name, found);
-  return found;
-}
-
-function hasOf(element, core) {
-  check(native.hp_has_attribute(sessionOf(element).index, numberOf(element), core));
-  return out[0] === 1;
-}
+const hasAttribute = (element, name) => getAttribute(element, name) !== null;
 
 const ID = "id";
+const CLASS = "class";
 
-/** Makes a change of an attribute of an element, by its core's name. */
-function change(element, core, does) {
-  const session = sessionOf(element);
-  const before = core === ID ? valueOf(element, ID) : null;
-  const answer = does(session, numberOf(element));
-  forgetValues(element);
-  if (core === ID) noteId(session, numberOf(element), before, valueOf(element, ID));
+/** The id of an element, or null; all attributes are not read for it. */
+const idOf = (its, name) => (its.values === null ? lent(value(its.session.index, its.number, name.number)) : valueOfName(its, name));
+
+/** Makes a change of an attribute of an element, by its name; `keep` says what is known then. */
+function change(element, name, does, keep) {
+  const its = itsOf(element);
+  const { session } = its;
+  const before = name.core === ID ? idOf(its, name) : null;
+  const answer = does(session, its.number);
+  keep(its, name, answer);
+  if (name.core === ID) noteId(its, before, idOf(its, name));
+  if (name.core === CLASS) session.reclassed(its);
   session.altered();
   return answer;
 }
 
-export function setAttributeMarked(element, core, text) {
-  change(element, core, (session, number) => check(setValue(session.index, number, attributeName(session, core).number, text)));
+/** The same for a value that is set, which is most of what is done. */
+function setNamed(element, name, text) {
+  const its = itsOf(element);
+  const { session } = its;
+  const before = name.core === ID ? idOf(its, name) : null;
+  const status = setValue(session.index, its.number, name.number, text);
+  if (status !== 0) check(status);
+  keepSet(its, name, text);
+  if (name.core === ID) noteId(its, before, text);
+  if (name.core === CLASS) session.reclassed(its);
+  session.altered();
 }
+
+export const setAttributeMarked = (element, core, text) => setNamed(element, attributeName(sessionOf(element), core), text);
+
+/** Sets an attribute by its qualified name. */
+export const setAttribute = (element, name, text) => setNamed(element, byQualified(element, sought(element, name)), text);
 
 function setAttributeNS(element, namespace, qualified, text) {
   const session = sessionOf(element);
   const name = extractedAttribute(session, namespace, qualified);
   const there = byNamespace(element, name.namespace, name.local);
-  setAttributeMarked(element, there?.core ?? markedAttribute(session, name), text);
+  setNamed(element, there ?? attributeName(session, markedAttribute(session, name)), text);
 }
 
-function removeAttribute(element, core) {
-  change(element, core, (session, number) => check(native.hp_remove_attribute(session.index, number, core)));
+function removeNamed(element, name) {
+  change(element, name, (session, number) => check(native.hp_remove_attribute(session.index, number, name.core)), keepRemoved);
 }
+
+export const removeAttribute = (element, name) => removeNamed(element, byQualified(element, sought(element, name)));
 
 const FORCE = { false: 0, true: 1 };
 const NO_FORCE = 2;
 
+function keepToggled(its, name, isThere) {
+  if (!isThere) keepRemoved(its, name);
+  else if (valueOfName(its, name) === null) keepSet(its, name, "");
+}
+
 function toggleAttribute(element, name, force) {
-  const core = byQualified(element, sought(element, name));
   const wanted = force === undefined ? NO_FORCE : FORCE[Boolean(force)];
-  return change(element, core, (session, number) => {
-    check(native.hp_toggle_attribute(session.index, number, core, wanted));
+  const does = (session, number, its) => {
+    check(native.hp_toggle_attribute(session.index, number, its.core, wanted));
     return out[0] === 1;
-  });
+  };
+  const its = byQualified(element, sought(element, name));
+  return change(element, its, (session, number) => does(session, number, its), keepToggled);
 }
 
 /** An attribute that stands for a property of text. */
 const reflected = (name) => ({
   type: "DOMString",
-  get: (element) => getAttribute(element, name) ?? "",
-  set: (element, text) => setAttributeMarked(element, byQualified(element, name), text),
+  get: (element) => valueKept(itsOf(element), name) ?? "",
+  set: (element, text) => setNamed(element, byQualified(element, name), text),
 });
 
 /** All attributes, with their names and values, in their order. */
-export const attributesOf = (element) => names(element).map((name) => ({ ...name, value: valueOf(element, name.core) }));
+export function attributesOf(element) {
+  const known = attributesKept(itsOf(element));
+  return names(element).map((name, at) => ({ ...name, value: known[2 * at + 1] }));
+}
 
 // ---- Elements below a node.
 
@@ -146,35 +156,34 @@ function listOf(node, key, make) {
   return lists.get(key);
 }
 
+const named = (node, key, fits) => listOf(node, key, () => followingCollection(node, () => byName(node, fits), (its) => fits(nameKnown(its))));
+
 function getElementsByTagName(node, qualified) {
-  const read = () => {
-    const ofHtml = isOfDocument(node).isHtml ? small(qualified) : qualified;
-    return byName(node, (name) => qualified === "*" || name.qualified === (name.namespace === HTML ? ofHtml : qualified));
-  };
-  return listOf(node, `tag ${qualified}`, () => htmlCollection(node, read));
+  const { isHtml } = isOfDocument(node);
+  const ofHtml = isHtml ? small(qualified) : qualified;
+  const fits = qualified === "*" ? () => true : (name) => name.qualified === (name.namespace === HTML ? ofHtml : qualified);
+  return named(node, `tag ${Number(isHtml)}${qualified}`, fits);
 }
 
-function getElementsByTagNameNS(node, namespace, local) {
+export function getElementsByTagNameNS(node, namespace, local) {
   const its = namespace === "" ? null : namespace;
   const fits = (name) => (its === "*" || name.namespace === its) && (local === "*" || name.local === local);
-  return listOf(node, `name ${JSON.stringify([its, local])}`, () => htmlCollection(node, () => byName(node, fits)));
+  return named(node, `name ${JSON.stringify([its, local])}`, fits);
 }
 
-const wordsIn = (text) => text.split(/[\t\n\f\r ]+/).filter(Boolean);
+/** Whether a value has all of some words. */
+const hasWords = (value, wanted) => wanted.every((word) => hasWord(value, word));
 
-function byClass(node, text) {
-  const as = isOfDocument(node).isQuirky ? small : (name) => name;
-  const wanted = wordsIn(as(text));
-  if (wanted.length === 0) return [];
+export function getElementsByClassName(node, text) {
+  const as = isOfDocument(node).isQuirky ? small : (value) => value;
+  const wanted = wordsKept(as(text));
+  const name = attributeName(sessionOf(node), CLASS);
   const number = numberOf(node);
-  const fits = ([its, value]) => {
-    const has = new Set(wordsIn(as(value)));
-    return its !== number && wanted.every((name) => has.has(name));
-  };
-  return holdersOf(sessionOf(node), number, "class").filter(fits).map(([its]) => its);
+  const fits = (value) => wanted.length > 0 && hasWords(as(value), wanted);
+  const read = () => holdersOf(sessionOf(node), number, CLASS).filter(([its, value]) => its !== number && fits(value)).map(([its]) => its);
+  const make = () => followingCollection(node, read, (its) => fits(valueOfName(its, name) ?? ""), { isByClasses: true });
+  return listOf(node, `class ${Number(as === small)}${text}`, make);
 }
-
-const getElementsByClassName = (node, text) => listOf(node, `class ${text}`, () => htmlCollection(node, () => byClass(node, text), { isByAttributes: true }));
 
 /** What Documents and elements have. */
 export const elementsBelow = {
@@ -227,24 +236,21 @@ export const Element = known({
       ["DOMString?", "DOMString"],
       (element, namespace, local) => {
         const found = byNamespace(element, namespace, local);
-        return found ? valueOf(element, found.core) : null;
+        return found ? valueOfName(itsOf(element), found) : null;
       },
     ],
-    setAttribute: [
-      ["DOMString", "DOMString"],
-      (element, name, value) => void setAttributeMarked(element, byQualified(element, sought(element, name)), value),
-    ],
+    setAttribute: [["DOMString", "DOMString"], setAttribute],
     setAttributeNS: [["DOMString?", "DOMString", "DOMString"], setAttributeNS],
-    removeAttribute: [["DOMString"], (element, name) => removeAttribute(element, byQualified(element, sought(element, name)))],
+    removeAttribute: [["DOMString"], removeAttribute],
     removeAttributeNS: [
       ["DOMString?", "DOMString"],
       (element, namespace, local) => {
         const found = byNamespace(element, namespace, local);
-        if (found) removeAttribute(element, found.core);
+        if (found) removeNamed(element, found);
       },
     ],
     toggleAttribute: [["DOMString", "any = undefined"], toggleAttribute],
-    hasAttribute: [["DOMString"], (element, name) => hasOf(element, byQualified(element, sought(element, name)))],
+    hasAttribute: [["DOMString"], hasAttribute],
     hasAttributeNS: [["DOMString?", "DOMString"], (element, namespace, local) => byNamespace(element, namespace, local) !== undefined],
     insertAdjacentElement: [["DOMString", "Element"], insertAdjacent],
     insertAdjacentText: [["DOMString", "DOMString"], (element, where, data) => void insertAdjacent(element, where, createText(documentOf(element), data))],

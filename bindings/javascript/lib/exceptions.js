@@ -100,6 +100,6 @@ export function exceptionFor(realm, refusal) {
   const message = refusal.message || (MESSAGES.get(status) ?? "");
   if (status === native.HP_TYPE_ERROR) return new realm.global.TypeError(message);
   if (status === TOO_LONG) return new realm.global.RangeError("the text is longer than a string can be");
-  if (status === native.HP_OUT_OF_MEMORY) return new realm.global.RangeError("memory was wanting; the session answers nothing more");
+  if (status === native.HP_OUT_OF_MEMORY) return new realm.global.RangeError("out of memory: the session has ended, and every later change of it is refused so");
   return new realm.interfaces.DOMException(message, nameOf(status));
 }

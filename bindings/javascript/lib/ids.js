@@ -1,7 +1,7 @@
 /** Elements by their ids: which elements of a session have which id, kept by what changes tell. */
-import { native, OK, textFrom, words, out } from "./core.js";
+import { native, NONE, OK, textFrom, words, out } from "./core.js";
 import { Session } from "./core.js";
-import { itsOf, sessionOf, numberOf, wrap } from "./wrappers.js";
+import { itsOf, numberOf, recall, sessionOf, wrap } from "./wrappers.js";
 
 const ID = "id";
 
@@ -20,14 +20,27 @@ export function holdersOf(session, root, name) {
 
 /** The elements of a session that have one id: their numbers, and, until the program waits, what their objects know and what was answered last. */
 class Holders {
-  numbers = new Set();
+  /** Nearly always there is one. */
+  #one = NONE;
+  #more = null;
   #found = null;
   root = null;
   structure = -1;
   answer = null;
 
-  change(call, number) {
-    this.numbers[call](number);
+  get size() {
+    return (this.#one === NONE ? 0 : 1) + (this.#more?.size ?? 0);
+  }
+
+  add(number) {
+    if (this.#one === NONE) this.#one = number;
+    else if (this.#one !== number) (this.#more ??= new Set()).add(number);
+    this.forget();
+  }
+
+  delete(number) {
+    if (this.#one === number) this.#one = NONE;
+    else this.#more?.delete(number);
     this.forget();
   }
 
@@ -35,46 +48,66 @@ class Holders {
     this.#found = this.root = this.answer = null;
   }
 
-  #find(session) {
-    this.#found = Array.from(this.numbers, (number) => itsOf(wrap(session, number)));
-    session.keepFound(this);
-    return this.#found;
+  /** What the object of the only one knows. */
+  #only(session) {
+    return (this.#found ??= itsOf(wrap(session, this.#one)));
   }
 
-  /** The object of the first of them below a root, or null. */
-  firstBelow(root) {
+  #first(root) {
     const { session } = root;
-    let first = null;
-    for (const it of this.#found ?? this.#find(session)) {
-      if (it !== root && it.root() === root) first = first === null ? it : earlier(session, first, it);
+    if (this.#more === null && this.#one !== NONE) return within(this.#only(session), root);
+    let first = this.#one === NONE ? null : found(root, this.#one);
+    for (const number of this.#more ?? []) {
+      const it = found(root, number);
+      if (it !== null) first = first === null ? it : earlier(session, first, it);
     }
+    return first;
+  }
+
+  /** What the object of the first of them below a root knows, or null. */
+  firstBelow(root) {
+    const { structure } = root.session;
+    if (this.root === root && this.structure === structure) return this.answer;
+    if (this.root === null) root.session.keepFound(this);
+    this.answer = this.#first(root);
     this.root = root;
-    this.structure = session.structure;
-    this.answer = first && first.object;
+    this.structure = structure;
     return this.answer;
   }
 }
 
+const within = (it, root) => (it !== root && it.root() === root ? it : null);
+
+/** What the object of a number knows where it stands below a root, else null: of the trees of other roots no object is made. */
+function found(root, number) {
+  const { session } = root;
+  const known = recall(session, number);
+  if (known !== undefined) return within(known, root);
+  return native.hp_root(session.index, number) === OK && out[0] === root.number ? within(itsOf(wrap(session, number)), root) : null;
+}
+
 /** Notes that an element has an id in place of another one; null is none. */
-export function noteId(session, number, before, after) {
+export const noteId = (its, before, after) => note(its.session, its.number, before, after);
+
+function note(session, number, before, after) {
   if (before === after) return;
   if (before !== null) forget(session, number, before);
   if (after === null || after === "") return;
   let there = session.ids.get(after);
   if (there === undefined) session.ids.set(after, (there = new Holders()));
-  there.change("add", number);
+  there.add(number);
 }
 
 function forget(session, number, id) {
   const there = session.ids.get(id);
-  there?.change("delete", number);
-  if (there?.numbers.size === 0) session.ids.delete(id);
+  there?.delete(number);
+  if (there?.size === 0) session.ids.delete(id);
 }
 
 /** Notes the ids of a tree that has just been made. */
 export function noteIdsBelow(session, root) {
   if (session.ids.size === 0) return;
-  for (const [number, id] of holdersOf(session, root, ID)) noteId(session, number, null, id);
+  for (const [number, id] of holdersOf(session, root, ID)) note(session, number, null, id);
 }
 
 Session.forgetIds = (session, root) => {
@@ -92,9 +125,8 @@ export function elementById(root, id) {
   const its = itsOf(root);
   const { session } = its;
   if (session.hasSpoken) return readById(root, id);
-  const there = session.ids.get(id);
-  if (there === undefined) return null;
-  return there.root === its && there.structure === session.structure ? there.answer : there.firstBelow(its);
+  const found = session.ids.get(id)?.firstBelow(its) ?? null;
+  return found && found.object;
 }
 
 /** The same where lines were answered. */

@@ -812,6 +812,8 @@ export const memory: {
   readonly size: number;
   /** The bytes that sessions hold of it. */
   readonly held: number;
+  /** Has so many bytes more be there, or throws a RangeError, with which no session ends. */
+  reserve(bytes: number): void;
   /** Has it not grow past so many bytes; 0 takes the bound away. */
   limit(bytes: number): void;
 };

@@ -1,6 +1,7 @@
 /** The package: the standard's interfaces over the core, Documents, windows, and Documents in and out. */
 import { has, native, Refusal, Session as Core } from "./core.js";
 import { furnish, htmlIs, newDocument, xmlIs } from "./documents.js";
+import { globalOf } from "./host.js";
 import { provide } from "./libraries.js";
 import { readFragment, readHTML, readXML, treeAdapter as adapterOf } from "./parsing.js";
 import { firstDocument, Realm } from "./realm.js";
@@ -45,6 +46,14 @@ export const memory = Object.freeze({
   /** The bytes that sessions hold of it. */
   get held() {
     return native.held();
+  },
+  /**
+   * Has so many bytes more be there, so that sessions can take them without a growth of the memory. A RangeError says that there are not so many; no
+   * session has ended then.
+   */
+  reserve(bytes) {
+    if (!(bytes >= 0 && bytes <= 4294967295)) throw new RangeError("a reserve is a number of bytes, up to 4294967295");
+    if (!native.reserve(bytes)) throw new RangeError(`out of memory: there are no ${bytes} bytes more`);
   },
   /** Has it not grow past so many bytes; 0 takes the bound away. A call for which there is no memory left ends its session (RangeError). */
   limit(bytes) {
@@ -114,6 +123,13 @@ export function createDocument({ beside, xml = false } = {}) {
   );
 }
 
+/** The global object of a context, which has the constructors of the language. */
+function contextGlobal(given) {
+  const found = globalOf(given);
+  if (typeof found.Function !== "function") throw new TypeError("`global` is the global object of a context (node's vm.createContext), and this is none");
+  return found;
+}
+
 /** What a window's Document is, by the options of the window. */
 function documentOptions(its, { xml = false, url = "about:blank", contentType = "application/xhtml+xml" }) {
   return { ...(xml ? xmlIs(its, contentType) : htmlIs(its)), url };
@@ -126,7 +142,8 @@ function documentOptions(its, { xml = false, url = "about:blank", contentType = 
  * leaves the Document without an element, and so does `xml`, which makes it one of XML, whose `contentType` may be given. Where `refuses` is false, names
  * of the standard that the package lacks do not refuse, for a program that gives them itself.
  */
-export function createWindow({ global, beside, report, refuses, empty = false, ...options } = {}) {
+export function createWindow({ global: given, beside, report, refuses, empty = false, ...options } = {}) {
+  const global = given && contextGlobal(given);
   const its = new Realm({ global, report, refuses });
   const neighbour = beside?.document ?? beside;
   its.document = its.guarded(() => {

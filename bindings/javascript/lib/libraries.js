@@ -2,9 +2,10 @@
  * Libraries of others that the package uses where they are there: parse5 for HTML, saxes and w3c-xmlserializer for XML. In node they are looked for
  * beside this package and where the program runs; elsewhere a program hands them in, by `provide`.
  */
+import { builtin, here, isInNode } from "./host.js";
+
 const found = new Map();
-const MODULES = "node:module";
-const { createRequire } = typeof globalThis.process?.versions?.node === "string" ? await import(MODULES) : {};
+const createRequire = isInNode ? builtin("node:module").createRequire : null;
 
 /** Hands in libraries by their names, as they are imported. */
 export function provide(libraries) {
@@ -13,7 +14,7 @@ export function provide(libraries) {
 
 function sought(name) {
   const faults = [];
-  for (const place of createRequire ? [import.meta.url, `${globalThis.process.cwd()}/`] : []) {
+  for (const place of createRequire ? [here, `${globalThis.process.cwd()}/`] : []) {
     try {
       return { library: createRequire(place)(name) };
     } catch (fault) {

@@ -1,8 +1,9 @@
 /** NodeList and HTMLCollection: lists of nodes by index, live ones and those of a moment. */
 import { check, native, out } from "./core.js";
+import { FollowingIs } from "./following.js";
 import { HTML } from "./names.js";
 import { known } from "./webidl.js";
-import { firstChildOf, isKnownEmpty, isOfParents, knownChildAt, nextOf, numberOf, realmOf, sessionOf, wrap, wrapChild, wrapNext } from "./wrappers.js";
+import { firstChildOf, isKnownEmpty, isOfParents, itsOf, knownChildAt, nextOf, numberOf, realmOf, sessionOf, wrap, wrapChild, wrapNext } from "./wrappers.js";
 
 /** Where the last question to a list by an index ended, of all lists: the next one goes on from there, where nothing has moved meanwhile. */
 const cursor = { list: null, structure: -1, index: -1, node: null };
@@ -17,33 +18,11 @@ function keepCursor(list, index, node) {
 
 const isAtCursor = (list, index) => cursor.list === list && cursor.index === index && cursor.structure === list.session.structure;
 
-/** A list below a node whose numbers are read anew where what they depend on has changed. */
+/** What lists of a node have in common: how the element at an index is found by its number. */
 class LiveIs {
-  #read;
-  #structure = -1;
-  #attributes = -1;
-  #numbers = [];
-
-  constructor(node, read, { areChildren = false, isByAttributes = false } = {}) {
+  constructor(node) {
     this.node = node;
     this.session = sessionOf(node);
-    this.#read = read;
-    this.areChildren = areChildren;
-    this.isByAttributes = isByAttributes;
-  }
-
-  get isOld() {
-    const { structure, attributes } = this.session;
-    return this.#structure !== structure || (this.isByAttributes && this.#attributes !== attributes);
-  }
-
-  get numbers() {
-    if (this.isOld) {
-      this.#numbers = this.#read();
-      this.#structure = this.session.structure;
-      this.#attributes = this.session.attributes;
-    }
-    return this.#numbers;
   }
 
   get length() {
@@ -54,13 +33,61 @@ class LiveIs {
     if (isAtCursor(this, index) && !this.isOld) return cursor.node;
     const { numbers } = this;
     if (index >= numbers.length) return null;
-    return keepCursor(this, index, this.#wrapped(numbers[index]));
+    return keepCursor(this, index, this.wrapped(numbers[index]));
   }
 
   /** The object of a number; it often stands beside the one that was asked for before. */
-  #wrapped(number) {
-    if (this.areChildren) return wrapChild(this.node, number);
+  wrapped(number) {
     return cursor.list === this ? wrapNext(cursor.node, this.session, number) : wrap(this.session, number);
+  }
+}
+
+/** A list below a node whose numbers are read anew where places or attributes have changed. */
+class ReadIs extends LiveIs {
+  #read;
+  #structure = -1;
+  #attributes = -1;
+  #numbers = [];
+
+  constructor(node, read) {
+    super(node);
+    this.#read = read;
+  }
+
+  get isOld() {
+    const { structure, attributes } = this.session;
+    return this.#structure !== structure || this.#attributes !== attributes;
+  }
+
+  get numbers() {
+    if (this.isOld) {
+      this.#numbers = this.#read();
+      this.#structure = this.session.structure;
+      this.#attributes = this.session.attributes;
+    }
+    return this.#numbers;
+  }
+}
+
+/** A list of elements below a node that follows edits. */
+class FollowedIs extends LiveIs {
+  #following;
+
+  constructor(node, read, fits, options) {
+    super(node);
+    this.#following = new FollowingIs(itsOf(node), read, fits, options);
+  }
+
+  get isOld() {
+    return this.#following.isOld;
+  }
+
+  get numbers() {
+    return this.#following.numbers;
+  }
+
+  wrapped(number) {
+    return this.#following.areChildren ? wrapChild(this.node, number) : super.wrapped(number);
   }
 }
 
@@ -69,8 +96,25 @@ const NEAR = 16;
 
 /** The children of a node. How many there are is asked without reading all, and one index after another goes from child to child. */
 class ChildrenIs extends LiveIs {
+  #read;
+  #structure = -1;
+  #numbers = [];
+
   constructor(node, read) {
-    super(node, read, { areChildren: true });
+    super(node);
+    this.#read = read;
+  }
+
+  get isOld() {
+    return this.#structure !== this.session.structure;
+  }
+
+  get numbers() {
+    if (this.isOld) {
+      this.#numbers = this.#read();
+      this.#structure = this.session.structure;
+    }
+    return this.#numbers;
   }
 
   get length() {
@@ -85,6 +129,10 @@ class ChildrenIs extends LiveIs {
     if (isAtCursor(this, index)) return cursor.node;
     if (isAtCursor(this, index - 1)) return keepCursor(this, index, cursor.node && nextOf(cursor.node));
     return this.isOld ? keepCursor(this, index, this.#asked(index)) : super.at(index);
+  }
+
+  wrapped(number) {
+    return wrapChild(this.node, number);
   }
 
   /** The child at an index, which the core finds from where it was last asked. */
@@ -132,6 +180,7 @@ class Indexed {
   }
 
   get(target, key, receiver) {
+    if (key === "length") return this.#its.length;
     const index = indexOf(key);
     if (index < 0) return Reflect.get(target, key, receiver);
     return this.#its.at(index) ?? undefined;
@@ -201,6 +250,7 @@ class Named extends Indexed {
   }
 
   get(target, key, receiver) {
+    if (key === "length") return this.#its.length;
     const index = indexOf(key);
     if (index >= 0) return this.#its.at(index) ?? undefined;
     return typeof key !== "string" || Reflect.has(target, key) ? Reflect.get(target, key, receiver) : (namedIn(this.#its, key) ?? undefined);
@@ -249,8 +299,15 @@ export const liveNodeList = (node, read) => listed(realmOf(node), "NodeList", no
 /** A list of nodes that does not change. */
 export const stillNodeList = (realm, nodes) => listed(realm, "NodeList", nodeLists, new StillIs(nodes));
 
-/** A live list of elements below a node, by a function that reads their numbers. */
-export const htmlCollection = (node, read, options) => listed(realmOf(node), "HTMLCollection", collections, new LiveIs(node, read, options), Named);
+/** A live list of elements below a node, by a function that reads their numbers where places or attributes have changed. */
+export const htmlCollection = (node, read) => listed(realmOf(node), "HTMLCollection", collections, new ReadIs(node, read), Named);
+
+/** One that follows edits: `fits` says of what an element's object knows whether it is in the list (see following.js). */
+export const followingCollection = (node, read, fits, options) =>
+  listed(realmOf(node), "HTMLCollection", collections, new FollowedIs(node, read, fits, options), Named);
+
+/** The numbers of the elements that are in a collection now. */
+export const numbersIn = (list) => collections.get(list).numbers;
 
 function borrow(realm, prototype, names) {
   for (const name of names) {

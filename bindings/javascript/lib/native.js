@@ -1,37 +1,40 @@
 /**
- * The module: the core as WebAssembly, loaded once, and called with strings.
+ * The module: the core as WebAssembly, loaded once and at once, and called with strings.
  *
- * It lies beside the package as out/huckleport.wasm, which bindings/javascript/make.py puts there. In node the variable HUCKLEPORT_MODULE names another
- * file; elsewhere the global `huckleportModule`, where it is set before this is imported, has the bytes or the compiled module, and nothing is fetched.
+ * In node it is read from out/huckleport.wasm, which bindings/javascript/make.py puts there; the variable HUCKLEPORT_MODULE names another file. In a page
+ * the package's entry brings it along (inline.js). A global `huckleportModule`, set before this is imported, has the bytes or the compiled module instead.
  */
 import { callsOver, NUMBERS } from "../out/calls.js";
+import { builtin, here, isInNode } from "./host.js";
+import { inline } from "./source.js";
 
-const PLACE = new URL("../out/huckleport.wasm", import.meta.url);
-const isNode = typeof globalThis.process?.versions?.node === "string";
-// (by a variable, so that a bundler for pages leaves it alone)
-const FILES = "node:fs";
-
-async function compiledInNode() {
-  const { readFileSync } = await import(FILES);
-  const place = globalThis.process.env.HUCKLEPORT_MODULE ?? PLACE;
+function bytesInNode() {
+  const place = globalThis.process.env.HUCKLEPORT_MODULE ?? new URL("../out/huckleport.wasm", here);
   try {
-    return new WebAssembly.Module(readFileSync(place));
+    return builtin("node:fs").readFileSync(place);
   } catch (cause) {
     throw new Error(`the module of huckleport could not be loaded from ${place}; python3 make.py in the package's folder builds it`, { cause });
   }
 }
 
-async function fetched() {
-  const answer = await fetch(PLACE);
-  if (!answer.ok) throw new Error(`the module of huckleport could not be fetched from ${PLACE}: status ${answer.status}`);
-  return WebAssembly.compile(await answer.arrayBuffer());
+function bytesOf(base64) {
+  if (Uint8Array.fromBase64) return Uint8Array.fromBase64(base64);
+  const text = atob(base64);
+  const bytes = new Uint8Array(text.length);
+  for (let at = 0; at < text.length; at++) bytes[at] = text.charCodeAt(at);
+  return bytes;
 }
 
-async function compiled() {
-  const given = globalThis.huckleportModule;
-  if (given instanceof WebAssembly.Module) return given;
-  if (given) return WebAssembly.compile(given);
-  return isNode ? compiledInNode() : fetched();
+function bytes() {
+  if (globalThis.huckleportModule) return globalThis.huckleportModule;
+  if (inline.base64) return bytesOf(inline.base64);
+  if (isInNode) return bytesInNode();
+  throw new Error("the module of huckleport is not here: import lib/web.js, or set the global huckleportModule to its bytes before");
+}
+
+function compiled() {
+  const given = bytes();
+  return given instanceof WebAssembly.Module ? given : new WebAssembly.Module(given);
 }
 
 /** The numbers that a call writes: its one answer first, or the members of its struct in their order. */
@@ -40,7 +43,7 @@ export let out;
 export let words;
 let octets, units, buffer;
 
-const { exports: module } = await WebAssembly.instantiate(await compiled(), { env: { grown: see } });
+const { exports: module } = new WebAssembly.Instance(compiled(), { env: { grown: see } });
 const numbersAt = module.numbers() >>> 2;
 const NUMBERS_SHOWN = 16;
 see();
@@ -185,6 +188,9 @@ const own = {
   rows: module.rows,
   elements: module.elements,
   holders: module.holders,
+  attributes: module.attributes,
+  nodesFrom: module.nodes_from,
+  iterate: module.iterate,
   records: module.records,
   element: module.element,
   nodeName: module.node_name,
@@ -212,10 +218,44 @@ const own = {
   held: () => module.held() >>> 0,
   /** The bytes of memory that there are, and that there may be at most: 0 for as many as the module can have. */
   size: () => octets.length,
+  /** Has the memory grow until so many bytes are free in one piece; returns whether it could. */
+  reserve(size) {
+    const isThere = reserve(size) !== 0;
+    if (size > LARGE) reserve(SHORT_NAME);
+    return isThere;
+  },
   bound: module.bound,
 };
 
-export const native = { ...calls, ...NUMBERS, ...own };
+// ---- What waits for a change of a tree.
+
+/** Calls that may change what stands where, or that end what is in a session. */
+const MOVING = `hp_line hp_insert_before hp_append_child hp_adopt_node hp_replace_child hp_remove_child hp_remove hp_replace_children hp_normalize
+  hp_set_text_content hp_discard hp_split_text hp_delete_contents hp_extract_contents hp_insert_node hp_surround_contents hp_release_iterator
+  hp_next_node hp_previous_node close`.split(/\s+/);
+
+let waiting = null;
+
+/** Has something be done before the next call that may change a tree; what waited before is done now. */
+export function beforeChange(does) {
+  if (waiting !== null) doNow();
+  waiting = does;
+}
+
+function doNow() {
+  const does = waiting;
+  waiting = null;
+  does();
+}
+
+const guarded = (call) => (one, two, three, four, five) => {
+  if (waiting !== null) doNow();
+  return call(one, two, three, four, five);
+};
+
+const all = { ...calls, ...NUMBERS, ...own };
+
+export const native = { ...all, ...Object.fromEntries(MOVING.filter((name) => name in all).map((name) => [name, guarded(all[name])])) };
 
 /** Whether the library has a call of that name. */
 export const has = (call) => typeof native[call] === "function";

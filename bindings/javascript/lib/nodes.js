@@ -1,13 +1,12 @@
 /** Node, and what Documents, fragments and elements have in common: children that are elements, and several nodes at once. */
 import { check, COMMENT, DOCTYPE, DOCUMENT, ELEMENT, FRAGMENT, INSTRUCTION, lent, native, out, TEXT, wordsOf } from "./core.js";
 import { noteIdsBelow } from "./ids.js";
-import { elementByNumber, elementName, HTML } from "./names.js";
+import { elementName, HTML } from "./names.js";
 import { areEqual } from "./rows.js";
-import { htmlCollection, liveNodeList } from "./lists.js";
+import { followingCollection, liveNodeList } from "./lists.js";
 import { known } from "./webidl.js";
 import {
   arrived,
-  childrenOf,
   departed,
   detach,
   documentIs,
@@ -18,23 +17,20 @@ import {
   isNode,
   isOfParents,
   itsOf,
-  keepName,
   keptOf,
   kindOf,
   lastChildOf,
-  nameKeptOf,
+  nameKnown,
   nextOf,
   numberIn,
   numberInOrNone,
   numberOf,
   parentOf,
-  plant,
   previousOf,
   replaced,
   rootOf,
   sessionOf,
   settle,
-  uproot,
   wrapBare,
   wrapDocument,
   wrapMade,
@@ -42,10 +38,10 @@ import {
   wrappedChildOf,
 } from "./wrappers.js";
 
-export { documentOf, firstChildOf, lastChildOf, nextOf, parentOf, previousOf };
+export { documentOf, firstChildOf, lastChildOf, nameKnown, nextOf, parentOf, previousOf };
 
 // (calls that are made often, by names of their own: the engine then knows them)
-const { data, content, element, nodeName: nameNumberOf, hp_append_child, hp_insert_before, hp_remove_child, hp_remove, hp_create_text } = native;
+const { data, content, element, nodeName: nameNumberOf, hp_append_child, hp_insert_before, hp_remove_child, hp_remove, hp_create_text, hp_set_data } = native;
 
 // ---- Questions.
 
@@ -65,15 +61,7 @@ export function namePart(node, part) {
 }
 
 /** What an element's name says. */
-export const nameOf = (node) => nameKeptOf(node) ?? readName(node);
-
-function readName(node) {
-  const session = sessionOf(node);
-  check(nameNumberOf(session.index, numberOf(node), 0));
-  const name = elementByNumber(session, out[0]);
-  keepName(node, name);
-  return name;
-}
+export const nameOf = (node) => nameKnown(itsOf(node));
 
 /** What the session knows of a node's Document. */
 export function isOfDocument(node) {
@@ -103,15 +91,34 @@ export function tagName(node) {
 
 export const hasData = (node) => kindOf(node) === TEXT || kindOf(node) === COMMENT || kindOf(node) === INSTRUCTION;
 
-export const dataOf = (node) => lent(data(sessionOf(node).index, numberOf(node)));
+/** A text that is longer is not kept beside its node. */
+const LONGEST_KEPT = 1000;
 
-export function setData(node, text) {
-  const session = sessionOf(node);
-  check(native.hp_set_data(session.index, numberOf(node), text));
-  session.changed();
+/** Whether the data of a text is known without asking. */
+const hasKept = (its) => its.values !== null && its.stamp === its.session.links;
+
+/** The data of a text, a comment or an instruction, kept until it changes. */
+export function dataOf(node) {
+  const its = itsOf(node);
+  if (hasKept(its)) return its.values;
+  const text = lent(data(its.session.index, its.number));
+  its.fresh();
+  if (text.length <= LONGEST_KEPT) its.values = text;
+  return text;
 }
 
-const textContent = (node) => lent(content(sessionOf(node).index, numberOf(node)));
+/** Says that the data of a node has changed. */
+export const dataChanged = (node) => void (itsOf(node).values = null);
+
+export function setData(node, text) {
+  const its = itsOf(node);
+  const status = hp_set_data(its.session.index, its.number, text);
+  if (status !== 0) check(status);
+  its.values = hasKept(its) && text.length <= LONGEST_KEPT ? text : null;
+  its.session.changed();
+}
+
+const textContent = (node) => (hasData(node) ? dataOf(node) : lent(content(sessionOf(node).index, numberOf(node))));
 
 /** Puts a text into a node that has no child: to observers and ranges it is the same as if all children were replaced. */
 function fill(node, text) {
@@ -123,29 +130,43 @@ function fill(node, text) {
   if (status !== 0) session.leave(number);
   check(status);
   forgetEnds(node);
-  session.moved();
+  session.movedTexts();
 }
 
 function setTextContent(node, text) {
+  if (hasData(node)) return setData(node, text ?? "");
+  const kind = kindOf(node);
+  // (a Document keeps its children, and a doctype has none)
+  if (kind !== ELEMENT && kind !== FRAGMENT) return undefined;
+  return isKnownEmpty(node) ? fill(node, text ?? "") : replaceByText(node, text ?? "");
+}
+
+/** Whether lists that follow have nothing to do with the children of a node. */
+const hasTextsOnly = (node) => sessionOf(node).lists.length > 0 && elementNumbers(node).length === 0;
+
+function replaceByText(node, text) {
   const session = sessionOf(node);
-  // (a Document keeps its children)
-  const losesChildren = kindOf(node) === ELEMENT || kindOf(node) === FRAGMENT;
-  if (losesChildren && isKnownEmpty(node)) return fill(node, text ?? "");
-  const gone = losesChildren ? childNumbers(node) : [];
-  check(native.hp_set_text_content(session.index, numberOf(node), text ?? ""));
-  if (!losesChildren) return void session.changed();
-  left(node, gone, documentOf(node));
-  session.renewed();
+  const gone = childNumbers(node);
+  const isOfTexts = hasTextsOnly(node);
+  check(native.hp_set_text_content(session.index, numberOf(node), text));
+  left(node, gone);
+  if (isOfTexts) session.movedTexts();
+  else session.moved();
 }
 
 /** Children that have left a parent, by their numbers: those that have wrappers are roots now, the others go where nothing holds them. */
-function left(parent, numbers, document) {
-  const session = sessionOf(parent);
+function left(parent, numbers) {
+  const its = itsOf(parent);
+  const { session } = its;
+  const document = its.document();
+  const gone = [];
   for (const number of numbers) {
-    const wrapper = session.marks.has(number) ? wrappedChildOf(parent, number) : undefined;
-    if (wrapper) uproot([wrapper], document);
+    const child = session.marks.has(number) ? its.child(number) : undefined;
+    if (child) gone.push(child);
     else session.leave(number);
   }
+  for (const it of gone) it.loosen(document);
+  its.forgetChildren(gone);
 }
 
 /** A call that answers a number about two nodes of one session. */
@@ -174,54 +195,78 @@ function isEqual(node, other) {
 
 // ---- Changes: each is a call of the module, and then the wrappers follow.
 
+/** Says that a node came into a parent from another, null for none. */
+function cameFrom(session, its, from, to) {
+  if (its.kind === FRAGMENT) session.moved();
+  else session.movedOne(its, from, to);
+}
+
 export function insertBefore(parent, node, child) {
-  const { session, number } = itsOf(parent);
-  check(hp_insert_before(session.index, number, numberIn(session, node), numberInOrNone(session, child)));
+  const to = itsOf(parent);
+  const its = itsOf(node);
+  const { session } = to;
+  const status = hp_insert_before(session.index, to.number, numberIn(session, node), numberInOrNone(session, child));
+  if (status !== 0) check(status);
+  const from = its.parent();
   arrived(node, parent, child);
-  session.moved();
+  cameFrom(session, its, from, to);
   return node;
 }
 
 export function appendChild(parent, node) {
-  const above = itsOf(parent);
-  const { session } = above;
-  check(hp_append_child(session.index, above.number, numberIn(session, node)));
-  itsOf(node).cameInto(above, null);
-  session.moved();
+  const to = itsOf(parent);
+  const its = itsOf(node);
+  const { session } = to;
+  const status = hp_append_child(session.index, to.number, numberIn(session, node));
+  if (status !== 0) check(status);
+  const from = its.parent();
+  its.cameInto(to, null);
+  cameFrom(session, its, from, to);
   return node;
 }
 
 export function replaceChild(parent, node, child) {
-  const session = sessionOf(parent);
-  check(native.hp_replace_child(session.index, numberOf(parent), numberIn(session, node), numberIn(session, child)));
+  const to = itsOf(parent);
+  const its = itsOf(node);
+  const { session } = to;
+  check(native.hp_replace_child(session.index, to.number, numberIn(session, node), numberIn(session, child)));
+  const from = its.parent();
   replaced(node, parent, child);
-  session.moved();
+  if (node !== child) session.movedOne(itsOf(child), to, null);
+  cameFrom(session, its, from, to);
   return child;
 }
 
 export function removeChild(parent, child) {
-  const { session, number } = itsOf(parent);
-  check(hp_remove_child(session.index, number, numberIn(session, child)));
+  const from = itsOf(parent);
+  const { session } = from;
+  check(hp_remove_child(session.index, from.number, numberIn(session, child)));
   departed(child);
-  session.moved();
+  session.movedOne(itsOf(child), from, null);
   return child;
 }
 
 export function remove(node) {
-  const session = sessionOf(node);
-  check(hp_remove(session.index, numberOf(node)));
-  if (parentOf(node)) departed(node);
-  session.moved();
+  const its = itsOf(node);
+  const { session } = its;
+  check(hp_remove(session.index, its.number));
+  const from = its.parent();
+  if (from) departed(node);
+  session.movedOne(its, from, null);
 }
 
 function replaceAll(parent, node) {
-  const session = sessionOf(parent);
+  const to = itsOf(parent);
+  const its = node && itsOf(node);
+  const { session } = to;
   const gone = childNumbers(parent);
-  const come = node === null ? [] : kindOf(node) === FRAGMENT ? childrenOf(node) : [node];
-  check(native.hp_replace_children(session.index, numberOf(parent), numberInOrNone(session, node)));
-  left(parent, gone, documentOf(parent));
-  plant(come, parent);
-  session.renewed();
+  check(native.hp_replace_children(session.index, to.number, numberInOrNone(session, node)));
+  if (its !== null && its.kind !== FRAGMENT) its.unlink();
+  left(parent, gone);
+  if (its === null) to.bare();
+  else if (its.kind === FRAGMENT) its.cameFrom(to, null);
+  else to.only(its);
+  session.moved();
 }
 
 const NO_FILTER = new Uint32Array(0);
@@ -283,7 +328,7 @@ function copied(node, document, call, ...given) {
   const session = sessionOf(node);
   check(native[call](session.index, ...given));
   const copy = out[0];
-  const made = kindOf(node) === DOCUMENT ? wrapDocument(session, copy, { ...isOfDocument(node) }) : wrapMade(document, copy, kindOf(node));
+  const made = kindOf(node) === DOCUMENT ? wrapDocument(session, copy, { ...isOfDocument(node), inert: undefined }) : wrapMade(document, copy, kindOf(node));
   noteIdsBelow(session, copy);
   return made;
 }
@@ -296,9 +341,30 @@ function withContents(node, copy, deep) {
 
 function copyContents(node, copy) {
   const { contents } = keptOf(node);
-  if (contents) setContents(copy, importNode(documentOf(contents), contents, true));
+  if (contents) setContents(copy, importNode(inertDocument(documentOf(copy)), contents, true));
   for (let from = firstChildOf(node), to = firstChildOf(copy); from && to; from = nextOf(from), to = nextOf(to)) copyContents(from, to);
 }
+
+/** The Document of the contents of a Document's templates, which no window shows; that of such a Document is itself. */
+export function inertDocument(document) {
+  const session = sessionOf(document);
+  const its = documentIs(session, numberOf(document));
+  if (its.isInert) return document;
+  if (!its.inert) {
+    check(native.hp_new_document(session.index));
+    its.inert = wrapDocument(session, out[0], { realm: its.realm, isHtml: its.isHtml, contentType: its.contentType, url: "about:blank", isInert: true });
+  }
+  return its.inert;
+}
+
+/** Gives an element contents that are empty. */
+export function emptyContents(node) {
+  setContents(node, createFragment(inertDocument(documentOf(node))));
+  return contentsOf(node);
+}
+
+/** Gives a template its contents, a fragment, which goes into the Document of such contents. */
+export const setTemplateContents = (node, fragment) => setContents(node, adoptNode(inertDocument(documentOf(node)), fragment));
 
 /** Gives an element contents, a fragment. */
 export function setContents(node, fragment) {
@@ -418,7 +484,7 @@ const elementNumbers = (node) => Array.from(wordsOf(native.elementChildren(sessi
 /** What Documents, fragments and elements have. */
 export const parentNode = {
   attributes: {
-    children: (node) => (keptOf(node).children ??= htmlCollection(node, () => elementNumbers(node), { areChildren: true })),
+    children: (node) => (keptOf(node).children ??= followingCollection(node, () => elementNumbers(node), () => true, { areChildren: true })),
     firstElementChild: (node) => elementFrom(firstChildOf(node), nextOf),
     lastElementChild: (node) => elementFrom(lastChildOf(node), previousOf),
     childElementCount: (node) => wordsOf(native.elementChildren(sessionOf(node).index, numberOf(node))).length,
@@ -505,7 +571,7 @@ export const Node = known({
     nodeValue: {
       type: "DOMString?",
       get: (node) => (hasData(node) ? dataOf(node) : null),
-      set: (node, text) => hasData(node) && setData(node, text ?? ""),
+      set: (node, text) => void (hasData(node) && setData(node, text ?? "")),
     },
     textContent: { type: "DOMString?", get: textContent, set: setTextContent },
   },
@@ -518,10 +584,10 @@ export const Node = known({
     isSameNode: [["Node?"], (node, other) => node === other],
     compareDocumentPosition: [["Node"], comparePosition],
     contains: [["Node?"], (node, other) => isBeside(node, other) && compared("hp_contains", node, other) === 1],
-    insertBefore: [["Node", "Node?"], insertBefore],
+    insertBefore: [["Node", "child Node?"], insertBefore],
     appendChild: [["Node"], appendChild],
-    replaceChild: [["Node", "Node"], replaceChild],
-    removeChild: [["Node"], removeChild],
+    replaceChild: [["Node", "child Node"], replaceChild],
+    removeChild: [["child Node"], removeChild],
   },
   finish(realm, made) {
     const shown = { value: inspected, writable: true, configurable: true };

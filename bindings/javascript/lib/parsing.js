@@ -1,6 +1,7 @@
 /** Documents in: HTML by parse5, and XML by saxes. */
 import { COMMENT, DOCTYPE, ELEMENT, native, Refusal, TEXT } from "./core.js";
 import { attributesOf, isElement, setAttributeMarked } from "./elements.js";
+import { withoutEntities } from "./entities.js";
 import { wanted } from "./libraries.js";
 import { markedAttribute, markedElement } from "./names.js";
 import {
@@ -13,6 +14,7 @@ import {
   createFragment,
   createInstruction,
   createText,
+  dataChanged,
   dataOf,
   documentOf,
   firstChildOf,
@@ -23,7 +25,7 @@ import {
   parentOf,
   previousOf,
   remove,
-  setContents,
+  setTemplateContents,
 } from "./nodes.js";
 import { documentIs, kindOf, numberOf, sessionOf, wrapChild } from "./wrappers.js";
 
@@ -32,6 +34,7 @@ const isText = (node) => node !== null && kindOf(node) === TEXT;
 function appendData(text, data) {
   const session = sessionOf(text);
   native.hp_append_data(session.index, numberOf(text), data);
+  dataChanged(text);
   session.changed();
 }
 
@@ -84,7 +87,7 @@ export function treeAdapter(document) {
     setDocumentType: (its, ...words) => void appendChild(its, createDoctype(its, ...words)),
     setDocumentMode,
     getDocumentMode: (its) => (its.compatMode === "BackCompat" ? "quirks" : "no-quirks"),
-    setTemplateContent: setContents,
+    setTemplateContent: setTemplateContents,
     getTemplateContent: (element) => contentsOf(element) ?? createFragment(documentOf(element)),
     getFirstChild: firstChildOf,
     getChildNodes: (node) => childNumbers(node).map((number) => wrapChild(node, number)),
@@ -185,6 +188,6 @@ export function readXML(document, xml) {
   parser.on("error", (fault) => {
     throw new SyntaxError(fault.message, { cause: fault });
   });
-  parser.write(xml).close();
+  parser.write(withoutEntities(xml)).close();
   return document;
 }

@@ -5,7 +5,7 @@
  * filter of the program's the core's own iterator moves; with one, which the core can't ask, it is moved on in the core to the node that the filter
  * took.
  */
-import { check, native, NONE, out, Refusal } from "./core.js";
+import { beforeChange, check, native, NONE, out, Refusal } from "./core.js";
 import { known, refuseType } from "./webidl.js";
 import { itsOf, makeThing, numberIn, numberOf, realmOf, sessionOf, thingOf, wrap } from "./wrappers.js";
 
@@ -52,6 +52,8 @@ class Traversal {
     this.isAsking = true;
     try {
       return this.asked(node.object);
+    } catch (fault) {
+      throw isRevoked(this.filter) ? new Refusal(native.HP_TYPE_ERROR, "the filter is a proxy that was revoked") : fault;
     } finally {
       this.isAsking = false;
     }
@@ -63,6 +65,15 @@ class Traversal {
     const accept = filter.acceptNode;
     if (typeof accept !== "function") refuseType("acceptNode is no function");
     return Number(accept.call(filter, node)) & 0xffff;
+  }
+}
+
+/** Whether something is a proxy that was revoked, of which nothing can be asked. */
+function isRevoked(it) {
+  try {
+    return Array.isArray(it) && false;
+  } catch {
+    return true;
   }
 }
 
@@ -94,8 +105,14 @@ function nodeBefore(node, root) {
 /** Where the iterator that moved last came to, whether its pointer is ahead of that, and the count of the session until which both hold. */
 const cursor = { iterator: null, node: null, isBefore: false, structure: -1 };
 
-/** How many nodes are gone through before the node of a number is looked for by its number. */
-const NEAR = 32;
+/** The steps that this iterator has still to make in the core, all in one direction: they are made before the tree changes. */
+const due = { iterator: null, isBack: false, steps: 0 };
+
+function makeSteps() {
+  const { iterator, isBack, steps } = due;
+  due.iterator = null;
+  native.iterate(iterator.session.index, iterator.number, Number(isBack), steps);
+}
 
 class IteratorIs extends Traversal {
   constructor(root, show, filter) {
@@ -106,6 +123,7 @@ class IteratorIs extends Traversal {
   /** Has the cursor be where the core has the iterator. */
   place() {
     if (cursor.iterator === this && cursor.structure === this.session.structure) return;
+    beforeChange(null);
     check(native.hp_iterator(this.session.index, this.number));
     const number = out[1];
     const isBefore = out[2] === 1;
@@ -117,6 +135,18 @@ class IteratorIs extends Traversal {
     cursor.node = node;
     cursor.isBefore = isBefore;
     cursor.structure = this.session.structure;
+  }
+
+  /** Says that the iterator has come to a node by so many steps, which the core follows before the tree changes. */
+  went(course, node, steps) {
+    if (due.iterator !== this || due.isBack !== course.isBefore) {
+      beforeChange(makeSteps);
+      due.iterator = this;
+      due.isBack = course.isBefore;
+      due.steps = 0;
+    }
+    due.steps += steps;
+    this.keep(node, course.isBefore);
   }
 
   get reference() {
@@ -134,13 +164,6 @@ class IteratorIs extends Traversal {
     const status = call(this.session.index, this.number);
     if (status !== 0) check(status);
     return out[0];
-  }
-
-  /** The node of a number that the iterator came to, sought from where it was before. */
-  sought(number, course) {
-    let node = cursor.iterator === this ? cursor.node : null;
-    for (let count = 0; node !== null && count < NEAR && node.number !== number; count++) node = course.beside(node, this.root);
-    return node !== null && node.number === number ? node : itsOf(wrap(this.session, number));
   }
 
   /** Moves on to a node by so many steps, or from wherever the filter may have put the reference meanwhile. */
@@ -175,16 +198,17 @@ const iteratorOf = (it) => thingOf(it, IteratorIs);
 const FORTH = { call: native.hp_next_node, beside: nodeAfter, isBefore: false };
 const BACK = { call: native.hp_previous_node, beside: nodeBefore, isBefore: true };
 
-/** Without a filter the core's iterator moves, and its node is sought. */
+/** By the standard's steps, without a filter of the program's. */
 function plain(its, course) {
-  const number = its.move(course.call);
-  if (number === NONE) return null;
-  const node = its.sought(number, course);
-  its.keep(node, course.isBefore);
+  its.place();
+  const { node: reference, isBefore } = cursor;
+  let node = isBefore === course.isBefore ? course.beside(reference, its.root) : reference;
+  while (node !== null && ((its.show >>> (node.kind - 1)) & 1) === 0) node = course.beside(node, its.root);
+  if (node !== null) its.went(course, node, 1);
   return node;
 }
 
-/** By the standard's steps: the pointer moves once the filter has taken a node. One that the filter removed is answered, and the pointer stays ahead of it. */
+/** The same with one: the pointer moves once the filter has taken a node. One that the filter removed is answered, and the pointer stays ahead of it. */
 function filtered(its, course) {
   its.place();
   const { node: reference, isBefore, structure } = cursor;
@@ -195,8 +219,11 @@ function filtered(its, course) {
     node = course.beside(node, its.root);
   }
   if (node === null) return null;
-  const isSame = structure === its.session.structure;
-  const to = isSame || its.has(node) ? node : passed.findLast((it) => its.has(it));
+  if (structure === its.session.structure && cursor.iterator === its) {
+    its.went(course, node, passed.length + 1);
+    return node;
+  }
+  const to = its.has(node) ? node : passed.findLast((it) => its.has(it));
   if (!to) return node;
   its.follow(course, to.number, passed.length + 1);
   its.keep(to, course.isBefore);

@@ -71,9 +71,36 @@ export function dictionary(members) {
   };
 }
 
+// ---- Nodes. A page has some that the core has not (Attr): none of them is a child, nor takes the place of one.
+
+const HIERARCHY_REQUEST_ERROR = 3;
+const NOT_FOUND_ERROR = 8;
+let isOtherNode = () => false;
+
+/** Says which objects are Nodes that the core does not have. */
+export const otherNodes = (is) => void (isOtherNode = is);
+
+function nodeOf(value, otherwise, status = HIERARCHY_REQUEST_ERROR) {
+  if (brands.get("Node")(value)) return value;
+  if (isOtherNode(value)) throw new Refusal(status, "an attribute is no child of anything");
+  return otherwise(value);
+}
+
+const noNode = () => refuseType("this is no Node");
+const orNull = (value) => (value === null || value === undefined ? null : noNode());
+
+const NODES = {
+  Node: (value) => nodeOf(value, noNode),
+  "Node?": (value) => nodeOf(value, orNull),
+  "(Node or DOMString)": (value) => nodeOf(value, PLAIN.DOMString),
+  // (a node that has to be a child: any other is not found)
+  "child Node": (value) => nodeOf(value, noNode, NOT_FOUND_ERROR),
+  "child Node?": (value) => nodeOf(value, orNull, NOT_FOUND_ERROR),
+};
+
 function converterOf(type) {
   if (type in PLAIN) return PLAIN[type];
-  if (type === "(Node or DOMString)") return (value) => (brands.get("Node")(value) ? value : PLAIN.DOMString(value));
+  if (type in NODES) return NODES[type];
   const isNullable = type.endsWith("?");
   const name = isNullable ? type.slice(0, -1) : type;
   const is = brands.get(name);

@@ -11,7 +11,7 @@
  * link both or neither, and a parent that keeps a first or a last child stands for it in the same way. A change of one place mends the links around
  * it; any other has all links of its session be read anew, by a count that grows.
  */
-import { check, DOCUMENT, ELEMENT, FRAGMENT, native, NONE, OK, out, Refusal, Session } from "./core.js";
+import { check, DOCUMENT, ELEMENT, FRAGMENT, native, NONE, OK, out, Refusal, Session, soon, words } from "./core.js";
 import { elementByNumber } from "./names.js";
 
 export let isNode, itsOf;
@@ -29,6 +29,40 @@ const FEW = 8;
 const CHILD = 1;
 const KNOWN = 2;
 const HELD = 4;
+
+// ---- What was made or found last, by number: held until the program waits, and then for as long as no collection comes.
+
+const PLACES = 32768;
+const MASK = PLACES - 1;
+let recent = null;
+let recentHeld = null;
+/** The last node that was read ahead of a walk, and how many were read at once. */
+let frontier = null;
+let readAtOnce = 0;
+
+function recentNow() {
+  recent = recentHeld?.deref() ?? null;
+  if (recent === null) {
+    recent = new Array(PLACES);
+    recentHeld = new WeakRef(recent);
+  }
+  soon(() => {
+    recent = frontier = null;
+  });
+  return recent;
+}
+
+/** What the object of a number knows where it was made or found of late, else undefined. */
+export function recall(session, number) {
+  const it = (recent ?? recentNow())[number & MASK];
+  return it !== undefined && it.number === number && it.session === session ? it : undefined;
+}
+
+const remember = (its) => void ((recent ?? recentNow())[its.number & MASK] = its);
+
+Session.forgetRecent = () => {
+  recent = recentHeld = frontier = null;
+};
 
 const mayHaveChildren = (kind) => kind === ELEMENT || kind === DOCUMENT || kind === FRAGMENT;
 
@@ -55,11 +89,12 @@ class NodeIs {
     this.last = undefined;
     this.next = undefined;
     this.previous = undefined;
-    // What an element's name says (see names.js), and the values of attributes by the names that were asked for.
+    // What an element's name says (see names.js), and its attributes (see attributes.js); of a text its data, as long as the links hold.
     this.name = null;
     this.values = null;
     this.kept = null;
     session.marks.add(number);
+    remember(this);
   }
 
   // ---- The wrapped children of a parent.
@@ -130,6 +165,17 @@ class NodeIs {
     return made;
   }
 
+  /** The child of a number, of which the rest is known as well. */
+  adopted(number, kind, name, count) {
+    const { session } = this;
+    const found = session.marks.has(number) ? this.child(number) : undefined;
+    if (found !== undefined) return found;
+    const made = make(session, number, kind, this.realm, kind === ELEMENT ? elementByNumber(session, name) : null);
+    made.enter(this);
+    if (count === 0 && mayHaveChildren(kind)) made.bare();
+    return made;
+  }
+
   root() {
     let it = this;
     while ((it.state & CHILD) !== 0) it = it.above;
@@ -149,6 +195,7 @@ class NodeIs {
     if (this.stamp === links) return;
     this.stamp = links;
     this.first = this.last = this.next = this.previous = undefined;
+    if (this.kind !== ELEMENT) this.values = null;
   }
 
   /** Keeps that a sibling follows this one. */
@@ -201,9 +248,19 @@ class NodeIs {
     return number === NONE ? null : parent.childOf(number);
   }
 
+  /** The same of a link that leads forth: where that is not known, what comes behind it is read with it. */
+  askForth(at, parent) {
+    const { session } = this;
+    check(hp_links(session.index, this.number));
+    const number = out[at];
+    if (number === NONE) return null;
+    const found = session.marks.has(number) ? parent.child(number) : undefined;
+    return found ?? readAhead(this, parent, number);
+  }
+
   askNext() {
     if ((this.state & CHILD) === 0) return null;
-    const next = this.ask(NEXT_AT, this.above);
+    const next = this.askForth(NEXT_AT, this.above);
     if (next) this.link(next);
     else this.trail();
     return next;
@@ -227,7 +284,7 @@ class NodeIs {
 
   askFirst() {
     if (!mayHaveChildren(this.kind)) return null;
-    const first = this.ask(FIRST_AT, this);
+    const first = this.askForth(FIRST_AT, this);
     if (!this.isEmpty(first)) first.lead();
     return first;
   }
@@ -352,10 +409,73 @@ class NodeIs {
     this.values = null;
   }
 
+  /** Keeps that its children are no longer what they were, and that those which had objects have left. */
+  forgetChildren(gone) {
+    this.fresh();
+    this.first = this.last = undefined;
+    for (const it of gone) it.previous = it.next = undefined;
+  }
+
+  /** Keeps that one child is the only one; its links to siblings of before were mended. */
+  only(child) {
+    this.fresh();
+    child.fresh();
+    child.place(this);
+    child.previous = child.next = null;
+    this.first = this.last = child;
+  }
+
   /** Keeps that it has no child. */
   bare() {
     this.stamp = this.session.links;
     this.first = this.last = null;
+  }
+}
+
+// ---- Reading ahead of a walk.
+
+const FEWEST = 4;
+const MOST_AT_ONCE = 256;
+
+/** Whether a walk goes on from where the last reading ended. */
+function isGoingOn(its) {
+  for (let it = frontier; it !== null; it = it.parent()) if (it === its) return true;
+  return false;
+}
+
+/** Reads a child of a parent by its number, and what comes behind it in tree order as far as the parent's end: few nodes first, more as a walk goes on. */
+function readAhead(its, parent, number) {
+  const { session } = parent;
+  readAtOnce = isGoingOn(its) ? Math.min(4 * readAtOnce, MOST_AT_ONCE) : FEWEST;
+  check(native.nodesFrom(session.index, number, readAtOnce));
+  return linked(parent, out[0] >>> 2, out[1], out[2] === 1);
+}
+
+const ROW = 5;
+
+/** Makes objects of rows (number, kind, depth, name, count of children), and links them; the first is answered. */
+function linked(parent, from, count, isWhole) {
+  const open = [parent];
+  const last = [];
+  for (let at = from; at < from + count; at += ROW) {
+    const depth = words[at + 2];
+    close(open, last, depth + 1);
+    const its = open[depth].adopted(words[at], words[at + 1], words[at + 3], words[at + 4]);
+    if (last.length > depth) last[depth].link(its);
+    else if (depth > 0) its.lead();
+    open[depth + 1] = last[depth] = its;
+  }
+  frontier = open.at(-1);
+  const first = parent.child(words[from]);
+  if (isWhole) close(open, last, 0);
+  return first;
+}
+
+/** Keeps that those which stand last at some depth and below are the last children. */
+function close(open, last, depth) {
+  while (last.length > depth) {
+    last.pop().trail();
+    open.pop();
   }
 }
 
@@ -425,10 +545,8 @@ export function forgetEnds(node) {
 /** The wrapper of a child of a node by its number, or undefined. */
 export const wrappedChildOf = (parent, number) => itsOf(parent).child(number)?.object;
 
-export const nameKeptOf = (element) => itsOf(element).name;
-export const keepName = (element, name) => void (itsOf(element).name = name);
-export const valuesOf = (element) => (itsOf(element).values ??= new Map());
-export const forgetValues = (element) => void (itsOf(element).values = null);
+/** What an element's name says, by what its object knows. */
+export const nameKnown = (its) => its.name ?? (its.name = nameAsked(its.session, its.number));
 
 /** What the name of an element says, which may be known already. */
 function nameAsked(session, number) {
@@ -438,14 +556,16 @@ function nameAsked(session, number) {
 
 /** The class of a realm that makes a node's object: a realm may tell elements apart by their names. */
 function makerOf(session, number, kind, realm, name) {
-  if (kind === ELEMENT && realm.elementMaker) return realm.elementMaker(name ?? nameAsked(session, number));
+  if (name !== null && realm.elementMaker) return realm.elementMaker(name);
   return kind === DOCUMENT && documentIs(session, number).isXMLDocument ? realm.makers.XMLDocument : realm.kinds[kind];
 }
 
 /** A new wrapper of a node; what it knows is answered. */
-function make(session, number, kind, realm, name) {
-  const Maker = makerOf(session, number, kind, realm, name);
+function make(session, number, kind, realm, name = null) {
+  const known = name === null && kind === ELEMENT && realm.elementMaker ? nameAsked(session, number) : name;
+  const Maker = makerOf(session, number, kind, realm, known);
   const its = new NodeIs(session, number, kind, realm);
+  its.name = known;
   new Maker(its);
   return its;
 }
@@ -460,7 +580,7 @@ function makeOf(session, number, realm) {
 }
 
 /** The object that stands for a node of the core, found by its number alone. */
-export const wrap = (session, number) => session.known(number) ?? wrapAnew(session, number);
+export const wrap = (session, number) => recall(session, number)?.object ?? session.known(number) ?? wrapAnew(session, number);
 
 /** The same, or null for none. */
 export const wrapOrNull = (session, number) => (number === NONE ? null : wrap(session, number));
@@ -498,7 +618,7 @@ export function documentIs(session, number) {
 function wayTo(session, number) {
   const way = [];
   for (let at = number; ; ) {
-    const found = session.known(at);
+    const found = recall(session, at)?.object ?? session.known(at);
     if (found) return { way, above: found };
     check(hp_links(session.index, at));
     if (out[PARENT_AT] === NONE) return { way, above: makeRoot(session, at, out[0], out[1]) };
@@ -519,7 +639,9 @@ function wrapAnew(session, number) {
   const { way, above } = wayTo(session, number);
   let it = itsOf(above);
   while (way.length > 0) it = it.childOf(way.pop());
-  it.know();
+  // (the way to its siblings is then as short)
+  it.parent()?.know();
+  remember(it);
   return it.object;
 }
 
@@ -538,7 +660,6 @@ export function wrapMade(document, number, kind) {
 export function wrapBare(document, number, kind, name = null) {
   const above = itsOf(document);
   const made = make(above.session, number, kind, above.realm, name);
-  made.name = name;
   made.bare();
   made.loosen(above);
   return made.object;
@@ -589,16 +710,6 @@ export function settle(node) {
   else itsOf(node).loosen(kindOf(node) === DOCUMENT ? null : itsOf(wrap(session, document)));
 }
 
-/** Makes roots of wrappers that have left their parents for good. Links are not mended here either. */
-export function uproot(nodes, document) {
-  for (const it of nodes) itsOf(it).loosen(itsOf(document));
-}
-
-/** Puts wrappers under a parent. Links are not mended here either. */
-export function plant(nodes, parent) {
-  for (const it of nodes) itsOf(it).place(itsOf(parent));
-}
-
 /** Makes roots of wrappers that have left their parents; where they came is said afterwards, by `settle`. */
 export function detach(nodes, document) {
   for (const it of nodes) {
@@ -632,7 +743,7 @@ export const isOfParents = (node) => mayHaveChildren(kindOf(node));
 
 // ---- What is no node.
 
-export let thingOf;
+export let thingOf, isThing;
 
 /** An object of an interface that is no node, with what it knows. */
 export class Thing {
@@ -643,6 +754,7 @@ export class Thing {
   }
 
   static {
+    isThing = (it) => #its in it;
     // (the class itself is compared, since a look through prototypes takes longer than most of what is asked)
     thingOf = (it, kind) => {
       if (typeof it !== "object" || it === null || !(#its in it)) return undefined;

@@ -20,7 +20,7 @@ function whyLeftOut() {
 
 /** The page: one file, with the module, the tests and the dialogues in it. */
 function page() {
-  const words = [`--alias:node:test=${place("browsers/test.js")}`, `--alias:node:assert/strict=${place("browsers/assert.js")}`];
+  const words = ["--ignore-annotations", `--alias:node:test=${place("browsers/test.js")}`, `--alias:node:assert/strict=${place("browsers/assert.js")}`];
   const dialogues = Object.fromEntries(Object.entries(all()).map(([name, it]) => [name, { ...it, replies: replies(name).toString("base64") }]));
   const script = bundled(place("browsers/page.js"), words);
   return `<!doctype html><meta charset="utf-8"><title>tests</title><script>${given({ dialogues })}</script><script type="module">${script}</script>`;

@@ -4,7 +4,7 @@ import { readFileSync } from "node:fs";
 import { createRequire } from "node:module";
 import test from "node:test";
 
-const FILES = ["../lib/index.d.ts", "../lib/page/index.d.ts"];
+const FILES = ["index", "page/index", "global", "install", "jest", "vitest", "dom"].map((name) => `../lib/${name}.d.ts`);
 const KINDS = ["isInterfaceDeclaration", "isClassDeclaration", "isFunctionDeclaration", "isTypeAliasDeclaration", "isTypeElement", "isClassElement"];
 
 function installed(name) {

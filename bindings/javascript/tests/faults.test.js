@@ -112,14 +112,15 @@ test("a collection has elements by their ids and names", () => {
   assert.equal(list.one, undefined);
 });
 
-test("a kept list of tags follows its root into a Document of XML", () => {
+test("a kept list of tags means what it meant when it was asked for, also in a Document of XML", () => {
   const { document, root, items } = listOf(1);
   const list = root.getElementsByTagName("LI");
   assert.deepEqual([...list], items);
   createWindow();
   const xml = createDocument({ beside: document, xml: true });
   xml.adoptNode(root);
-  assert.deepEqual([...list], []);
+  assert.deepEqual([...list], items);
+  assert.deepEqual([...root.getElementsByTagName("LI")], []);
   assert.deepEqual([...root.getElementsByTagName("li")], items);
   document.adoptNode(root);
   assert.deepEqual([...list], items);
@@ -195,4 +196,22 @@ test("the memory of the module can be bounded, and what is refused then ends its
   }
   assert.ok(made.length > 0);
   assert.equal(other.document.createElement("p").nodeName, "P");
+});
+
+test("memory is reserved ahead, or refused without the end of a session", () => {
+  const document = createDocument();
+  const root = document.appendChild(document.createElement("p"));
+  memory.limit(memory.size + 33554432);
+  try {
+    assert.throws(() => memory.reserve(67108864), { name: "RangeError", message: /67108864/u });
+    root.append("x");
+    memory.reserve(16777216);
+    const { size } = memory;
+    for (let at = 0; at < 40; at++) root.append("y".repeat(100000));
+    assert.equal(memory.size, size);
+    assert.equal(root.textContent.length, 4000001);
+  } finally {
+    memory.limit(0);
+  }
+  assert.throws(() => memory.reserve(-1), RangeError);
 });

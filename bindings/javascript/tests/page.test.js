@@ -1,4 +1,5 @@
-// docs/javascript.md and README.md: their lines print what stands beside them, and the former's table lists what there is, no more and no less.
+// docs/javascript.md and README.md: their lines print what stands beside them; the table of docs/javascript-reference.md lists what there is, no more and
+// no less.
 import assert from "node:assert/strict";
 import { spawnSync } from "node:child_process";
 import { readFileSync } from "node:fs";
@@ -10,7 +11,8 @@ import * as huckleport from "../lib/index.js";
 
 const PACKAGE = fileURLToPath(new URL("..", import.meta.url));
 const page = readFileSync(new URL("../../../docs/javascript.md", import.meta.url), "utf8");
-const rows = /^## All of it\n(.*?)^## /msu.exec(page)[1].split("\n").filter((line) => line.startsWith("| `") || line.startsWith("| the module"));
+const reference = readFileSync(new URL("../../../docs/javascript-reference.md", import.meta.url), "utf8");
+const rows = /^## All of it\n(.*?)^## /msu.exec(reference)[1].split("\n").filter((line) => line.startsWith("| `") || line.startsWith("| the module"));
 
 /** Names that the table says in words. */
 const IN_WORDS = new Set(["constructor", "toString"]);

@@ -48,9 +48,9 @@ test("the pages of our own pass, and what is not there is counted", { skip }, ()
 function altered(name, text) {
   const file = join(folder, `${name}.mjs`);
   const around = `
-    const { instantiate } = WebAssembly;
-    WebAssembly.instantiate = async (...given) => {
-      const { exports } = await instantiate(...given);
+    const { Instance } = WebAssembly;
+    WebAssembly.Instance = function (...given) {
+      const { exports } = new Instance(...given);
       const calls = { ...exports };
       const numbers = () => new Uint32Array(exports.memory.buffer, exports.numbers(), 16);
       ${text}

@@ -13,6 +13,7 @@ import { groups, table } from "./commands.js";
 import { dialogue, linesOf as cut, names } from "./dialogues.js";
 import { Firefox, missing as missingFirefox } from "./firefox.js";
 import { hasBundler, make, MODULE } from "./make.js";
+import { callOf } from "./page/calls.js";
 import { openPlace, template } from "./page/commands.js";
 import { tokenText } from "./page/token_text.js";
 
@@ -53,6 +54,22 @@ test("a command that is clicked is a line of JSON once its places, which are of 
     assert.equal(given.length, shapes.length);
     for (const [place, value] of given.entries()) assert.ok(value !== -1 || shapes[place].startsWith("a_number"), command);
   }
+});
+
+test("a line is shown as the call that it is in a program", () => {
+  const trees = [{ rows: [[0, 0, 9, "#document", []], [1, 1, 1, "p", []], [2, 2, 3, "#text", "ab"], [2, 4, 3, "#text", "cd"]] }];
+  const said = (words, reply) => callOf({ line: JSON.stringify(words), reply: JSON.stringify(reply), trees }, groups());
+  assert.equal(said(["splitText", 2, 2], { ok: 4 }), "text4 = text2.splitText(2)");
+  assert.equal(said(["createElement", 0, "p"], { ok: 1 }), 'p1 = document.createElement("p")');
+  assert.equal(said(["insertBefore", 1, 2, 4], { ok: 2 }), "p1.insertBefore(text2, text4)");
+  assert.equal(said(["insertBefore", 1, 2, null], { ok: 2 }), "p1.insertBefore(text2, null)");
+  assert.equal(said(["setData", 2, "x"], { ok: null }), 'text2.data = "x"');
+  assert.equal(said(["createRange", 0], { ok: 0 }), "range0 = document.createRange()");
+  assert.equal(said(["setStart", 0, 2, 1], { ok: null }), "range0.setStart(text2, 1)");
+  assert.equal(said(["walk", 0, "nextNode"], { ok: 4 }), "walker0.nextNode()");
+  assert.equal(said(["observe", 0, 1, { childList: true }], { ok: null }), 'observer0.observe(p1, {"childList":true})');
+  assert.equal(said(["splitText", 2, 9], { error: "index-size" }), "");
+  assert.equal(said(["nosuch"], { ok: 1 }), "");
 });
 
 test("words that are not known are refused", () => {
@@ -170,6 +187,26 @@ describe("over the module", { skip }, () => {
         await browser.until('document.querySelectorAll(".line").length === 3');
         assert.deepEqual(await shown("#lines .reply"), ['{"ok":1}', '{"ok":2}', '{"ok":2}']);
         assert.deepEqual(await shown(".text"), ["<#document></#document>", '<p>"text"</p>']);
+      });
+
+      test("a document starts from HTML, and calls stand beside the lines", async () => {
+        await browser.goTo(address);
+        await browser.click("#html");
+        await browser.type('<p title="x">ab<b>c</b></p>');
+        await browser.press("Enter");
+        await browser.until('document.querySelectorAll(".line").length === 9');
+        assert.deepEqual(await shown(".text"), ['<#document><p>"ab"<b>"c"</b></p></#document>']);
+        assert.deepEqual((await shown("#lines .call")).slice(0, 3), ['p1 = document.createElement("p")', 'p1.setAttribute("title", "x")', 'text2 = document.createTextNode("ab")']);
+        assert.match((await shown("#about"))[0], /step by step/);
+      });
+
+      test("a click on the link copies it", async () => {
+        await browser.goTo(`${address}?dialogue=ranges/ends_after_split&step=2`);
+        await browser.value("Object.defineProperty(navigator, 'clipboard', { value: { writeText: async (text) => void (globalThis.copied = text) } }), 1");
+        await browser.click("#link");
+        await browser.until('document.querySelector("#link").textContent === "copied"');
+        assert.match(await browser.value("copied"), /#dialogue=ranges%2Fends_after_split&step=2$/);
+        assert.equal(await browser.value("location.href"), await browser.value("copied"));
       });
 
       test("a link carries what was typed", async () => {

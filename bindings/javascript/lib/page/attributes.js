@@ -3,17 +3,26 @@
  * for one of them as long as the element has it, and keeps its value when it has left.
  */
 import {
+  adoptNode,
   attributeNames,
+  attributesKept,
+  converted,
+  convertible,
   documentOf,
   Element,
   HTML,
+  isNode,
   documentKnown,
+  itsOf,
   keptOf,
   known,
   makeThing,
+  Node,
+  otherNodes,
   pageOf,
   realmOf,
   refuse,
+  refuseType,
   small,
   stillNodeList,
   thingOf,
@@ -23,6 +32,13 @@ import { isNamed } from "./html/states.js";
 import { borrow, knownOf, makeLegacy } from "./legacy.js";
 import { styleChanged } from "./styles.js";
 import { alsoTarget } from "./targets.js";
+
+/** The value that an element has now of an attribute of a namespace and a local name. */
+function valueNow(its, { namespace, local }) {
+  const known = attributesKept(its);
+  for (let at = 0; at < known.length; at += 2) if (known[at].local === local && known[at].namespace === namespace) return known[at + 1];
+  return "";
+}
 
 /** What an Attr knows: its name, its element or none, and its value where it has none. */
 class AttrIs {
@@ -36,7 +52,7 @@ class AttrIs {
 
   get value() {
     const { element, name } = this;
-    return element === null ? this.kept : (element.getAttributeNS(name.namespace, name.local) ?? "");
+    return element === null ? this.kept : valueNow(itsOf(element), name);
   }
 }
 
@@ -44,20 +60,22 @@ const attrOf = (it) => thingOf(it, AttrIs);
 const isAttr = (it) => attrOf(it) !== undefined;
 
 alsoTarget(isAttr);
+otherNodes(isAttr);
 
 // ---- The Attr objects that were asked for, of each element, by namespace and local name.
 
-const keyOf = ({ namespace, local }) => `${namespace ?? ""} ${local}`;
+const keyOf = ({ namespace, local }) => (namespace === null ? local : `${namespace} ${local}`);
 
 function attrFor(element, name) {
   const its = (keptOf(element).attrs ??= new Map());
   const key = keyOf(name);
-  if (!its.has(key)) {
-    const made = makeThing(realmOf(element), "Attr", new AttrIs(documentOf(element), name, ""));
-    attrOf(made).element = element;
-    its.set(key, made);
-  }
-  return its.get(key);
+  const found = its.get(key);
+  if (found !== undefined) return found;
+  const known = new AttrIs(documentOf(element), name, "");
+  known.element = element;
+  const made = makeThing(realmOf(element), "Attr", known);
+  its.set(key, made);
+  return made;
 }
 
 /** Has the Attr of a name, where somebody holds it, keep its value, since the element is about to lose it. */
@@ -106,7 +124,7 @@ function changed(element, name) {
   else pageOf(element)?.handlers.changed(element, its);
 }
 
-function setAttribute(element, qualified, value) {
+export function setAttributeOf(element, qualified, value) {
   base.setAttribute[1](element, qualified, value);
   changed(element, qualified);
 }
@@ -116,7 +134,7 @@ function setAttributeNS(element, namespace, qualified, value) {
   changed(element, qualified);
 }
 
-function removeAttribute(element, qualified) {
+export function removeAttributeOf(element, qualified) {
   const name = keptOf(element).attrs ? byQualified(element, qualified) : undefined;
   if (name) release(element, name);
   base.removeAttribute[1](element, qualified);
@@ -171,11 +189,11 @@ class MapIs {
   }
 
   get length() {
-    return attributeNames(this.element).length;
+    return attributesKept(itsOf(this.element)).length / 2;
   }
 
   at(index) {
-    return orNull(this.element, attributeNames(this.element)[index]);
+    return orNull(this.element, attributesKept(itsOf(this.element))[2 * index]);
   }
 
   names() {
@@ -228,10 +246,13 @@ const orEmpty = { type: "DOMString?", get: value.get, set: (attr, text) => setVa
 const none = () => null;
 const named = (part) => (attr) => attrOf(attr).name[part];
 
-function copy(attr) {
-  const { document, name, value: its } = attrOf(attr);
+/** A copy of an Attr, for a Document. */
+function copyFor(document, attr) {
+  const { name, value: its } = attrOf(attr);
   return makeThing(realmOf(document), "Attr", new AttrIs(document, name, its));
 }
+
+const copy = (attr) => copyFor(attrOf(attr).document, attr);
 
 function isEqual(attr, other) {
   if (!isAttr(other)) return false;
@@ -242,6 +263,27 @@ function isEqual(attr, other) {
 const isSame = (attr, other) => attr === other;
 const childless = () => refuse("HierarchyRequestError", "an attribute has no children");
 const DISCONNECTED = 1 | 32 | 4;
+const PRECEDING = 2;
+const CONTAINS = 8;
+const CONTAINED = 16 | 4;
+const CONTAINING = CONTAINS | PRECEDING;
+
+/** Where an Attr is, seen from a node: its element stands for it, and holds it. */
+function positionFrom(node, attr) {
+  const { element } = attrOf(attr);
+  if (element === null) return DISCONNECTED;
+  const position = element === node ? CONTAINED : comparePosition(node, element);
+  return (position & CONTAINS) === 0 ? position : PRECEDING;
+}
+
+/** Where a node is, seen from an Attr. */
+function positionOf(attr, other) {
+  const { element } = attrOf(attr);
+  if (attr === other) return 0;
+  if (element === null || !isNode(other)) return DISCONNECTED;
+  const position = element === other ? CONTAINING : comparePosition(element, other);
+  return (position & 16) === 0 ? position : 4;
+}
 
 /** An Attr says of itself what a node of the core is asked. */
 const asNode = {
@@ -269,7 +311,7 @@ const asNode = {
     isEqualNode: [["any"], isEqual],
     isSameNode: [["any"], isSame],
     contains: [["any"], isSame],
-    compareDocumentPosition: [["any"], (attr, other) => (attr === other ? 0 : DISCONNECTED)],
+    compareDocumentPosition: [["any"], positionOf],
     lookupPrefix: [["DOMString?"], (attr, namespace) => attrOf(attr).element?.lookupPrefix(namespace) ?? null],
     lookupNamespaceURI: [["DOMString?"], (attr, prefix) => attrOf(attr).element?.lookupNamespaceURI(prefix) ?? null],
     isDefaultNamespace: [["DOMString?"], (attr, namespace) => attrOf(attr).element?.isDefaultNamespace(namespace) ?? namespace === null],
@@ -308,8 +350,42 @@ function created(document, give) {
   return makeThing(realmOf(document), "Attr", new AttrIs(document, nameOn(document, give), ""));
 }
 
+const [, comparePosition] = Node.operations.compareDocumentPosition;
+
+convertible("Node or Attr", (value) => (isNode(value) || isAttr(value) ? value : refuseType("this is no Node")));
+convertible("Node or Attr?", (value) => (value === null || value === undefined ? null : converted("Node or Attr", value)));
+
+/** A question of a node about another, which an Attr answers in its own way. */
+function about(name, ofAttr) {
+  const [[type], ask] = Node.operations[name];
+  return [[type.replace("Node", "Node or Attr")], (node, other) => (isAttr(other) ? ofAttr(node, other) : ask(node, other))];
+}
+
+const never = () => false;
+
+/** What nodes answer about an Attr. */
+export const inNodes = {
+  contains: about("contains", never),
+  isEqualNode: about("isEqualNode", never),
+  isSameNode: about("isSameNode", never),
+  compareDocumentPosition: about("compareDocumentPosition", positionFrom),
+};
+
+/** Brings a node, or an Attr without its element, into a Document. */
+function adopt(document, node) {
+  if (!isAttr(node)) return adoptNode(document, node);
+  const its = attrOf(node);
+  if (its.element !== null) removeAttributeNode(its.element, node);
+  its.document = document;
+  return node;
+}
+
+/** Makes of a function that copies nodes into a Document one that copies an Attr too. */
+export const importing = (importNode) => [["Node or Attr", "boolean = false"], (document, node, isDeep) => (isAttr(node) ? copyFor(document, node) : importNode(document, node, isDeep))];
+
 /** What Documents have of attributes. */
 export const inDocuments = {
+  adoptNode: [["Node or Attr"], adopt],
   createAttribute: [
     ["DOMString"],
     (document, local) => created(document, (trial) => base.setAttribute[1](trial, documentKnown(document).isHtml ? small(local) : local, "")),
@@ -321,9 +397,9 @@ export const inDocuments = {
 export const inElements = {
   attributes: { attributes },
   operations: {
-    setAttribute: [["DOMString", "DOMString"], setAttribute],
+    setAttribute: [["DOMString", "DOMString"], setAttributeOf],
     setAttributeNS: [["DOMString?", "DOMString", "DOMString"], setAttributeNS],
-    removeAttribute: [["DOMString"], removeAttribute],
+    removeAttribute: [["DOMString"], removeAttributeOf],
     removeAttributeNS: [OF_NAMESPACE, removeAttributeNS],
     toggleAttribute: [["DOMString", "any = undefined"], toggleAttribute],
     getAttributeNode: [["DOMString"], (element, name) => orNull(element, byQualified(element, name))],

@@ -5,16 +5,23 @@
 import { Refusal } from "../core.js";
 import { documentIs, isNode, kindOf, numberOf, realmOf, sessionOf } from "../wrappers.js";
 
-export { DOCUMENT } from "../core.js";
-export { Element, isElement, names as attributeNames } from "../elements.js";
+export { attributesKept, hasWord, isBlank, namesKept, valueKept, wordsKept } from "../attributes.js";
+export { DOCUMENT, ELEMENT, TEXT } from "../core.js";
+export {
+  Element,
+  getElementsByClassName as elementsOfClass,
+  getElementsByTagNameNS as elementsOfName,
+  isElement,
+  names as attributeNames,
+} from "../elements.js";
 export { DocumentFragment, Document, newDocument, xmlIs } from "../documents.js";
 export { HTML, small, SVG, XML, XMLNS } from "../names.js";
 export { wanted } from "../libraries.js";
-export { contentsOf, documentOf, nameOf, Node, parentOf, setContents } from "../nodes.js";
-export { htmlCollection, stillNodeList } from "../lists.js";
+export { adoptNode, contentsOf, dataOf, documentOf, emptyContents, nameKnown, nameOf, Node, parentOf } from "../nodes.js";
+export { htmlCollection, numbersIn, stillNodeList } from "../lists.js";
 export { serializeInner } from "../serializing.js";
-export { addMembers, convertible, converted, known, makeInterface, refuseType } from "../webidl.js";
-export { isNode, keptOf, kindOf, makeThing, numberOf, realmOf, sessionOf, Thing, thingOf, Wrapper } from "../wrappers.js";
+export { addMembers, convertible, converted, known, makeInterface, otherNodes, refuseType } from "../webidl.js";
+export { isNode, isThing, itsOf, keptOf, kindOf, makeThing, numberOf, realmOf, rootOf, sessionOf, Thing, thingOf, wrap, Wrapper } from "../wrappers.js";
 
 /** The standard's codes of the exceptions that the page throws. */
 const CODES = {

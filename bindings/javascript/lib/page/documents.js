@@ -1,12 +1,47 @@
 /** What Documents have of a page (HTML Standard, section 3.1): its parts by name, who has the focus, events to be made. */
-import { Document, documentKnown, documentOf, HTML, Node, pageOf, realmOf } from "./core.js";
-import { inDocuments as attributesInDocuments } from "./attributes.js";
+import { Document, documentKnown, documentOf, HTML, Node, pageOf, realmOf, refuse } from "./core.js";
+import { importing, inDocuments as attributesInDocuments, inNodes as attributesInNodes } from "./attributes.js";
 import { createEvent } from "./events.js";
 import { handlerAttributes } from "./handlers.js";
 import { listOf } from "./html/collections.js";
 import { copyState } from "./html/states.js";
 import { inTrees } from "./selectors.js";
 import { getSelection } from "./selection.js";
+
+/** Colours of old, which the body's attributes have. */
+const ofBody = (name) => ({
+  type: "DOMString or empty",
+  get: (document) => document.body?.getAttribute(name) ?? "",
+  set: (document, value) => document.body?.setAttribute(name, value),
+});
+
+const COLOURS = { bgColor: "bgcolor", fgColor: "text", linkColor: "link", vlinkColor: "vlink", alinkColor: "alink" };
+
+const two = (number) => `${number}`.padStart(2, "0");
+
+/** When the page was changed is not known, so it is now, by the standard's form. */
+function lastModified() {
+  const now = new Date();
+  const date = [now.getMonth() + 1, now.getDate()].map(two).join("/");
+  return `${date}/${now.getFullYear()} ${[now.getHours(), now.getMinutes(), now.getSeconds()].map(two).join(":")}`;
+}
+
+/** A Document that keeps no cookies: none is read, and one that is set is dropped. */
+const cookie = { type: "DOMString", get: () => "", set: () => undefined };
+
+const domain = {
+  type: "DOMString",
+  get: (document) => hostOf(documentKnown(document).url),
+  set: () => refuse("SecurityError", "a page without a network can't be of another domain"),
+};
+
+function hostOf(url) {
+  try {
+    return new URL(url).hostname;
+  } catch {
+    return "";
+  }
+}
 
 const base = { cloneNode: Node.operations.cloneNode[1], importNode: Document.operations.importNode[1] };
 
@@ -75,7 +110,7 @@ function copied(node, copy, isDeep) {
 const cloneNode = (node, isDeep) => copied(node, base.cloneNode(node, isDeep), isDeep);
 const importNode = (document, node, isDeep) => copied(node, base.importNode(document, node, isDeep), isDeep);
 
-export const inNodes = { attributes: { baseURI }, operations: { cloneNode: [["boolean = false"], cloneNode] } };
+export const inNodes = { attributes: { baseURI }, operations: { ...attributesInNodes, cloneNode: [["boolean = false"], cloneNode] } };
 
 const byName = (document, name) => pageOf(document).still([...document.querySelectorAll("[name]")].filter((it) => it.namespaceURI === HTML && it.getAttribute("name") === name));
 
@@ -83,8 +118,13 @@ export const inDocuments = {
   attributes: {
     ...handlerAttributes,
     ...Object.fromEntries(LISTS.map(([name, selector]) => listed(name, selector))),
+    ...Object.fromEntries(Object.entries(COLOURS).map(([name, attribute]) => [name, ofBody(attribute)])),
+    applets: (document) => listOf(document, "applets", () => []),
     title,
     dir,
+    cookie,
+    domain,
+    lastModified,
     defaultView: ofWindow((page) => page.window),
     location: ofWindow((page) => page.location),
     activeElement: (document) => pageOf(document)?.focused(document) ?? document.body ?? document.documentElement,
@@ -96,15 +136,18 @@ export const inDocuments = {
     designMode: () => "off",
     scrollingElement: (document) => document.documentElement,
     fullscreenElement: () => null,
+    fullscreenEnabled: () => false,
+    rootElement: (document) => (document.documentElement?.localName === "svg" ? document.documentElement : null),
     pointerLockElement: () => null,
   },
   operations: {
     ...attributesInDocuments,
     ...inTrees,
-    importNode: [["Node", "boolean = false"], importNode],
+    importNode: importing(importNode),
     createEvent: [["DOMString"], (document, word) => createEvent(realmOf(document), word)],
     getElementsByName: [["DOMString"], byName],
     getSelection: [[], getSelection],
+    ...Object.fromEntries(["clear", "captureEvents", "releaseEvents"].map((name) => [name, [[], () => undefined]])),
     hasFocus: [[], (document) => pageOf(document)?.document === document],
   },
 };

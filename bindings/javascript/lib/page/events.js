@@ -89,6 +89,10 @@ const EVENTS = {
   CompositionEvent: ["UIEvent", { data: text }],
   ClipboardEvent: ["Event", { clipboardData: any }],
   ToggleEvent: ["Event", { oldState: text, newState: text }],
+  BeforeUnloadEvent: ["Event", {}],
+  DeviceMotionEvent: ["Event", { acceleration: any, accelerationIncludingGravity: any, rotationRate: any, interval: real }],
+  DeviceOrientationEvent: ["Event", { alpha: ["double?", null], beta: ["double?", null], gamma: ["double?", null], absolute: no }],
+  TextEvent: ["UIEvent", { data: text }],
   StorageEvent: ["Event", { key: ["DOMString?", null], oldValue: ["DOMString?", null], newValue: ["DOMString?", null], url: text, storageArea: any }],
   SubmitEvent: ["Event", { submitter: any }],
   ErrorEvent: ["Event", { message: text, filename: text, lineno: ["unsigned long", 0], colno: ["unsigned long", 0], error: ["any", undefined] }],
@@ -101,6 +105,7 @@ const EVENTS = {
   AnimationEvent: ["Event", { animationName: text, elapsedTime: real, pseudoElement: text }],
 };
 
+convertible("double?", (value) => (value === null || value === undefined ? null : converted("double", value)));
 convertible("short", (value) => (converted("unsigned short", value) << 16) >> 16);
 
 const BASE = { bubbles: no, cancelable: no, composed: no };
@@ -152,9 +157,10 @@ export function createOwn(realm, name, type, { bubbles = false, cancelable = fal
 // ---- createEvent, and what initializes what it makes.
 
 const CREATED = {
-  compositionevent: "CompositionEvent", customevent: "CustomEvent", dragevent: "DragEvent", event: "Event", events: "Event", focusevent: "FocusEvent",
+  beforeunloadevent: "BeforeUnloadEvent", compositionevent: "CompositionEvent", customevent: "CustomEvent", devicemotionevent: "DeviceMotionEvent",
+  deviceorientationevent: "DeviceOrientationEvent", dragevent: "DragEvent", event: "Event", events: "Event", focusevent: "FocusEvent",
   hashchangeevent: "HashChangeEvent", htmlevents: "Event", keyboardevent: "KeyboardEvent", messageevent: "MessageEvent", mouseevent: "MouseEvent",
-  mouseevents: "MouseEvent", svgevents: "Event", textevent: "CompositionEvent", uievent: "UIEvent", uievents: "UIEvent",
+  mouseevents: "MouseEvent", storageevent: "StorageEvent", svgevents: "Event", textevent: "TextEvent", uievent: "UIEvent", uievents: "UIEvent",
 };
 
 export function createEvent(realm, word) {
@@ -196,6 +202,13 @@ const INITIALIZERS = {
     ],
   },
   CompositionEvent: { initCompositionEvent: [[...INIT, "Window? = null", 'DOMString = ""'], initializing("view", "data")] },
+  TextEvent: { initTextEvent: [[...INIT, "Window? = null", 'DOMString = "undefined"'], initializing("view", "data")] },
+  StorageEvent: {
+    initStorageEvent: [
+      [...INIT, "DOMString? = null", "DOMString? = null", "DOMString? = null", 'DOMString = ""', "any = null"],
+      initializing("key", "oldValue", "newValue", "url", "storageArea"),
+    ],
+  },
   MessageEvent: { initMessageEvent: [[...INIT, "any = null", 'DOMString = ""', 'DOMString = ""', "any = null"], initializing("data", "origin", "lastEventId", "source")] },
 };
 

@@ -1,5 +1,4 @@
 /** A page for tests: a window whose Document is the core's, with events, markup, selectors, styles, forms, and no network, scripts or layout. */
-import { refuseAbsent, refuseAbsentOfWindow } from "../absent.js";
 import { createWindow, parse } from "../index.js";
 import { Attr, inElements as attributesInElements, NamedNodeMap } from "./attributes.js";
 import { addMembers, DocumentFragment, isElement, makeInterface, realmOf, Thing } from "./core.js";
@@ -50,7 +49,6 @@ function makeTables(realm) {
   for (const table of TABLES) realm.interfaces[table.name] = makeInterface(realm, table, Thing);
   makeInterfaces(realm);
   complete(realm);
-  refuseAbsent(realm);
 }
 
 const shown = (fault) => console.error(fault);
@@ -78,7 +76,6 @@ export function createPage(html = "", { url = "about:blank", report = shown, han
   page = new Page(window, realm, { url, report, compile: handlers ? compiler(realm) : null });
   completeWindow(page);
   putInterfaces(realm, window);
-  refuseAbsentOfWindow(realm, window);
   if (!global) Object.setPrototypeOf(window, realm.interfaces.Window.prototype);
   parse(`${html}`, { document: window.document });
   page.readyState = "complete";

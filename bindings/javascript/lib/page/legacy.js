@@ -3,9 +3,11 @@
 const PAST = 4294967295;
 
 function indexOf(key) {
-  if (typeof key !== "string" || !/^\d+$/.test(key)) return -1;
-  const index = Number(key);
-  return index < PAST && String(index) === key ? index : -1;
+  if (typeof key !== "string") return -1;
+  const first = key.charCodeAt(0);
+  if (!(first >= 48 && first <= 57)) return -1;
+  const index = key >>> 0;
+  return index !== PAST && String(index) === key ? index : -1;
 }
 
 /**
@@ -32,8 +34,10 @@ class Traps {
   }
 
   get(target, key, receiver) {
-    const found = this.#at(key);
-    if (found) return found.value;
+    const its = this.#its;
+    const index = its.at ? indexOf(key) : -1;
+    if (index >= 0) return its.at(index) ?? undefined;
+    if (key === "length" && its.at && !its.isOverriding) return its.length;
     const named = this.#visible(target, key);
     return named === undefined ? Reflect.get(target, key, receiver) : named;
   }

@@ -6,6 +6,7 @@ import {
   DOCUMENT,
   documentKnown,
   documentOf,
+  emptyContents,
   HTML,
   isElement,
   isOfKind,
@@ -18,7 +19,6 @@ import {
   refuseType,
   serializeInner,
   sessionOf,
-  setContents,
   thingOf,
   xmlIs,
   XMLNS,
@@ -31,12 +31,7 @@ const isOfHtml = (node) => documentKnown(documentOf(node)).isHtml;
 const isTemplate = (node) => isElement(node) && node.localName === "template" && node.namespaceURI === HTML;
 
 /** The contents of a template; one that had none has an empty fragment from now on. */
-export function contentOf(template) {
-  const there = contentsOf(template);
-  if (there) return there;
-  setContents(template, documentOf(template).createDocumentFragment());
-  return contentsOf(template);
-}
+export const contentOf = (template) => contentsOf(template) ?? emptyContents(template);
 
 /** Where the markup of an element goes: a template's into its contents. */
 const insideOf = (element) => (isTemplate(element) ? contentOf(element) : element);

@@ -1,4 +1,5 @@
 /** Location, History and Navigator, as a page without a network has them: only the fragment of an address can be gone to. */
+import { cloned } from "./cloning.js";
 import { documentKnown, known, makeThing, refuse, thingOf } from "./core.js";
 
 /** Where a page is, and the entries that it can go back to. */
@@ -123,7 +124,7 @@ function put(isReplacing) {
     const places = placesOf(it);
     const url = text === null ? places.url : parsedURL(text, places.page.document.baseURI);
     if (url.origin !== places.url.origin) refuse("SecurityError", "the address is of another origin");
-    places.put({ url, state: structuredClone(state) }, isReplacing);
+    places.put({ url, state: cloned(places.page.realm, state) }, isReplacing);
   };
 }
 
@@ -146,7 +147,8 @@ export const History = known({
   },
 });
 
-const platform = { linux: "Linux", darwin: "MacIntel", win32: "Win32" }[process.platform] ?? "";
+const PLATFORMS = { linux: "Linux", darwin: "MacIntel", win32: "Win32" };
+const platform = globalThis.process ? (PLATFORMS[globalThis.process.platform] ?? "") : (globalThis.navigator?.platform ?? "");
 
 /** What the standard has of a browser of WebKit's kind (HTML Standard, section 8.10.1). */
 const NAVIGATOR = {

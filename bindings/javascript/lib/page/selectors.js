@@ -1,83 +1,55 @@
-/** Selectors, by css-select over the package's interfaces. What an id, a class or a name alone means is asked of the package. */
-import { DOCUMENT, documentKnown, documentOf, HTML, isElement, isOfKind, parentOf, realmOf, refuse, small, stillNodeList, wanted } from "./core.js";
-import { pseudos } from "./pseudos.js";
+/** Selectors: what a text means, by selectors/parsing.js and selectors/matching.js, and where elements that fit are looked for. */
+import {
+  DOCUMENT,
+  documentKnown,
+  documentOf,
+  ELEMENT,
+  elementsOfClass,
+  elementsOfName,
+  isOfKind,
+  itsOf,
+  numbersIn,
+  realmOf,
+  refuse,
+  rootOf,
+  stillNodeList,
+  wrap,
+} from "./core.js";
+import { listTest, nodeAfter, Question } from "./selectors/matching.js";
+import { parseSelector } from "./selectors/parsing.js";
+import { NoSelector } from "./selectors/scanner.js";
 
-// ---- How css-select sees a tree.
-
-const isTag = isElement;
-const getChildren = (node) => [...node.childNodes];
-const getName = (element) => (element.namespaceURI === HTML ? element.localName : small(element.localName));
-
-function getAttributeValue(element, name) {
-  const found = element.getAttribute(name);
-  if (found !== null || element.namespaceURI === HTML) return found ?? undefined;
-  const its = element.getAttributeNames().find((it) => small(it) === name);
-  return its === undefined ? undefined : element.getAttribute(its);
-}
-
-/** The element behind one in the order of the tree, below a root. */
-function elementAfter(element, root) {
-  const first = element.firstElementChild;
-  if (first) return first;
-  for (let it = element; it && it !== root; it = parentOf(it)) {
-    const next = it.nextElementSibling;
-    if (next) return next;
-  }
-  return null;
-}
-
-function* elementsIn(root) {
-  for (let it = root.firstElementChild; it; it = elementAfter(it, root)) yield it;
-}
-
-function findOne(test, nodes) {
-  for (const node of nodes) {
-    if (!isTag(node)) continue;
-    if (test(node)) return node;
-    const found = findOne(test, node.children);
-    if (found) return found;
-  }
-  return null;
-}
-
-function findAll(test, nodes) {
-  return [...nodes].filter(isTag).flatMap((node) => [...(test(node) ? [node] : []), ...findAll(test, node.children)]);
-}
-
-const adapter = {
-  isTag,
-  getChildren,
-  getName,
-  getAttributeValue,
-  getParent: parentOf,
-  getSiblings: (node) => (parentOf(node) ? getChildren(parentOf(node)) : [node]),
-  getText: (node) => node.textContent,
-  hasAttrib: (element, name) => getAttributeValue(element, name) !== undefined,
-  existsOne: (test, nodes) => findOne(test, nodes) !== null,
-  findAll,
-  findOne,
-  removeSubsets: (nodes) => nodes.filter((node) => !nodes.some((other) => other !== node && other.contains(node))),
-  equals: (one, other) => one === other,
-};
-
-// ---- Selectors that are compiled, and kept.
+// ---- Selectors that were read, and are kept.
 
 const MOST = 1000;
 const kept = new Map();
 
-class Selector {
-  constructor(text, { isHtml, isQuirky }) {
-    const options = { adapter, pseudos, xmlMode: !isHtml, quirksMode: Boolean(isQuirky), cacheResults: false };
-    this.hasScope = /:scope\b/i.test(text);
-    this.compile = (context) => wanted("css-select", "selectors").compile(text, options, context);
-    this.test = this.hasScope ? null : this.compile(undefined);
-    this.simple = isHtml || !/[A-Z]/.test(text) ? /^(?:#(?<id>[\w-]+)|\.(?<class>[a-zA-Z_][\w-]*)|(?<name>[a-z][a-z0-9-]*))$/.exec(text)?.groups : undefined;
-    if (this.simple?.id && /^[\d-]/.test(this.simple.id)) this.simple = undefined;
-  }
+/** The id, the class or the name that each element has which a selector finds, if there is one. */
+function handleOf(list, { isHtml, isQuirky }) {
+  if (list.length !== 1) return null;
+  const { simple } = list[0].at(-1);
+  const of = (type) => simple.find((it) => it.type === type);
+  const type = of("type");
+  const isPlain = type && type.namespace === undefined && type.name !== "*" && (!isHtml || type.name === type.small);
+  return (isQuirky ? null : of("id")) ?? of("class") ?? (isPlain ? type : null);
+}
 
-  /** What tests an element, where `:scope` means a node. */
-  for(node) {
-    return this.test ?? this.compile([node]);
+class Selector {
+  constructor(text, mode) {
+    const list = parseSelector(text);
+    this.test = listTest(list, mode);
+    this.handle = handleOf(list, mode);
+    /** Whether nothing but the handle is asked. */
+    this.isHandle = this.handle !== null && list[0].length === 1 && list[0][0].simple.length === 1;
+  }
+}
+
+function made(text, mode) {
+  try {
+    return new Selector(text, mode);
+  } catch (fault) {
+    if (!(fault instanceof NoSelector)) throw fault;
+    return refuse("SyntaxError", `'${text}' is no selector: ${fault.message}`);
   }
 }
 
@@ -85,74 +57,96 @@ function compiled(node, text) {
   const { isHtml, isQuirky = false } = documentKnown(documentOf(node));
   const key = `${Number(isHtml)}${Number(isQuirky)}${text}`;
   const found = kept.get(key);
-  if (found) return found;
+  if (found !== undefined) return found;
   if (kept.size >= MOST) kept.delete(kept.keys().next().value);
-  const made = anew(text.trim(), { isHtml, isQuirky });
-  kept.set(key, made);
-  return made;
+  const selector = made(text, { isHtml, isQuirky });
+  kept.set(key, selector);
+  return selector;
 }
 
-/** What css-select takes, and no browser: combinators and dots with nothing behind them, and classes of other libraries. */
-const NO_SELECTORS = [
-  /[>+~]\s*(?:$|[,)])/,
-  /\.(?:$|[\s.#:>+~,)[])/,
-  /:(?:-page-\w+|(?:i?contains|parent|header|selected|button|input|submit|reset|text|image|file|password|radio|checkbox|matches)(?![\w-]))/,
-];
+// ---- Where elements are looked for.
 
-const STRINGS = /"(?:\\[^]|[^"])*"|'(?:\\[^]|[^'])*'|\\[^]/g;
+/** Whether the lists of a node are worth to be kept: those of a Document, and of an element that a program asks is gone through. */
+const hasLists = (node) => isOfKind(node, DOCUMENT);
 
-function anew(text, mode) {
-  const plain = text.replace(STRINGS, "x");
-  if (text === "" || NO_SELECTORS.some((it) => it.test(plain))) refuse("SyntaxError", `'${text}' is no selector`);
-  wanted("css-select", "selectors");
-  try {
-    return new Selector(text, mode);
-  } catch (fault) {
-    return refuse("SyntaxError", `'${text}' is no selector: ${fault.message}`);
+/** The elements below a Document that have a selector's class or name, by a list that follows edits; null if there is no such list. */
+function byList(node, { handle }) {
+  if (handle === null || handle.type === "id" || !hasLists(node)) return null;
+  return numbersIn(handle.type === "class" ? elementsOfClass(node, handle.name) : elementsOfName(node, "*", handle.name));
+}
+
+/** What the object of the only element of an id knows in the tree of a node: null if there is none, undefined if there are more, or if that is not known. */
+function byId(node, { handle }) {
+  if (handle?.type !== "id") return undefined;
+  const { session } = itsOf(node);
+  if (session.hasSpoken) return undefined;
+  const there = session.ids.get(handle.name);
+  if (there === undefined) return null;
+  return there.size > 1 ? undefined : there.firstBelow(itsOf(rootOf(node)));
+}
+
+function isBelow(its, node) {
+  const root = itsOf(node);
+  for (let it = its.parent(); it !== null; it = it.parent()) if (it === root) return true;
+  return false;
+}
+
+/** The element that has an id and fits below a node, as a list of one or of none; undefined if ids do not tell. */
+function withId(node, selector, question) {
+  const found = byId(node, selector);
+  if (found === undefined) return undefined;
+  return found !== null && isBelow(found, node) && selector.test(found, question) ? [found.object] : [];
+}
+
+/** The first elements below a node that fit, so many at most. */
+function fitting(root, selector, question, most) {
+  const found = [];
+  const { test } = selector;
+  for (let it = nodeAfter(root, root); it !== null; it = nodeAfter(it, root)) {
+    if (it.kind === ELEMENT && test(it, question) && found.push(it.object) === most) return found;
   }
+  return found;
 }
 
-/** The elements that an id, a class or a name alone means, as the package keeps them; undefined where it does not keep them. */
-function byWord(node, { simple }) {
-  if (!simple || !node.getElementsByClassName) return undefined;
-  if (simple.class) return node.getElementsByClassName(simple.class);
-  if (simple.name) return node.getElementsByTagNameNS("*", simple.name);
-  return undefined;
-}
-
-/** The first element of an id: that of the Document, where it stands below the node. */
-function byId(node, { simple }) {
-  if (!simple?.id) return undefined;
-  if (isOfKind(node, DOCUMENT)) return node.getElementById(simple.id);
-  if (!node.isConnected) return undefined;
-  const found = documentOf(node).getElementById(simple.id);
-  return found === null || (found !== node && node.contains(found)) ? found : undefined;
+/** The elements of a list that fit. */
+function among(node, numbers, { test, isHandle }, question) {
+  const { session } = itsOf(node);
+  const found = [];
+  for (const number of numbers) {
+    const object = wrap(session, number);
+    if (isHandle || test(itsOf(object), question)) found.push(object);
+  }
+  return found;
 }
 
 function querySelector(node, text) {
   const selector = compiled(node, text);
-  const found = byId(node, selector);
-  if (found !== undefined) return found;
-  const test = selector.for(node);
-  for (const element of elementsIn(node)) if (test(element)) return element;
-  return null;
+  const root = itsOf(node);
+  const question = new Question(root);
+  const found = withId(node, selector, question) ?? fitting(root, selector, question, 1);
+  return found[0] ?? null;
 }
 
 function querySelectorAll(node, text) {
   const selector = compiled(node, text);
-  const words = byWord(node, selector);
-  if (words) return stillNodeList(realmOf(node), [...words]);
-  const test = selector.for(node);
-  return stillNodeList(realmOf(node), [...elementsIn(node)].filter((element) => test(element)));
+  const root = itsOf(node);
+  const question = new Question(root);
+  const numbers = byList(node, selector);
+  const found = numbers ? among(node, numbers, selector, question) : (withId(node, selector, question) ?? fitting(root, selector, question, Infinity));
+  return stillNodeList(realmOf(node), found);
 }
 
-const matches = (element, text) => compiled(element, text).for(element)(element);
+function matches(element, text) {
+  const its = itsOf(element);
+  return compiled(element, text).test(its, new Question(its));
+}
 
 function closest(element, text) {
-  const test = compiled(element, text).for(element);
-  let found = element;
-  while (found && !(isElement(found) && test(found))) found = parentOf(found);
-  return found;
+  const { test } = compiled(element, text);
+  const its = itsOf(element);
+  const question = new Question(its);
+  for (let it = its; it !== null && it.kind === ELEMENT; it = it.parent()) if (test(it, question)) return it.object;
+  return null;
 }
 
 const SELECTOR = ["DOMString"];

@@ -1,23 +1,23 @@
 /** DOMTokenList and DOMStringMap: live views of attributes (DOM Standard, section 7.1; HTML Standard, section 3.2.6.6). */
-import { keptOf, known, realmOf, refuse } from "./core.js";
+import { isBlank, itsOf, keptOf, known, namesKept, realmOf, refuse, refuseType, valueKept, wordsKept } from "./core.js";
+import { removeAttributeOf, setAttributeOf } from "./attributes.js";
 import { borrow, knownOf, makeLegacy } from "./legacy.js";
-
-const parsed = (text) => [...new Set(text.split(/[\t\n\f\r ]+/).filter(Boolean))];
 
 /** What a list of words knows: its element, and the attribute that has the words. */
 class TokensAre {
   constructor(element, name, supported) {
     this.element = element;
+    this.its = itsOf(element);
     this.name = name;
     this.supported = supported;
   }
 
   get value() {
-    return this.element.getAttribute(this.name) ?? "";
+    return valueKept(this.its, this.name) ?? "";
   }
 
   get tokens() {
-    return parsed(this.value);
+    return wordsKept(this.value);
   }
 
   get length() {
@@ -30,8 +30,8 @@ class TokensAre {
 
   /** Writes the words back; where there are none, and no attribute, none comes. */
   write(tokens) {
-    if (tokens.length === 0 && !this.element.hasAttribute(this.name)) return;
-    this.element.setAttribute(this.name, tokens.join(" "));
+    if (tokens.length === 0 && valueKept(this.its, this.name) === null) return;
+    setAttributeOf(this.element, this.name, tokens.join(" "));
   }
 }
 
@@ -39,8 +39,13 @@ const tokensOf = (it) => knownOf(it, TokensAre);
 
 function checked(tokens) {
   if (tokens.includes("")) refuse("SyntaxError", "a token is not empty");
-  if (tokens.some((token) => /[\t\n\f\r ]/.test(token))) refuse("InvalidCharacterError", "a token has no white space");
+  for (const it of tokens) if (isBlank(it)) refuse("InvalidCharacterError", "a token has no white space");
   return tokens;
+}
+
+function checkedOne(token) {
+  if (token === "") refuse("SyntaxError", "a token is not empty");
+  if (isBlank(token)) refuse("InvalidCharacterError", "a token has no white space");
 }
 
 function add(list, ...given) {
@@ -56,10 +61,12 @@ function remove(list, ...given) {
 
 function toggle(list, token, force) {
   const its = tokensOf(list);
-  const isThere = its.tokens.includes(checked([token])[0]);
+  checkedOne(token);
+  const { tokens } = its;
+  const isThere = tokens.includes(token);
   const isDue = force === undefined ? !isThere : Boolean(force);
-  if (isThere && !isDue) remove(list, token);
-  if (!isThere && isDue) add(list, token);
+  if (isThere && !isDue) its.write(tokens.filter((it) => it !== token));
+  if (!isThere && isDue) its.write([...tokens, token]);
   return isDue;
 }
 
@@ -74,7 +81,7 @@ function replace(list, token, other) {
 
 function supports(list, token) {
   const { supported } = tokensOf(list);
-  if (!supported) throw new TypeError("these tokens have no list of what is supported");
+  if (!supported) refuseType("these tokens have no list of what is supported");
   return supported.includes(token.toLowerCase());
 }
 
@@ -86,7 +93,7 @@ export const DOMTokenList = known({
     value: {
       type: "DOMString",
       get: (list) => tokensOf(list).value,
-      set: (list, text) => tokensOf(list).element.setAttribute(tokensOf(list).name, text),
+      set: (list, text) => setAttributeOf(tokensOf(list).element, tokensOf(list).name, text),
     },
   },
   operations: {
@@ -111,12 +118,24 @@ function tokenList(element, name, supported) {
 export const tokens = (name, supported) => ({
   type: "DOMString",
   get: (element) => tokenList(element, name, supported),
-  set: (element, text) => element.setAttribute(name, text),
+  set: (element, text) => setAttributeOf(element, name, text),
 });
 
 // ---- dataset.
 
-const attributeFor = (name) => `data-${name.replace(/[A-Z]/g, (letter) => `-${letter.toLowerCase()}`)}`;
+const MOST = 1000;
+const attributes = new Map();
+
+/** The name of the attribute that stands behind a property, or null if none can. */
+function attributeFor(name) {
+  const found = attributes.get(name);
+  if (found !== undefined) return found;
+  const made = /-[a-z]/.test(name) ? null : `data-${name.replace(/[A-Z]/g, (letter) => `-${letter.toLowerCase()}`)}`;
+  if (attributes.size >= MOST) attributes.clear();
+  attributes.set(name, made);
+  return made;
+}
+
 const nameFor = (attribute) => attribute.slice(5).replace(/-([a-z])/g, (_, letter) => letter.toUpperCase());
 
 class DataAre {
@@ -125,24 +144,25 @@ class DataAre {
 
   constructor(element) {
     this.element = element;
+    this.its = itsOf(element);
   }
 
   names() {
-    return this.element.getAttributeNames().filter((name) => /^data-[^A-Z]*$/.test(name)).map(nameFor);
+    return namesKept(this.its).map((it) => it.qualified).filter((name) => /^data-[^A-Z]*$/.test(name)).map(nameFor);
   }
 
   named(name) {
-    return /-[a-z]/.test(name) ? undefined : (this.element.getAttribute(attributeFor(name)) ?? undefined);
+    const attribute = attributeFor(name);
+    return attribute === null ? undefined : (valueKept(this.its, attribute) ?? undefined);
   }
 
   setNamed(name, value) {
-    if (/-[a-z]/.test(name)) refuseWord(this.element, name);
-    this.element.setAttribute(attributeFor(name), `${value}`);
+    setAttributeOf(this.element, attributeFor(name) ?? refuseWord(this.element, name), `${value}`);
     return true;
   }
 
   deleteNamed(name) {
-    this.element.removeAttribute(attributeFor(name));
+    removeAttributeOf(this.element, attributeFor(name));
     return true;
   }
 }

@@ -1,5 +1,6 @@
 /** What a window has: itself, timers of the host, its place, listeners, and what is computed without a layout. */
 import { entriesOf } from "./html/forms.js";
+import { cloned } from "./cloning.js";
 import { known } from "./core.js";
 import { defineHandlers } from "./handlers.js";
 import { placeOf } from "./places.js";
@@ -121,7 +122,7 @@ function computing(page) {
     blur: own(() => undefined),
     close: own(() => page.stop()),
     reportError: own((fault) => page.report(fault)),
-    structuredClone: own(structuredClone),
+    structuredClone: own((value, options) => cloned(page.realm, value, options)),
     atob: own(atob),
     btoa: own(btoa),
     performance: own(performance),

@@ -1,7 +1,9 @@
 // The page: which lines are played, which step is shown, and what is typed or clicked.
+import { callOf } from "./calls.js";
 import { groups, openPlace, template } from "./commands.js";
 import { dialogue, names } from "./dialogues.js";
 import { element, others, records, tokenTexts, trees } from "./drawing.js";
+import { linesOfHTML } from "./markup.js";
 import { play as played } from "./play.js";
 
 const part = (id) => document.getElementById(id);
@@ -38,8 +40,10 @@ function play({ name, count, more }, at) {
   }
 }
 
-function lineOf({ line, reply }, at) {
-  const button = element("button", "line", element("code", "command", line), element("code", reply.startsWith('{"error"') ? "reply refused" : "reply", reply));
+function lineOf(step, at) {
+  const { line, reply } = step;
+  const answer = element("code", reply.startsWith('{"error"') ? "reply refused" : "reply", reply);
+  const button = element("button", "line", element("code", "command", line), answer, element("code", "call", callOf(step, groups())));
   button.type = "button";
   button.dataset.step = at + 1;
   return element("li", "", button);
@@ -62,6 +66,7 @@ function show(at) {
   part("others").replaceChildren(...others(step));
   part("place").textContent = `${at} of ${state.steps.length - 1}`;
   part("link").href = linkTo(state);
+  part("link").textContent = "copy link";
   for (const id of ["first", "back"]) part(id).disabled = at === 0;
   for (const id of ["forward", "last"]) part(id).disabled = at === state.steps.length - 1;
 }
@@ -100,7 +105,27 @@ function drawCommands(group) {
   part("commands").replaceChildren(...buttons);
 }
 
+// Copies the link, and goes to it, so that the address has it too.
+async function copyLink(event) {
+  event.preventDefault();
+  const { href } = part("link");
+  history.replaceState(null, "", href);
+  await navigator.clipboard.writeText(href);
+  part("link").textContent = "copied";
+}
+
+function start(event) {
+  event.preventDefault();
+  const html = part("html").value.trim();
+  if (!html) return;
+  part("dialogue").value = "";
+  play({ name: null, count: null, more: linesOfHTML(html) });
+}
+
 function listen() {
+  part("start").addEventListener("submit", start);
+  part("link").addEventListener("click", (event) => copyLink(event).catch((fault) => tell(fault.message)));
+
   const steps = { first: () => 0, back: () => state.at - 1, forward: () => state.at + 1, last: () => state.steps.length - 1 };
   for (const [id, to] of Object.entries(steps)) part(id).addEventListener("click", () => show(to()));
   part("lines").addEventListener("click", ({ target }) => target.closest(".line") && show(Number(target.closest(".line").dataset.step)));

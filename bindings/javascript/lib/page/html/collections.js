@@ -98,7 +98,7 @@ function kept(owner, name, make) {
 }
 
 /** The list of an owner by a name; `read` answers its elements. */
-export const listOf = (owner, name, read) => kept(owner, name, () => htmlCollection(owner, () => read().map(numberOf), { isByAttributes: true }));
+export const listOf = (owner, name, read) => kept(owner, name, () => htmlCollection(owner, () => read().map(numberOf)));
 
 /** The list of the controls of a form, or of a fieldset. */
 export const listOfControls = (owner, read) => kept(owner, "elements", () => makeLegacy(realmOf(owner), "HTMLFormControlsCollection", new ControlsAre(owner, read)));

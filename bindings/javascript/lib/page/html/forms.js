@@ -2,7 +2,7 @@
 import { pageOf, refuse } from "../core.js";
 import { listOfControls } from "./collections.js";
 import { textSelection } from "./inputs.js";
-import { flags, oneOf, text, texts, url, whole } from "./reflect.js";
+import { flags, oneOf, positive, sending, text, texts, url, whole } from "./reflect.js";
 import { resetOptions, sentOf } from "./selects.js";
 import { controlsOf, formOf, isDisabled, isNamed, reset as resetState, stateOf } from "./states.js";
 import { checkValidity } from "./validity.js";
@@ -99,7 +99,8 @@ function requestOf(form, submitter) {
 
 export const formMembers = {
   attributes: {
-    ...texts("autocomplete", "name", "target", "rel"),
+    ...texts("name", "target", "rel"),
+    autocomplete: oneOf("autocomplete", ["on", "off"]),
     acceptCharset: text("accept-charset"),
     action: { ...url("action"), get: (form) => (form.getAttribute("action") ? url("action").get(form) : form.ownerDocument.URL) },
     method: oneOf("method", METHODS),
@@ -124,10 +125,7 @@ export const buttonMembers = {
   attributes: {
     ...texts("name", "value"),
     ...flags("autofocus", "disabled", "formNoValidate"),
-    formAction: url("formaction"),
-    formEnctype: text("formenctype"),
-    formMethod: text("formmethod"),
-    formTarget: text("formtarget"),
+    ...sending,
     type: oneOf("type", ["submit", "reset", "button"]),
     form: formOf,
     labels,
@@ -147,8 +145,8 @@ export const textareaMembers = {
   attributes: {
     ...texts("autocomplete", "dirName", "name", "placeholder", "wrap"),
     ...flags("autofocus", "disabled", "readOnly", "required"),
-    cols: whole("cols", 20, 1),
-    rows: whole("rows", 2, 1),
+    cols: positive("cols", 20),
+    rows: positive("rows", 2),
     maxLength: whole("maxlength", -1, 0),
     minLength: whole("minlength", -1, 0),
     type: () => "textarea",

@@ -1,8 +1,9 @@
 /** Inputs (HTML Standard, section 4.10.5): values by their types, boxes, and what is selected of a text. */
-import { convertible, pageOf, refuse, refuseType } from "../core.js";
-import { flags, oneOf, text, texts, url, whole } from "./reflect.js";
+import { convertible, pageOf, realmOf, refuse, refuseType } from "../core.js";
+import { dateNumber, hasDate, setDateNumber, valueAsDate } from "./dates.js";
+import { flags, oneOf, sending, text, texts, url, whole } from "./reflect.js";
 import { formOf, isNamed, stateOf } from "./states.js";
-import { boundsOf, isNumber, numberOf, step } from "./steps.js";
+import { boundsOf, isNumber, isNumeric, numberOf, step } from "./steps.js";
 
 const TYPES = [
   ...["text", "hidden", "search", "tel", "url", "email", "password", "date", "month", "week", "time", "datetime-local", "number", "range", "color"],
@@ -160,8 +161,8 @@ function setSelectionRange(control, start, end, direction) {
   choose(control, start, end, direction);
 }
 
-const selected = (name, set) => ({
-  type: "any",
+const selected = (name, set, type = "unsigned long") => ({
+  type,
   get: (control) => (canSelect(control) ? selectionOf(control)[name] : null),
   set: (control, its) => set(control, its, selectionOf(control)),
 });
@@ -197,7 +198,7 @@ export const textSelection = {
   attributes: {
     selectionStart: selected("start", (control, start, { end, direction }) => setSelectionRange(control, start, Math.max(start, end), direction)),
     selectionEnd: selected("end", (control, end, { start, direction }) => setSelectionRange(control, start, end, direction)),
-    selectionDirection: selected("direction", (control, direction, { start, end }) => setSelectionRange(control, start, end, direction)),
+    selectionDirection: selected("direction", (control, direction, { start, end }) => setSelectionRange(control, start, end, direction), "DOMString?"),
   },
   operations: {
     select: [[], (control) => canSelect(control) && setSelectionRange(control, 0, lengthOf(control), "none")],
@@ -206,17 +207,35 @@ export const textSelection = {
   },
 };
 
+/** Puts files there that a program has: a list of any kind. */
+function setFiles(input, files) {
+  if (files === null || files === undefined) return;
+  if (typeof files !== "object") refuseType("this is no list of files");
+  if (input.type === "file") stateOf(input).files = files;
+}
+
+convertible("unrestricted double", Number);
+
+const asNumber = (input) => (hasDate(input) ? dateNumber(input) : numberOf(input));
+
+function setNumber(input, number) {
+  if (hasDate(input)) return setDateNumber(input, number);
+  if (!isNumeric(input)) refuse("InvalidStateError", `an input of type ${input.type} has no number`);
+  if (Math.abs(number) === Infinity) refuseType("an infinite number is no value");
+  return value.set(input, Number.isNaN(number) ? "" : `${number}`);
+}
+
+/** The files that were chosen: none, unless a program put them there. */
+const filesOf = (input) => (input.type === "file" ? (stateOf(input).files ??= Object.freeze(realmOf(input).array([]))) : null);
+
 export const inputMembers = {
   attributes: {
-    ...texts("accept", "align", "alt", "autocomplete", "dirName", "max", "min", "name", "pattern", "placeholder", "step", "useMap"),
-    ...flags("autofocus", "disabled", "formNoValidate", "multiple", "readOnly", "required"),
-    formAction: url("formaction"),
-    formEnctype: text("formenctype"),
-    formMethod: text("formmethod"),
-    formTarget: text("formtarget"),
+    ...texts("accept", "align", "alt", "autocomplete", "dirName", "max", "min", "name", "pattern", "placeholder", "step", "useMap", "capture"),
+    ...flags("autofocus", "disabled", "formNoValidate", "multiple", "readOnly", "required", "webkitdirectory"),
+    ...sending,
     src: url("src"),
-    height: whole("height"),
-    width: whole("width"),
+    height: { ...whole("height"), get: () => 0 },
+    width: { ...whole("width"), get: () => 0 },
     maxLength: whole("maxlength", -1, 0),
     minLength: whole("minlength", -1, 0),
     size: whole("size", 20, 1),
@@ -230,7 +249,9 @@ export const inputMembers = {
       get: (input) => stateOf(input).indeterminate,
       set: (input, its) => void (stateOf(input).indeterminate = its),
     },
-    valueAsNumber: { type: "any", get: numberOf, set: (input, its) => value.set(input, Number.isNaN(its) ? "" : `${its}`) },
+    files: { type: "any", get: filesOf, set: setFiles },
+    valueAsDate,
+    valueAsNumber: { type: "unrestricted double", get: asNumber, set: setNumber },
     form: formOf,
     list: (input) => {
       const found = input.hasAttribute("list") ? input.ownerDocument.getElementById(input.getAttribute("list")) : null;

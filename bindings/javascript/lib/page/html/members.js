@@ -1,9 +1,9 @@
 /** What all elements have of a page, and those of HTML, SVG and MathML (DOM, CSSOM View, HTML): rectangles are zero, for there is no layout. */
-import { known, makeThing, pageOf, realmOf, refuse, thingOf } from "../core.js";
+import { keptOf, known, makeThing, pageOf, realmOf, refuse, thingOf } from "../core.js";
 import { handlerAttributes } from "../handlers.js";
 import { isShown, styleAttribute } from "../styles.js";
 import { dataset, tokens } from "../tokens.js";
-import { flags, oneOf, text, textOrNull, texts, whole } from "./reflect.js";
+import { flags, oneOf, text, textOrNull, texts, whole, words } from "./reflect.js";
 import { isDisabled, isNamed } from "./states.js";
 
 // ---- Rectangles.
@@ -75,6 +75,7 @@ const aria = (name) => [`aria${name[0].toUpperCase()}${name.slice(1)}`, textOrNu
 const every = {
   attributes: {
     classList: tokens("class"),
+    part: tokens("part"),
     slot: text("slot"),
     role: textOrNull("role"),
     shadowRoot: () => null,
@@ -172,19 +173,69 @@ function click(element) {
   pageOf(element).click(element);
 }
 
-const shared = { ...handlerAttributes, ...styleAttribute, ...tabbing, dataset, nonce: text("nonce"), autofocus: flags("autofocus").autofocus };
+// ---- Texts as they are shown. Nothing is rendered here, so what is read is the text content, as the standard says.
+
+function renderedText(element, value) {
+  const document = element.ownerDocument;
+  const fragment = document.createDocumentFragment();
+  value.split(/\r\n|\n|\r/).forEach((line, at) => {
+    if (at > 0) fragment.append(document.createElement("br"));
+    if (line !== "") fragment.append(line);
+  });
+  return fragment;
+}
+
+function setOuterText(element, value) {
+  const { previousSibling: previous, nextSibling: next, parentNode } = element;
+  if (!parentNode) refuse("NoModificationAllowedError", "the element has no parent");
+  const fragment = renderedText(element, value);
+  if (!fragment.firstChild) fragment.append("");
+  element.replaceWith(fragment);
+  mergeText(next?.previousSibling);
+  mergeText(previous);
+}
+
+/** Joins a Text with the Text behind it. */
+function mergeText(text) {
+  const next = text?.nextSibling;
+  if (text?.nodeType !== TEXT || next?.nodeType !== TEXT) return;
+  text.appendData(next.data);
+  next.remove();
+}
+
+const TEXT = 3;
+const textContent = (element) => element.textContent;
+const innerText = { type: "DOMString or empty", get: textContent, set: (element, value) => element.replaceChildren(renderedText(element, value)) };
+const outerText = { type: "DOMString or empty", get: textContent, set: setOuterText };
+
+/** A nonce that is set stays out of the attribute, so that styles can't read it. */
+const nonce = {
+  type: "DOMString",
+  get: (element) => keptOf(element).nonce ?? element.getAttribute("nonce") ?? "",
+  set: (element, value) => void (keptOf(element).nonce = value),
+};
+
+const shared = { ...handlerAttributes, ...styleAttribute, ...tabbing, dataset, nonce, autofocus: flags("autofocus").autofocus };
 
 const html = {
   attributes: {
     ...shared,
-    ...texts("title", "lang", "accessKey", "inputMode", "enterKeyHint"),
+    ...texts("title", "lang", "accessKey"),
+    ...words("inputMode", "enterKeyHint"),
     ...flags("hidden", "inert"),
     dir: oneOf("dir", ["ltr", "rtl", "auto"], ""),
-    translate: { ...worded("translate", true), get: (element) => (element.getAttribute("translate") ?? "yes").toLowerCase() !== "no" },
+    translate: {
+      type: "boolean",
+      get: (element) => (element.getAttribute("translate") ?? "yes").toLowerCase() !== "no",
+      set: (element, value) => element.setAttribute("translate", value ? "yes" : "no"),
+    },
     spellcheck: worded("spellcheck", true),
     draggable: { ...worded("draggable", false), get: (element) => worded("draggable", isDraggable(element)).get(element) },
     contentEditable,
     isContentEditable,
+    autocapitalize: oneOf("autocapitalize", ["none", "sentences", "words", "characters"], "", "sentences"),
+    innerText,
+    outerText,
     offsetParent: () => null,
     ...zeros("offsetTop", "offsetLeft", "offsetWidth", "offsetHeight"),
   },

@@ -75,6 +75,46 @@ export const oneOf = (name, words, absent = words[0], invalid = absent) => ({
   set: (element, value) => element.setAttribute(name, value),
 });
 
+/** A whole number that is held within bounds; any that is set is written, or the absent one if it is below the least. */
+export const within = (name, absent, least, most) => ({
+  type: "unsigned long",
+  get(element) {
+    const found = wholeIn(valueOf(element, name));
+    return found === null || found < 0 ? absent : Math.min(Math.max(found, least), most);
+  },
+  set: (element, value) => element.setAttribute(name, `${value}`),
+});
+
+/** The same for columns and rows of a text area, where zero is set as the absent number. */
+export const positive = (name, absent) => ({
+  type: "unsigned long",
+  get(element) {
+    const found = wholeIn(valueOf(element, name));
+    return found === null || found < 1 ? absent : found;
+  },
+  set: (element, value) => element.setAttribute(name, `${value === 0 ? absent : value}`),
+});
+
+/** Words that any element's properties take from attributes of the same name, if they are among these. */
+const WORDS = {
+  referrerPolicy: `no-referrer no-referrer-when-downgrade same-origin origin strict-origin origin-when-cross-origin strict-origin-when-cross-origin unsafe-url`,
+  inputMode: "none text tel url email numeric decimal search",
+  enterKeyHint: "enter done go next previous search send",
+  as: "fetch audio document embed font image manifest object report script sharedworker style track video worker xslt",
+  scope: "row col rowgroup colgroup",
+};
+
+/** Properties that are one of some words, and empty for any other: `words("inputMode")`. */
+export const words = (...names) => Object.fromEntries(names.map((name) => [name, oneOf(name.toLowerCase(), WORDS[name].split(" "), "")]));
+
+/** How a button sends its form, where it says so itself. */
+export const sending = {
+  formEnctype: oneOf("formenctype", ["application/x-www-form-urlencoded", "multipart/form-data", "text/plain"], "", "application/x-www-form-urlencoded"),
+  formMethod: oneOf("formmethod", ["get", "post", "dialog"], "", "get"),
+  formTarget: text("formtarget"),
+  formAction: { ...url("formaction"), get: (element) => (element.getAttribute("formaction") ? url("formaction").get(element) : element.ownerDocument.URL) },
+};
+
 /** Many of a kind, where attribute and property have the same name in another case: `texts("accessKey", "title")`. */
 const several = (make) => (...names) => Object.fromEntries(names.map((name) => [name, make(name.toLowerCase())]));
 

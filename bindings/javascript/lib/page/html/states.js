@@ -7,6 +7,7 @@ class State {
   isOn = null;
   indeterminate = false;
   fault = "";
+  files = null;
   selection = { start: 0, end: 0, direction: "none" };
 }
 

@@ -7,8 +7,12 @@ const NUMERIC = ["number", "range"];
 /** Whether a text is a number, as the standard has one. */
 export const isNumber = (text) => NUMBER.test(text);
 
-const numberOr = (text, absent) => (text !== null && isNumber(text) ? Number(text) : absent);
-const isNumeric = (input) => NUMERIC.includes(input.type);
+/** The number that a text is, or null. */
+export const numberIn = (text) => (text !== null && isNumber(text) ? Number(text) : null);
+
+const numberOr = (text, absent) => numberIn(text) ?? absent;
+/** Whether a type of input has a number. */
+export const isNumeric = (input) => NUMERIC.includes(input.type);
 const isRange = (input) => input.type === "range";
 
 /** The value as a number, or NaN. */

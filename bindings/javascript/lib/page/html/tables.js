@@ -1,6 +1,7 @@
 /** Tables, their sections, rows and cells (HTML Standard, section 4.9), as far as they are lists and makers of elements. */
-import { refuse } from "../core.js";
+import { refuse, refuseType } from "../core.js";
 import { listOf } from "./collections.js";
+import { isNamed } from "./states.js";
 
 const childrenOf = (element, ...names) => [...element.children].filter((it) => names.includes(it.localName));
 const firstOf = (element, name) => childrenOf(element, name)[0] ?? null;
@@ -43,11 +44,24 @@ const cellsOf = (row) => childrenOf(row, "td", "th");
 const deleteFirst = (name) => [[], (table) => firstOf(table, name)?.remove()];
 const afterCaption = (table) => [...table.children].find((it) => !["caption", "colgroup"].includes(it.localName)) ?? null;
 
+/** The first child of a name; setting it puts another in its place, or none. */
+const replacing = (name, before) => ({
+  type: "any",
+  get: (table) => firstOf(table, name),
+  set(table, given) {
+    const its = given ?? null;
+    if (its !== null && !isNamed(its, "caption", "thead", "tfoot")) refuseType(`this is no ${name}`);
+    if (its !== null && !isNamed(its, name)) refuse("HierarchyRequestError", `this is no ${name}`);
+    firstOf(table, name)?.remove();
+    if (its !== null) table.insertBefore(its, before(table));
+  },
+});
+
 export const tableMembers = {
   attributes: {
-    caption: (table) => firstOf(table, "caption"),
-    tHead: (table) => firstOf(table, "thead"),
-    tFoot: (table) => firstOf(table, "tfoot"),
+    caption: replacing("caption", (table) => table.firstChild),
+    tHead: replacing("thead", afterCaption),
+    tFoot: replacing("tfoot", () => null),
     tBodies: (table) => listOf(table, "tBodies", () => childrenOf(table, "tbody")),
     rows: (table) => listOf(table, "rows", () => rowsOf(table)),
   },

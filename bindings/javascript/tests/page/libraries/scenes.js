@@ -83,9 +83,10 @@ async function react({ document }, timed, turns) {
   const Faulty = () => {
     throw new Error("meant");
   };
+  const Shown = () => h("figure", null, h("video", { muted: true, playsInline: true }), h("progress", { value: 1, max: 2 }), h("iframe", { sandbox: "allow-forms" }));
   const quiet = console.error;
   console.error = () => {};
-  flushSync(() => createRoot(other).render(h("section", null, h(Fields), h(Guard, null, h(Faulty)))));
+  flushSync(() => createRoot(other).render(h("section", null, h(Fields), h(Guard, null, h(Faulty)), h(Shown))));
   console.error = quiet;
   const input = other.querySelector("input");
   Object.getOwnPropertyDescriptor(Object.getPrototypeOf(input), "value").set.call(input, "typed");
@@ -93,7 +94,7 @@ async function react({ document }, timed, turns) {
   for (let time = 0; time < 3; time++) flushSync(() => other.querySelector("button").click());
   input.focus();
   await soon(30);
-  const fields = [input.value, other.querySelector("select").value, document.title, document.querySelector("i").textContent, document.activeElement === input];
+  const fields = [input.value, other.querySelector("select").value, document.title, document.querySelector("i").textContent, document.activeElement === input, other.querySelector("video").muted];
   const shown = other.innerHTML;
   flushSync(() => root.unmount());
   return { first, second, said, fields, shown, left: place.innerHTML };

@@ -1,0 +1,46 @@
+// A page answers what browsers answer, by written answers; Chromium, where it is there, gives them too.
+import assert from "node:assert/strict";
+import { runInContext, createContext } from "node:vm";
+import test from "node:test";
+
+import { missing } from "../../examples/playground/browser.js";
+import { createPage } from "../../lib/page/index.js";
+import { ANSWERS, caught } from "./as_browsers.js";
+import { inChromium, NEEDED, skipWithout, WINDOWS } from "./players.js";
+
+const skip = skipWithout(...NEEDED);
+
+for (const [name, [does, due]] of Object.entries(ANSWERS)) {
+  test(name, { skip }, async () => {
+    assert.deepEqual(JSON.parse(JSON.stringify(does(await WINDOWS.page(), caught))), due);
+  });
+}
+
+/** A case as Chromium runs it: a method, with what it calls in its own text. */
+const asMethod = (does, at) => {
+  const text = `case${at}(window) { const attempt = ${caught}; return (${does})(window, attempt); }`;
+  return { name: `case${at}`, toString: () => text };
+};
+
+test("Chromium gives the same answers", { skip: missing() ?? false }, async () => {
+  const said = await inChromium(Object.values(ANSWERS).map(([does], at) => asMethod(does, at)));
+  Object.entries(ANSWERS).forEach(([name, [, due]], at) => assert.deepEqual(JSON.parse(said[at]), due, name));
+});
+
+test("a page is put on what vm.createContext answers", { skip }, () => {
+  const context = createContext({});
+  const window = createPage("<p>x</p>", { global: context });
+  assert.equal(runInContext("document.body.innerHTML", context), "<p>x</p>");
+  assert.equal(runInContext("window === globalThis && document.querySelectorAll('p') instanceof NodeList", context), true);
+  assert.equal(window, runInContext("window", context));
+  assert.throws(() => createPage("", { global: {} }), { name: "TypeError", message: /vm\.createContext/ });
+});
+
+test("faults in a context are of its own realm", { skip }, () => {
+  const context = createContext({});
+  createPage("", { global: context });
+  const isOwn = (text) => runInContext(`(() => { try { ${text} } catch (fault) { return fault instanceof TypeError; } })()`, context);
+  assert.equal(isOwn('document.body.classList.supports("x")'), true);
+  assert.equal(isOwn("const { proxy, revoke } = Proxy.revocable({}, {}); revoke(); document.createTreeWalker(document, 1, proxy).firstChild();"), true);
+  assert.equal(isOwn("const { proxy, revoke } = Proxy.revocable(() => 1, {}); revoke(); document.createNodeIterator(document, 1, proxy).nextNode();"), true);
+});
