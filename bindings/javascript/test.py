@@ -19,7 +19,6 @@ from make import build, has_module, module, MODULE, WEB, words_of
 PACKAGES = {
     "parse5": "parsing HTML",
     "saxes": "parsing XML",
-    "css-select": "the page's selectors",
     "cssstyle": "the page's styles",
     "w3c-xmlserializer": "serializing XML",
     "typescript": "comments of the declarations",

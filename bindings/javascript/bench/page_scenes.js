@@ -56,7 +56,7 @@ function walkOnce(root) {
 const FEW = 0.1;
 
 export const PAGE_SCENES = {
-  "selectors": {
+  selectors: {
     says: `a node of a page of 1,000 asked by querySelectorAll("tr > td.k0:first-child + td"), 20 times`,
     share: FEW,
     ready: asked("tr > td.k0:first-child + td"),
@@ -76,7 +76,7 @@ export const PAGE_SCENES = {
     share: FEW,
     ready: asked(".k1", moved),
   },
-  "matching": {
+  matching: {
     says: `matches("tr > .k1, [title]:not(.k2)") and closest("tr") of a cell`,
     ready: each((cell) => cell.matches("tr > .k1, [title]:not(.k2)") && cell.closest("tr").nodeType),
   },
@@ -89,7 +89,7 @@ export const PAGE_SCENES = {
       if (length < 20) throw new Error("an attribute is missing");
     }),
   },
-  "texts": {
+  texts: {
     says: "nodeValue of a Text read, ten times",
     ready(window, count) {
       const texts = tableOf(window, count / 10).cells.map((it) => it.firstChild);
@@ -189,7 +189,7 @@ export const PAGE_SCENES = {
   },
   "a list gone through": {
     says: "an element of getElementsByTagName read by its index, ten times",
-    share: 0.1,
+    share: 0.03,
     ready(window, count) {
       const list = tableOf(window, count).document.getElementsByTagName("td");
       return () => {
@@ -198,13 +198,15 @@ export const PAGE_SCENES = {
     },
   },
   "first ids": {
-    says: "getElementById of each of 1,000, the first time",
-    share: 0.05,
+    says: "getElementById of each of 1,000, the first time, in 20 Documents",
     ready({ document }, count) {
-      const made = document.implementation.createHTMLDocument("");
-      for (let at = 0; at < count; at++) made.body.appendChild(made.createElement("p")).id = `id${at}`;
+      const made = Array.from({ length: 20 }, () => document.implementation.createHTMLDocument(""));
+      for (let at = 0; at < count; at++) {
+        const { body } = made[at % 20];
+        body.appendChild(body.ownerDocument.createElement("p")).id = `id${at}`;
+      }
       return () => {
-        for (let at = 0; at < count; at++) if (!made.getElementById(`id${at}`)) throw new Error("an id is missing");
+        for (let at = 0; at < count; at++) if (!made[at % 20].getElementById(`id${at}`)) throw new Error("an id is missing");
       };
     },
   },

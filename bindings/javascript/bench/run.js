@@ -5,6 +5,7 @@
 // run of each, in which the engine has compiled what is hot, and beside it how the first runs compare, most of which is compiling. The ratio is jsdom's
 // over ours: what else the machine does tells in both.
 import { spawnSync } from "node:child_process";
+import { readFileSync } from "node:fs";
 import { createRequire } from "node:module";
 import { fileURLToPath } from "node:url";
 import { parseArgs } from "node:util";
@@ -15,7 +16,7 @@ const HELP = `Nanoseconds of processor time a step of scenes, by this package an
 
   --count N     how many steps a scene has (20000); some have a share of it
   --times N     how often each runs a scene at most (7), and at least twice
-  --seconds N   after how many seconds a scene is not run again (2)
+  --seconds N   after how many seconds of processor time a scene is not run again (1.5)
   --scene NAME  only this scene; more of them with commas between: ${Object.keys(SCENES).join(", ")}
   --help        this text
 `;
@@ -23,7 +24,7 @@ const HELP = `Nanoseconds of processor time a step of scenes, by this package an
 const OPTIONS = {
   count: { type: "string", default: "20000" },
   times: { type: "string", default: "7" },
-  seconds: { type: "string", default: "2" },
+  seconds: { type: "string", default: "1.5" },
   scene: { type: "string" },
   inside: { type: "boolean" },
   help: { type: "boolean" },
@@ -57,16 +58,39 @@ const countOf = (scene, count) => Math.ceil(count * (SCENES[scene].share ?? 1));
 /** Whether a scene needs a library which is not there. */
 const lacks = (scene) => scene === "updates" && found("preact") === null;
 
-/** The microseconds of processor time that this process has taken: other work on the machine tells less in it than in the time by the clock. */
-const taken = () => {
-  const { user, system } = process.cpuUsage();
-  return user + system;
-};
+const THREAD = "/proc/thread-self/schedstat";
 
-/** Waits until the program would wait, and what the engine compiles beside it is done. */
-const settled = () => new Promise((does) => void setTimeout(does, 50));
+/**
+ * The microseconds of processor time that the thread has taken which runs the program: other work on the machine tells less in it than in the time by the
+ * clock, and so does the engine's collector, which marks what the other has left. Where the system does not say it, that of the process.
+ */
+function taken() {
+  try {
+    return Number(readFileSync(THREAD, "utf8").split(" ")[0]) / 1000;
+  } catch {
+    const { user, system } = process.cpuUsage();
+    return user + system;
+  }
+}
 
+/** Waits until the program would wait, and what the engine compiles beside it is done; young objects that the other has left are collected. */
+async function settled() {
+  await new Promise((does) => void setTimeout(does, 50));
+  for (let time = 0; time < 2; time++) globalThis.gc({ type: "minor" });
+}
+
+/** Runs a scene once; answers whether it runs at all. */
 async function runOnce(by, window, scene, count) {
+  try {
+    await timed(by, window, scene, count);
+    return true;
+  } catch (fault) {
+    if (by === "huckleport") throw fault;
+    return false;
+  }
+}
+
+async function timed(by, window, scene, count) {
   const does = SCENES[scene].ready(window, countOf(scene, count));
   await settled();
   const before = taken();
@@ -76,12 +100,12 @@ async function runOnce(by, window, scene, count) {
 
 /** Runs a scene a few times by each in turn, and prints the nanoseconds a step of each time. */
 async function runAll(scene, { count, times, seconds }) {
-  const players = found("jsdom") ? ["huckleport", "jsdom"] : ["huckleport"];
+  let players = found("jsdom") ? ["huckleport", "jsdom"] : ["huckleport"];
   const windows = {};
   for (const by of players) windows[by] = await WINDOWS[by](SCENES[scene]);
-  const end = performance.now() + 1000 * seconds;
-  for (let time = 0; time < LEAST || (time < times && performance.now() < end); time++) {
-    for (const by of players) await runOnce(by, windows[by], scene, count);
+  const end = taken() + 1e6 * seconds;
+  for (let time = 0; time < LEAST || (time < times && taken() < end); time++) {
+    for (const by of [...players]) if (!(await runOnce(by, windows[by], scene, count))) players = players.filter((it) => it !== by);
   }
   process.exit(0);
 }
@@ -89,7 +113,7 @@ async function runAll(scene, { count, times, seconds }) {
 /** The nanoseconds a step of the quickest run of each, and of the first. */
 function measured(scene, { count, times, seconds }) {
   const words = ["--inside", "--scene", scene, "--count", `${count}`, "--times", `${times}`, "--seconds", `${seconds}`];
-  const ran = spawnSync(process.execPath, [fileURLToPath(import.meta.url), ...words], { encoding: "utf8", stdio: ["ignore", "pipe", "inherit"] });
+  const ran = spawnSync(process.execPath, ["--expose-gc", fileURLToPath(import.meta.url), ...words], { encoding: "utf8", stdio: ["ignore", "pipe", "inherit"] });
   const told = ran.stdout.trim().split("\n").map((line) => line.split(" "));
   const of = (by) => told.filter(([its]) => its === by).map(([, its]) => Number(its));
   return Object.fromEntries(Object.keys(WINDOWS).map((by) => [by, { quickest: Math.min(...of(by)), first: of(by)[0] ?? NaN }]));

@@ -176,7 +176,7 @@ export const SCENES = {
   },
   contents: {
     says: "ten children extracted and inserted again",
-    share: 0.05,
+    share: 0.01,
     ready(window, count) {
       const { document } = window;
       const root = document.implementation.createHTMLDocument("").body;

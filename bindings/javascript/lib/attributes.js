@@ -6,6 +6,8 @@ import { check, native, out, textFrom, TOO_LONG, Refusal, words } from "./core.j
 import { attributeByNumber } from "./names.js";
 
 const NONE_THERE = [];
+/** So many names and values are kept in a list of just their length, since one that grows takes room ahead. */
+const FEW = 16;
 
 function readText(at, length) {
   const text = textFrom(4 * at, length);
@@ -49,7 +51,7 @@ export function keepSet(its, name, value) {
   if (known === null) return;
   const at = placeOf(known, name);
   if (at >= 0) known[at + 1] = value;
-  else if (known.length === 0) its.values = [name, value];
+  else if (known.length < FEW) its.values = [...known, name, value];
   else known.push(name, value);
 }
 

@@ -1,7 +1,7 @@
 /** Node, and what Documents, fragments and elements have in common: children that are elements, and several nodes at once. */
 import { check, COMMENT, DOCTYPE, DOCUMENT, ELEMENT, FRAGMENT, INSTRUCTION, lent, native, out, TEXT, wordsOf } from "./core.js";
 import { noteIdsBelow } from "./ids.js";
-import { elementByNumber, elementName, HTML } from "./names.js";
+import { elementName, HTML } from "./names.js";
 import { areEqual } from "./rows.js";
 import { followingCollection, liveNodeList } from "./lists.js";
 import { known } from "./webidl.js";

@@ -5,22 +5,25 @@ import { setImmediate as turn } from "node:timers/promises";
 
 import { native, out } from "../lib/core.js";
 import { createDocument, DOMException, MutationObserver, NodeFilter, StaticRange } from "../lib/index.js";
-import { numberOf, sessionOf } from "../lib/wrappers.js";
+import { inElements, inTrees } from "../lib/page/selectors.js";
+import { itsOf, numberOf, sessionOf } from "../lib/wrappers.js";
 
 const [count = "300000", seed = "1"] = process.argv.slice(2);
 const MOST = 400;
 
 // A generator of numbers by a seed (the multiplier is of Lehmer's kind, modulo a prime).
 let state = Number(seed);
-const below = (limit) => {
+const upTo = (limit) => {
   state = (state * 48271) % 2147483647;
   return state % limit;
 };
-const any = (list) => list[below(list.length)];
+const any = (list) => list[upTo(list.length)];
 
 const TEXTS = ["", "a", "some text", "\ud83d\ude00", "\ud800", "x".repeat(300), "\u0000", "]]>"];
 const NAMES = ["p", "B", "a:b", "", "1", "x y", "é", "a\uFDD01p", "longer-name"];
 const NAMESPACES = [null, "", "http://www.w3.org/1999/xhtml", "n"];
+const CLASSES = ["on", "on off", " off\ton ", "", "offon"];
+const TAGS = ["p", "b", "*", "a:b", "longer-name"];
 const OFFSETS = [0, 1, 2, 5, 100, -1, 2 ** 32, 1.5];
 const MOVES = ["parentNode", "firstChild", "lastChild", "previousSibling", "nextSibling", "previousNode", "nextNode"];
 
@@ -33,9 +36,9 @@ const node = () => any(nodes);
 const maybe = () => any([null, node(), node()]);
 const keep = (list, made) => {
   if (made && list.length < MOST) list.push(made);
-  else if (made) list[below(list.length)] = made;
+  else if (made) list[upTo(list.length)] = made;
 };
-const filter = () => any([null, null, () => 1 + below(3), { acceptNode: () => 1 + below(3) }]);
+const filter = () => any([null, null, () => 1 + upTo(3), { acceptNode: () => 1 + upTo(3) }]);
 
 const MAKING = [
   () => document.createElement(any(NAMES)),
@@ -46,8 +49,8 @@ const MAKING = [
   () => document.implementation.createDocumentType(any(NAMES), any(TEXTS), any(TEXTS)),
   () => document.createDocumentFragment(),
   () => document.implementation.createHTMLDocument(any(TEXTS)),
-  () => node().cloneNode(below(2) === 1),
-  () => document.importNode(node(), below(2) === 1),
+  () => node().cloneNode(upTo(2) === 1),
+  () => document.importNode(node(), upTo(2) === 1),
 ];
 
 const CHANGING = [
@@ -74,6 +77,10 @@ const CHANGING = [
   () => node().setAttributeNS?.(any(NAMESPACES), any(NAMES), any(TEXTS)),
   () => node().toggleAttribute?.(any(NAMES)),
   () => node().removeAttribute?.(any(NAMES)),
+  () => node().setAttribute?.("class", any(CLASSES)),
+  () => node().setAttribute?.("id", any(["one", "two", ""])),
+  () => node().removeAttribute?.(any(["class", "id"])),
+  () => node().toggleAttribute?.(any(["class", "id", "p"])),
 ];
 
 const RANGING = [
@@ -82,20 +89,20 @@ const RANGING = [
   () => any(ranges).setEnd(node(), any(OFFSETS)),
   () => any(ranges).selectNode(node()),
   () => any(ranges).selectNodeContents(node()),
-  () => any(ranges).collapse(below(2) === 1),
+  () => any(ranges).collapse(upTo(2) === 1),
   () => any(ranges).deleteContents(),
   () => keep(nodes, any(ranges).extractContents()),
   () => keep(nodes, any(ranges).cloneContents()),
   () => any(ranges).insertNode(node()),
   () => any(ranges).surroundContents(node()),
-  () => any(ranges).compareBoundaryPoints(below(5), any(ranges)),
+  () => any(ranges).compareBoundaryPoints(upTo(5), any(ranges)),
   () => any(ranges).comparePoint(node(), any(OFFSETS)),
   () => any(ranges).isPointInRange(node(), any(OFFSETS)),
   () => any(ranges).intersectsNode(node()),
   () => keep(nodes, any(ranges).commonAncestorContainer),
   () => keep(nodes, any(ranges).startContainer),
   () => `${any(ranges)}`,
-  () => ranges.splice(below(ranges.length), 1),
+  () => ranges.splice(upTo(ranges.length), 1),
 ];
 
 const WATCHING = [
@@ -104,12 +111,12 @@ const WATCHING = [
   () => keep(nodes, any(traversals)[any(MOVES)]?.()),
   () => keep(nodes, any(traversals)[any(["nextNode", "previousNode"])]()),
   () => (any(traversals).currentNode = node()),
-  () => traversals.splice(below(traversals.length), 1),
+  () => traversals.splice(upTo(traversals.length), 1),
   () => observers.length < 20 && observers.push(new MutationObserver(() => {})),
-  () => any(observers).observe(node(), { childList: below(2) === 1, attributes: below(2) === 1, characterData: true, subtree: below(2) === 1 }),
+  () => any(observers).observe(node(), { childList: upTo(2) === 1, attributes: upTo(2) === 1, characterData: true, subtree: upTo(2) === 1 }),
   () => any(observers).takeRecords(),
   () => any(observers).disconnect(),
-  () => below(50) === 0 && new StaticRange({ startContainer: node(), startOffset: 0, endContainer: node(), endOffset: 1 }),
+  () => upTo(50) === 0 && new StaticRange({ startContainer: node(), startOffset: 0, endContainer: node(), endOffset: 1 }),
 ];
 
 const ASKING = [
@@ -118,7 +125,7 @@ const ASKING = [
   () => node().contains(maybe()),
   () => node().compareDocumentPosition(node()),
   () => keep(nodes, node().getRootNode()),
-  () => keep(nodes, node().childNodes[below(4)]),
+  () => keep(nodes, node().childNodes[upTo(4)]),
   () => node().children?.length,
   () => node().getElementsByTagName?.("*").length,
   () => node().getAttributeNames?.(),
@@ -128,6 +135,14 @@ const ASKING = [
   agrees,
   agrees,
   filled,
+  agreesOnAttributes,
+  agreesOnData,
+  agreesOnIterator,
+  () => agreesOnLists(any(lists)),
+  () => agreesOnLists(any(lists)),
+  () => agreesOnLists(any(lists)),
+  () => agreesOnSelectors(),
+  () => keepLists(),
 ];
 
 /** What a node's parent and siblings say of each other. */
@@ -147,7 +162,7 @@ const numberOrNone = (it) => (it === null ? native.HP_NONE : numberOf(it));
 function agrees(it = node()) {
   const { childNodes } = it;
   const { length } = childNodes;
-  const some = length ? below(length) : 0;
+  const some = length ? upTo(length) : 0;
   const child = numberOrNone(childNodes[some] ?? null);
   const { parentNode, previousSibling, nextSibling, firstChild, lastChild } = it;
   const said = [parentNode, previousSibling, nextSibling, firstChild, lastChild].map(numberOrNone);
@@ -169,6 +184,98 @@ function filled() {
   agrees(it);
 }
 
+// ---- What is kept beside the core has to be what the core says.
+
+function agreesOnAttributes() {
+  const it = node();
+  if (it.nodeType !== 1) return;
+  const values = it.getAttributeNames().map((name) => it.getAttribute(name));
+  const { index } = sessionOf(it);
+  assert.equal(native.hp_attribute_names(index, numberOf(it)), native.HP_OK);
+  native.hp_count(index);
+  const names = Array.from({ length: out[0] }, (_, at) => native.hp_name_at(index, at));
+  const known = itsOf(it).values;
+  assert.deepEqual(known.filter((_, at) => at % 2 === 0).map((name) => name.core), names);
+  const said = names.map((name) => (native.hp_get_attribute(index, numberOf(it), name), native.hp_text(index)));
+  assert.deepEqual(known.filter((_, at) => at % 2 === 1), said);
+  // (a name with capitals is not found by itself on an element of HTML)
+  const isPlain = names.length === new Set(it.getAttributeNames()).size && !names.some((name) => /[A-Z]/.test(name));
+  if (isPlain) assert.deepEqual(values, said);
+}
+
+function agreesOnData() {
+  const it = node();
+  if (it.data === undefined) return;
+  const { index } = sessionOf(it);
+  native.hp_data(index, numberOf(it));
+  assert.equal(it.data, native.hp_text(index));
+  assert.equal(it.data, it.nodeValue);
+}
+
+/** Where an iterator came to is where the core has it, which is asked once a tree has changed. */
+function agreesOnIterator() {
+  const it = any(traversals);
+  if (it?.referenceNode === undefined) return;
+  for (let steps = upTo(6); steps > 0; steps--) it[any(["nextNode", "nextNode", "previousNode"])]();
+  const { referenceNode, pointerBeforeReferenceNode } = it;
+  document.createElement("p").append("x");
+  assert.equal(it.referenceNode, referenceNode);
+  assert.equal(it.pointerBeforeReferenceNode, pointerBeforeReferenceNode);
+}
+
+/** Lists that are kept over edits, with how their elements are found from link to link. */
+const lists = [];
+
+function below(top) {
+  const found = [];
+  for (let it = top.firstChild; it; it = it.nextSibling) found.push(it, ...below(it));
+  return found.filter((it) => it.nodeType === 1);
+}
+
+const wordsIn = (it) => (it.getAttribute("class") ?? "").split(/[\t ]+/);
+const qualified = (it) => (it.prefix === null ? it.localName : `${it.prefix}:${it.localName}`);
+
+/** Keeps a list of a node of each kind. */
+function keepLists() {
+  const top = node();
+  if (!top.children) return;
+  const tag = any(TAGS);
+  const isTag = (it) => tag === "*" || qualified(it) === tag;
+  keep(lists, { top, list: top.children, read: () => [...top.childNodes].filter((it) => it.nodeType === 1) });
+  if (!top.getElementsByTagName) return;
+  keep(lists, { top, list: top.getElementsByTagName(tag), read: () => below(top).filter(isTag) });
+  keep(lists, { top, list: top.getElementsByClassName("on"), read: () => below(top).filter((it) => wordsIn(it).includes("on")) });
+}
+
+function agreesOnLists(kept) {
+  if (!kept) return;
+  const { list, read } = kept;
+  const due = read();
+  assert.equal(list.length, due.length);
+  assert.deepEqual([...list].map(numberOf), due.map(numberOf));
+}
+
+const SELECTORS = [
+  [".on", (it) => wordsIn(it).includes("on")],
+  ["p.on", (it) => it.localName === "p" && wordsIn(it).includes("on")],
+  ["#one", (it) => it.getAttribute("id") === "one"],
+  ["p > *", (it) => it.parentNode?.nodeType === 1 && it.parentNode.localName === "p"],
+  ["* + .off", (it) => it.previousElementSibling !== null && wordsIn(it).includes("off")],
+  [":first-child", (it) => it.previousElementSibling === null],
+  [":nth-last-child(2)", (it) => it.nextElementSibling !== null && it.nextElementSibling.nextElementSibling === null],
+];
+
+function agreesOnSelectors() {
+  const top = any([document, node()]);
+  if (!top.children) return;
+  const [text, fits] = any(SELECTORS);
+  const due = below(top).filter(fits);
+  const found = inTrees.querySelectorAll[1](top, text);
+  assert.deepEqual([...found].map(numberOf), due.map(numberOf), text);
+  assert.equal(inTrees.querySelector[1](top, text), due[0] ?? null);
+  if (due.length) assert.equal(inElements.matches[1](due[0], text), true);
+}
+
 const GROUPS = [MAKING, CHANGING, CHANGING, RANGING, WATCHING, ASKING];
 
 /** Makes a call; answers whether it was refused. */
@@ -186,8 +293,8 @@ function call(group) {
 
 /** Lets most of what is held go, and begins with another Document. */
 async function letGo() {
-  for (const list of [nodes, ranges, traversals]) list.splice(0, Math.ceil(list.length / 2));
-  document = below(3) ? document : createDocument();
+  for (const list of [nodes, ranges, traversals, lists]) list.splice(0, Math.ceil(list.length / 2));
+  document = upTo(3) ? document : createDocument();
   nodes.push(document);
   keep(ranges, document.createRange());
   keep(traversals, document.createTreeWalker(document));

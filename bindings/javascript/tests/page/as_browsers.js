@@ -1,4 +1,6 @@
 // What browsers answer, written down: each case gets a window with an empty page, and answers what JSON has. It is run over the page and in Chromium.
+import { SELECTOR_ANSWERS } from "./selector_answers.js";
+
 const caught = (does) => {
   try {
     return does();
@@ -185,5 +187,5 @@ const elements = {
   ],
 };
 
-export const ANSWERS = { ...nodes, ...xml, ...forms, ...elements };
+export const ANSWERS = { ...nodes, ...xml, ...forms, ...elements, ...SELECTOR_ANSWERS };
 export { caught };

@@ -2,7 +2,7 @@
  * Whether an element fits a selector: each part becomes a function of what the element's object knows (see wrappers.js) and of a question, which says
  * what `:scope` is. Nothing is made of children: a step goes from link to link.
  */
-import { DOCUMENT, ELEMENT, FRAGMENT, HTML, attributesKept, hasWord, isBlank, nameKnown, small } from "../core.js";
+import { attributesKept, DOCUMENT, ELEMENT, hasWord, HTML, isBlank, nameKnown, small, TEXT } from "../core.js";
 import { pseudos } from "../pseudos.js";
 
 /** What a test is asked for: the scoping root, the element that `:has()` looks from, and how far positions were counted. */
@@ -158,7 +158,7 @@ function isAloneOfType(its, ...ways) {
 }
 
 function isEmpty(its) {
-  for (let it = its.firstChild(); it !== null; it = it.nextSibling()) if (isElement(it) || (it.kind === 3 && it.object.length > 0)) return false;
+  for (let it = its.firstChild(); it !== null; it = it.nextSibling()) if (isElement(it) || (it.kind === TEXT && it.object.length > 0)) return false;
   return true;
 }
 
@@ -199,7 +199,7 @@ function isFoundBehind(its, test, question) {
 const isAnchor = (its, { anchor }) => its === anchor;
 
 function relativeTest(steps, mode) {
-  const test = chain(isAnchor, false, steps, mode);
+  const test = chain(isAnchor, steps, mode);
   const isFound = "+~".includes(steps[0].combinator) ? isFoundBehind : isFoundBelow;
   return (its, question) => {
     const before = question.anchor;
@@ -252,19 +252,20 @@ function compoundTest(simple, mode) {
   return allOf([...simple].sort((one, other) => costOf(one) - costOf(other)).map((it) => SIMPLE[it.type](it, mode)));
 }
 
-/** Whether an element above is what stands ahead of a combinator. A fragment fits `:scope` alone. */
-const fitsAbove = (above, left, isScopeAlone, question) =>
-  isElement(above) ? left(above, question) : isScopeAlone && above === question.scope && above.kind === FRAGMENT;
+const elementAbove = (its) => {
+  const above = its.parent();
+  return above !== null && above.kind === ELEMENT ? above : null;
+};
 
 const COMBINATORS = {
-  ">": (left, right, isScopeAlone) => (its, question) => {
+  ">": (left, right) => (its, question) => {
     if (!right(its, question)) return false;
-    const above = its.parent();
-    return above !== null && fitsAbove(above, left, isScopeAlone, question);
+    const above = elementAbove(its);
+    return above !== null && left(above, question);
   },
-  " ": (left, right, isScopeAlone) => (its, question) => {
+  " ": (left, right) => (its, question) => {
     if (!right(its, question)) return false;
-    for (let above = its.parent(); above !== null; above = above.parent()) if (fitsAbove(above, left, isScopeAlone, question)) return true;
+    for (let above = elementAbove(its); above !== null; above = elementAbove(above)) if (left(above, question)) return true;
     return false;
   },
   "+": (left, right) => (its, question) => {
@@ -280,21 +281,9 @@ const COMBINATORS = {
 };
 
 /** A test of the last of some steps that stand behind what a test says already. */
-function chain(first, isScopeAlone, steps, mode) {
-  let test = first;
-  let isAlone = isScopeAlone;
-  for (const { combinator, simple } of steps) {
-    test = COMBINATORS[combinator](test, compoundTest(simple, mode), isAlone);
-    isAlone = false;
-  }
-  return test;
-}
+const chain = (first, steps, mode) => steps.reduce((test, { combinator, simple }) => COMBINATORS[combinator](test, compoundTest(simple, mode)), first);
 
-const isScopeOnly = (simple) => simple.every((it) => it.type === "pseudo" && it.name === "scope");
-
-function complexTest([first, ...rest], mode) {
-  return chain(compoundTest(first.simple, mode), isScopeOnly(first.simple), rest, mode);
-}
+const complexTest = ([first, ...rest], mode) => chain(compoundTest(first.simple, mode), rest, mode);
 
 /** A test for any of some complex selectors. */
 export function listTest(list, mode) {

@@ -103,7 +103,7 @@ class Parser {
   #qualified(isOfAttribute) {
     const { scanner } = this;
     const { at } = scanner;
-    let first = scanner.take("*") ? "*" : scanner.isName ? scanner.characters() : undefined;
+    const first = scanner.take("*") ? "*" : scanner.isName ? scanner.characters() : undefined;
     const isBar = scanner.next === "|" && scanner.text[scanner.at + 1] !== "=" && scanner.text[scanner.at + 1] !== "|";
     if (!isBar) {
       if (first === undefined || (isOfAttribute && first === "*")) return null;

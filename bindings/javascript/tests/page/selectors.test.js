@@ -1,0 +1,59 @@
+// Selectors beside what browsers all do alike (selector_answers.js): what the standard says further, and that they need no library.
+import assert from "node:assert/strict";
+import { spawnSync } from "node:child_process";
+import { fileURLToPath } from "node:url";
+import test from "node:test";
+
+import { createPage } from "../../lib/page/index.js";
+import { NEEDED, skipWithout } from "./players.js";
+
+const skip = skipWithout(...NEEDED);
+const PAGE = fileURLToPath(new URL("../../lib/page/index.js", import.meta.url));
+
+test("a value is compared with its capitals where a selector says so (Selectors 4, section 6.3)", { skip }, () => {
+  const { document } = createPage("<input type=TEXT>");
+  assert.deepEqual(["[type=text]", "[type=text s]", "[type=TEXT s]"].map((text) => document.querySelectorAll(text).length), [1, 0, 1]);
+});
+
+test("languages are found by lists, strings and extended ranges (Selectors 4, section 7.2)", { skip }, () => {
+  const { document } = createPage("<section lang=de-Latn-CH><p>1</p><p lang=''>2</p></section><p lang=en>3</p>");
+  const count = (text) => document.querySelectorAll(text).length;
+  assert.deepEqual(["p:lang('*-CH')", "p:lang(de-ch)", "p:lang(fr, en)", "p:lang('')", "p:lang(de-DE)"].map(count), [1, 1, 1, 1, 0]);
+});
+
+test("selectors need no library", { skip: skipWithout("parse5") }, () => {
+  const program = `
+    const { Module } = await import("node:module");
+    const { _load } = Module;
+    Module._load = (name, ...rest) => {
+      if (/css|nwsapi/.test(name)) throw new Error(name);
+      return _load(name, ...rest);
+    };
+    const { createPage } = await import(${JSON.stringify(PAGE)});
+    const { document } = createPage("<p class=a>1</p><b>2</b>");
+    console.log(document.querySelector("b").textContent, document.querySelectorAll("p.a:first-child + b, #x").length);`;
+  const ran = spawnSync(process.execPath, ["--input-type=module", "-e", program], { encoding: "utf8" });
+  assert.equal(`${ran.stdout}${ran.stderr}`, "2 1\n");
+});
+
+test("a selector that nests deeply, and one of many parts", { skip }, () => {
+  const { document } = createPage("<p>1</p>");
+  const nested = (depth) => `${":not(".repeat(depth)}b${")".repeat(depth)}`;
+  assert.equal(document.querySelectorAll(`p${nested(101)}`).length, 1);
+  assert.equal(document.querySelectorAll(Array(2000).fill("b").concat("p").join()).length, 1);
+});
+
+test("an element is found by its id in its own tree alone", { skip }, () => {
+  const { document } = createPage("<p id=a>1</p>");
+  const others = Array.from({ length: 3 }, () => {
+    const other = document.implementation.createHTMLDocument("");
+    other.body.innerHTML = "<b id=a>x</b>";
+    return other;
+  });
+  assert.equal(document.querySelector("#a"), document.body.firstChild);
+  assert.equal(document.getElementById("a"), document.body.firstChild);
+  others[1].body.append(document.body.firstChild);
+  assert.equal(document.querySelector("#a"), null);
+  assert.deepEqual(others.map((it) => it.querySelectorAll("#a").length), [1, 2, 1]);
+  assert.deepEqual(others.map((it) => it.getElementById("a").localName), ["b", "b", "b"]);
+});
