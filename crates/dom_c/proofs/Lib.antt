@@ -4,3 +4,4 @@ pub mod TooFew
 pub mod OpenReads
 pub mod Copies
 pub mod Faults
+pub mod Asked

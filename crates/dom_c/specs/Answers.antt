@@ -5,8 +5,8 @@ use Rattle.dom_model.specs.Commands.Command.{Command}
 use Rattle.dom_model.specs.Commands.Reply as model
 use Rattle.dom_model.specs.Commands.Answer.{Step, answer}
 use Rattle.dom_session.specs.declared.reply.Reply.{Reply}
-use Rattle.dom_wire.specs.Sessions.{StandsFor, reply_view}
-use Rattle.dom_c.specs.Statuses.{status_of, out_of_memory, closed}
+use Rattle.dom_wire.specs.Sessions.{StandsFor, held_world, reply_view}
+use Rattle.dom_c.specs.Statuses.{status_of, status_at_end, out_of_memory, closed}
 use Rattle.dom_c.specs.declared.kept.Kept.{Kept}
 use Rattle.dom_c.specs.declared.handle.Handle.{Handle}
 
@@ -49,6 +49,35 @@ StepsIn step (Some old) (Some new) status = Steps (step old) old new status
 -- what a call for a command does
 abbrev pub Answers : Handle → Handle → Result Command ℕ → ℕ → Type 0
 Answers old new c status = StepsIn (λ kept. step_for kept c) old.slot.kept new.slot.kept status
+
+-- What a question that takes no memory does once the session has ended: its reply is the one of the world that is held, and is kept.
+pub record IsAskedAtEnd (c : Command) (old new : Kept) (status : ℕ) : Type 0 where
+  pub reply_is : option_map reply_view new.reply ≡ Some (answer old.session.bounds (held_world old.session) c).reply
+  pub status_is : status ≡ status_at_end (answer old.session.bounds (held_world old.session) c).reply
+  pub session : new.session ≡ old.session
+  pub ended : new.ended ≡ true
+  pub limit : new.limit ≡ old.limit
+  pub line : new.line ≡ old.line
+
+-- arguments that make no question have their own status then too
+abbrev pub AsksAtEnd : Result Command ℕ → Kept → Kept → ℕ → Type 0
+AsksAtEnd (Ok c) old new status = IsAskedAtEnd c old new status
+AsksAtEnd (Err malformed) old new status = (new ≡ old) × (status ≡ malformed)
+
+-- while the session goes on, a question is taken as a command
+abbrev pub AsksOrEnded : Bool → Result Command ℕ → Kept → Kept → ℕ → Type 0
+AsksOrEnded true c old new status = AsksAtEnd c old new status
+AsksOrEnded false c old new status = Steps (step_for old c) old new status
+
+-- a closed handle says so
+abbrev pub AsksKept : Result Command ℕ → Option Kept → Option Kept → ℕ → Type 0
+AsksKept c None new status = (new ≡ None) × (status ≡ closed)
+AsksKept c (Some old) None status = ⊥
+AsksKept c (Some old) (Some new) status = AsksOrEnded old.ended c old new status
+
+-- what a call for a question that takes no memory does
+abbrev pub Asks : Handle → Handle → Result Command ℕ → ℕ → Type 0
+Asks old new c status = AsksKept c old.slot.kept new.slot.kept status
 
 -- what is kept once a reply was, and once memory was wanting
 abbrev pub with_reply : Kept → Reply → Kept

@@ -2,9 +2,9 @@
 use Rattle.std.specs.Prelude.{◌≡◌, ℕ, Bool, true, false, Option, Some, None}
 use Rattle.dom_model.specs.Worlds.World.{World}
 use Rattle.dom_session.specs.declared.in_use.Counts as found
-use Rattle.dom_session.specs.InUse.{in_use_of}
-use Rattle.dom_wire.specs.Sessions.{StandsFor}
-use Rattle.dom_c.specs.Statuses.{out_of_memory, closed}
+use Rattle.dom_session.specs.InUse.{in_use_of, in_use_in}
+use Rattle.dom_wire.specs.Sessions.{Held, StandsFor}
+use Rattle.dom_c.specs.Statuses.{has_ended, closed}
 use Rattle.dom_c.specs.declared.kept.Kept.{Kept}
 use Rattle.dom_c.specs.declared.handle.Handle.{Handle}
 use Rattle.dom_c.specs.declared.counting.Counts.{Counts}
@@ -24,21 +24,25 @@ counts_told u = record {
 abbrev pub in_use_told : World → Counts
 in_use_told w = counts_told (in_use_of w)
 
+-- the same of what a session holds, also once it has ended
+abbrev pub in_use_held : Held → Counts
+in_use_held s = counts_told (in_use_in s.world)
+
 -- what the session's world says is written, and nothing is refused
 pub record IsTold {A : Type 0} (tell : World → A) (kept : Kept) (after : A) (status : ℕ) : Type 0 where
   pub status_is : status ≡ 0
   pub written_is : (w : World) → StandsFor kept.session w → after ≡ tell w
 
--- the same, or memory was wanting before
-abbrev pub IsToldOrEnded : {A : Type 0} → Bool → (World → A) → Kept → A → A → ℕ → Type 0
-IsToldOrEnded true tell kept before after status = (status ≡ out_of_memory) × (after ≡ before)
-IsToldOrEnded false tell kept before after status = IsTold tell kept after status
+-- the session goes on; or it has ended, and what it holds is written
+abbrev pub IsToldOrEnded : {A : Type 0} → Bool → (World → A) → (Held → A) → Kept → A → ℕ → Type 0
+IsToldOrEnded true tell held kept after status = (status ≡ has_ended) × (after ≡ held kept.session)
+IsToldOrEnded false tell held kept after status = IsTold tell kept after status
 
 -- a closed handle says so
-abbrev pub TellsKept : {A : Type 0} → (World → A) → Option Kept → A → A → ℕ → Type 0
-TellsKept tell None before after status = (status ≡ closed) × (after ≡ before)
-TellsKept tell (Some kept) before after status = IsToldOrEnded kept.ended tell kept before after status
+abbrev pub TellsKept : {A : Type 0} → (World → A) → (Held → A) → Option Kept → A → A → ℕ → Type 0
+TellsKept tell held None before after status = (status ≡ closed) × (after ≡ before)
+TellsKept tell held (Some kept) before after status = IsToldOrEnded kept.ended tell held kept after status
 
 -- what a call that tells of a world writes, and its status
-abbrev pub TellsWorld : {A : Type 0} → Handle → (World → A) → A → A → ℕ → Type 0
-TellsWorld h tell before after status = TellsKept tell h.slot.kept before after status
+abbrev pub TellsWorld : {A : Type 0} → Handle → (World → A) → (Held → A) → A → A → ℕ → Type 0
+TellsWorld h tell held before after status = TellsKept tell held h.slot.kept before after status

@@ -4,12 +4,17 @@ use Rattle.dom_model.specs.declared.OwnError.{OwnError}
 use Rattle.dom_model.specs.Forests.Attributes.{Attribute}
 use Rattle.dom_model.specs.Forests.Forest.{Forest}
 use Rattle.dom_model.specs.Worlds.World.{Content, World}
-use Rattle.dom_session.specs.Lending.{lent_as, data_in, attribute_in}
-use Rattle.dom_wire.specs.Sessions.{StandsFor}
-use Rattle.dom_c.specs.Statuses.{status_of_own, out_of_memory, closed}
+use Rattle.dom_session.specs.Lending.{lent_as, lent_whole, label_in, data_in, attribute_in}
+use Rattle.dom_wire.specs.Sessions.{StandsFor, held_world}
+use Rattle.dom_c.specs.Statuses.{status_of_own, not_there, has_ended, closed}
 use Rattle.dom_c.specs.Reading.{status_found, or_before}
+use Rattle.dom_c.specs.Rows.{name_part}
 use Rattle.dom_c.specs.declared.kept.Kept.{Kept}
 use Rattle.dom_c.specs.declared.handle.Handle.{Handle}
+
+-- a part of a node's name
+abbrev pub name_told : ℕ → ℕ → Forest Content → Result (Option (List ℕ)) OwnError
+name_told n part f = lent_whole (name_part part) (label_in f n)
 
 abbrev pub data_told : ℕ → Forest Content → Result (Option (List ℕ)) OwnError
 data_told n f = data_in f n
@@ -34,9 +39,23 @@ pub record IsLent {A : Type 0} (find : Forest Content → Result (Option A) OwnE
   pub status_is : (w : World) → StandsFor kept.session w → status ≡ status_of_lent (find w.forest)
   pub lent_is : (w : World) → StandsFor kept.session w → after ≡ lent_or_before (find w.forest) before
 
--- the same, or memory was wanting before
+-- the status of what was looked for in a session that has ended
+abbrev pub status_found_at_end : {A : Type 0} → Option A → ℕ
+status_found_at_end None = not_there
+status_found_at_end (Some a) = has_ended
+
+abbrev pub status_of_lent_at_end : {A : Type 0} → Result (Option A) OwnError → ℕ
+status_of_lent_at_end (Ok lent) = status_found_at_end lent
+status_of_lent_at_end (Err e) = status_of_own e
+
+-- the same of a session that has ended, of the world that it holds
+pub record IsLentAtEnd {A : Type 0} (find : Forest Content → Result (Option A) OwnError) (kept : Kept) (before after : A) (status : ℕ) : Type 0 where
+  pub status_is : status ≡ status_of_lent_at_end (find (held_world kept.session).forest)
+  pub lent_is : after ≡ lent_or_before (find (held_world kept.session).forest) before
+
+-- the session goes on, or has ended
 abbrev pub IsLentOrEnded : {A : Type 0} → Bool → (Forest Content → Result (Option A) OwnError) → Kept → A → A → ℕ → Type 0
-IsLentOrEnded true find kept before after status = (status ≡ out_of_memory) × (after ≡ before)
+IsLentOrEnded true find kept before after status = IsLentAtEnd find kept before after status
 IsLentOrEnded false find kept before after status = IsLent find kept before after status
 
 -- a closed handle says so

@@ -6,8 +6,8 @@ use Rattle.dom_model.specs.Forests.Forest.{Forest, children_of}
 use Rattle.dom_model.specs.Worlds.World.{Content, World}
 use Rattle.dom_session.specs.declared.links.Links.{Links}
 use Rattle.dom_session.specs.Links.{links_in, first_child_in, last_child_in, child_in, count_in, laid_over}
-use Rattle.dom_wire.specs.Sessions.{StandsFor}
-use Rattle.dom_c.specs.Statuses.{status_of_own, out_of_memory, closed}
+use Rattle.dom_wire.specs.Sessions.{StandsFor, held_world}
+use Rattle.dom_c.specs.Statuses.{status_of_own, has_ended, closed}
 use Rattle.dom_c.specs.Told.{number_or_null}
 use Rattle.dom_c.specs.declared.kept.Kept.{Kept}
 use Rattle.dom_c.specs.declared.handle.Handle.{Handle}
@@ -64,9 +64,19 @@ pub record IsRead {A : Type 0} (read : Forest Content → Result A OwnError) (ke
   pub status_is : (w : World) → StandsFor kept.session w → status ≡ status_of_read (read w.forest)
   pub written_is : (w : World) → StandsFor kept.session w → after ≡ written (read w.forest) before
 
--- the same, or memory was wanting before
+-- the status of what was read of a session that has ended
+abbrev pub status_of_read_at_end : {A : Type 0} → Result A OwnError → ℕ
+status_of_read_at_end (Ok a) = has_ended
+status_of_read_at_end (Err e) = status_of_own e
+
+-- the same of a session that has ended, of the world that it holds
+pub record IsReadAtEnd {A : Type 0} (read : Forest Content → Result A OwnError) (kept : Kept) (before after : A) (status : ℕ) : Type 0 where
+  pub status_is : status ≡ status_of_read_at_end (read (held_world kept.session).forest)
+  pub written_is : after ≡ written (read (held_world kept.session).forest) before
+
+-- the session goes on, or has ended
 abbrev pub IsReadOrEnded : {A : Type 0} → Bool → (Forest Content → Result A OwnError) → Kept → A → A → ℕ → Type 0
-IsReadOrEnded true read kept before after status = (status ≡ out_of_memory) × (after ≡ before)
+IsReadOrEnded true read kept before after status = IsReadAtEnd read kept before after status
 IsReadOrEnded false read kept before after status = IsRead read kept before after status
 
 -- a closed handle says so

@@ -1,5 +1,5 @@
 -- The statuses of calls: the standard's codes for its exceptions (Web IDL, "DOMException"), and ours from 32 on.
-use Rattle.std.specs.Prelude.{ℕ}
+use Rattle.std.specs.Prelude.{ℕ, Bool, true, false}
 use Rattle.dom_model.specs.declared.DomError.{DomError}
 use Rattle.dom_model.specs.declared.DomError.TheVariants.{IndexSizeError, HierarchyRequestError, WrongDocumentError, InvalidCharacterError, NotFoundError, NotSupportedError, InvalidStateError, InvalidNodeTypeError, TypeError}
 use Rattle.dom_model.specs.declared.OwnError.{OwnError}
@@ -58,3 +58,18 @@ bad_choice = 54
 -- the last answer, or the node, has no such part
 abbrev pub not_there : ℕ
 not_there = 55
+
+-- the session has ended, and the answer is of what it holds
+abbrev pub has_ended : ℕ
+has_ended = 56
+
+-- the status of what was found
+abbrev pub found_at : Bool → ℕ
+found_at true = has_ended
+found_at false = 0
+
+-- the status of a reply of a session that has ended
+abbrev pub status_at_end : Reply → ℕ
+status_at_end (Done a) = has_ended
+status_at_end (Dom e) = status_of_dom e
+status_at_end (Own e) = status_of_own e

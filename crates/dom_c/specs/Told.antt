@@ -4,6 +4,7 @@ use Rattle.std.specs.declared.cmp.Ordering.{Ordering}
 use Rattle.std.specs.declared.cmp.Ordering.TheVariants.{Less, Equal, Greater}
 use Rattle.dom_model.specs.Commands.Reply.{Reply, Done, Answer, Number, MaybeNumber, Flag, Order}
 use Rattle.dom_wire.specs.Sessions.{reply_view}
+use Rattle.dom_c.specs.Statuses.{has_ended}
 use Rattle.dom_c.specs.declared.kept.Kept.{Kept}
 use Rattle.dom_c.specs.declared.handle.Handle.{Handle}
 
@@ -24,6 +25,10 @@ told_of k status = if nat_eq status 0 then last_of k else None
 
 abbrev pub told : Handle → ℕ → Option Answer
 told h status = option_and_then (λ k. told_of k status) h.slot.kept
+
+-- the answer of a session that has ended is told as one of a session that goes on
+abbrev pub as_answered : ℕ → ℕ
+as_answered status = if nat_eq status has_ended then 0 else status
 
 -- what is written where such an answer is told; otherwise what was there stays
 abbrev pub number_told : Option Answer → ℕ → ℕ

@@ -4,20 +4,20 @@ ghost use Rattle.std.specs.Prelude.{◌≡◌, ℕ, List, Ok, Result};
 ghost use Rattle.dom_model.specs.declared.Move.{Move as AMove};
 ghost use Rattle.dom_model.specs.Commands.Command.{Command as PlainCommand, CreateElement, CreateText, NextNode, PreviousNode, Walk, HasAttribute};
 ghost use Rattle.dom_session.specs.Brief.{reply_of};
-ghost use Rattle.dom_session.specs.Views.{making_view, editing_view};
+ghost use Rattle.dom_session.specs.Views.{making_view, editing_view, reading_view};
 ghost use Rattle.dom_wire.specs.Sessions.{command_view, reply_view};
-ghost use Rattle.dom_c.specs.Answers.{Steps, step_for, Answers, with_reply, at_end};
-ghost use Rattle.dom_c.specs.Reads.{Reads, IsFaultOf, then_make};
-ghost use Rattle.dom_c.specs.Statuses.{status_of, out_of_memory};
+ghost use Rattle.dom_c.specs.Answers.{Steps, step_for, Answers, AsksOrEnded, with_reply, at_end};
+ghost use Rattle.dom_c.specs.Reads.{Reads, IsFaultOf, name_in, then_make};
+ghost use Rattle.dom_c.specs.Statuses.{status_of, status_at_end, out_of_memory};
 
 use crate::fault::Fault;
 use crate::handle::Handle;
 use crate::kept::Kept;
 use crate::status::{
-    HP_BAD_CHOICE, HP_BAD_LENGTHS, HP_CLOSED, HP_NOT_UTF8, HP_OUT_OF_MEMORY, status_of,
-    status_of_brief,
+    HP_BAD_CHOICE, HP_BAD_LENGTHS, HP_CLOSED, HP_NOT_UTF8, HP_OUT_OF_MEMORY, status_at_end,
+    status_of, status_of_brief,
 };
-use dom_session::{Brief, Editing, IteratorId, Making, Move, NodeId, Units, WalkerId};
+use dom_session::{Brief, Editing, IteratorId, Making, Move, NodeId, Reading, Units, WalkerId};
 use dom_wire::{Command, Ended, Reply};
 
 impl Kept {
@@ -157,18 +157,37 @@ impl Kept {
         }
     }
 
+    // Keeps a reply of a session that has ended, and tells its status.
+    fn keep_at_end(&mut self, reply: Reply) -> u8
+        ensures kept { self.new ≡ with_reply self.old reply }
+        ensures status { result ≡ status_at_end (reply_view reply) }
+    {
+        let status = status_at_end(&reply);
+        let _ = self.keep(reply);
+        status
+    }
+
+    /// Answers a question that takes no memory, and keeps the reply.
+    pub(crate) fn read(&mut self, question: Reading) -> u8
+        ensures { AsksOrEnded self.old.ended (Ok (reading_view question)) self.old self.new result }
+    {
+        let reply = self.session.read(question);
+        if self.ended {
+            return self.keep_at_end(reply);
+        }
+        self.keep(reply)
+    }
+
     // Tells whether an element has an attribute, and keeps the reply.
     fn ask_attribute(&mut self, element: NodeId, name: &str) -> u8
-        ensures { Steps (step_for self.old (Ok (HasAttribute element name.now))) self.old self.new
+        ensures { AsksOrEnded self.old.ended (Ok (HasAttribute element name.now)) self.old self.new
             result }
     {
+        let reply = self.session.read_attribute(element, name);
         if self.ended {
-            return HP_OUT_OF_MEMORY;
+            return self.keep_at_end(reply);
         }
-        match self.session.has_attribute(element, name) {
-            Ok(reply) => self.keep(reply),
-            Err(Ended) => self.end(),
-        }
+        self.keep(reply)
     }
 
     // Says what is wrong with arguments. Memory that was wanting ends the session.
@@ -245,16 +264,15 @@ impl Kept {
         }
     }
 
-    /// Tells whether an element has an attribute of a name that was read, or says what is wrong
-    /// with it.
-    pub(crate) fn has_attribute(&mut self, element: NodeId, name: Result<&str, Fault>) -> u8
-        ensures { (c : Result (List ℕ) ℕ) → Reads (λ name. name.now) name.entry c →
-            Steps (step_for self.old (then_make c (λ name. Ok (HasAttribute element name))))
-            self.old self.new result }
+    /// Tells whether an element has an attribute of a name, or says that the name is no UTF-8.
+    pub(crate) fn has_attribute(&mut self, element: NodeId, name: &[u8]) -> u8
+        ensures { AsksOrEnded self.old.ended
+            (then_make (name_in name.now) (λ name. Ok (HasAttribute element name))) self.old
+            self.new result }
     {
-        match name {
+        match str::from_utf8(name) {
             Ok(name) => self.ask_attribute(element, name),
-            Err(fault) => self.refuse(fault),
+            Err(_) => HP_NOT_UTF8,
         }
     }
 }

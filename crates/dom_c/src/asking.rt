@@ -2,15 +2,15 @@
 
 ghost use Rattle.std.specs.Prelude.{◌≡◌, Ok};
 ghost use Rattle.dom_model.specs.Commands.Command.{DescribeNode, Children, Index, Length, Root, IsContaining, IsEqual, ComparePosition, TextContent, Tree};
-ghost use Rattle.dom_c.specs.Answers.{Answers};
+ghost use Rattle.dom_c.specs.Answers.{Answers, Asks};
 ghost use Rattle.dom_c.specs.Reads.{number_or_none};
-ghost use Rattle.dom_c.specs.Told.{told, count_told, flag_told, number_told};
+ghost use Rattle.dom_c.specs.Told.{told, as_answered, count_told, flag_told, number_told};
 ghost use Rattle.dom_c.specs.Places.{place_told};
 
 use crate::handle::Handle;
 use crate::places::Place;
 use crate::reading::node_or_none;
-use dom_session::{Asking, Copying, NodeId, Texts};
+use dom_session::{Asking, Copying, NodeId, Reading, Texts};
 use dom_wire::Command;
 
 /// Tells where a node stands, and of which kind it is; `hp_node_name` lends its names.
@@ -36,31 +36,28 @@ pub extern "C" fn hp_children(handle: &mut Handle, node: u32) -> u8
 /// How many siblings stand before a node.
 #[unsafe(no_mangle)]
 pub extern "C" fn hp_index(handle: &mut Handle, node: u32, index: &mut usize) -> u8
-    ensures answers { Answers handle.old handle.new (Ok (Index node)) result }
-    ensures told { index.new ≡ count_told (told handle.new result) index.old }
+    ensures answers { Asks handle.old handle.new (Ok (Index node)) result }
+    ensures told { index.new ≡ count_told (told handle.new (as_answered result)) index.old }
 {
-    handle.take_count(Ok(Command::Asking(Asking::Index(NodeId::new(node)))), index)
+    handle.read_count(Reading::Index(NodeId::new(node)), index)
 }
 
 /// The length of a node.
 #[unsafe(no_mangle)]
 pub extern "C" fn hp_length(handle: &mut Handle, node: u32, length: &mut usize) -> u8
-    ensures answers { Answers handle.old handle.new (Ok (Length node)) result }
-    ensures told { length.new ≡ count_told (told handle.new result) length.old }
+    ensures answers { Asks handle.old handle.new (Ok (Length node)) result }
+    ensures told { length.new ≡ count_told (told handle.new (as_answered result)) length.old }
 {
-    handle.take_count(
-        Ok(Command::Asking(Asking::Length(NodeId::new(node)))),
-        length,
-    )
+    handle.read_count(Reading::Length(NodeId::new(node)), length)
 }
 
 /// The root of a node.
 #[unsafe(no_mangle)]
 pub extern "C" fn hp_root(handle: &mut Handle, node: u32, root: &mut u32) -> u8
-    ensures answers { Answers handle.old handle.new (Ok (Root node)) result }
-    ensures told { root.new ≡ number_told (told handle.new result) root.old }
+    ensures answers { Asks handle.old handle.new (Ok (Root node)) result }
+    ensures told { root.new ≡ number_told (told handle.new (as_answered result)) root.old }
 {
-    handle.take_number(Ok(Command::Asking(Asking::Root(NodeId::new(node)))), root)
+    handle.read_number(Reading::Root(NodeId::new(node)), root)
 }
 
 /// Whether another node is an inclusive descendant; `HP_NONE` is none.

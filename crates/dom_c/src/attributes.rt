@@ -3,13 +3,13 @@
 ghost use Rattle.std.specs.Prelude.{◌≡◌, Ok};
 ghost use Rattle.dom_model.specs.Commands.Command.{SetAttribute, GetAttribute, HasAttribute, RemoveAttribute, ToggleAttribute, AttributeNames};
 ghost use Rattle.dom_wire.specs.Sessions.{command_view};
-ghost use Rattle.dom_c.specs.Answers.{Answers};
+ghost use Rattle.dom_c.specs.Answers.{Answers, Asks};
 ghost use Rattle.dom_c.specs.Reads.{Reads, choice_in, name_in, then_make};
-ghost use Rattle.dom_c.specs.Told.{told, flag_told};
+ghost use Rattle.dom_c.specs.Told.{told, as_answered, flag_told};
 
 use crate::fault::Fault;
 use crate::handle::Handle;
-use crate::reading::{choice_of, lent_name, name_of, units_of};
+use crate::reading::{choice_of, name_of, units_of};
 use dom_session::{Attributes, NodeId};
 use dom_wire::Command;
 use std::alloc::Global;
@@ -67,7 +67,7 @@ pub extern "C" fn hp_get_attribute(
     handle.take(read_get_attribute(alloc, element, name))
 }
 
-/// Whether there is an attribute of that name.
+/// Whether there is an attribute of that name. No memory is taken, and a session that has ended answers by `HP_ENDED`.
 #[unsafe(no_mangle)]
 pub extern "C" fn hp_has_attribute(
     handle: &mut Handle,
@@ -75,11 +75,11 @@ pub extern "C" fn hp_has_attribute(
     name: &[u8],
     is_there: &mut u8,
 ) -> u8
-    ensures answers { Answers handle.old handle.new
+    ensures answers { Asks handle.old handle.new
         (then_make (name_in name.now) (λ name. Ok (HasAttribute element name))) result }
-    ensures told { is_there.new ≡ flag_told (told handle.new result) is_there.old }
+    ensures told { is_there.new ≡ flag_told (told handle.new (as_answered result)) is_there.old }
 {
-    handle.has_attribute(NodeId::new(element), lent_name(name), is_there)
+    handle.has_attribute(NodeId::new(element), name, is_there)
 }
 
 // Reads the arguments of `hp_remove_attribute`.

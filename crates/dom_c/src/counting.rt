@@ -3,11 +3,11 @@
 ghost use Rattle.std.specs.Prelude.{◌≡◌};
 ghost use Rattle.dom_model.specs.Worlds.World.{World};
 ghost use Rattle.dom_wire.specs.Sessions.{StandsFor};
-ghost use Rattle.dom_c.specs.Counting.{TellsWorld, counts_told, in_use_told};
+ghost use Rattle.dom_c.specs.Counting.{TellsWorld, counts_told, in_use_told, in_use_held};
 
 use crate::handle::Handle;
 use crate::kept::Kept;
-use crate::status::{HP_CLOSED, HP_OK, HP_OUT_OF_MEMORY};
+use crate::status::HP_CLOSED;
 use dom_session::Counts as Found;
 
 /// How many objects of each kind there are: those that were made, and neither discarded nor released. The registrations are those of all
@@ -41,7 +41,8 @@ fn counts_told(found: Found) -> Counts
 
 impl Kept {
     fn in_use(&self) -> Counts
-        ensures { (w : World) → StandsFor self.now.session w → result ≡ in_use_told w }
+        ensures shown { (w : World) → StandsFor self.now.session w → result ≡ in_use_told w }
+        ensures held { result ≡ in_use_held self.now.session }
     {
         counts_told(self.session.in_use())
     }
@@ -51,15 +52,12 @@ impl Kept {
 #[unsafe(no_mangle)]
 pub extern "C" fn hp_in_use(handle: &mut Handle, counts: &mut Counts) -> u8
     ensures kept { handle.new.slot.kept ≡ handle.old.slot.kept }
-    ensures told { TellsWorld handle.old in_use_told counts.old counts.new result }
+    ensures told { TellsWorld handle.old in_use_told in_use_held counts.old counts.new result }
 {
     if !handle.is_open {
         return HP_CLOSED;
     }
     let kept = &handle.slot.lend().kept;
-    if kept.ended {
-        return HP_OUT_OF_MEMORY;
-    }
     *counts = kept.in_use();
-    HP_OK
+    kept.found()
 }

@@ -3,15 +3,15 @@
 ghost use Rattle.std.specs.Prelude.{◌≡◌, ℕ, List, Ok, Result};
 ghost use Rattle.dom_model.specs.declared.Move.{Move as AMove};
 ghost use Rattle.dom_model.specs.Commands.Command.{Command as PlainCommand, CreateElement, CreateText, NextNode, PreviousNode, Walk, HasAttribute};
-ghost use Rattle.dom_session.specs.Views.{making_view, editing_view};
-ghost use Rattle.dom_c.specs.Answers.{Answers};
-ghost use Rattle.dom_c.specs.Reads.{Reads, then_make};
-ghost use Rattle.dom_c.specs.Told.{told, number_told, maybe_number_told, flag_told};
+ghost use Rattle.dom_session.specs.Views.{making_view, editing_view, reading_view};
+ghost use Rattle.dom_c.specs.Answers.{Answers, Asks};
+ghost use Rattle.dom_c.specs.Reads.{Reads, name_in, then_make};
+ghost use Rattle.dom_c.specs.Told.{told, as_answered, number_told, maybe_number_told, flag_told};
 
 use crate::fault::Fault;
 use crate::handle::Handle;
-use crate::status::HP_CLOSED;
-use dom_session::{Editing, IteratorId, Making, Move, NodeId, Units, WalkerId};
+use crate::status::{HP_CLOSED, as_answered};
+use dom_session::{Editing, IteratorId, Making, Move, NodeId, Reading, Units, WalkerId};
 
 impl Handle {
     /// Takes a command that makes a node, or says what is wrong with its arguments. Writes the number of the node.
@@ -130,25 +130,29 @@ impl Handle {
         status
     }
 
-    /// Tells whether an element has an attribute of a name that was read, or says what is wrong
-    /// with it. Writes a yes or a no: 1 or 0.
-    pub(crate) fn has_attribute(
-        &mut self,
-        element: NodeId,
-        name: Result<&str, Fault>,
-        flag: &mut u8,
-    ) -> u8
-        ensures answers { (c : Result (List ℕ) ℕ) → Reads (λ name. name.now) name.entry c →
-            Answers self.old self.new (then_make c (λ name. Ok (HasAttribute element name)))
-            result }
-        ensures told { flag.new ≡ flag_told (told self.new result) flag.old }
+    /// Tells whether an element has an attribute of a name, or says that the name is no UTF-8. Writes a
+    /// yes or a no: 1 or 0.
+    pub(crate) fn has_attribute(&mut self, element: NodeId, name: &[u8], flag: &mut u8) -> u8
+        ensures answers { Asks self.old self.new
+            (then_make (name_in name.now) (λ name. Ok (HasAttribute element name))) result }
+        ensures told { flag.new ≡ flag_told (told self.new (as_answered result)) flag.old }
     {
         if !self.is_open {
             return HP_CLOSED;
         }
         let kept = &mut self.slot.lend().kept;
         let status = kept.has_attribute(element, name);
-        kept.write_flag(status, flag);
+        kept.write_flag(as_answered(status), flag);
         status
+    }
+
+    /// Answers a question that takes no memory.
+    pub(crate) fn read(&mut self, question: Reading) -> u8
+        ensures { Asks self.old self.new (Ok (reading_view question)) result }
+    {
+        if !self.is_open {
+            return HP_CLOSED;
+        }
+        self.slot.lend().kept.read(question)
     }
 }

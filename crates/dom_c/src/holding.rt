@@ -1,11 +1,60 @@
-//! What a node holds, lent with no command: the last answer stays, and no memory is taken.
+//! What a node holds, lent with no command: the last answer stays, and no memory is taken. A session that has ended lends too what it
+//! holds, by `HP_ENDED`.
 
-ghost use Rattle.dom_c.specs.Holding.{LendsForest, data_told, attribute_name_told, attribute_value_told};
+ghost use Rattle.std.specs.Prelude.{◌≡◌};
+ghost use Rattle.dom_model.specs.Worlds.World.{World};
+ghost use Rattle.dom_session.specs.Lending.{lent_as};
+ghost use Rattle.dom_wire.specs.Sessions.{StandsFor, held_world};
+ghost use Rattle.dom_c.specs.Holding.{LendsForest, name_told, data_told, attribute_name_told, attribute_value_told};
 
 use crate::handle::Handle;
+use crate::kept::Kept;
+use crate::labels::name_part;
 use crate::lending::{Bytes, Text};
-use crate::status::{HP_CLOSED, HP_NOT_THERE, HP_OK, HP_OUT_OF_MEMORY, status_of_own};
+use crate::status::{HP_CLOSED, HP_NOT_THERE, status_of_own};
 use dom_session::NodeId;
+use dom_wire::OwnError;
+
+impl Kept {
+    // A part of a node's name.
+    fn name_of(&self, node: u32, part: u8) -> Result<Option<&[u8]>, OwnError>
+        ensures shown { (w : World) → StandsFor self.now.session w →
+            lent_as (λ name. name.now) result ≡ name_told node part w.forest }
+        ensures held { lent_as (λ name. name.now) result
+            ≡ name_told node part (held_world self.now.session).forest }
+    {
+        match self.session.label_of(NodeId::new(node)) {
+            Ok(label) => Ok(name_part(label, part)),
+            Err(error) => Err(error),
+        }
+    }
+}
+
+/// A part of a node's name: 0 the name of an Element or a DocumentType, or the target of a ProcessingInstruction; 1 the public id and
+/// 2 the system id of a DocumentType. Another kind has none.
+#[unsafe(no_mangle)]
+pub extern "C" fn hp_name_of<'a>(
+    handle: &'a mut Handle,
+    node: u32,
+    part: u8,
+    out: &mut Bytes<'a>,
+) -> u8
+    ensures { LendsForest handle.old (name_told node part) out.old.bytes.now out.new.bytes.now
+        result }
+{
+    if !handle.is_open {
+        return HP_CLOSED;
+    }
+    let kept = &handle.slot.lend().kept;
+    match kept.name_of(node, part) {
+        Ok(Some(name)) => {
+            out.bytes = name;
+            kept.found()
+        }
+        Ok(None) => HP_NOT_THERE,
+        Err(error) => status_of_own(error),
+    }
+}
 
 /// The data of a Text, a Comment or a ProcessingInstruction. Another kind has none.
 #[unsafe(no_mangle)]
@@ -16,13 +65,10 @@ pub extern "C" fn hp_data_of<'a>(handle: &'a mut Handle, node: u32, out: &mut Te
         return HP_CLOSED;
     }
     let kept = &handle.slot.lend().kept;
-    if kept.ended {
-        return HP_OUT_OF_MEMORY;
-    }
     match kept.session.data_of(NodeId::new(node)) {
         Ok(Some(units)) => {
             out.units = units;
-            HP_OK
+            kept.found()
         }
         Ok(None) => HP_NOT_THERE,
         Err(error) => status_of_own(error),
@@ -47,14 +93,11 @@ pub extern "C" fn hp_attribute_at<'a>(
         return HP_CLOSED;
     }
     let kept = &handle.slot.lend().kept;
-    if kept.ended {
-        return HP_OUT_OF_MEMORY;
-    }
     match kept.session.attribute_at(NodeId::new(node), index) {
         Ok(Some((its_name, its_value))) => {
             name.bytes = its_name.as_bytes();
             value.units = its_value.units();
-            HP_OK
+            kept.found()
         }
         Ok(None) => HP_NOT_THERE,
         Err(error) => status_of_own(error),

@@ -1,14 +1,16 @@
-//! What stands around a node, read with no command: the last answer stays, and no memory is taken.
+//! What stands around a node, read with no command: the last answer stays, and no memory is taken. A session that has ended answers
+//! too, of what it holds, by `HP_ENDED`.
 
 ghost use Rattle.std.specs.Prelude.{◌≡◌};
 ghost use Rattle.dom_model.specs.Worlds.World.{World};
-ghost use Rattle.dom_wire.specs.Sessions.{StandsFor};
+ghost use Rattle.dom_wire.specs.Sessions.{StandsFor, held_world};
+ghost use Rattle.dom_c.specs.Statuses.{found_at};
 ghost use Rattle.dom_c.specs.Nearby.{ReadsForest, node_links, links_told, first_child_told, last_child_told, child_told, count_told, children_over};
 
 use crate::handle::Handle;
 use crate::kept::Kept;
 use crate::placing::{kind_number, node_number};
-use crate::status::{HP_CLOSED, HP_OK, HP_OUT_OF_MEMORY, status_of_own};
+use crate::status::{HP_CLOSED, HP_ENDED, HP_OK, status_of_own};
 use dom_session::{Links, NodeId};
 use dom_wire::OwnError;
 
@@ -46,8 +48,17 @@ fn node_links(links: Links) -> NodeLinks
 }
 
 impl Kept {
+    /// The status of what was found: `HP_OK`, or `HP_ENDED` once the session has ended.
+    pub(crate) fn found(&self) -> u8
+        ensures { result ≡ found_at self.now.ended }
+    {
+        if self.ended { HP_ENDED } else { HP_OK }
+    }
+
     fn links(&self, node: u32) -> Result<NodeLinks, OwnError>
-        ensures { (w : World) → StandsFor self.now.session w → result ≡ links_told node w.forest }
+        ensures shown { (w : World) → StandsFor self.now.session w →
+            result ≡ links_told node w.forest }
+        ensures held { result ≡ links_told node (held_world self.now.session).forest }
     {
         match self.session.links(NodeId::new(node)) {
             Ok(found) => Ok(node_links(found)),
@@ -56,8 +67,9 @@ impl Kept {
     }
 
     fn first_child(&self, node: u32) -> Result<u32, OwnError>
-        ensures { (w : World) → StandsFor self.now.session w →
+        ensures shown { (w : World) → StandsFor self.now.session w →
             result ≡ first_child_told node w.forest }
+        ensures held { result ≡ first_child_told node (held_world self.now.session).forest }
     {
         match self.session.first_child(NodeId::new(node)) {
             Ok(found) => Ok(node_number(found)),
@@ -66,8 +78,9 @@ impl Kept {
     }
 
     fn last_child(&self, node: u32) -> Result<u32, OwnError>
-        ensures { (w : World) → StandsFor self.now.session w →
+        ensures shown { (w : World) → StandsFor self.now.session w →
             result ≡ last_child_told node w.forest }
+        ensures held { result ≡ last_child_told node (held_world self.now.session).forest }
     {
         match self.session.last_child(NodeId::new(node)) {
             Ok(found) => Ok(node_number(found)),
@@ -76,8 +89,9 @@ impl Kept {
     }
 
     fn child_at(&self, node: u32, index: usize) -> Result<u32, OwnError>
-        ensures { (w : World) → StandsFor self.now.session w →
+        ensures shown { (w : World) → StandsFor self.now.session w →
             result ≡ child_told node index w.forest }
+        ensures held { result ≡ child_told node index (held_world self.now.session).forest }
     {
         match self.session.child_at(NodeId::new(node), index) {
             Ok(found) => Ok(node_number(found)),
@@ -96,13 +110,10 @@ pub extern "C" fn hp_links(handle: &mut Handle, node: u32, links: &mut NodeLinks
         return HP_CLOSED;
     }
     let kept = &handle.slot.lend().kept;
-    if kept.ended {
-        return HP_OUT_OF_MEMORY;
-    }
     match kept.links(node) {
         Ok(found) => {
             *links = found;
-            HP_OK
+            kept.found()
         }
         Err(error) => status_of_own(error),
     }
@@ -118,13 +129,10 @@ pub extern "C" fn hp_first_child(handle: &mut Handle, node: u32, child: &mut u32
         return HP_CLOSED;
     }
     let kept = &handle.slot.lend().kept;
-    if kept.ended {
-        return HP_OUT_OF_MEMORY;
-    }
     match kept.first_child(node) {
         Ok(found) => {
             *child = found;
-            HP_OK
+            kept.found()
         }
         Err(error) => status_of_own(error),
     }
@@ -140,13 +148,10 @@ pub extern "C" fn hp_last_child(handle: &mut Handle, node: u32, child: &mut u32)
         return HP_CLOSED;
     }
     let kept = &handle.slot.lend().kept;
-    if kept.ended {
-        return HP_OUT_OF_MEMORY;
-    }
     match kept.last_child(node) {
         Ok(found) => {
             *child = found;
-            HP_OK
+            kept.found()
         }
         Err(error) => status_of_own(error),
     }
@@ -162,13 +167,10 @@ pub extern "C" fn hp_child_at(handle: &mut Handle, node: u32, index: usize, chil
         return HP_CLOSED;
     }
     let kept = &handle.slot.lend().kept;
-    if kept.ended {
-        return HP_OUT_OF_MEMORY;
-    }
     match kept.child_at(node, index) {
         Ok(found) => {
             *child = found;
-            HP_OK
+            kept.found()
         }
         Err(error) => status_of_own(error),
     }
@@ -192,13 +194,10 @@ pub extern "C" fn hp_children_into(
         return HP_CLOSED;
     }
     let kept = &handle.slot.lend().kept;
-    if kept.ended {
-        return HP_OUT_OF_MEMORY;
-    }
     match kept.session.copy_children(NodeId::new(node), numbers) {
         Ok(found) => {
             *count = found;
-            HP_OK
+            kept.found()
         }
         Err(error) => status_of_own(error),
     }

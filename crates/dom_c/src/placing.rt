@@ -1,11 +1,11 @@
 //! What is written of an answer through the pointers of C: where things stand.
 
-ghost use Rattle.std.specs.Prelude.{◌≡◌, ℕ, Result, Some};
+ghost use Rattle.std.specs.Prelude.{◌≡◌, ℕ, Result, Ok, Some};
 ghost use Rattle.dom_model.specs.Commands.Command.{Command as PlainCommand};
-ghost use Rattle.dom_wire.specs.Sessions.{command_view, answer_view};
-ghost use Rattle.dom_c.specs.Answers.{Answers};
+ghost use Rattle.dom_wire.specs.Sessions.{command_view, reading_view, answer_view};
+ghost use Rattle.dom_c.specs.Answers.{Answers, Asks};
 ghost use Rattle.dom_c.specs.Reads.{Reads};
-ghost use Rattle.dom_c.specs.Told.{told, told_of, number_or_null};
+ghost use Rattle.dom_c.specs.Told.{told, told_of, as_answered, number_or_null};
 ghost use Rattle.dom_model.specs.Forests.Kinds.{number_of_kind};
 ghost use Rattle.dom_c.specs.Places.{ends_told, static_ends_told, iterator_at_told, walker_at_told, place_told};
 
@@ -13,10 +13,10 @@ use crate::fault::Fault;
 use crate::handle::Handle;
 use crate::kept::Kept;
 use crate::places::{Ends, IteratorAt, Place, StaticEnds, WalkerAt};
-use crate::status::{HP_NONE, HP_OK};
+use crate::status::{HP_NONE, HP_OK, as_answered};
 use crate::telling::flag_number;
 use dom_kinds::NodeType;
-use dom_session::{Answer, Kind, NodeId};
+use dom_session::{Answer, Kind, NodeId, Reading};
 use dom_wire::{Command, Reply};
 
 /// The number of a node, or `HP_NONE`.
@@ -163,66 +163,59 @@ impl Kept {
 }
 
 impl Handle {
-    /// Takes a command. Writes the ends of a live range.
-    pub(crate) fn take_ends(&mut self, command: Result<Command, Fault>, ends: &mut Ends) -> u8
-        ensures answers { (c : Result PlainCommand ℕ) → Reads command_view command c →
-            Answers self.old self.new c result }
-        ensures told { ends.new ≡ ends_told (told self.new result) ends.old }
+    /// Answers a question. Writes the ends of a live range.
+    pub(crate) fn read_ends(&mut self, question: Reading, ends: &mut Ends) -> u8
+        ensures answers { Asks self.old self.new (Ok (reading_view question)) result }
+        ensures told { ends.new ≡ ends_told (told self.new (as_answered result)) ends.old }
     {
-        let status = self.take(command);
+        let status = self.read(question);
         if self.is_open {
-            self.slot.lend().kept.write_ends(status, ends);
+            self.slot.lend().kept.write_ends(as_answered(status), ends);
         }
         status
     }
 
-    /// Takes a command. Writes the ends of a static range, and whether it is valid.
-    pub(crate) fn take_static_ends(
-        &mut self,
-        command: Result<Command, Fault>,
-        ends: &mut StaticEnds,
-    ) -> u8
-        ensures answers { (c : Result PlainCommand ℕ) → Reads command_view command c →
-            Answers self.old self.new c result }
-        ensures told { ends.new ≡ static_ends_told (told self.new result) ends.old }
+    /// Answers a question. Writes the ends of a static range, and whether it is valid.
+    pub(crate) fn read_static_ends(&mut self, question: Reading, ends: &mut StaticEnds) -> u8
+        ensures answers { Asks self.old self.new (Ok (reading_view question)) result }
+        ensures told { ends.new ≡ static_ends_told (told self.new (as_answered result)) ends.old }
     {
-        let status = self.take(command);
+        let status = self.read(question);
         if self.is_open {
-            self.slot.lend().kept.write_static_ends(status, ends);
+            self.slot
+                .lend()
+                .kept
+                .write_static_ends(as_answered(status), ends);
         }
         status
     }
 
-    /// Takes a command. Writes where an iterator stands.
-    pub(crate) fn take_iterator_at(
-        &mut self,
-        command: Result<Command, Fault>,
-        place: &mut IteratorAt,
-    ) -> u8
-        ensures answers { (c : Result PlainCommand ℕ) → Reads command_view command c →
-            Answers self.old self.new c result }
-        ensures told { place.new ≡ iterator_at_told (told self.new result) place.old }
+    /// Answers a question. Writes where an iterator stands.
+    pub(crate) fn read_iterator_at(&mut self, question: Reading, place: &mut IteratorAt) -> u8
+        ensures answers { Asks self.old self.new (Ok (reading_view question)) result }
+        ensures told { place.new ≡ iterator_at_told (told self.new (as_answered result)) place.old }
     {
-        let status = self.take(command);
+        let status = self.read(question);
         if self.is_open {
-            self.slot.lend().kept.write_iterator_at(status, place);
+            self.slot
+                .lend()
+                .kept
+                .write_iterator_at(as_answered(status), place);
         }
         status
     }
 
-    /// Takes a command. Writes where a walker stands.
-    pub(crate) fn take_walker_at(
-        &mut self,
-        command: Result<Command, Fault>,
-        place: &mut WalkerAt,
-    ) -> u8
-        ensures answers { (c : Result PlainCommand ℕ) → Reads command_view command c →
-            Answers self.old self.new c result }
-        ensures told { place.new ≡ walker_at_told (told self.new result) place.old }
+    /// Answers a question. Writes where a walker stands.
+    pub(crate) fn read_walker_at(&mut self, question: Reading, place: &mut WalkerAt) -> u8
+        ensures answers { Asks self.old self.new (Ok (reading_view question)) result }
+        ensures told { place.new ≡ walker_at_told (told self.new (as_answered result)) place.old }
     {
-        let status = self.take(command);
+        let status = self.read(question);
         if self.is_open {
-            self.slot.lend().kept.write_walker_at(status, place);
+            self.slot
+                .lend()
+                .kept
+                .write_walker_at(as_answered(status), place);
         }
         status
     }

@@ -2,13 +2,13 @@
 
 ghost use Rattle.std.specs.Prelude.{◌≡◌, Ok};
 ghost use Rattle.dom_model.specs.Commands.Command.{CreateRange, CloneRange, DescribeRange, SetStart, SetEnd, SetStartBefore, SetStartAfter, SetEndBefore, SetEndAfter, Collapse, SelectNode, SelectNodeContents, ReleaseRange};
-ghost use Rattle.dom_c.specs.Answers.{Answers};
-ghost use Rattle.dom_c.specs.Told.{told, number_told};
+ghost use Rattle.dom_c.specs.Answers.{Answers, Asks};
+ghost use Rattle.dom_c.specs.Told.{told, as_answered, number_told};
 ghost use Rattle.dom_c.specs.Places.{ends_told};
 
 use crate::handle::Handle;
 use crate::places::Ends;
-use dom_session::{NodeId, RangeId, Ranging, Setting};
+use dom_session::{NodeId, RangeId, Ranging, Reading, Setting};
 use dom_wire::Command;
 
 /// Makes a live range at the start of a document.
@@ -38,13 +38,10 @@ pub extern "C" fn hp_clone_range(handle: &mut Handle, range: u32, copy: &mut u32
 /// The ends of a live range.
 #[unsafe(no_mangle)]
 pub extern "C" fn hp_range(handle: &mut Handle, range: u32, ends: &mut Ends) -> u8
-    ensures answers { Answers handle.old handle.new (Ok (DescribeRange range)) result }
-    ensures told { ends.new ≡ ends_told (told handle.new result) ends.old }
+    ensures answers { Asks handle.old handle.new (Ok (DescribeRange range)) result }
+    ensures told { ends.new ≡ ends_told (told handle.new (as_answered result)) ends.old }
 {
-    handle.take_ends(
-        Ok(Command::Ranging(Ranging::DescribeRange(RangeId::new(range)))),
-        ends,
-    )
+    handle.read_ends(Reading::Range(RangeId::new(range)), ends)
 }
 
 /// Sets the start.

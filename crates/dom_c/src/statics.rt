@@ -2,13 +2,13 @@
 
 ghost use Rattle.std.specs.Prelude.{◌≡◌, Ok};
 ghost use Rattle.dom_model.specs.Commands.Command.{CreateStaticRange, DescribeStaticRange, ReleaseStaticRange};
-ghost use Rattle.dom_c.specs.Answers.{Answers};
-ghost use Rattle.dom_c.specs.Told.{told, number_told};
+ghost use Rattle.dom_c.specs.Answers.{Answers, Asks};
+ghost use Rattle.dom_c.specs.Told.{told, as_answered, number_told};
 ghost use Rattle.dom_c.specs.Places.{static_ends_told};
 
 use crate::handle::Handle;
 use crate::places::StaticEnds;
-use dom_session::{NodeId, Point, StaticId, StaticRanging};
+use dom_session::{NodeId, Point, Reading, StaticId, StaticRanging};
 use dom_wire::Command;
 
 /// Makes a static range.
@@ -44,13 +44,10 @@ pub extern "C" fn hp_create_static_range(
 /// The ends of a static range, and whether it is valid.
 #[unsafe(no_mangle)]
 pub extern "C" fn hp_static_range(handle: &mut Handle, range: u32, ends: &mut StaticEnds) -> u8
-    ensures answers { Answers handle.old handle.new (Ok (DescribeStaticRange range)) result }
-    ensures told { ends.new ≡ static_ends_told (told handle.new result) ends.old }
+    ensures answers { Asks handle.old handle.new (Ok (DescribeStaticRange range)) result }
+    ensures told { ends.new ≡ static_ends_told (told handle.new (as_answered result)) ends.old }
 {
-    handle.take_static_ends(
-        Ok(Command::StaticRanging(StaticRanging::DescribeStaticRange(StaticId::new(range)))),
-        ends,
-    )
+    handle.read_static_ends(Reading::StaticRange(StaticId::new(range)), ends)
 }
 
 /// Lets a static range go.

@@ -3,7 +3,8 @@
 ghost use Rattle.std.specs.Prelude.{◌≡◌};
 ghost use Rattle.dom_session.specs.Brief.{reply_of};
 ghost use Rattle.dom_wire.specs.Sessions.{reply_view};
-ghost use Rattle.dom_c.specs.Statuses.{status_of, status_of_dom, status_of_own};
+ghost use Rattle.dom_c.specs.Statuses.{status_of, status_of_dom, status_of_own, status_at_end};
+ghost use Rattle.dom_c.specs.Told.{as_answered};
 
 use dom_session::{Brief, DomError};
 use dom_wire::{OwnError, Reply};
@@ -42,7 +43,7 @@ pub const HP_BAD_JSON: u8 = 37;
 pub const HP_BAD_COMMAND: u8 = 38;
 
 pub const HP_BAD_ARGUMENTS: u8 = 39;
-/// Memory was wanting, now or at an earlier call: the session answers nothing more.
+/// Memory was wanting, now or at an earlier call: the session has ended. It takes no command, and what it holds can be read.
 pub const HP_OUT_OF_MEMORY: u8 = 48;
 /// The handle is closed.
 pub const HP_CLOSED: u8 = 49;
@@ -58,6 +59,8 @@ pub const HP_BAD_LENGTHS: u8 = 53;
 pub const HP_BAD_CHOICE: u8 = 54;
 /// The last answer, or the node, has no such part.
 pub const HP_NOT_THERE: u8 = 55;
+/// The session has ended, since memory was wanting once. The answer is of what it holds.
+pub const HP_ENDED: u8 = 56;
 
 /// The number that stands for null; no object has it.
 pub const HP_NONE: u32 = 4294967295;
@@ -112,4 +115,32 @@ pub(crate) fn status_of_brief(brief: Brief) -> u8
         Brief::Dom(error) => status_of_dom(error),
         Brief::Own(error) => status_of_own(error),
     }
+}
+
+// The status of a small answer of a session that has ended.
+fn brief_at_end(brief: Brief) -> u8
+    ensures { result ≡ status_at_end (reply_view (reply_of brief)) }
+{
+    match brief {
+        Brief::Nothing | Brief::Number(_) | Brief::MaybeNumber(_) => HP_ENDED,
+        Brief::Dom(refusal) => status_of_dom(refusal),
+        Brief::Own(refusal) => status_of_own(refusal),
+    }
+}
+
+/// The status of a reply of a session that has ended.
+pub(crate) fn status_at_end(reply: &Reply) -> u8
+    ensures { result ≡ status_at_end (reply_view reply.now) }
+{
+    match reply {
+        Reply::Brief(brief) => brief_at_end(*brief),
+        Reply::Done(_) => HP_ENDED,
+    }
+}
+
+/// The status that an answer has while a session goes on.
+pub(crate) fn as_answered(status: u8) -> u8
+    ensures { result ≡ as_answered status }
+{
+    if status == HP_ENDED { HP_OK } else { status }
 }

@@ -1,17 +1,17 @@
 //! What is written of an answer through the pointers of C: numbers, flags and orders.
 
-ghost use Rattle.std.specs.Prelude.{◌≡◌, ℕ, Result, Some};
+ghost use Rattle.std.specs.Prelude.{◌≡◌, ℕ, Result, Ok, Some};
 ghost use Rattle.dom_model.specs.Commands.Command.{Command as PlainCommand};
-ghost use Rattle.dom_wire.specs.Sessions.{command_view, answer_view, reply_view};
-ghost use Rattle.dom_c.specs.Answers.{Answers};
+ghost use Rattle.dom_wire.specs.Sessions.{command_view, reading_view, answer_view, reply_view};
+ghost use Rattle.dom_c.specs.Answers.{Answers, Asks};
 ghost use Rattle.dom_c.specs.Reads.{Reads};
-ghost use Rattle.dom_c.specs.Told.{answer_of, told, told_of, number_told, count_told, number_or_null, maybe_number_told, flag_number, flag_told, order_number, order_told};
+ghost use Rattle.dom_c.specs.Told.{answer_of, told, told_of, as_answered, number_told, count_told, number_or_null, maybe_number_told, flag_number, flag_told, order_number, order_told};
 
 use crate::fault::Fault;
 use crate::handle::Handle;
 use crate::kept::Kept;
-use crate::status::{HP_NONE, HP_OK};
-use dom_session::{Answer, Brief};
+use crate::status::{HP_NONE, HP_OK, as_answered};
+use dom_session::{Answer, Brief, Reading};
 use dom_wire::{Command, Reply};
 use std::cmp::Ordering;
 
@@ -157,15 +157,32 @@ impl Handle {
         status
     }
 
-    /// Takes a command. Writes an index or a length.
-    pub(crate) fn take_count(&mut self, command: Result<Command, Fault>, count: &mut usize) -> u8
-        ensures answers { (c : Result PlainCommand ℕ) → Reads command_view command c →
-            Answers self.old self.new c result }
-        ensures told { count.new ≡ count_told (told self.new result) count.old }
+    /// Answers a question. Writes a number.
+    pub(crate) fn read_number(&mut self, question: Reading, number: &mut u32) -> u8
+        ensures answers { Asks self.old self.new (Ok (reading_view question)) result }
+        ensures told { number.new ≡ number_told (told self.new (as_answered result)) number.old }
     {
-        let status = self.take(command);
+        let status = self.read(question);
         if self.is_open {
-            self.slot.lend().kept.write_count(status, count);
+            self.slot
+                .lend()
+                .kept
+                .write_number(as_answered(status), number);
+        }
+        status
+    }
+
+    /// Answers a question. Writes an index or a length.
+    pub(crate) fn read_count(&mut self, question: Reading, count: &mut usize) -> u8
+        ensures answers { Asks self.old self.new (Ok (reading_view question)) result }
+        ensures told { count.new ≡ count_told (told self.new (as_answered result)) count.old }
+    {
+        let status = self.read(question);
+        if self.is_open {
+            self.slot
+                .lend()
+                .kept
+                .write_count(as_answered(status), count);
         }
         status
     }

@@ -3,10 +3,10 @@
 ghost use Rattle.std.specs.Prelude.{◌≡◌, Ok};
 ghost use Rattle.dom_model.specs.Commands.Command.{CreateIterator, CreateWalker, DescribeIterator, NextNode, PreviousNode, DescribeWalker, SetCurrent, Walk, ReleaseIterator, ReleaseWalker};
 ghost use Rattle.dom_wire.specs.Sessions.{command_view};
-ghost use Rattle.dom_c.specs.Answers.{Answers};
+ghost use Rattle.dom_c.specs.Answers.{Answers, Asks};
 ghost use Rattle.dom_c.specs.Reads.{Reads, move_in, then_make};
 ghost use Rattle.dom_c.specs.Lists.{rules_in};
-ghost use Rattle.dom_c.specs.Told.{told, maybe_number_told, number_told};
+ghost use Rattle.dom_c.specs.Told.{told, as_answered, maybe_number_told, number_told};
 ghost use Rattle.dom_c.specs.Places.{iterator_at_told, walker_at_told};
 
 use crate::fault::Fault;
@@ -14,7 +14,7 @@ use crate::filters::rules_of;
 use crate::handle::Handle;
 use crate::places::{IteratorAt, WalkerAt};
 use crate::reading::move_of;
-use dom_session::{Filter, IteratorId, NodeId, Traversing, WalkerId};
+use dom_session::{Filter, IteratorId, NodeId, Reading, Traversing, WalkerId};
 use dom_wire::Command;
 use std::alloc::Global;
 
@@ -101,13 +101,10 @@ pub extern "C" fn hp_create_walker(
 /// Tells where an iterator stands.
 #[unsafe(no_mangle)]
 pub extern "C" fn hp_iterator(handle: &mut Handle, iterator: u32, place: &mut IteratorAt) -> u8
-    ensures answers { Answers handle.old handle.new (Ok (DescribeIterator iterator)) result }
-    ensures told { place.new ≡ iterator_at_told (told handle.new result) place.old }
+    ensures answers { Asks handle.old handle.new (Ok (DescribeIterator iterator)) result }
+    ensures told { place.new ≡ iterator_at_told (told handle.new (as_answered result)) place.old }
 {
-    handle.take_iterator_at(
-        Ok(Command::Traversing(Traversing::DescribeIterator(IteratorId::new(iterator)))),
-        place,
-    )
+    handle.read_iterator_at(Reading::Iterator(IteratorId::new(iterator)), place)
 }
 
 /// Moves an iterator on, and tells the node, or `HP_NONE`.
@@ -131,13 +128,10 @@ pub extern "C" fn hp_previous_node(handle: &mut Handle, iterator: u32, node: &mu
 /// Tells where a walker stands.
 #[unsafe(no_mangle)]
 pub extern "C" fn hp_walker(handle: &mut Handle, walker: u32, place: &mut WalkerAt) -> u8
-    ensures answers { Answers handle.old handle.new (Ok (DescribeWalker walker)) result }
-    ensures told { place.new ≡ walker_at_told (told handle.new result) place.old }
+    ensures answers { Asks handle.old handle.new (Ok (DescribeWalker walker)) result }
+    ensures told { place.new ≡ walker_at_told (told handle.new (as_answered result)) place.old }
 {
-    handle.take_walker_at(
-        Ok(Command::Traversing(Traversing::DescribeWalker(WalkerId::new(walker)))),
-        place,
-    )
+    handle.read_walker_at(Reading::Walker(WalkerId::new(walker)), place)
 }
 
 /// Sets a walker on a node.

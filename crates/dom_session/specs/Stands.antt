@@ -5,7 +5,7 @@ use Rattle.dom_model.specs.Commands.Command.{Command}
 use Rattle.dom_model.specs.Commands.Answer.{Bounds, Step, answer}
 use Rattle.dom_model.specs.Commands.Reply.{is_refusal}
 use Rattle.dom_edit.specs.declared.world.World.{World}
-use Rattle.dom_edit.specs.Whole.{Shows}
+use Rattle.dom_edit.specs.Whole.{Shows, unwatched}
 use Rattle.dom_session.specs.declared.reply.Reply.{Reply}
 use Rattle.dom_session.specs.Views.{reply_view}
 
@@ -18,6 +18,14 @@ pub record Held : Type 0 where
 -- the worlds that a session stands for
 abbrev pub StandsFor : Held → model.World → Type 0
 StandsFor s w = Shows s.world w
+
+-- the world that a session holds, also once it has ended: all its parts, but of what is watched it says nothing
+abbrev pub held_world : Held → model.World
+held_world s = unwatched s.world
+
+-- the reply is the one of the world that has the parts of the code's, shown or not
+abbrev pub Tells : World → Command → Reply → Type 0
+Tells v c reply = (b : Bounds) → reply_view reply ≡ (answer b (unwatched v) c).reply
 
 -- The reply is the world's answer to the command, and the session stands for the next world.
 pub record IsAnswered (reply : Reply) (w : model.World) (old new : Held) (c : Command) : Type 0 where

@@ -8,6 +8,8 @@ use Rattle.dom_session.specs.declared.command.Editing.{Editing}
 use Rattle.dom_session.specs.declared.command.Editing.TheVariants.{InsertBefore, AppendChild, AdoptNode, ReplaceChild, RemoveChild, Remove, ReplaceChildren, Discard}
 use Rattle.dom_session.specs.declared.command.Asking.{Asking}
 use Rattle.dom_session.specs.declared.command.Asking.TheVariants.{DescribeNode, Children, Index, Length, Root, Tree}
+use Rattle.dom_session.specs.declared.command.Reading.{Reading}
+use Rattle.dom_session.specs.declared.command.Reading.TheVariants as read
 use Rattle.dom_session.specs.declared.command.Ranging.{Ranging}
 use Rattle.dom_session.specs.declared.command.Ranging.TheVariants.{CreateRange, CloneRange, DescribeRange, ReleaseRange}
 use Rattle.dom_session.specs.declared.command.Setting.{Setting}
@@ -64,6 +66,16 @@ asking_view (Index node) = model_command.Index node
 asking_view (Length node) = model_command.Length node
 asking_view (Root node) = model_command.Root node
 asking_view (Tree top) = model_command.Tree top
+
+-- a question that takes no memory, as the command that asks it
+abbrev pub reading_view : Reading → model_command.Command
+reading_view (read.Index node) = model_command.Index node
+reading_view (read.Length node) = model_command.Length node
+reading_view (read.Root node) = model_command.Root node
+reading_view (read.Range range) = model_command.DescribeRange range
+reading_view (read.StaticRange range) = model_command.DescribeStaticRange range
+reading_view (read.Iterator iterator) = model_command.DescribeIterator iterator
+reading_view (read.Walker walker) = model_command.DescribeWalker walker
 
 abbrev pub ranging_view : Ranging → model_command.Command
 ranging_view (CreateRange document) = model_command.CreateRange document

@@ -8,7 +8,7 @@ ghost use Rattle.dom_model.specs.Commands.Command.{SetAttribute, GetAttribute, H
 ghost use Rattle.dom_model.specs.Commands.Guards.{Bounds};
 ghost use Rattle.dom_edit.specs.Whole.{IsShown};
 ghost use Rattle.dom_session.specs.Views.{attributes_view};
-ghost use Rattle.dom_session.specs.Stands.{IsStep};
+ghost use Rattle.dom_session.specs.Stands.{IsStep, Tells};
 ghost use Rattle.dom_session.specs.Ending.{IsKept};
 
 use crate::brief::Brief;
@@ -98,8 +98,9 @@ fn has_in(tree: &Tree<Content>, element: NodeId, name: &str) -> bool
 
 /// Whether an element has an attribute of that name.
 pub(crate) fn has_attribute(world: &World, element: NodeId, name: &str) -> Reply
-    requires shown { IsShown world.now }
-    ensures { (b : Bounds) → IsStep world.now world.now b (HasAttribute element name.now) result }
+    ensures step { (b : Bounds) →
+        IsStep world.now world.now b (HasAttribute element name.now) result }
+    ensures own { Tells world.now (HasAttribute element name.now) result }
 {
     if let Some(reply) = kind_refusal(world, element, Kind::Element) {
         return reply;

@@ -127,6 +127,25 @@ pub enum StaticRanging {
     ReleaseStaticRange(StaticId),
 }
 
+/// A question that takes no memory, and that a session answers after its end too.
+#[derive(Drop)]
+pub enum Reading {
+    /// How many siblings stand before a node.
+    Index(NodeId),
+    /// The length of a node.
+    Length(NodeId),
+    /// The root of a node.
+    Root(NodeId),
+    /// Where a live range starts and ends.
+    Range(RangeId),
+    /// Where a static range starts and ends, and whether it is valid.
+    StaticRange(StaticId),
+    /// Where an iterator stands.
+    Iterator(IteratorId),
+    /// Where a walker stands.
+    Walker(WalkerId),
+}
+
 /// A command on an iterator or a walker.
 #[derive(Drop)]
 pub enum Traversing {

@@ -1,14 +1,25 @@
-//! What a node holds, lent where it lies with no command: its data, and its attributes by their place (DOM Standard, "Interface
-//! CharacterData", "Interface Element").
+//! What a node holds, lent where it lies with no command: its names, its data, and its attributes by their place (DOM Standard,
+//! "Interface CharacterData", "Interface Element").
 
 ghost use Rattle.std.specs.Prelude.{◌≡◌};
 ghost use Rattle.dom_attrs.specs.Entries.{attribute_at};
-ghost use Rattle.dom_session.specs.Lending.{lent_as, data_in, attribute_in};
+ghost use Rattle.dom_session.specs.Lending.{lent_as, lent_whole, data_in, attribute_in, label_in};
 
 use dom_edit::Content;
+use dom_kinds::Label;
 use dom_model::OwnError;
 use dom_tree::{NodeId, Tree};
 use dom_units::Units;
+
+/// The label of a node: its kind and its names.
+pub(crate) fn label_of(tree: &Tree<Content>, node: NodeId) -> Result<&Label, OwnError>
+    ensures { lent_whole (λ label. label.now) result ≡ label_in tree.now.forest node }
+{
+    if !tree.holds(node) {
+        return Err(OwnError::NoSuchObject);
+    }
+    Ok(tree.label(node))
+}
 
 /// The data of a node, where its kind has data.
 pub(crate) fn data_of(tree: &Tree<Content>, node: NodeId) -> Result<Option<&[u16]>, OwnError>

@@ -23,6 +23,7 @@ mod observing;
 mod printing;
 mod questions;
 mod ranging;
+mod reading;
 mod refusing;
 mod reply;
 mod session;
@@ -34,7 +35,7 @@ mod traversing;
 pub use brief::Brief;
 pub use command::{
     Asking, Attributes, Command, Comparing, Contents, Copying, Editing, Making, Observing, Ranging,
-    Setting, StaticRanging, Texts, Traversing,
+    Reading, Setting, StaticRanging, Texts, Traversing,
 };
 pub use dom_edit::Content;
 pub use dom_kinds::{DomError, Kind, Label};

@@ -6,7 +6,7 @@ ghost use Rattle.dom_model.specs.Commands.Command.{DescribeNode, Children, Index
 ghost use Rattle.dom_model.specs.Commands.Guards.{Bounds};
 ghost use Rattle.dom_edit.specs.Whole.{IsShown};
 ghost use Rattle.dom_session.specs.Views.{asking_view};
-ghost use Rattle.dom_session.specs.Stands.{IsStep};
+ghost use Rattle.dom_session.specs.Stands.{IsStep, Tells};
 ghost use Rattle.dom_session.specs.Ending.{IsKept};
 
 use crate::brief::Brief;
@@ -69,6 +69,7 @@ pub(crate) fn children(world: &World, alloc: Global, node: NodeId) -> Result<Rep
 /// How many siblings stand before a node. Where that is not found near it, all of them are counted, so that it is known of each.
 pub(crate) fn index(world: &mut World, node: NodeId) -> Reply
     ensures step { (b : Bounds) → IsStep world.old world.new b (Index node) result }
+    ensures own { Tells world.old (Index node) result }
     ensures unchanged { world.new ≡ world.old }
 {
     if !world.tree.holds(node) {
@@ -87,7 +88,8 @@ pub(crate) fn find_index(world: &mut World, node: NodeId)
 
 /// The length of a node.
 pub(crate) fn length(world: &World, node: NodeId) -> Reply
-    ensures { (b : Bounds) → IsStep world.now world.now b (Length node) result }
+    ensures step { (b : Bounds) → IsStep world.now world.now b (Length node) result }
+    ensures own { Tells world.now (Length node) result }
 {
     if !world.tree.holds(node) {
         return Reply::Brief(Brief::Own(OwnError::NoSuchObject));
@@ -97,7 +99,8 @@ pub(crate) fn length(world: &World, node: NodeId) -> Reply
 
 /// The root of a node.
 pub(crate) fn root(world: &World, node: NodeId) -> Reply
-    ensures { (b : Bounds) → IsStep world.now world.now b (Root node) result }
+    ensures step { (b : Bounds) → IsStep world.now world.now b (Root node) result }
+    ensures own { Tells world.now (Root node) result }
 {
     if !world.tree.holds(node) {
         return Reply::Brief(Brief::Own(OwnError::NoSuchObject));

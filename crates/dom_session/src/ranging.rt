@@ -5,7 +5,7 @@ ghost use Rattle.dom_model.specs.Commands.Command.{CreateRange, CloneRange, Desc
 ghost use Rattle.dom_model.specs.Commands.Guards.{Bounds};
 ghost use Rattle.dom_edit.specs.Whole.{IsShown};
 ghost use Rattle.dom_session.specs.Views.{ranging_view};
-ghost use Rattle.dom_session.specs.Stands.{IsStep};
+ghost use Rattle.dom_session.specs.Stands.{IsStep, Tells};
 ghost use Rattle.dom_session.specs.Ending.{IsKept};
 ghost use Rattle.dom_session.specs.Limiting.{numbered};
 
@@ -74,6 +74,7 @@ pub(crate) fn clone_range(
 /// Tells where a live range starts and ends.
 pub(crate) fn describe_range(world: &World, range: RangeId) -> Reply
     ensures step { (b : Bounds) → IsStep world.now world.now b (DescribeRange range) result }
+    ensures own { Tells world.now (DescribeRange range) result }
 {
     if !world.ranges.holds(range) {
         return Reply::Brief(Brief::Own(OwnError::NoSuchObject));

@@ -5,28 +5,30 @@ ghost use Rattle.dom_model.specs.Worlds.World.{World as PlainWorld, first_world}
 ghost use Rattle.dom_model.specs.Forests.Forest.{children_of};
 ghost use Rattle.dom_model.specs.Commands.Command.{CreateElement, CreateText, NextNode, PreviousNode, Walk, HasAttribute};
 ghost use Rattle.dom_model.specs.Commands.Reply.{is_refusal};
+ghost use Rattle.dom_model.specs.Commands.Answer.{answer};
 ghost use Rattle.dom_session.specs.Brief.{reply_of};
-ghost use Rattle.dom_session.specs.Views.{command_view, making_view, editing_view, reply_view};
-ghost use Rattle.dom_session.specs.Stands.{StandsFor, IsAnswered};
+ghost use Rattle.dom_session.specs.Views.{command_view, making_view, editing_view, reading_view, reply_view};
+ghost use Rattle.dom_session.specs.Stands.{StandsFor, IsAnswered, held_world};
 ghost use Rattle.dom_session.specs.Ending.{IsLeft};
 ghost use Rattle.dom_session.specs.Bounding.{bounds_of};
 ghost use Rattle.dom_session.specs.InUse.{in_use_of, in_use_in};
 ghost use Rattle.dom_session.specs.Links.{links_in, first_child_in, last_child_in, child_in, count_in, laid_over};
-ghost use Rattle.dom_session.specs.Lending.{lent_as, data_in, attribute_in};
+ghost use Rattle.dom_session.specs.Lending.{lent_as, lent_whole, label_in, data_in, attribute_in};
 ghost use Rattle.dom_attrs.specs.Entries.{attribute_at};
 
 use crate::answering::answered;
 use crate::attributes::has_attribute;
 use crate::brief::Brief;
-use crate::command::{Command, Editing, Making};
+use crate::command::{Command, Editing, Making, Reading};
 use crate::editing::edit_tree;
 use crate::in_use::{self, Counts};
-use crate::lending;
 use crate::links::{self, Links};
 use crate::making::{create_element, create_text, make_nodes};
 use crate::reply::Reply;
 use crate::traversing::{next_node, previous_node, walk};
+use crate::{lending, reading};
 use dom_edit::World;
+use dom_kinds::Label;
 use dom_model::{Move, OwnError};
 use dom_traverse::{IteratorId, WalkerId};
 use dom_tree::NodeId;
@@ -298,6 +300,28 @@ impl Session {
         Ok(has_attribute(&self.world, element, name))
     }
 
+    /// Answers a question that takes no memory, as `apply` does. A session that has ended answers of what it holds.
+    pub fn read(&mut self, question: Reading) -> Reply
+        ensures answers { (w : PlainWorld) → StandsFor self.old w →
+            IsAnswered result w self.old self.new (reading_view question) }
+        ensures own { reply_view result
+            ≡ (answer self.old.bounds (held_world self.old) (reading_view question)).reply }
+        ensures unchanged { self.new ≡ self.old }
+    {
+        reading::read(&mut self.world, question)
+    }
+
+    /// Tells whether an element has an attribute of a name that is lent, as `apply` does. A session that has ended answers of what it
+    /// holds.
+    pub fn read_attribute(&self, element: NodeId, name: &str) -> Reply
+        ensures answers { (w : PlainWorld) → StandsFor self.now w →
+            IsAnswered result w self.now self.now (HasAttribute element name.now) }
+        ensures own { reply_view result
+            ≡ (answer self.now.bounds (held_world self.now) (HasAttribute element name.now)).reply }
+    {
+        has_attribute(&self.world, element, name)
+    }
+
     /// What a node is, and what stands around it, in constant time. No command is applied, and no memory taken.
     ///
     /// As each call that reads, it answers of a session that has ended too: of what the last call left.
@@ -346,6 +370,16 @@ impl Session {
             into.old }
     {
         links::copy_children(&self.world.tree, node, into)
+    }
+
+    /// The label of a node, lent where it lies: its kind and its names.
+    pub fn label_of(&self, node: NodeId) -> Result<&Label, OwnError>
+        ensures shown { (w : PlainWorld) → StandsFor self.now w →
+            lent_whole (λ label. label.now) result ≡ label_in w.forest node }
+        ensures own { lent_whole (λ label. label.now) result
+            ≡ label_in self.now.world.tree.forest node }
+    {
+        lending::label_of(&self.world.tree, node)
     }
 
     /// The data of a node, lent where it lies; none where its kind has no data.

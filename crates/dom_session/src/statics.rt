@@ -1,11 +1,11 @@
 //! The commands on static ranges (DOM Standard, "Interface StaticRange").
 
-ghost use Rattle.std.specs.Prelude.{◌≤◌, IfOk, OnErr};
+ghost use Rattle.std.specs.Prelude.{◌≡◌, ◌≤◌, IfOk, OnErr};
 ghost use Rattle.dom_model.specs.Commands.Command.{CreateStaticRange, DescribeStaticRange, ReleaseStaticRange};
 ghost use Rattle.dom_model.specs.Commands.Guards.{Bounds};
-ghost use Rattle.dom_edit.specs.Whole.{IsShown};
+ghost use Rattle.dom_edit.specs.Whole.{IsShown, IsWhole};
 ghost use Rattle.dom_session.specs.Views.{static_ranging_view};
-ghost use Rattle.dom_session.specs.Stands.{IsStep};
+ghost use Rattle.dom_session.specs.Stands.{IsStep, Tells};
 ghost use Rattle.dom_session.specs.Ending.{IsKept};
 ghost use Rattle.dom_session.specs.Limiting.{numbered};
 
@@ -48,8 +48,10 @@ pub(crate) fn create_static_range(
 
 /// Tells where a static range starts and ends, and whether it is valid as the tree stands.
 pub(crate) fn describe_static_range(world: &mut World, range: StaticId) -> Reply
-    requires shown { IsShown world.old }
+    requires whole { IsWhole world.old }
     ensures step { (b : Bounds) → IsStep world.old world.new b (DescribeStaticRange range) result }
+    ensures own { Tells world.old (DescribeStaticRange range) result }
+    ensures unchanged { world.new ≡ world.old }
 {
     if !world.statics.holds(range) {
         return Reply::Brief(Brief::Own(OwnError::NoSuchObject));

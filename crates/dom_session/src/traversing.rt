@@ -7,7 +7,7 @@ ghost use Rattle.dom_model.specs.Commands.Reply.{Done, MaybeNumber};
 ghost use Rattle.dom_edit.specs.Whole.{IsShown};
 ghost use Rattle.dom_session.specs.Brief.{reply_of};
 ghost use Rattle.dom_session.specs.Views.{traversing_view, reply_view};
-ghost use Rattle.dom_session.specs.Stands.{IsStep};
+ghost use Rattle.dom_session.specs.Stands.{IsStep, Tells};
 ghost use Rattle.dom_session.specs.Ending.{IsKept};
 ghost use Rattle.dom_session.specs.Limiting.{numbered};
 
@@ -79,6 +79,7 @@ pub(crate) fn create_walker(
 /// Tells the root and the reference of an iterator, and whether it stands before the reference.
 pub(crate) fn describe_iterator(world: &World, iterator: IteratorId) -> Reply
     ensures step { (b : Bounds) → IsStep world.now world.now b (DescribeIterator iterator) result }
+    ensures own { Tells world.now (DescribeIterator iterator) result }
 {
     if !world.iterators.holds(iterator) {
         return Reply::Brief(Brief::Own(OwnError::NoSuchObject));
@@ -116,6 +117,7 @@ pub(crate) fn previous_node(world: &mut World, iterator: IteratorId) -> Brief
 /// Tells the root and the current node of a walker.
 pub(crate) fn describe_walker(world: &World, walker: WalkerId) -> Reply
     ensures step { (b : Bounds) → IsStep world.now world.now b (DescribeWalker walker) result }
+    ensures own { Tells world.now (DescribeWalker walker) result }
 {
     if !world.walkers.holds(walker) {
         return Reply::Brief(Brief::Own(OwnError::NoSuchObject));

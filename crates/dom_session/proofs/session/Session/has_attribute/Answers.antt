@@ -9,4 +9,4 @@ returns-clause-answers c =
     let held : Held = record { world = c.self.inside.world; bounds = bounds_of c.self.inside.limits; ended = c.self.inside.ended } in
     rw (← c.self.view_is)
     (IsAnswered-by held held
-    (HasAttribute c.args.element c.args.name.now) c.has_attribute.result (λ w. refl) (c.has_attribute.ensures (numbered c.self.inside.limits.numbers)))
+    (HasAttribute c.args.element c.args.name.now) c.has_attribute.result (λ w. refl) (c.has_attribute.ensures.step (numbered c.self.inside.limits.numbers)))
