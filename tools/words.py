@@ -20,6 +20,7 @@ COVERED = (
     "docs/editor.md",
     "docs/faq.md",
     "docs/glossary.md",
+    "docs/rules.md",
     "docs/writing.md",
 )
 # The page that lists the words to avoid, so it may have them.
