@@ -16,6 +16,7 @@ from start import ROOT
 COVERED = (
     "crates/*/README.md",
     "docs/architecture.md",
+    "docs/c-library.md",
     "docs/carrying-on.md",
     "docs/editor.md",
     "docs/faq.md",
@@ -44,7 +45,7 @@ def prose_of(text):
     """Yields the paragraphs, list items and table cells of a page, without code."""
     for line in re.split(r"\n\s*\n|\n(?=\s*(?:[-*|]|\d+\.) )", FENCED.sub("", text)):
         for cell in line.split("|") if line.lstrip().startswith("|") else [line]:
-            yield " ".join(MARKS.sub(lambda it: "x" if it[0].startswith("`") else "", cell).split())
+            yield " ".join(MARKS.sub(lambda it: "X" if it[0].startswith("`") else "", cell).split())
 
 
 def faults_of_page(path):
