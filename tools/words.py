@@ -16,10 +16,13 @@ from start import ROOT
 COVERED = (
     "crates/*/README.md",
     "docs/architecture.md",
+    "docs/c-library.md",
     "docs/carrying-on.md",
+    "docs/definitions.md",
     "docs/editor.md",
     "docs/faq.md",
     "docs/glossary.md",
+    "docs/rules.md",
     "docs/writing.md",
 )
 # The page that lists the words to avoid, so it may have them.
@@ -43,7 +46,7 @@ def prose_of(text):
     """Yields the paragraphs, list items and table cells of a page, without code."""
     for line in re.split(r"\n\s*\n|\n(?=\s*(?:[-*|]|\d+\.) )", FENCED.sub("", text)):
         for cell in line.split("|") if line.lstrip().startswith("|") else [line]:
-            yield " ".join(MARKS.sub(lambda it: "x" if it[0].startswith("`") else "", cell).split())
+            yield " ".join(MARKS.sub(lambda it: "X" if it[0].startswith("`") else "", cell).split())
 
 
 def faults_of_page(path):
