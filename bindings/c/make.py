@@ -6,7 +6,6 @@ stands below are proved and built first, which takes long once. --library takes 
 no other name. With --install the four go under a prefix.
 """
 import argparse
-import importlib.util
 import os
 import shutil
 import subprocess
