@@ -1023,6 +1023,21 @@ static PyObject *call_child_at(PyObject *self, PyObject *words)
     return found;
 }
 
+static PyObject *call_name_of(PyObject *self, PyObject *words)
+{
+    uint32_t node = 0;
+    uint8_t part = 0;
+    hp_bytes out;
+    if (is_busy((Calls *)self))
+        return NULL;
+    PyObject *found = NULL;
+    if (is_counted(words, 2, "name_of") && uint32_of(word(words, 0), &node) && uint8_of(word(words, 1), &part)) {
+        uint8_t status = hp_name_of(session_at(self), node, part, &out);
+        found = status ? refused(status, "name_of", self, words) : name_from(out.bytes, out.length);
+    }
+    return found;
+}
+
 static PyObject *call_data_of(PyObject *self, PyObject *words)
 {
     uint32_t node = 0;
@@ -2123,6 +2138,7 @@ static PyObject *call_read_get_attribute(PyObject *self, PyObject *words)
     { "first_child", call_first_child, METH_VARARGS, NULL }, \
     { "last_child", call_last_child, METH_VARARGS, NULL }, \
     { "child_at", call_child_at, METH_VARARGS, NULL }, \
+    { "name_of", call_name_of, METH_VARARGS, NULL }, \
     { "data_of", call_data_of, METH_VARARGS, NULL }, \
     { "in_use", call_in_use, METH_VARARGS, NULL }, \
     { "data", call_data, METH_VARARGS, NULL }, \

@@ -27,6 +27,7 @@ HP_NOT_UTF8 = 52
 HP_BAD_LENGTHS = 53
 HP_BAD_CHOICE = 54
 HP_NOT_THERE = 55
+HP_ENDED = 56
 HP_NONE = 4294967295
 HP_ATTRIBUTES = 0
 HP_CHARACTER_DATA = 1
@@ -59,6 +60,7 @@ WORDS = {
     HP_BAD_LENGTHS: "bad-lengths",
     HP_BAD_CHOICE: "bad-choice",
     HP_NOT_THERE: "not-there",
+    HP_ENDED: "ended",
 }
 
 # What is said of a status where its word does not say it.
@@ -67,7 +69,7 @@ MEANINGS = {
     HP_NO_SUCH_OBJECT: "There is no object of that number.",
     HP_LIMIT: "There is no number left for a new object.",
     HP_IN_USE: "What was to be discarded is still referred to.",
-    HP_OUT_OF_MEMORY: "Memory was wanting, now or at an earlier call: the session answers nothing more.",
+    HP_OUT_OF_MEMORY: "Memory was wanting, now or at an earlier call: the session has ended. It takes no command, and what it holds can be read.",
     HP_CLOSED: "The handle is closed.",
     HP_ALREADY_OPEN: "The handle is open already.",
     HP_BAD_LIMITS: "The limits of a session are out of their range.",
@@ -75,6 +77,7 @@ MEANINGS = {
     HP_BAD_LENGTHS: "Lengths and what they measure do not belong together.",
     HP_BAD_CHOICE: "A number stands for none of the choices.",
     HP_NOT_THERE: "The last answer, or the node, has no such part.",
+    HP_ENDED: "The session has ended, since memory was wanting once. The answer is of what it holds.",
 }
 
 
@@ -150,6 +153,7 @@ PARAMETERS: Dict[str, Tuple[str, ...]] = {
     "last_child": ("node",),
     "child_at": ("node", "index",),
     "children_into": ("node",),
+    "name_of": ("node", "part",),
     "data_of": ("node",),
     "attribute_at": ("node", "index",),
     "in_use": (),

@@ -37,6 +37,7 @@ pub(crate) const HP_NOT_UTF8: u8 = 52;
 pub(crate) const HP_BAD_LENGTHS: u8 = 53;
 pub(crate) const HP_BAD_CHOICE: u8 = 54;
 pub(crate) const HP_NOT_THERE: u8 = 55;
+pub(crate) const HP_ENDED: u8 = 56;
 pub(crate) const HP_NONE: u32 = 4294967295;
 pub(crate) const HP_ATTRIBUTES: u8 = 0;
 pub(crate) const HP_CHARACTER_DATA: u8 = 1;
@@ -263,6 +264,7 @@ extern "C" {
     fn hp_last_child(session: *mut hp_session, node: u32, child: *mut u32) -> u8;
     fn hp_child_at(session: *mut hp_session, node: u32, index: usize, child: *mut u32) -> u8;
     fn hp_children_into(session: *mut hp_session, node: u32, numbers: *mut u32, numbers_capacity: usize, count: *mut usize) -> u8;
+    fn hp_name_of(session: *mut hp_session, node: u32, part: u8, out: *mut hp_bytes) -> u8;
     fn hp_data_of(session: *mut hp_session, node: u32, out: *mut hp_text_view) -> u8;
     fn hp_attribute_at(session: *mut hp_session, node: u32, index: usize, name: *mut hp_bytes, value: *mut hp_text_view) -> u8;
     fn hp_in_use(session: *mut hp_session, counts: *mut hp_counts) -> u8;
@@ -771,6 +773,17 @@ impl Handle {
         // SAFETY: as at the head of the file.
         let status = unsafe { hp_children_into(self.session.get(), node, numbers.as_mut_ptr(), numbers.len(), &mut out) };
         if status == HP_OK { Ok(out) } else { Err(status) }
+    }
+
+    pub(crate) fn name_of(&self, node: u32, part: u8) -> Result<&[u8], u8> {
+        let mut out = hp_bytes { bytes: NonNull::dangling().as_ptr(), length: 0 };
+        // SAFETY: as at the head of the file.
+        let status = unsafe { hp_name_of(self.session.get(), node, part, &mut out) };
+        if status != HP_OK {
+            return Err(status);
+        }
+        // SAFETY: what is lent lies there as long as the handle is borrowed.
+        Ok(unsafe { std::slice::from_raw_parts(out.bytes, out.length) })
     }
 
     pub(crate) fn data_of(&self, node: u32) -> Result<&[u16], u8> {
