@@ -22,6 +22,7 @@ COVERED = (
     "docs/editor.md",
     "docs/faq.md",
     "docs/glossary.md",
+    "docs/proved.md",
     "docs/rules.md",
     "docs/writing.md",
 )
