@@ -25,6 +25,7 @@ COVERED = (
     "docs/glossary.md",
     "docs/proved.md",
     "docs/rules.md",
+    "docs/rust.md",
     "docs/writing.md",
 )
 # The page that lists the words to avoid, so it may have them.
