@@ -18,6 +18,7 @@ COVERED = (
     "docs/architecture.md",
     "docs/c-library.md",
     "docs/carrying-on.md",
+    "docs/commands.md",
     "docs/costs.md",
     "docs/definitions.md",
     "docs/editor.md",
