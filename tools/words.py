@@ -14,15 +14,22 @@ from start import ROOT
 
 # The files that have to pass.
 COVERED = (
+    "CHANGELOG.md",
+    "CONTRIBUTING.md",
+    "SECURITY.md",
     "crates/*/README.md",
     "docs/architecture.md",
     "docs/c-library.md",
     "docs/carrying-on.md",
+    "docs/commands.md",
+    "docs/costs.md",
     "docs/definitions.md",
     "docs/editor.md",
     "docs/faq.md",
     "docs/glossary.md",
+    "docs/proved.md",
     "docs/rules.md",
+    "docs/rust.md",
     "docs/writing.md",
 )
 # The page that lists the words to avoid, so it may have them.
