@@ -46,9 +46,13 @@ class Alone:
         folder = os.path.dirname(os.path.dirname(os.path.abspath(__file__)))
         words = [sys.executable, "-c", "import sys; sys.path[:] = sys.argv[4:]; from huckleport_serving.alone import main; main()"]
         given = [str(numbers), str(line), str(self._file), folder, *sys.path]
-        self._process = subprocess.Popen(
-            [*words, *given], stdin=subprocess.PIPE, stdout=subprocess.PIPE, pass_fds=(self._file,), bufsize=0, start_new_session=True
-        )
+        try:
+            self._process = subprocess.Popen(
+                [*words, *given], stdin=subprocess.PIPE, stdout=subprocess.PIPE, pass_fds=(self._file,), bufsize=0, start_new_session=True
+            )
+        except BaseException:
+            os.close(self._file)
+            raise
         assert self._process.stdin is not None and self._process.stdout is not None
         self._bound(memory + memory // 4)
         os.set_blocking(self._process.stdout.fileno(), False)

@@ -42,6 +42,9 @@ class Lease:
             except LOST as fault:
                 log.warning("the lease's connection was lost: %s", first_line(fault))
                 self._over.wait(0.2)
+            except Exception as fault:
+                log.error("the lease can't be renewed: %s", first_line(fault))
+                self.has_ended = True
 
     def _renew(self, connection: psycopg.Connection[Tuple[bool]]) -> None:
         words = "select huckleport.renew(%s, make_interval(secs => %s), %s, %s, %s)"

@@ -384,14 +384,19 @@ class Tenure:
         waiting = [it for it in self.held.values() if it.is_heavy and not it.is_whole and not it.is_busy]
         is_busy = False
         for it in waiting:
-            if it.alone is None and not self._has_process():
-                continue
-            if it.alone is None:
-                log.info("document %d gets a process of its own", it.document)
-                it.alone = Alone(it.numbers, it.line, min(self.memory, self.bounds.memory), self.seconds)
-            self._replay_piece_alone(it, it.alone)
-            is_busy = True
+            if it.alone is None and self._has_process():
+                self._begin_alone(it)
+            if it.alone is not None:
+                self._replay_piece_alone(it, it.alone)
+                is_busy = True
         return is_busy
+
+    def _begin_alone(self, held: Held) -> None:
+        log.info("document %d gets a process of its own", held.document)
+        try:
+            held.alone = Alone(held.numbers, held.line, min(self.memory, self.bounds.memory), self.seconds)
+        except (OSError, MemoryError) as fault:
+            self._give_up(held, f"out of memory for a process: {fault}")
 
     def _has_process(self) -> bool:
         """Returns whether there is room for a process. If there is none, the document goes whose process was idle longest, if only for a second."""

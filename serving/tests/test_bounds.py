@@ -4,6 +4,7 @@ from __future__ import annotations
 
 import os
 import subprocess
+import unittest
 from typing import Any, List
 
 from lines import lines
@@ -11,7 +12,11 @@ from place import replies_of
 from test_documents import Served
 
 from huckleport_serving import ClientFull, DocumentFull, TooManyClients, connect
-from huckleport_serving.pool import Pool
+
+try:
+    from huckleport_serving.pool import Pool
+except ImportError:
+    Pool = None  # type: ignore
 
 LONG = b'{"error":"line-too-long"}'
 ELEMENT = b'["createElement",0,"p"]'
@@ -129,6 +134,7 @@ class Waits(Served):
         self.assertEqual(self.place.command("limits", "nothing=1", stderr=subprocess.DEVNULL).wait(), 1)
 
 
+@unittest.skipUnless(Pool, "there is no psycopg_pool (Debian has it as python3-psycopg-pool)")
 class Pooled(Served):
     workers = 1
     clients = 2_000 if os.environ.get("HUCKLEPORT_WHOLE") else 60

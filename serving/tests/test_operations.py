@@ -2,6 +2,7 @@
 
 from __future__ import annotations
 
+import importlib.util
 import json
 import os
 import re
@@ -157,6 +158,7 @@ class Operations(Served):
 
     # watching
 
+    @unittest.skipUnless(importlib.util.find_spec("prometheus_client"), "there is no prometheus_client (Debian has it as python3-prometheus-client)")
     def test_metrics_and_health(self) -> None:
         self.assertEqual(self.place.command("health").wait(), 1)
         self.work()

@@ -97,7 +97,8 @@ class Orders(unittest.TestCase):
         cls.place = cls.enterClassContext(Place(settings={"fsync": "off", "synchronous_commit": "off"}))
 
     def test_each_line_gets_its_own_reply(self) -> None:
-        orders = ["".join(it) for it in itertools.product(STEPS, repeat=self.most)]
+        # (an order whose first step has nothing to act on is a shorter one)
+        orders = ["".join(it) for it in itertools.product("abq", *[STEPS] * (self.most - 1))]
         scene = Scene(self.place.conninfo, orders)
         try:
             for step in range(self.most):

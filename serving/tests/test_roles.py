@@ -3,6 +3,7 @@
 from __future__ import annotations
 
 import os
+import shutil
 import socket
 import stat
 import subprocess
@@ -176,6 +177,7 @@ class Trials(unittest.TestCase):
         self.assertIn(b"Peer authentication failed", ran.stderr)
 
 
+@unittest.skipUnless(shutil.which("openssl"), "there is no openssl")
 class Encrypted(unittest.TestCase):
     def test_a_client_by_tls_with_a_certificate_of_ones_own(self) -> None:
         with socket.socket() as free:
