@@ -197,8 +197,9 @@ class Session:
         told: List[Notice] = []
         faults = self._calls.tell(self, told, self._left)
         if faults:
+            self._left = [it for it in self._left if it is not None]
             raise together(faults)
-        return told
+        return [it for it in told if it is not None]
 
     def _take_left(self, observer: MutationObserver) -> List[MutationRecord]:
         mine = [it for it in self._left if it[0] is observer]
