@@ -5,7 +5,7 @@ from __future__ import annotations
 import json
 import weakref
 from types import TracebackType
-from typing import Dict, List, NamedTuple, Optional, Sequence, Tuple, Type, TypeVar
+from typing import Any, Dict, List, NamedTuple, Optional, Sequence, Tuple, Type, TypeVar
 
 from ._calls import Calls, settle
 from ._signatures import HP_NO_SUCH_OBJECT, HP_NONE, hp_options
@@ -194,12 +194,17 @@ class Session:
         the first one, with the others as its notes). What was told to observers without a callback, or to one that was cut short (by an interrupt or for want of memory), is then
         kept for the next ``notify()`` to return, or the observer's next ``take_records()``.
         """
-        told: List[Notice] = []
-        faults = self._calls.tell(self, told, self._left)
+        told: List[Any] = []
+        left: List[Any] = self._left
+        faults = self._calls.tell(self, told, left)
+        # (this takes no memory, for want of which the notices would be lost)
+        while None in left:
+            left.remove(None)
+        while None in told:
+            told.remove(None)
         if faults:
-            self._left = [it for it in self._left if it is not None]
             raise together(faults)
-        return [it for it in told if it is not None]
+        return told
 
     def _take_left(self, observer: MutationObserver) -> List[MutationRecord]:
         mine = [it for it in self._left if it[0] is observer]
