@@ -605,12 +605,12 @@ static bool has_place(PyObject *list)
     return PyList_Append(list, Py_None) == 0;
 }
 
-/* Takes away the place at the end of a list that took nothing. */
-static void end_place(Turns *it, PyObject *list)
+/* Takes away the place at the end of a list that took nothing. For want of memory it stays, as None, which the package passes over. */
+static void end_place(PyObject *list)
 {
     Py_ssize_t last = PyList_Size(list) - 1;
     if (PyList_SetSlice(list, last, last + 1, NULL) < 0)
-        take_fault(it);
+        PyErr_Clear();
 }
 
 /* Calls the callback. What was told to an observer without one, or to one that was cut short, is kept in the place for it. */
@@ -621,7 +621,7 @@ static void tell(Turns *it, PyObject *notice)
     if (told == HAS_RAISED)
         take_fault(it);
     if (!is_kept) {
-        end_place(it, it->kept);
+        end_place(it->kept);
         return;
     }
     Py_INCREF(notice);
@@ -656,8 +656,8 @@ static void turn_taken(Turns *it, uint32_t observer)
     it->is_short = has_some;
     if (PyErr_Occurred())
         take_fault(it);
-    end_place(it, it->told);
-    end_place(it, it->kept);
+    end_place(it->told);
+    end_place(it->kept);
 }
 
 /* The turn of an observer, once there is a place for what it is told among that and among what is kept. */
@@ -671,7 +671,7 @@ static void take_turn(Turns *it, uint32_t observer)
     it->is_short = true;
     take_fault(it);
     if (has_one)
-        end_place(it, it->told);
+        end_place(it->told);
 }
 
 /* Tells observers one after another, also where callbacks raise, until one of them closes the session or memory is wanting. The session keeps

@@ -5,7 +5,7 @@ from __future__ import annotations
 import json
 import weakref
 from types import TracebackType
-from typing import Dict, List, NamedTuple, Optional, Sequence, Tuple, Type, TypeVar
+from typing import Any, Dict, List, NamedTuple, Optional, Sequence, Tuple, Type, TypeVar
 
 from ._calls import Calls, settle
 from ._signatures import HP_NO_SUCH_OBJECT, HP_NONE, hp_options
@@ -194,8 +194,14 @@ class Session:
         the first one, with the others as its notes). What was told to observers without a callback, or to one that was cut short (by an interrupt or for want of memory), is then
         kept for the next ``notify()`` to return, or the observer's next ``take_records()``.
         """
-        told: List[Notice] = []
-        faults = self._calls.tell(self, told, self._left)
+        told: List[Any] = []
+        left: List[Any] = self._left
+        faults = self._calls.tell(self, told, left)
+        # (this takes no memory, for want of which the notices would be lost)
+        while None in left:
+            left.remove(None)
+        while None in told:
+            told.remove(None)
         if faults:
             raise together(faults)
         return told
