@@ -18,6 +18,7 @@ import hashlib
 import json
 import os
 import re
+import shutil
 import signal
 import subprocess
 import sys
@@ -92,7 +93,7 @@ def sum_of_all():
     if listed is None:
         return None
     total = hashlib.sha256()
-    for words in SURROUNDINGS:
+    for words in (it for it in SURROUNDINGS if shutil.which(it[0])):
         total.update(repr((words, told(words))).encode())
     for name in sorted(it for it in os.environ if it.startswith("HUCKLEPORT_")):
         total.update(f"{name}={os.environ[name]}\n".encode())

@@ -6,6 +6,7 @@ With --install such a Python is taken from Debian's packages, into the folder wh
 """
 import argparse
 import glob
+import importlib.util
 import os
 import shutil
 import subprocess
@@ -16,7 +17,6 @@ import assemble
 from start import ROOT
 
 sys.dont_write_bytecode = True
-sys.path.append(f"{ROOT}/bindings/c")
 MACHINE, COMPILER = "aarch64", "aarch64-linux-gnu-gcc"
 LIBC = "/usr/aarch64-linux-gnu"
 QEMU = ("qemu-aarch64-static", "-L", LIBC)
@@ -26,7 +26,7 @@ PACKAGES = "python3.11-minimal libpython3.11-minimal libpython3.11-stdlib libpyt
 # The tests of the library that say most of another processor: what is handed in and out, and its layout.
 PARTS = ("lines", "said", "closed", "misuse", "counted", "threads", "example")
 # The tests of the package that say most of another processor, and how they are run: another Python is started through qemu too.
-TESTS = [f"tests.test_{it}" for it in ("dialogues", "answers", "documents", "members", "objects", "history", "letting_go", "undo")]
+TESTS = [f"tests.test_{it}" for it in ("dialogues", "answers", "documents", "members")]
 RUN = "import sys, unittest; sys.executable = sys.argv.pop(1); unittest.main(None)"
 # The longest that a part may take, in seconds.
 LIMIT = 600
@@ -48,6 +48,15 @@ def passes(*words, **how):
     return ran.returncode == 0
 
 
+def module(name, path):
+    """A script as a module."""
+    sys.path.insert(0, os.path.dirname(path))
+    spec = importlib.util.spec_from_file_location(name, path)
+    found = importlib.util.module_from_spec(spec)
+    spec.loader.exec_module(found)
+    return found
+
+
 def dialogues(room):
     program = f"{room}/domserve"
     assemble.program(program, MACHINE, COMPILER)
@@ -56,7 +65,7 @@ def dialogues(room):
 
 def library(room):
     """Builds the library, and runs tests of it, each program under qemu."""
-    import test as of_c
+    of_c = module("of_c", f"{ROOT}/bindings/c/test.py")
     from make import make, words_of
 
     class Tests(of_c.Tests):

@@ -156,12 +156,14 @@ class Built(OfCopy):
         program = f"{self.copy.top}/crates/domserve/out/domserve"
         self.serves()
         took = {it: min(self.seconds(it) for _ in range(7)) for it in (program, f"{self.copy.top}/domserve")}
-        self.assertLess(took[f"{self.copy.top}/domserve"] - took[program], MOST)
+        # (where each process costs more, as under a tracer, so does a start)
+        shell = min(self.seconds(shutil.which("sh"), "-c", ":") for _ in range(7))
+        self.assertLess(took[f"{self.copy.top}/domserve"] - took[program], max(MOST, 20 * shell))
 
-    def seconds(self, path):
+    def seconds(self, *words):
         """Returns the processor time of a run over no input."""
         before = os.times()
-        subprocess.run([path], stdin=subprocess.DEVNULL, stdout=subprocess.DEVNULL, check=True)
+        subprocess.run(words, stdin=subprocess.DEVNULL, stdout=subprocess.DEVNULL, check=True)
         after = os.times()
         return after.children_user + after.children_system - before.children_user - before.children_system
 
