@@ -137,13 +137,14 @@ class Document:
         """Sends lines, and returns their replies in order, without newlines. Raises `NotAnswered` once no reply has come for so long.
 
         `request` is the number of the first of these among this client's requests to this document, by default the one that follows. A line
-        that waits or was answered under its number is not done again, and its reply is returned. Another line raises `OtherLine`.
+        that waits or was answered under its number is not done again, and its reply is returned. Another line raises `OtherLine`, and so does
+        a change under a number below those that are recorded. (Numbers may be left out, since those of questions are forgotten.)
         """
         given = [bytes(it) for it in lines]
         if request is None:
             return [self.reply(it, timeout) for it in self.post(given, timeout)]
-        if not 0 < request <= self._next:
-            raise ValueError(f"{escaped(self.name)}: request {request} does not follow {self._next - 1}")
+        if request < 1:
+            raise ValueError(f"request {request} is below 1")
         self._waiting.clear()
         self._answers.clear()
         following, self._next = self._next, request

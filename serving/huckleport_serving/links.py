@@ -41,7 +41,7 @@ log = safe_logger("huckleport_serving")
 Setting = Union[sql.SQL, sql.Composed]
 """A statement that is executed once for each connection."""
 
-SETTLING = 2.0
+SETTLING = 5.0
 """For how long a client's first connection waits for another process of the same id to be gone, in seconds."""
 
 TABLES = 2

@@ -104,7 +104,20 @@ class Replies(Served):
         with self.assertRaises(OtherLine):
             again.document("retried").send([b'["root",0]'], request=1)
         with self.assertRaises(ValueError):
-            again.document("retried").send([b'["root",0]'], request=9)
+            again.document("retried").send([b'["root",0]'], request=0)
+
+    def test_a_client_goes_on_behind_questions_that_were_forgotten(self) -> None:
+        """It started anew, and knows more requests than the database, which keeps the numbers of changes alone."""
+        who = uuid.uuid4()
+        with connect(self.place.conninfo, client=who) as first:
+            first.document("forgotten").send([MADE[0], *[b'["root",0]'] * 5])
+        self.connection.execute("delete from huckleport.answers")
+        again = self.connected(client=who).document("forgotten")
+        self.assertEqual(again.send([MADE[0]], request=7), [b'{"ok":2}'])
+        self.assertEqual(again.send([b'["root",0]'], request=3), [b'{"ok":0}'])
+        with self.assertRaises(OtherLine):
+            again.send([MADE[0]], request=4)
+        self.assertEqual(again.ask(MADE[0]), b'{"ok":3}')
 
     def test_a_retry_that_comes_late_is_dropped(self) -> None:
         document = self.client.document("late")
