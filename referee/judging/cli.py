@@ -9,6 +9,7 @@ from judging.commands import COMMANDS
 from judging.core import Cores, Turn
 from judging.drawing import GROUPS, drawn_stream
 from judging.found import cases_of
+from judging.hanging import hanging_of
 from judging.judge import Judge, same
 from judging.junit import junit_of
 from judging.known import KNOWN, WHY, entry_of_case, read_known
@@ -123,6 +124,7 @@ def exhausted(given, player):
 
 def run_of(given, streams):
     known, player = read_known(given.known), player_of(given)
+    player.hanging = hanging_of(known, player.name)
     limits = Limits(given.time, given.lines, getattr(given, "streams", None), given.new)
     cores = Cores(given.program)
     run = Run(cores, player, known, given.out, limits, given.quiet, getattr(given, "save", None))

@@ -7,6 +7,7 @@ import random
 from collections import namedtuple
 
 from judging.commands import COMMANDS, COMMENT, DOCTYPE, DOCUMENT, ELEMENT, FLAGS, FRAGMENT, MADE, MAKERS, MOVES, PARENTS, PI, TEXT, WITH_DATA, kind_of
+from judging.hanging import DRAWN
 
 # What is there ahead of the drawn commands, how often each of these is drawn, and whether it is about Texts side by side.
 Group = namedtuple("Group", "ranges iterators walkers observers weights texts", defaults=(False,))
@@ -69,6 +70,7 @@ class Scene:
 
     def __init__(self, core, chance, player):
         self.core, self.chance, self.serves, self.documents, self.parts_at = core, chance, player.serves, player.documents, player.parts_at
+        self.hanging = player.hanging
         self.kinds = {0: DOCUMENT} if player.documents else {}
         self.objects = {"range": [], "iterator": [], "walker": [], "observer": [], "static": []}
         self.turns, self.gone = [], []
@@ -79,10 +81,16 @@ class Scene:
     def may_say(self, name):
         return self.serves is None or name in self.serves
 
+    def hangs(self, command, reply=None):
+        """Whether a command is passed over, since the player is known not to come back from it."""
+        return self.hanging.fits(command, reply) and self.chance.random() >= DRAWN
+
     def say(self, name, *values, keeps=1.0):
         """Plays a command, and keeps it where it was not refused, or by chance. Returns the answer."""
+        if self.hangs([name, *values]):
+            return None
         turn = self.core.play([name, *values])
-        if "ok" not in turn.reply and (self.parts_at(turn) or self.chance.random() >= keeps):
+        if "ok" not in turn.reply and (self.parts_at(turn) or self.chance.random() >= keeps or self.hangs(turn.command, turn.reply)):
             return None
         self.turns.append(turn)
         if "ok" in turn.reply:

@@ -10,8 +10,9 @@ from judging.moments import place_of
 
 @dataclass
 class Case:
-    """A shrunk difference. `count` is how many streams came to it, `known` the name of the entry that it is, `place` that of the command that it
-    comes from, `moments` what stands behind each command, and `again` whether it came again when its stream was played anew.
+    """A shrunk difference. `count` is the number of streams that show it, `known` the name of its entry, `place` that of the command that it comes
+    from, `moments` the state behind each command, `again` whether it came again when its stream was played anew, and `around` the faults that the
+    adapter played around.
     """
 
     player: str
@@ -26,8 +27,10 @@ class Case:
     moments: list = field(default_factory=list)
     place: int = 0
     again: bool = True
-    count: int = 1
+    count: int = 0
     known: str | None = None
+    around: list = field(default_factory=list)
+    last: str | None = None
 
     def difference(self):
         turns = [Turn(command, reply, [], places, 0) for command, reply, places in zip(self.commands, self.replies, self.places)]
@@ -35,6 +38,11 @@ class Case:
 
     def name(self):
         return name_of(self.commands)
+
+    def count_stream(self, seed):
+        """Counts a stream that shows it, once."""
+        self.count += self.last != seed
+        self.last = seed
 
 
 def name_of(commands):
@@ -47,7 +55,8 @@ def case_of(difference, player, group, seed, moments, again):
     parts = {"commands": [it.command for it in turns], "replies": [it.reply for it in turns], "places": [it.places for it in turns]}
     place = place_of(moments, len(turns) - 1)
     key = key_of(difference)._replace(cause=turns[place].command[0])._asdict()
-    return Case(player.name, player.version, told=difference.told, key=key, group=group, seed=seed, moments=moments, place=place, again=again, **parts)
+    parts |= {"key": key, "group": group, "seed": seed, "moments": moments, "place": place, "again": again, "around": list(player.around)}
+    return Case(player.name, player.version, told=difference.told, **parts)
 
 
 class Found:
@@ -61,12 +70,9 @@ class Found:
             if name.startswith("case-") and name.endswith(".json"):
                 os.remove(os.path.join(folder, name))
 
-    def again(self, difference):
-        """Counts a difference whose case is there; returns whether it is."""
-        case = self.cases.get(name_of(it.command for it in difference.turns))
-        if case:
-            case.count += 1
-        return case is not None
+    def case(self, difference):
+        """Returns the case that a difference is; None if there is none yet."""
+        return self.cases.get(name_of(it.command for it in difference.turns))
 
     def keep(self, case):
         """Adds a case, and writes it at once, so that it stays whatever becomes of the run."""

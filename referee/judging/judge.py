@@ -1,15 +1,22 @@
 """Replies of a player beside those of the core, one by one, up to the first that differs."""
 import json
-from collections import namedtuple
+from collections import Counter, namedtuple
 
 from judging.commands import COMMANDS, TELLS_ITSELF
 
 # The turns up to the one that differs, and what the player replied to that one.
 Difference = namedtuple("Difference", "turns told")
 
+# How far a stream was compared: the difference at which it ended, if it ended there, and the place of the command without which the rest can be
+# compared; neither if all was.
+Compared = namedtuple("Compared", "difference place")
+
 # A kind of difference as a stream is shrunk: the last command that changed something, the one whose reply differs, and the forms of both replies.
 Key = namedtuple("Key", "cause shows due told")
 
+
+# Commands about an iterator or a walker, and which of these it is.
+OF_TRAVERSAL = {"iterator": "iterator", "nextNode": "iterator", "previousNode": "iterator", "walker": "walker", "setCurrent": "walker", "walk": "walker"}
 
 # A refusal of a player whose refusals have no names, which is the same as any.
 NAMELESS = "*"
@@ -51,29 +58,54 @@ def key_of(difference):
     return Key(cause_of(difference.turns, difference.told), last.command[0], form_of(last.reply), form_of(difference.told))
 
 
+def object_of(command):
+    """The kind and the number of the iterator or walker that a command is about; None for other commands."""
+    kind = OF_TRAVERSAL.get(command[0])
+    return kind and (kind, command[1])
+
+
+def filtered_objects(turns):
+    """The iterators and walkers of a stream that have a filter."""
+    made = [it for it in turns if it.command[0] in ("createIterator", "createWalker") and "ok" in it.reply and it.command[3]]
+    return {(COMMANDS[it.command[0]].makes, it.reply["ok"]) for it in made}
+
+
 class Judge:
     """A core and a player, and how many lines were compared and passed over."""
 
     def __init__(self, cores, player):
         self.cores, self.player = cores, player
-        self.lines = self.compared = self.streams = 0
-        self.left_out = {}
+        self.lines = self.compared = self.streams = self.with_filter = 0
+        self.left_out, self.by_command = {}, Counter()
 
     def core(self):
         return self.cores.open()
 
     def difference(self, turns):
-        """The first difference of a stream; None where all replies are the same."""
+        """Returns the first difference of a stream; None if all replies are the same."""
         self.streams += 1
-        for at, reply in self.player.replies(turns):
-            self.lines += 1
-            if "skip" in reply:
-                self.left_out[reply["skip"]] = self.left_out.get(reply["skip"], 0) + 1
-                if changes(turns[at]):
-                    return None
-            elif same(turns[at].reply, reply):
-                self.compared += 1
-            else:
-                self.compared += 1
-                return Difference(turns[: at + 1], reply)
-        return None
+        return self.compare(turns, range(len(turns)), set()).difference
+
+    def compare(self, turns, keys, counted):
+        """Compares a stream up to its first difference. Lines whose keys are in `counted` are not counted again."""
+        last, filtered = -1, filtered_objects(turns)
+        for last, reply in self.player.replies(turns):
+            fresh = keys[last] not in counted
+            counted.add(keys[last])
+            self.with_filter += fresh and "skip" not in reply and object_of(turns[last].command) in filtered
+            if not self.count(turns[last], reply, fresh):
+                return Compared(Difference(turns[: last + 1], reply), cause_place(turns[: last + 1], reply))
+            if "skip" in reply and changes(turns[last]):
+                return Compared(None, last)
+        ends_early = 0 <= last < len(turns) - 1 and self.player.parts_at(turns[last])
+        return Compared(None, last if ends_early else None)
+
+    def count(self, turn, reply, fresh):
+        """Counts a reply unless its line was counted before; returns whether it is the core's, or none that can be compared."""
+        self.lines += fresh
+        if "skip" in reply:
+            self.left_out[reply["skip"]] = self.left_out.get(reply["skip"], 0) + fresh
+            return True
+        self.compared += fresh
+        self.by_command[turn.command[0]] += fresh
+        return same(turn.reply, reply)

@@ -3,18 +3,20 @@
 An entry is an object: `name`; `players` (names); `cause`, which names a function of judging.causes over the stream and both sides' answers; `of`, the
 commands that the difference may come from, where a missing list stands for all; `why`; and `reason`, which says it in a sentence. Which command shows
 the difference is not asked. `why` is `ours` (a rule of this core's own profile), `letter` (the standard's text, of another time or where it is open),
-`fault` (of the player) or `choice` (what the player's own documentation says).
+`fault` (of the player) or `choice` (what the player's own documentation says). `hangs` names a rule of judging.hanging, if the player does not come
+back from the command; `around` names a fault that the player's adapter can play around, once it was shown.
 """
 import json
 import os
 
 from judging.causes import CAUSES, holds
+from judging.hanging import HANGS
 from judging.shown import Shown
 
 HERE = os.path.dirname(os.path.dirname(os.path.abspath(__file__)))
 KNOWN = os.path.join(HERE, "known.json")
 WHY = {"ours": "ours: a rule of this core's own profile", "letter": "the letter of the standard", "fault": "a fault of the player", "choice": "the player's own rule"}
-MEMBERS = {"name", "players", "cause", "of", "why", "reason"}
+MEMBERS = {"name", "players", "cause", "of", "why", "reason", "hangs", "around"}
 
 
 def read_known(path):
@@ -27,6 +29,8 @@ def read_known(path):
             raise ValueError(f"{path}: an entry needs name, players, cause, why and reason, and has nothing but {', '.join(sorted(MEMBERS))}: {it}")
         if it["cause"] not in CAUSES:
             raise ValueError(f"{path}: there is no cause {it['cause']}")
+        if it.get("hangs", next(iter(HANGS))) not in HANGS:
+            raise ValueError(f"{path}: there is no rule of hangs {it['hangs']}")
     return found
 
 

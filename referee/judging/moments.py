@@ -6,6 +6,8 @@ from judging.commands import COMMANDS, DOCUMENT, FRAGMENT, PARENTS
 from judging.core import Turn
 
 MOST_TREES, MOST_NODES = 8, 12
+# Behind so many of the last commands is looked first.
+LAST = 4
 # Of what a node is told to be, where it stands.
 PLACES = ("parent", "previous", "next")
 
@@ -33,27 +35,40 @@ def may_change(command):
     return command[0] in COMMANDS and COMMANDS[command[0]].changes
 
 
-def asked_between(core, commands):
-    """The turns of commands, with questions behind each that may change something; and of each of these questions its place and its command's."""
+def asked_between(core, commands, first=0):
+    """The turns of commands, with questions behind each from the first place on that may change something; and of each of these questions its place
+    and its command's.
+    """
     turns, places = [], []
     for at, command in enumerate(commands):
         turns.append(core.play(command))
-        for question in questions_of(core) if may_change(command) else ():
+        for question in questions_of(core) if at >= first and may_change(command) else ():
             places.append((len(turns), at))
             turns.append(Turn(question, core.reply(question), [], [], 0))
     return turns, places
 
 
-def moments_of(judge, commands):
-    """Of each command that may change something its place, and all questions behind it with both replies; a player that does not answer tells none."""
+def moments_of(judge, commands, first=0):
+    """Of each command that may change something its place, and all questions behind it with both replies; a player that does not answer tells none.
+    Nothing is asked behind commands ahead of the first place.
+    """
     with judge.core() as core:
-        turns, places = asked_between(core, commands)
+        turns, places = asked_between(core, commands, first)
     told = dict(judge.player.replies(turns))
     found = {}
     for place, at in places:
         question, due = turns[place].command, turns[place].reply
         found.setdefault(at, []).append([question, due, told.get(place, {"skip": "not told"})])
     return [[at, asked] for at, asked in found.items()]
+
+
+def last_moments(judge, difference):
+    """The moments behind the last commands of a difference; none if it may come from one before them."""
+    turns = difference.turns[: len(difference.turns) - ("fault" in difference.told)]
+    changing = [at for at, it in enumerate(turns) if may_change(it.command)]
+    first = changing[-LAST] if len(changing) > LAST else 0
+    moments = moments_of(judge, [it.command for it in turns], first)
+    return None if first and moments and apart(moments[0][1]) else moments
 
 
 def alike(due, told):

@@ -14,6 +14,7 @@ import sys
 import tempfile
 import threading
 
+from judging.hanging import Hanging
 from judging.process import Hung
 
 HERE = os.path.dirname(os.path.dirname(os.path.abspath(__file__)))
@@ -134,7 +135,7 @@ class Page:
     serves = property(lambda self: self.player.serves)
     itself = property(lambda self: self.player.itself)
     parts_at = property(lambda self: self.player.parts_at)
-    documents = True
+    documents, hanging, can_go_around, around, opened = True, Hanging(), (), (), None
 
     def replies(self, turns):
         if self.server is None:

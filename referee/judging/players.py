@@ -6,6 +6,7 @@ import shutil
 import subprocess
 import sys
 
+from judging.hanging import Hanging
 from judging.pages import Page
 from judging.process import STARTS, Died, Fault, Lines, line_of, read_reply
 
@@ -47,16 +48,19 @@ class Player:
     called = None
     # Whether it numbers by place what a command makes inside, and whether a Document of its has children.
     numbers, documents = False, True
+    # The known hangs, the faults that its adapter can play around, those of them that it does now, and how its own users get a document.
+    hanging, can_go_around, around, opened = Hanging(), (), (), None
 
     def introduce(self, told):
         self.name, self.version = self.called or told.get("name", self.name), told.get("version", "")
         self.serves = set(told["serves"]) if "serves" in told else None
         self.itself, self.numbers = told.get("itself", []), told.get("numbers", False)
-        self.documents = told.get("documents", True)
+        self.documents, self.can_go_around = told.get("documents", True), told.get("around", ())
+        self.opened = told.get("opened")
 
     def lines(self, turns):
         """The lines for a world of its own, and of each the place of its turn, or None where its reply tells nothing."""
-        found = [(None, {"world": {}})]
+        found = [(None, {"world": {"around": sorted(self.around)} if self.around else {}})]
         for at, turn in enumerate(turns):
             if self.numbers and not is_for_adapters(turn):
                 continue
@@ -103,8 +107,9 @@ class Spoken(Player):
             self.open()
         given, found = self.lines(turns), []
         self.process.seconds = self.seconds
+        waits = [self.seconds if at is None else self.hanging.seconds(turns[at].command, turns[at].reply, self.seconds) for at, _ in given]
         try:
-            for (at, _), line in zip(given, self.process.ask_all(line_of(it) for _, it in given)):
+            for (at, _), line in zip(given, self.process.ask_all((line_of(it) for _, it in given), waits)):
                 found.append((at, read_reply(line) if at is None else told_by(line, turns[at])))
         except Fault as fault:
             self.end()
@@ -199,9 +204,11 @@ def of_rust(given):
         raise NotThere("there is no cargo")
     folder = os.path.join(PLAYERS, "rust")
     environment = {**os.environ, "HUCKLEPORT_LIB_DIR": given.library, "LD_LIBRARY_PATH": given.library}
-    built = subprocess.run(["cargo", "build", "--quiet", "--offline", "--release"], cwd=folder, env=environment, check=False)
+    words = ["cargo", "build", "--quiet", "--offline", "--release"]
+    built = subprocess.run(words, cwd=folder, env=environment, stdout=subprocess.PIPE, stderr=subprocess.STDOUT, text=True, check=False)
     if built.returncode:
-        raise NotThere("the player in Rust can't be built")
+        why = next((it for it in built.stdout.splitlines() if it.startswith("error")), "no reason was told")
+        raise NotThere(f"cargo can't build the player in Rust: {why}")
     return Spoken([os.path.join(folder, "target/release/player")], given.seconds, environment)
 
 

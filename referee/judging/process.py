@@ -1,4 +1,5 @@
 """A process that is spoken to by lines: one reply a line, and a time by which a reply has to come."""
+import itertools
 import json
 import os
 import selectors
@@ -90,23 +91,22 @@ class Lines:
         self.send(line + b"\n")
         return self.receive(seconds)
 
-    def ask_all(self, lines):
-        """The replies to all lines, handed over in pieces that no pipe is too small for. Yields them one by one."""
-        waiting, size = 0, 0
-        pending = []
-        for line in lines:
+    def ask_all(self, lines, waits=None):
+        """Yields the replies to all lines, handed over in pieces that no pipe is too small for. `waits` are the seconds of each reply."""
+        size, pending = 0, []
+        for line, seconds in zip(lines, waits or itertools.repeat(self.seconds)):
             if pending and size + len(line) >= self.PIECE:
                 yield from self.answered(pending)
-                pending, size = [], 0
-            pending.append(line)
+                size, pending = 0, []
+            pending.append((line, seconds))
             size += len(line) + 1
         if pending:
             yield from self.answered(pending)
 
     def answered(self, pending):
-        self.send(b"\n".join(pending) + b"\n")
-        for _ in pending:
-            yield self.receive()
+        self.send(b"\n".join(line for line, _ in pending) + b"\n")
+        for _, seconds in pending:
+            yield self.receive(seconds)
 
     def end(self):
         """Ends the process and what it started."""

@@ -3,18 +3,23 @@ import json
 import signal
 import sys
 import time
+from collections import Counter
 from dataclasses import dataclass
 
 from judging.found import Found, case_of
 from judging.judge import Judge, key_of
-from judging.known import entry_of_case
-from judging.moments import moments_of
+from judging.known import entry_of, entry_of_case
+from judging.moments import last_moments, moments_of, place_of
+from judging.playing_on import Stream
 from judging.process import Fault
+from judging.shown import Shown
 from judging.shrink import shrunk
 
 TELLS_EACH = 2.0
 # Of differences whose first look is the same, so many are shrunk; of the rest each whose count is a power of two.
 SHRUNK = 2
+# Of a known difference so many cases are kept for each command that it comes from.
+ENOUGH = 2
 
 
 @dataclass
@@ -59,7 +64,9 @@ class Run:
         self.save = open(save, "w", encoding="utf-8") if save else None
         self.stop = Stop()
         self.begun = self.told = time.monotonic()
-        self.seen, self.differing = {}, 0
+        # Of each kind of difference how often it was seen, and the first case that it was shrunk to.
+        self.seen, self.cases, self.differing = {}, {}, 0
+        self.first = Counter()
         self.ended = "all streams were played"
 
     # progress
@@ -113,21 +120,48 @@ class Run:
         if self.save:
             json.dump([group, seed, [[it.command, it.reply, it.places, it.next] for it in turns]], self.save, separators=(",", ":"))
             self.save.write("\n")
-        difference = self.judge.difference(turns)
-        if difference:
-            self.differing += 1
-            self.look_at(difference, group, seed)
+        self.compare(Stream(self.judge, turns), group, seed)
+
+    def compare(self, stream, group, seed):
+        """Compares a stream to its end, whatever differs on the way."""
+        goes_on, differs, before = True, False, Counter(self.judge.by_command)
+        while goes_on and not self.stop.asked:
+            found = stream.compare()
+            if stream.played == 1:
+                self.first.update(self.judge.by_command - before)
+            around = self.look_at(found.difference, group, seed) if found.difference else None
+            differs = differs or found.difference is not None
+            goes_on = found.place is not None and (stream.go_around(around) or stream.leave_out(found.place))
+        self.differing += differs
 
     def look_at(self, difference, group, seed):
-        """Shrinks a difference, unless many that look the same have been."""
+        """Shrinks a difference, unless many that look the same have been. Returns the fault that can be played around, if it is one."""
         key = key_of(difference)
         count = self.seen[key] = self.seen.get(key, 0) + 1
-        if count > SHRUNK and count & (count - 1):
-            return
+        if count <= SHRUNK or not count & (count - 1):
+            self.cases[key] = self.one_of_enough(difference) or self.shrink(difference, group, seed)
+        case = self.cases[key]
+        case.count_stream(seed)
+        return next((it.get("around") for it in self.known if it["name"] == case.known), None)
+
+    def one_of_enough(self, difference):
+        """Returns a case of the known difference that a difference is before it is shrunk, if there are enough of them."""
+        apart = Judge(self.judge.cores, self.player)
+        moments = last_moments(apart, difference)
+        entry = None if moments is None else entry_of(self.known, self.player.name, Shown(apart, difference, moments))
+        if entry is None:
+            return None
+        cause = difference.turns[place_of(moments, len(difference.turns) - 1)].command[0]
+        cases = [it for it in self.found.cases.values() if it.known == entry["name"] and it.key["cause"] == cause]
+        return cases[0] if len(cases) >= ENOUGH else None
+
+    def shrink(self, difference, group, seed):
+        """Returns the case that a difference is, which is kept if it is another one than those before."""
         apart = Judge(self.judge.cores, self.player)
         least = shrunk(apart, difference)
-        if self.found.again(least.difference):
-            return
+        case = self.found.case(least.difference)
+        if case:
+            return case
         case = looked_at(apart, least, group, seed)
         entry = entry_of_case(self.known, self.player.name, apart, case) if case.again else None
         case.known = entry and entry["name"]
@@ -135,6 +169,7 @@ class Run:
         if not self.quiet and not entry:
             once = "" if case.again else ", which did not come again"
             print(f"new: {case.key['cause']} shown by {case.key['shows']}, {len(case.commands)} commands{once}", file=sys.stderr, flush=True)
+        return case
 
     def summary(self):
         judge, player = self.judge, self.player
@@ -146,7 +181,11 @@ class Run:
             "streams": judge.streams,
             "lines": judge.lines,
             "compared": judge.compared,
+            "compared by command": dict(judge.by_command.most_common()),
+            "compared with a filter": judge.with_filter,
+            "up to the first difference": dict(self.first.most_common()),
             "left out": judge.left_out,
+            "opened": player.opened,
             "seconds": round(self.seconds(), 1),
             "differing streams": self.differing,
             "cases": len(self.found.cases),

@@ -124,18 +124,17 @@ class Shrinker:
             yield from ({name: it for name, it in value.items() if name != left} for left in value)
 
     def other_objects(self, value, key):
-        """Objects of the same kind that were made sooner."""
-        kind = value.kind if isinstance(value, Made) else "node"
-        if value is None:
+        """Objects of the same kind that were made sooner. The first Document is the first of all, so that no value comes again."""
+        if not isinstance(value, Made):
             return
-        if kind == "node" and isinstance(value, Made):
+        if value.kind == "node":
             yield 0
         for step in self.steps:
             made = COMMANDS[step.name].makes if step.name in COMMANDS else None
-            if step.key == key or (isinstance(value, Made) and step.key == value.step):
+            if step.key in (key, value.step):
                 return
-            if (made == "nodes" and kind == "node") or made == kind:
-                yield Made(kind, step.key, 0)
+            if (made == "nodes" and value.kind == "node") or made == value.kind:
+                yield Made(value.kind, step.key, 0)
 
     def makers_first(self):
         """What makes single objects goes to the front, so that cases which are the same look the same."""

@@ -7,6 +7,7 @@ const itself = [
   "numbers what a command makes: the node that a call answers takes the next number, and those made with it take the core's, place by place",
   "answers index and length by counting childNodes, and tree by a walk over firstChild and nextSibling, with attributes by getAttributeNames, or by attributes where there is none",
   "makes a function of a filter's list, which asks nodeName alone",
+  "once filters were shown to be never asked, hands them over as acceptNode of the window, which Debian's jsdom asks in their place",
   "answers notify by letting the callbacks run, and has nothing for pending, discard, releaseRange and staticRange",
   "has no answer where comparePosition is asked of two trees, since the standard leaves the order open",
   "tells a DOMException by the standard's name for its code, where its name is another",
@@ -84,6 +85,17 @@ function served(window) {
   return Object.entries(members).flatMap(([kind, wanted]) => Object.entries(wanted).filter(has(kind)).map(([command]) => command));
 }
 
+// Whether a filter is never asked, and the function acceptNode of the window in its place: so Debian's jsdom converts filters.
+function asksTheWindow(window) {
+  const document = tried(() => window.document.implementation.createDocument(null, null));
+  const first = (filter) => tried(() => document.createNodeIterator(document, 4294967295, filter).nextNode());
+  if (!document?.createNodeIterator || first(() => 1)) return false;
+  window.acceptNode = () => 1;
+  const found = first(() => 1) === document;
+  delete window.acceptNode;
+  return found;
+}
+
 // Calls a method of an object; where there is none, the command is not served there.
 function call(object, name, ...given) {
   if (typeof object[name] !== "function") throw new Skipped(`there is no ${name} here`);
@@ -94,7 +106,8 @@ function call(object, name, ...given) {
 function answering(open, named) {
   let window = open();
   const serving = new Set(served(window));
-  let worlds = 0;
+  const canGoAround = asksTheWindow(window) ? ["filters"] : [];
+  let worlds = 0, around = new Set();
   let nodes, numbers, ranges, iterators, walkers, observers, told, statics;
 
   function made(node) {
@@ -164,6 +177,26 @@ function answering(open, named) {
     const verdicts = { accept: 1, reject: 2, skip: 3 };
     const decide = (node) => verdicts[(rules.find(([name]) => name === "*" || name === node.nodeName) ?? ["", "accept"])[1]];
     return rules.length ? decide : null;
+  }
+
+  const filters = new Map();
+
+  // Makes an iterator or a walker, and keeps its filter.
+  function traversal(list, make, root, show, rules) {
+    const found = call(N(0), make, N(root), show, filter(rules));
+    filters.set(found, filter(rules));
+    return list.push(found) - 1;
+  }
+
+  // A step; its filter is handed over by the window too, if that is asked in its place.
+  function step(it, move) {
+    const goesAround = around.has("filters") && filters.get(it);
+    if (goesAround) window.acceptNode = filters.get(it);
+    try {
+      return numberOf(call(it, move));
+    } finally {
+      if (goesAround) delete window.acceptNode;
+    }
   }
 
   const lengthOf = (it) => (it.nodeType === 10 ? 0 : (it.data ?? it.childNodes).length);
@@ -245,14 +278,14 @@ function answering(open, named) {
     cloneContents: (range) => made(ranges[range].cloneContents()),
     insertNode: (range, node) => void ranges[range].insertNode(N(node)),
     surroundContents: (range, node) => void ranges[range].surroundContents(N(node)),
-    createIterator: (root, show, rules) => iterators.push(call(N(0), "createNodeIterator", N(root), show, filter(rules))) - 1,
-    createWalker: (root, show, rules) => walkers.push(call(N(0), "createTreeWalker", N(root), show, filter(rules))) - 1,
+    createIterator: (root, show, rules) => traversal(iterators, "createNodeIterator", root, show, rules),
+    createWalker: (root, show, rules) => traversal(walkers, "createTreeWalker", root, show, rules),
     iterator: (it) => [numberOf(iterators[it].root), numberOf(iterators[it].referenceNode), iterators[it].pointerBeforeReferenceNode],
-    nextNode: (it) => numberOf(iterators[it].nextNode()),
-    previousNode: (it) => numberOf(iterators[it].previousNode()),
+    nextNode: (it) => step(iterators[it], "nextNode"),
+    previousNode: (it) => step(iterators[it], "previousNode"),
     walker: (it) => [numberOf(walkers[it].root), numberOf(walkers[it].currentNode)],
     setCurrent: (it, node) => void (walkers[it].currentNode = N(node)),
-    walk: (it, move) => numberOf(call(walkers[it], move)),
+    walk: (it, move) => step(walkers[it], move),
     createObserver: () => observers.push(observer()) - 1,
     observe: (it, node, options) => void observers[it].observe(N(node), options),
     disconnect: (it) => void observers[it].disconnect(),
@@ -285,16 +318,18 @@ function answering(open, named) {
     return found;
   }
 
-  function world() {
+  function world(goesAround = []) {
     for (const it of observers ?? []) it.disconnect();
     if (++worlds % 200 === 0) window = open();
+    around = new Set(goesAround);
+    filters.clear();
     [nodes, numbers, ranges, iterators, walkers, observers, told, statics] = [[], new Map(), [], [], [], [], [], 0];
     answers.newDocument();
   }
 
   const others = {
-    hello: () => ({ player: { ...named, serves: [...serving], itself, numbers: true } }),
-    world: () => (world(), { ok: null }),
+    hello: () => ({ player: { ...named, serves: [...serving], itself, numbers: true, around: canGoAround } }),
+    world: (line) => (world(line.world.around), { ok: null }),
     numbers: (line) => (numbered(line.numbers, line.next), { ok: null }),
   };
 

@@ -16,16 +16,21 @@ async function loaded(name) {
   }
 }
 
-// What makes windows, by what a module gives: a maker of windows or of documents, a window, or something with a `document`.
+// What makes windows, by what a module gives: a maker of windows or of documents, a window, or something with a `document`; and the same as its users
+// write it, where MODULE stands for what `require` returns.
 function openerOf(found) {
-  if (found.JSDOM) return () => new found.JSDOM("").window;
-  if (found.createWindow) return () => found.createWindow();
-  if (found.parseHTML) return () => found.parseHTML("<html></html>");
-  if (found.Window) return () => new found.Window();
-  if (found.DOMImplementation) return () => ({ document: new found.DOMImplementation().createDocument(null, null) });
+  if (found.JSDOM) return [() => new found.JSDOM("").window, 'new (MODULE.JSDOM)("").window'];
+  if (found.createWindow) return [() => found.createWindow(), "MODULE.createWindow()"];
+  if (found.parseHTML) return [() => found.parseHTML("<html></html>"), 'MODULE.parseHTML("<html></html>")'];
+  if (found.Window) return [() => new found.Window(), "new (MODULE.Window)()"];
+  if (found.DOMImplementation) {
+    const made = "{ document: new (MODULE.DOMImplementation)().createDocument(null, null) }";
+    return [() => ({ document: new found.DOMImplementation().createDocument(null, null) }), made];
+  }
   const window = found.window ?? found.document?.defaultView ?? found;
   if (!window.document?.implementation) throw new Error("the module gives no window, and nothing that makes one");
-  return () => window;
+  const member = found.window ? ".window" : found.document?.defaultView ? ".document.defaultView" : "";
+  return [() => window, `MODULE${member}`];
 }
 
 function versionOf(name) {
@@ -69,7 +74,9 @@ async function serve(answer) {
 async function main(module, name) {
   let answer;
   try {
-    answer = answering(openerOf(await loaded(module)), { name, version: versionOf(module) });
+    const [open, code] = openerOf(await loaded(module));
+    const opened = code.replace("MODULE", `require(${JSON.stringify(module)})`);
+    answer = answering(open, { name, version: versionOf(module), opened });
   } catch (fault) {
     answer = () => ({ error: fault.name, message: fault.message.split("\n")[0] });
   }
