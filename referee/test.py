@@ -8,6 +8,7 @@ import concurrent.futures
 import html
 import json
 import os
+import random
 import re
 import shlex
 import shutil
@@ -18,6 +19,7 @@ import tempfile
 import unittest
 import unittest.mock
 import xml.etree.ElementTree
+from collections import Counter
 
 HERE = os.path.dirname(os.path.abspath(__file__))
 sys.dont_write_bytecode = True
@@ -29,6 +31,8 @@ from judging.commands import ASKS, COMMANDS, FORMS_IN, MAKES, TABLE, kind_of
 from judging.core import Cores, Turn
 from judging.drawing import Scene
 from judging.found import cases_of
+from judging.hanging import DRAWN, SECONDS, Hanging
+from judging.issues import REPORTS, faults_of
 from judging.judge import Judge
 from judging.known import KNOWN, entry_of_case, read_known
 from wrong import FAULTS
@@ -200,6 +204,29 @@ class Lines(Run):
     def test_causes(self):
         self.assertEqual({it["cause"] for it in read_known(KNOWN)} | {"anything"}, set(CAUSES))
 
+    @unittest.skipUnless(shutil.which("node"), "there is no node")
+    def test_known_hangs(self):
+        """A known hang's reply is waited for a short time, and its command drawn seldom."""
+        known = Hanging(["in its own place"])
+        turns = [Turn(["createElement", 0, "a"], {"ok": 1}, [], [], 2), Turn(["insertBefore", 0, 1, 1], {"ok": 1}, [], [], 2), Turn(["appendChild", 0, 1], {"ok": 1}, [], [], 2)]
+        self.assertEqual([known.seconds(it.command, it.reply, 10.0) for it in turns], [10.0, SECONDS, 10.0])
+        self.assertEqual((known.fits(["replaceChild", 0, 1, 1]), known.fits(["replaceChild", 0, 1, 2]), Hanging().fits(["replaceChild", 0, 1, 1])), (True, False, False))
+        refused = Hanging(["refused for its place"])
+        self.assertEqual([refused.fits(["replaceChild", 0, 1, 2], it) for it in (None, {"ok": 1}, {"error": "HierarchyRequestError"})], [False, False, True])
+        player = players.Player()
+        drawn = {}
+        for player.hanging in (Hanging(), known):
+            with Cores(core()[-1]).open() as opened:
+                scene = Scene(opened, random.Random("1"), player)
+                scene.say("createElement", 0, "a")
+                scene.say("appendChild", 0, 1)
+                before = len(scene.turns)
+                for _ in range(1000):
+                    scene.say("insertBefore", 0, 1, 1)
+                drawn[player.hanging] = len(scene.turns) - before
+        self.assertEqual(drawn.pop(next(iter(drawn))), 1000)
+        self.assertLess(drawn[known], 1000 * DRAWN * 4)
+
 
 class Itself(Run):
     def test_program(self):
@@ -267,8 +294,8 @@ class Kept(Run):
         self.assertEqual(status, 0)
         with open(out.strip(), encoding="utf-8") as file:
             page = file.read()
-        for due in ("<svg", "splitText", "https://dom.spec.whatwg.org/#concept-text-split", ".splitText(", "console.log("):
-            self.assertIn(due, page)
+        parts = ("<h2>New</h2>", ".splitText(", 'class="verdict"', "this core says", "https://dom.spec.whatwg.org/#concept-text-split", "<svg", "<h2>The run</h2>")
+        self.assertEqual(sorted(parts, key=page.index), list(parts))
 
     def test_replay(self):
         status, out, _ = said("replay", *self.player, self.case)
@@ -292,6 +319,35 @@ class Kept(Run):
         words = ["--command", wrong("split_off_by_one"), "--player", "wrong", "--group", "data", "--streams", "200", "--known", known]
         self.assertEqual(self.run_of("play", *words)[0], 0)
         self.assertEqual({it.known for it in self.cases()}, {"split"})
+        self.assertEqual(said("report", self.folder, "--known", known)[0], 0)
+        with open(os.path.join(self.folder, "report.html"), encoding="utf-8") as file:
+            page = file.read()
+        self.assertIn("1 fault, 0 new", page)
+        self.assertIn("the standard says", page)
+
+    def test_played_on(self):
+        """A stream is compared to its end: what stands behind a difference is compared too, and each line is counted once."""
+        known = os.path.join(self.folder, "known")
+        entries = [{"name": name, "players": ["wrong"], "cause": "anything", "of": [name], "why": why, "reason": "It is made so."}
+            for name, why in (("splitText", "ours"), ("insertBefore", "fault"))]
+        with open(known, "w", encoding="utf-8") as file:
+            json.dump(entries, file)
+        faults = wrong("split_off_by_one", "ends_sent_into_parent")
+        drawn = ["--group", "texts", "--streams", "12", "--length", "60", "--weight", "insertBefore=20", "--known", known]
+        self.run_of("play", "--command", faults, "--player", "wrong", *drawn)
+        _, told = cases_of(self.folder)
+        first, whole = told["up to the first difference"], told["compared by command"]
+        self.assertEqual(sum(whole.values()), told["compared"])
+        self.assertGreater(sum(whole.values()), sum(first.values()))
+        self.assertLessEqual(Counter(first), Counter(whole))
+        shown = told["streams by difference"]
+        self.assertLessEqual({"splitText", "insertBefore"}, set(shown))
+        self.assertLessEqual(max(shown.values()), told["differing streams"])
+        said("report", self.folder, "--known", known)
+        with open(os.path.join(self.folder, "report.html"), encoding="utf-8") as file:
+            page = file.read()
+        self.assertLess(page.index("<h3>insertBefore"), page.index("<h3>splitText"))
+        self.assertIn("this core says", page[page.index("<h3>splitText") :])
 
     def test_beside_known(self):
         """What differs beside a known difference is told, and the known one stays known."""
@@ -363,11 +419,25 @@ class Players(unittest.TestCase):
             said("report", folder)
             with open(os.path.join(folder, "report.html"), encoding="utf-8") as file:
                 page = file.read()
-            self.assertEqual([it for it, _ in OF_JSDOM if f"<h2>{it}</h2>" not in page], [])
+            self.assertEqual([it for it, _ in OF_JSDOM if f"<h3>{it}: " not in page], [])
+            self.assertLess(page.index("<h2>Faults"), page.index("<h2>No faults"))
+            self.assertGreater(told["compared with a filter"], 100)
+            self.prints_what_it_says(page)
+
+    def prints_what_it_says(self, page):
+        """The scripts of a page of node's print what stands below them."""
+        codes = [html.unescape(it) for it in re.findall(r'<pre class="code">(.*?)</pre>', page, re.DOTALL)]
+        told = [html.unescape(it) for it in re.findall(r'<p class="verdict">It prints <code>(.*?)</code>', page)]
+        environment = {**os.environ, "NODE_PATH": players.modules_of_node()}
+        done = subprocess.run(["node", Reports.BLOCKS], input=json.dumps(codes), env=environment, stdout=subprocess.PIPE, text=True, timeout=300, check=True)
+        self.assertGreater(len(codes), 5)
+        for code, printed, due in zip(codes, json.loads(done.stdout), told, strict=True):
+            with self.subTest(code):
+                self.assertEqual((printed or ["nothing"])[-1], due)
 
 
 class Reports(unittest.TestCase):
-    """The code of the reports prints what they say, where the package that a report is about is here in its version."""
+    """The code of the reports prints what they say, if node finds the package that a report is about in its version."""
 
     IN_NODE = {"jsdom": "jsdom", "domino": "domino", "xmldom": "@xmldom/xmldom"}
     BLOCKS = os.path.join(HERE, "tests/blocks.js")
@@ -387,9 +457,29 @@ class Reports(unittest.TestCase):
                 self.assertEqual(printed, [due if it.endswith(other) else it.removesuffix(" in Chromium") for it, due in said_to])
 
     def in_node(self, blocks, seconds=300):
-        environment = {**os.environ, "NODE_PATH": players.MODULES}
+        environment = {**os.environ, "NODE_PATH": players.modules_of_node()}
         words = ["node", "--max-old-space-size=200", self.BLOCKS]
         return json.loads(subprocess.run(words, input=json.dumps(blocks), env=environment, stdout=subprocess.PIPE, text=True, timeout=seconds, check=True).stdout)
+
+    def version_of(self, module):
+        """The version of a package as node finds it; None if there is none."""
+        if not shutil.which("node"):
+            return None
+        environment = {**os.environ, "NODE_PATH": players.modules_of_node()}
+        words = ["node", "-p", f"require({json.dumps(module + '/package.json')}).version"]
+        return subprocess.run(words, env=environment, stdout=subprocess.PIPE, stderr=subprocess.DEVNULL, text=True, check=False).stdout.strip() or None
+
+    def test_issues(self):
+        """Each fault of a report is a text by itself, whose script has what the report's first code makes."""
+        for name in REPORTS:
+            with open(os.path.join(HERE, "reports", f"{name}.md"), encoding="utf-8") as file:
+                opening = re.search(r"```\w+\n(.*?)```", file.read(), re.DOTALL)[1]
+            for number, fault in enumerate(faults_of(name), 1):
+                status, out, _ = said("issue", name, str(number))
+                self.assertEqual((status, out.splitlines()[0], opening in out, out.count("```")), (0, fault.title, True, 2))
+        self.assertIn("A filter is never asked", said("issue", "jsdom")[1])
+        self.assertEqual((said("issue", "jsdom", "99")[0], said("issue", "nothing")[0]), (2, 2))
+        self.assertFalse([it.title for name in REPORTS for it in faults_of(name) if "Names" in it.title or "missing attribute" in it.title])
 
     def in_python(self, block, seconds=300):
         return subprocess.run(["/usr/bin/python3", "-c", block], stdout=subprocess.PIPE, text=True, timeout=seconds, check=True).stdout.splitlines()
@@ -404,8 +494,7 @@ class Reports(unittest.TestCase):
     def test_in_node(self):
         for name, module in self.IN_NODE.items():
             title, blocks = self.report(name)
-            package = os.path.join(players.MODULES, module, "package.json")
-            if not shutil.which("node") or not os.path.exists(package) or json.load(open(package, encoding="utf-8"))["version"] not in title:
+            if self.version_of(module) not in title.split():
                 print(f"left out: the report of {name}, whose version is not here")
                 continue
             ending = [it for it in blocks if "never comes back" not in it]

@@ -166,9 +166,10 @@ def nameless_refusal(shown):
 
 
 def endless_in_its_own_place(shown):
-    """A node that is to stand before itself, or in its own place, never comes back."""
+    """A node that is to stand before itself, or in its own place, never comes back, or fills a list until that is too long."""
     _, node, child = shown.edit()
-    return shown.told.get("fault") in ("hung", "died") and shown.is_at_end() and node == child
+    ended = shown.told.get("fault") in ("hung", "died") or shown.told.get("error") == "RangeError"
+    return ended and shown.is_at_end() and node == child
 
 
 def in_its_own_place(shown):
@@ -235,6 +236,29 @@ def without_name(row):
 def nothing_is_answered(shown):
     """What is told is null, and not the child."""
     return shown.gives("ok", "ok") and shown.told["ok"] is None
+
+
+def node_document_alone(shown):
+    """A node is told as it is due, but for its node document."""
+    if not shown.is_at_end() or not shown.gives("ok", "ok"):
+        return False
+    due, told = shown.due["ok"], shown.told["ok"]
+    return {**due, "document": None} == {**told, "document": None}
+
+
+def text_content_alone(shown):
+    """The text content is told otherwise."""
+    return shown.is_at_end() and shown.gives("ok", "ok")
+
+
+def document_is_copied(shown):
+    """A Document is taken that cannot be imported."""
+    return shown.accepts("NotSupportedError") and shown.kind(shown.values[1]) == DOCUMENT
+
+
+def nothing_in_its_own_place(shown):
+    """A child that is to be replaced by itself is told as null."""
+    return in_its_own_place(shown) and nothing_is_answered(shown)
 
 
 def no_list_of_children(shown):
@@ -558,6 +582,7 @@ LISTED = (
     (offset_past_the_end, null_as_a_word, child_of_another, nameless_refusal, endless_in_its_own_place, in_its_own_place, fragment_is_adopted, links_that_stay),
     (name_of_a_copy, childless_parent_fails, doctype_without_an_element),
     (document_into_itself, node_taken_anywhere, nameless_instruction, nothing_is_answered, no_list_of_children, joined_to_empty_texts),
+    (nothing_in_its_own_place, node_document_alone, text_content_alone, document_is_copied),
     (anything, name_that_xml_has_not, name_that_is_no_qname, name_beyond_ascii, name_with_a_colon, any_name, text_not_well_formed, offset_at_the_end),
     (missing_attribute_is_empty, missing_attribute_is_refused, node_above_or_document, node_above_the_parent, unasked_hierarchy, kind_ahead_of_child),
     (node_is_the_child, node_beside_itself, fragment_is_answered, text_beside_text, refused_and_taken_out, surrounded_half, filter_was_given),

@@ -11,6 +11,7 @@ from judging.drawing import GROUPS, drawn_stream
 from judging.found import cases_of
 from judging.hanging import hanging_of
 from judging.judge import Judge, same
+from judging.issues import REPORTS, faults_of
 from judging.junit import junit_of
 from judging.known import KNOWN, WHY, entry_of_case, read_known
 from judging.players import BY_NAME, LIBRARY, PROGRAM, NotThere, player_of
@@ -88,6 +89,9 @@ def parser_of():
     report.add_argument("folder", help="the folder that play or exhaust wrote")
     words_of_known(report)
     report.add_argument("-o", dest="to", metavar="FILE", help="the page (report.html in the folder)")
+    issue = parts.add_parser("issue", help="writes a fault of a report as text for its maintainers' tracker, or lists the faults", **raw)
+    issue.add_argument("name", choices=sorted(REPORTS), help="the report")
+    issue.add_argument("number", type=int, nargs="?", metavar="N", help="the number of the fault; without it all are listed")
     players = parts.add_parser("players", help="tells which players are here, and what their adapters do themselves", **raw)
     words_of_player(players)
     return parser
@@ -225,6 +229,19 @@ def players(given):
     return SAME
 
 
+def issue(given):
+    found = faults_of(given.name)
+    if given.number is None:
+        for at, fault in enumerate(found, 1):
+            print(f"{at}  {fault.title}")
+        return SAME
+    if not 1 <= given.number <= len(found):
+        print(f"referee: {given.name} has the faults 1 to {len(found)}", file=sys.stderr)
+        return WRONG_WORDS
+    print(found[given.number - 1].text(), end="")
+    return SAME
+
+
 PARTS = {
     "play": lambda given: run_of(given, drawn),
     "exhaust": lambda given: run_of(given, exhausted),
@@ -232,15 +249,17 @@ PARTS = {
     "shrink": shrink,
     "report": report,
     "players": players,
+    "issue": issue,
 }
 
 
 def main():
     given = parser_of().parse_args()
-    if given.part != "report" and not given.program:
+    needs_core = given.part not in ("report", "issue")
+    if needs_core and not given.program:
         made = os.path.join(given.library, "libhuckleport.so")
         given.program = made if os.path.exists(made) else PROGRAM
-    if given.part != "report" and not os.access(given.program, os.X_OK):
+    if needs_core and not os.access(given.program, os.X_OK):
         print(f"{given.program} is not built: run ./domserve once, or name another by --program", file=sys.stderr)
         return NOT_THERE
     try:

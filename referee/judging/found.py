@@ -10,7 +10,7 @@ from judging.moments import place_of
 
 @dataclass
 class Case:
-    """A shrunk difference. `count` is the number of streams that show it, `known` the name of its entry, `place` that of the command that it comes
+    """A shrunk difference. `count` is how often it was seen, `known` the name of its entry, `place` that of the command that it comes
     from, `moments` the state behind each command, `again` whether it came again when its stream was played anew, and `around` the faults that the
     adapter played around.
     """
@@ -30,7 +30,6 @@ class Case:
     count: int = 0
     known: str | None = None
     around: list = field(default_factory=list)
-    last: str | None = None
 
     def difference(self):
         turns = [Turn(command, reply, [], places, 0) for command, reply, places in zip(self.commands, self.replies, self.places)]
@@ -38,11 +37,6 @@ class Case:
 
     def name(self):
         return name_of(self.commands)
-
-    def count_stream(self, seed):
-        """Counts a stream that shows it, once."""
-        self.count += self.last != seed
-        self.last = seed
 
 
 def name_of(commands):

@@ -13,17 +13,17 @@ def in_its_own_place(command, reply):
     return command[0] in WITH_CHILD and command[2] == command[3]
 
 
+def into_itself(command, reply):
+    """A node is put into itself."""
+    return command[0] in (*WITH_CHILD, "appendChild") and command[1] == command[2]
+
+
 def refused_for_its_place(command, reply):
     """A node is put where it is refused by the core, as below itself."""
     return command[0] in WITH_CHILD and reply is not None and reply.get("error") == "HierarchyRequestError"
 
 
-def all_children_at_once(command, reply):
-    """The children of a node are replaced by a text."""
-    return command[0] == "setTextContent"
-
-
-HANGS = {it.__name__.replace("_", " "): it for it in (in_its_own_place, refused_for_its_place, all_children_at_once)}
+HANGS = {it.__name__.replace("_", " "): it for it in (in_its_own_place, into_itself, refused_for_its_place)}
 
 
 class Hanging:

@@ -7,9 +7,9 @@ from judging.commands import COMMANDS, TELLS_ITSELF
 # The turns up to the one that differs, and what the player replied to that one.
 Difference = namedtuple("Difference", "turns told")
 
-# How far a stream was compared: the difference at which it ended, if it ended there, and the place of the command without which the rest can be
-# compared; neither if all was.
-Compared = namedtuple("Compared", "difference place")
+# How far a stream was compared: the difference at which it ended, if it ended there, the place of the command without which the rest can be compared,
+# and how many replies were; neither of the first two if all were.
+Compared = namedtuple("Compared", "difference place replies")
 
 # A kind of difference as a stream is shrunk: the last command that changed something, the one whose reply differs, and the forms of both replies.
 Key = namedtuple("Key", "cause shows due told")
@@ -84,21 +84,21 @@ class Judge:
     def difference(self, turns):
         """Returns the first difference of a stream; None if all replies are the same."""
         self.streams += 1
-        return self.compare(turns, range(len(turns)), set()).difference
+        return self.compare(turns, self.player.replies(turns), range(len(turns)), set()).difference
 
-    def compare(self, turns, keys, counted):
-        """Compares a stream up to its first difference. Lines whose keys are in `counted` are not counted again."""
+    def compare(self, turns, replies, keys, counted, first=0):
+        """Compares a stream from the first of its replies on up to a difference. Lines whose keys are in `counted` are not counted again."""
         last, filtered = -1, filtered_objects(turns)
-        for last, reply in self.player.replies(turns):
+        for at, (last, reply) in enumerate(replies[first:], first + 1):
             fresh = keys[last] not in counted
             counted.add(keys[last])
             self.with_filter += fresh and "skip" not in reply and object_of(turns[last].command) in filtered
             if not self.count(turns[last], reply, fresh):
-                return Compared(Difference(turns[: last + 1], reply), cause_place(turns[: last + 1], reply))
+                return Compared(Difference(turns[: last + 1], reply), cause_place(turns[: last + 1], reply), at)
             if "skip" in reply and changes(turns[last]):
-                return Compared(None, last)
+                return Compared(None, last, at)
         ends_early = 0 <= last < len(turns) - 1 and self.player.parts_at(turns[last])
-        return Compared(None, last if ends_early else None)
+        return Compared(None, last if ends_early else None, len(replies))
 
     def count(self, turn, reply, fresh):
         """Counts a reply unless its line was counted before; returns whether it is the core's, or none that can be compared."""

@@ -165,6 +165,11 @@ def of_words(words, seconds, name=None):
     return Spoken(words, seconds, name=name) if says_hello(words, seconds) else Program(words, seconds, name)
 
 
+def modules_of_node():
+    """Where modules of node are looked for besides node's own places: NODE_PATH, and where Debian has them."""
+    return os.pathsep.join(it for it in (os.environ.get("NODE_PATH"), MODULES) if it)
+
+
 def of_node(module, name=None, ours=False):
     """A module of node, which is looked for as node does, by NODE_PATH, and where Debian has them."""
 
@@ -173,8 +178,7 @@ def of_node(module, name=None, ours=False):
             raise NotThere("there is no node")
         if os.path.isabs(module) and not os.path.exists(module):
             raise NotThere(f"there is no {module}")
-        paths = [it for it in (os.environ.get("NODE_PATH"), MODULES) if it]
-        environment = {**os.environ, "NODE_PATH": os.pathsep.join(paths)}
+        environment = {**os.environ, "NODE_PATH": modules_of_node()}
         return Spoken(["node", os.path.join(PLAYERS, "node.js"), module, name or module], given.seconds, environment, ours=ours)
 
     return made

@@ -1,21 +1,30 @@
-"""The page of a run: each difference once, with its commands, both replies, pictures, the standard's section, and a snippet."""
+"""The page of a run: faults first, those that most streams show ahead, each by its code, what that prints and what is due; then what is no fault."""
 import json
 from html import escape
 
 from judging.judge import Key
-from judging.known import WHY
 from judging.moments import states_of
 from judging.picture import picture_of
 from judging.sections import section_of
 from judging.snippet import snippet_of
 
 STYLE = """
-body { font: 15px/1.45 sans-serif; max-width: 72em; margin: 2em auto; padding: 0 1em; color: #222 }
-pre, code { font-family: monospace; background: #f6f6f6 } pre { padding: .7em; overflow-x: auto }
+body { font: 15px/1.45 sans-serif; max-width: 72em; margin: 1.2em auto; padding: 0 1em; color: #222 } h1 { margin: 0 0 .3em }
+pre, code { font-family: monospace; background: #f6f6f6 } pre { padding: .7em; overflow-x: auto; margin: .4em 0 }
 table { border-collapse: collapse } td, th { border: 1px solid #ccc; padding: .2em .5em; text-align: left; vertical-align: top }
-h2 { margin-top: 2.2em; border-top: 1px solid #bbb; padding-top: .8em } .new { color: #b3261e } .known { color: #2e6b34 }
+h2 { margin: 2em 0 .3em; border-top: 1px solid #bbb; padding-top: .6em } h3 { margin: 1.2em 0 .3em } .new { color: #b3261e } p { margin: .4em 0 }
 figure { display: inline-block; margin: .5em 1em .5em 0; vertical-align: top } figcaption { font-size: 13px; color: #555 }
 """
+NEW = "new"
+BROWSERS = ("chromium", "firefox", "page")
+# The chapters of a page: of which cases each is, its heading, and a line below it.
+CHAPTERS = (
+    ((NEW,), "New", "No known difference fits: to be judged by the standard's text."),
+    (("fault",), "Faults", ""),
+    (("letter",), "No faults: the letter of the standard", "The player follows another text of the standard, or one that is open."),
+    (("ours",), "No faults: rules of this core's own", "The core differs from the standard here by its own profile."),
+    (("choice",), "No faults: the player's own rules", "The player's documentation says so."),
+)
 
 
 def line(value):
@@ -26,6 +35,10 @@ def title(case):
     key = Key(**case.key)
     forms = "" if key.due == key.told == "ok" else f" ({key.due} is due, {key.told} is told)"
     return f"{key.cause}, shown by {key.shows}{forms}" if key.cause != key.shows else f"{key.cause}{forms}"
+
+
+def counted(count, word):
+    return f"{count:,} {word}{'' if count == 1 else 's'}"
 
 
 def rows_of(case):
@@ -44,51 +57,83 @@ def pictures_of(case):
     return "<div>" + "".join(found) + "</div>"
 
 
-def reason_of(case, known):
-    entry = known.get(case.known)
-    if not case.again:
-        return '<p class="new">It did not come again when the same stream was played anew.</p>'
-    if entry is None:
-        return '<p class="new">New: no entry of the known differences fits.</p>'
-    return f'<p class="known">Known ({WHY[entry["why"]]}). {escape(entry["reason"])}</p>'
-
-
-def section(case):
+def code_of(case, why, opened, player):
+    """The script of a case, what it prints and what is due, with the section that says so."""
+    code, told, due = snippet_of(case, opened)
     name, address = section_of(case.key["cause"], case.key["shows"])
-    return f'<p>The standard: <a href="{address}">{escape(name)}</a></p>'
+    says = "the standard says" if why == "fault" else "this core says"
+    around = "<p>jsdom's fault with filters was played around: acceptNode of the window was the filter.</p>" if case.around else ""
+    if not opened and player not in BROWSERS:
+        around += f"<p>The script has the standard's own calls; <code>referee/referee replay --player {escape(player)} FILE</code> shows the player's replies to a kept case.</p>"
+    verdict = f"It prints <code>{escape(told)}</code>; {says} <code>{escape(due)}</code>"
+    return f'<pre class="code">{escape(code)}</pre><p class="verdict">{verdict} (<a href="{address}">{escape(name)}</a>).</p>{around}'
 
 
-def chapter(cases, known):
-    """The cases that look the same but for what stands in their commands: the shortest whole, of the others the commands."""
+def others_of(cases):
+    if not cases:
+        return ""
+    listed = "".join(f"<pre>{escape(chr(10).join(map(line, it.commands)))}\n{escape(line(it.replies[-1]))} is due, told is {escape(line(it.told))}</pre>" for it in cases)
+    return f"<details><summary>{counted(len(cases), 'other form')}</summary>{listed}</details>"
+
+
+def section(name, cases, entry, told):
+    """A difference: the shortest of its cases whole, of the others the commands."""
     first, *others = sorted(cases, key=lambda it: (len(it.commands), len(it.name())))
-    count = sum(it.count for it in cases)
-    parts = [f"<h2>{escape(first.known or title(first))}</h2>", reason_of(first, known), f"<p>{count} streams shrank to it, in {len(cases)} forms.</p>"]
-    parts += [rows_of(first), pictures_of(first), section(first)]
-    parts.append(f"<p>In a browser's console:</p><pre>{escape(snippet_of(first))}</pre>")
-    if others:
-        listed = "".join(f"<pre>{escape(chr(10).join(map(line, it.commands)))}\n{escape(line(it.replies[-1]))} is due, told is {escape(line(it.told))}</pre>" for it in others)
-        parts.append(f"<details><summary>{len(others)} other forms</summary>{listed}</details>")
+    again = "" if all(it.again for it in cases) else '<p class="new">It did not come again when the same stream was played anew.</p>'
+    parts = [f'<h3>{escape(name)}: {counted(streams_of(cases, told), "stream")}</h3>', f"<p>{escape(entry['reason'])}</p>" if entry else "", again]
+    parts.append(code_of(first, entry["why"] if entry else NEW, told.get("opened"), told.get("player", "")))
+    parts.append(pictures_of(first))
+    parts.append(f"<details><summary>{counted(len(first.commands), 'command')} and both replies</summary>{rows_of(first)}</details>{others_of(others)}")
     return "".join(parts)
 
 
-def chapters(cases, known):
-    """New differences first, each kind of them once; then each that is known once."""
-    kinds = {}
+def group_of(case):
+    """The difference that a case is one of: a known one, or those that look the same."""
+    return case.known or title(case)
+
+
+def streams_of(cases, told):
+    """How many streams show a difference."""
+    return told.get("streams by difference", {}).get(group_of(cases[0])) or sum(it.count for it in cases)
+
+
+def chapters(cases, known, told):
+    groups = {}
     for case in cases:
-        kinds.setdefault((case.known,) if case.known else ("", *case.key.values()), []).append(case)
-    ordered = sorted(kinds.items(), key=lambda it: (it[0][0] != "", it[0]))
-    return "".join(chapter(it, known) for _, it in ordered)
+        groups.setdefault(group_of(case), []).append(case)
+    ordered = sorted(groups.items(), key=lambda it: -streams_of(it[1], told))
+    found = []
+    for whys, heading, words in CHAPTERS:
+        here = [(name, its, known.get(its[0].known)) for name, its in ordered if (known.get(its[0].known) or {"why": NEW})["why"] in whys]
+        if here:
+            found.append(f"<h2>{heading}</h2>" + (f"<p>{words}</p>" if words else "") + "".join(section(name, its, entry, told) for name, its, entry in here))
+    return "".join(found)
 
 
-def head(told, cases):
-    new = sum(it.known is None for it in cases)
+def head(told, cases, known):
+    faults = {it.known for it in cases if it.known in known and known[it.known]["why"] == "fault"}
+    new = {group_of(it) for it in cases if it.known is None}
     name = escape(f"{told.get('player', '')} {told.get('version', '')}".strip())
+    counts = f"{told.get('streams', 0):,} streams, {told.get('compared', 0):,} replies compared, {told.get('seconds', 0)} seconds"
+    return f"<h1>{name} beside the DOM Standard</h1><p>{counted(len(faults), 'fault')}, {len(new)} new; {counts}.</p>"
+
+
+def compared_of(told):
+    """How many replies were compared, by command: up to the first difference of each stream, and with what was played on behind it."""
+    first, whole = told.get("up to the first difference", {}), told.get("compared by command", {})
+    rows = "".join(f"<tr><td>{escape(name)}</td><td>{first.get(name, 0):,}</td><td>{count:,}</td></tr>" for name, count in whole.items())
+    heads = "<tr><th>command</th><th>up to the first difference</th><th>in all</th></tr>"
+    with_filter = f"<p>{told['compared with a filter']:,} of them are about iterators and walkers with a filter.</p>" if told.get("compared with a filter") else ""
+    return f"<details><summary>Replies compared, by command</summary>{with_filter}<table>{heads}{rows}</table></details>" if whole else ""
+
+
+def foot(told):
     own = "".join(f"<li>{escape(it)}</li>" for it in told.get("itself") or [])
-    itself = f"<p>What the adapter does itself, which is never evidence:</p><ul>{own}</ul>" if own else ""
-    counts = f"{told.get('streams', 0):,} streams, {told.get('lines', 0):,} lines, {told.get('seconds', 0)} seconds"
-    return f"<h1>{name} beside the core</h1><p>{counts}; {len(cases)} cases, {new} of them new.</p>{itself}"
+    itself = f"<p>The adapter does this itself, which is never evidence:</p><ul>{own}</ul>" if own else ""
+    return f"<h2>The run</h2>{compared_of(told)}{itself}"
 
 
 def page_of(cases, told, known):
-    body = head(told, cases) + chapters(cases, {it["name"]: it for it in known})
+    entries = {it["name"]: it for it in known}
+    body = head(told, cases, entries) + chapters(cases, entries, told) + foot(told)
     return f'<!doctype html><html lang="en"><meta charset="utf-8"><title>What the referee found</title><style>{STYLE}</style><body>{body}</body></html>\n'

@@ -12,6 +12,7 @@ from judging.known import entry_of, entry_of_case
 from judging.moments import last_moments, moments_of, place_of
 from judging.playing_on import Stream
 from judging.process import Fault
+from judging.report import group_of
 from judging.shown import Shown
 from judging.shrink import shrunk
 
@@ -66,7 +67,8 @@ class Run:
         self.begun = self.told = time.monotonic()
         # Of each kind of difference how often it was seen, and the first case that it was shrunk to.
         self.seen, self.cases, self.differing = {}, {}, 0
-        self.first = Counter()
+        # The seeds of the streams that show each difference.
+        self.first, self.shown = Counter(), {}
         self.ended = "all streams were played"
 
     # progress
@@ -124,25 +126,32 @@ class Run:
 
     def compare(self, stream, group, seed):
         """Compares a stream to its end, whatever differs on the way."""
-        goes_on, differs, before = True, False, Counter(self.judge.by_command)
-        while goes_on and not self.stop.asked:
+        before = Counter(self.judge.by_command)
+        found = stream.compare()
+        self.first.update(self.judge.by_command - before)
+        self.differing += found.difference is not None
+        while found.place is not None and not self.stop.asked and self.goes_on(stream, found, group, seed):
             found = stream.compare()
-            if stream.played == 1:
-                self.first.update(self.judge.by_command - before)
-            around = self.look_at(found.difference, group, seed) if found.difference else None
-            differs = differs or found.difference is not None
-            goes_on = found.place is not None and (stream.go_around(around) or stream.leave_out(found.place))
-        self.differing += differs
+
+    def goes_on(self, stream, found, group, seed):
+        """Looks at a difference, if there is one, and sees to it that the stream can be compared behind it; returns whether it can."""
+        if found.difference:
+            case = self.look_at(found.difference, group, seed)
+            around = next((it.get("around") for it in self.known if it["name"] == case.known), None)
+            if stream.pass_over(found.difference, case) or stream.go_around(around):
+                return True
+        return stream.leave_out(found.place)
 
     def look_at(self, difference, group, seed):
-        """Shrinks a difference, unless many that look the same have been. Returns the fault that can be played around, if it is one."""
+        """Returns the case that a difference is; it is shrunk, unless many that look the same have been."""
         key = key_of(difference)
         count = self.seen[key] = self.seen.get(key, 0) + 1
         if count <= SHRUNK or not count & (count - 1):
             self.cases[key] = self.one_of_enough(difference) or self.shrink(difference, group, seed)
         case = self.cases[key]
-        case.count_stream(seed)
-        return next((it.get("around") for it in self.known if it["name"] == case.known), None)
+        case.count += 1
+        self.shown.setdefault(group_of(case), set()).add(seed)
+        return case
 
     def one_of_enough(self, difference):
         """Returns a case of the known difference that a difference is before it is shrunk, if there are enough of them."""
@@ -188,6 +197,7 @@ class Run:
             "opened": player.opened,
             "seconds": round(self.seconds(), 1),
             "differing streams": self.differing,
+            "streams by difference": {name: len(seeds) for name, seeds in self.shown.items()},
             "cases": len(self.found.cases),
             "new": len(self.found.new()),
             "ended": self.ended,

@@ -167,9 +167,9 @@ class Shrinker:
 
 @contextmanager
 def hurried(player, hangs):
-    """While streams are tried that may never come back, a reply has a fifth of its time. Yields that time; none where nothing hangs."""
+    """While shorter streams are tried, any of which may never come back, a reply has a fifth of its time. Yields that time if the difference is a hang."""
     seconds = player.seconds
-    player.seconds = max(min(seconds, 1.0), seconds / 5) if hangs else seconds
+    player.seconds = max(min(seconds, 1.0), seconds / 5)
     try:
         yield player.seconds if hangs else 0.0
     finally:

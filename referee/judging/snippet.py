@@ -1,11 +1,12 @@
-"""A stream in the standard's own calls, for the console of any browser."""
+"""A case as a script in the standard's own calls, for the library's own environment, with what it prints and what is due."""
 import json
+import re
 
 from judging.commands import COMMANDS, kind_of
-from judging.judge import form_of
+from judging.printed import ANOTHER, DONE, VOID, Printed, nodes_in
 
 LETTERS = {"node": "n", "range": "r", "iterator": "i", "walker": "w", "observer": "o", "static": "s"}
-VERDICTS = {"accept": "NodeFilter.FILTER_ACCEPT", "reject": "NodeFilter.FILTER_REJECT", "skip": "NodeFilter.FILTER_SKIP"}
+VERDICTS = {"accept": 1, "reject": 2, "skip": 3}
 
 # The call of a command, with its arguments at their places.
 CALLS = {
@@ -27,16 +28,16 @@ CALLS = {
     "cloneNode": "{0}.cloneNode({1})",
     "normalize": "{0}.normalize()",
     "node": "[{0}.nodeName, {0}.parentNode, {0}.previousSibling, {0}.nextSibling, {0}.ownerDocument]",
-    "children": "[...{0}.childNodes]",
-    "index": "[...{0}.parentNode.childNodes].indexOf({0})",
-    "length": "({0}.data ?? {0}.childNodes).length",
+    "children": "Array.from({0}.childNodes)",
+    "index": "Array.from({0}.parentNode.childNodes).indexOf({0})",
+    "length": "({0}.data === undefined ? {0}.childNodes : {0}.data).length",
     "root": "{0}.getRootNode()",
     "contains": "{0}.contains({1})",
     "isEqual": "{0}.isEqualNode({1})",
     "comparePosition": "{0}.compareDocumentPosition({1})",
     "textContent": "{0}.textContent",
     "setTextContent": "{0}.textContent = {1}",
-    "tree": "all({0}).map(shown)",
+    "tree": "tree({0})",
     "data": "{0}.data",
     "setData": "{0}.data = {1}",
     "attributeNames": "{0}.getAttributeNames()",
@@ -45,19 +46,29 @@ CALLS = {
     "commonAncestor": "{0}.commonAncestorContainer",
     "createStaticRange": "new StaticRange({{ startContainer: {0}, startOffset: {1}, endContainer: {2}, endOffset: {3} }})",
     "rangeText": "{0}.toString()",
-    "createIterator": "document.createNodeIterator({0}, {1}, {2})",
-    "createWalker": "document.createTreeWalker({0}, {1}, {2})",
+    "createIterator": "n0.createNodeIterator({0}, {1}, {2})",
+    "createWalker": "n0.createTreeWalker({0}, {1}, {2})",
     "iterator": "[{0}.root, {0}.referenceNode, {0}.pointerBeforeReferenceNode]",
     "walker": "[{0}.root, {0}.currentNode]",
     "setCurrent": "{0}.currentNode = {1}",
-    "createObserver": "new MutationObserver((records) => console.log(records.map(record)))",
     "takeRecords": "{0}.takeRecords().map(record)",
     "notify": "await new Promise((resolve) => setTimeout(resolve))",
 }
 
-RECORD = "const record = (it) => [it.type, it.target, [...it.addedNodes], [...it.removedNodes], it.previousSibling, it.nextSibling, it.attributeName, it.oldValue];"
-ALL = "const all = (it) => [it, ...[...it.childNodes].flatMap(all)];"
-SHOWN = "const shown = (it) => it.nodeName + (it.data === undefined ? \"\" : \" \" + JSON.stringify(it.data));"
+# What a script begins with: how nodes are printed, and what is used of the rest.
+SAY = f"""const names = new Map();
+const name = (it) => names.get(it) || {json.dumps(ANOTHER)};
+const say = (value) => console.log(JSON.stringify(value, (_, it) => (it === undefined ? null : it && it.nodeType ? name(it) : it)));"""
+RECORD = "const record = (it) => [it.type, it.target, Array.from(it.addedNodes), Array.from(it.removedNodes), it.previousSibling, it.nextSibling, it.attributeName, it.oldValue];"
+ALL = "const all = (it) => [it].concat(...Array.from(it.childNodes, all));"
+TREE = """const attributes = (it) => Array.from(it.attributes || [], (one) => ` ${one.name}=${JSON.stringify(one.value)}`).join("");
+const label = (it) => `${name(it)} ${it.nodeName}` + (it.data === undefined ? attributes(it) : " " + JSON.stringify(it.data));
+function tree(it) {
+  const found = [label(it)];
+  for (let child = it.firstChild; child && found.length < 99; child = child.nextSibling) found.push(tree(child));
+  return found;
+}"""
+WINDOW = ("document", "StaticRange", "MutationObserver")
 
 
 def text(value):
@@ -71,7 +82,7 @@ def filter_of(rules):
         return "null"
     words = [f"it.nodeName === {json.dumps(name)} ? {VERDICTS[verdict]} : " if name != "*" else f"{VERDICTS[verdict]}" for name, verdict in rules]
     whole = "".join(words)
-    return f"(it) => {whole}" if rules[-1][0] == "*" else f"(it) => {whole}NodeFilter.FILTER_ACCEPT"
+    return f"(it) => {whole}" if rules[-1][0] == "*" else f"(it) => {whole}1"
 
 
 def argument(form, value):
@@ -100,24 +111,23 @@ def call_of(command):
     return f"{words[0]}.{name}({', '.join(words[1:])})"
 
 
-def made_line(command, reply, places):
-    """The lines that a command is: what it makes is kept under its number."""
-    makes = COMMANDS[command[0]].makes
-    call = call_of(command)
+def made_line(command, reply):
+    """The line that a command is; what it makes gets a name with its number."""
+    makes, answer = COMMANDS[command[0]].makes, reply.get("ok")
+    if makes == "observer":
+        return f"const o{answer} = new MutationObserver((records) => say([{answer}, records.map(record)]));"
     if "ok" not in reply:
-        return f"try {{ {call}; }} catch (refused) {{ console.log(refused.name); }}"
-    number = reply["ok"]
-    if makes == "nodes" and isinstance(number, int):
-        return f"const n{number} = {call};"
-    return f"const {LETTERS[makes]}{number} = {call};" if makes and makes != "nodes" else f"{call};"
+        return f"try {{ {call_of(command)}; }} catch (refused) {{}}"
+    kind = "node" if makes == "nodes" and isinstance(answer, int) else makes
+    return f"const {LETTERS[kind]}{answer} = {call_of(command)};" if kind and kind != "nodes" else f"{call_of(command)};"
 
 
 def inner_lines(places, made, used):
-    """Names for nodes that a command made inside, where they are used later."""
+    """Names for nodes that a command made inside, if they are used later."""
     found = []
     for top, numbers in places:
         for at, number in enumerate(numbers):
-            if number in used and number not in made:
+            if number in used and number not in made and top in made:
                 found.append(f"const n{number} = all(n{top})[{at}];")
                 made.add(number)
     return found
@@ -130,26 +140,55 @@ def used_nodes(commands):
     return found
 
 
-def asked_line(command, reply, told):
-    """The last line, whose reply differs."""
-    call = call_of(command)
-    if "error" in reply or form_of(told) != "ok":
-        return f"try {{ console.log({call}); }} catch (refused) {{ console.log(refused.name); }}"
-    return f"console.log({call});"
+def naming(made):
+    return f"for (const [key, it] of Object.entries({{ {', '.join(f'n{it}' for it in sorted(made))} }})) names.set(it, key);"
 
 
-def snippet_of(case):
-    """The whole stream of a case."""
+def body_of(case, made):
+    """The lines of a case but for the last one. `made` gets the numbers of the nodes that have names."""
+    used = used_nodes(case.commands) | nodes_in(case.commands[-1], case.replies[-1]) | nodes_in(case.commands[-1], case.told)
     lines = [f"const n0 = {CALLS['newDocument']};"]
-    names = {it[0] for it in case.commands}
-    made, used = {0}, used_nodes(case.commands)
     for command, reply, places in zip(case.commands[:-1], case.replies, case.places):
-        lines.append(made_line(command, reply, places))
+        if command[0] == "notify":
+            lines.append(naming(made))
+        lines.append(made_line(command, reply))
         if COMMANDS[command[0]].makes in ("node", "nodes") and isinstance(reply.get("ok"), int):
             made.add(reply["ok"])
         lines += inner_lines(places, made, used)
-    lines.append(asked_line(case.commands[-1], case.replies[-1], case.told))
-    helpers = [RECORD] if names & {"takeRecords", "createObserver"} else []
-    helpers += [ALL] if any("all(" in it for it in lines) else []
-    helpers += [SHOWN] if "tree" in names else []
-    return "\n".join(helpers + lines)
+    return [*lines, naming(made)]
+
+
+def asked_line(command):
+    """The last line, whose reply differs."""
+    call = call_of(command) if command[0] != "createObserver" else "new MutationObserver(() => {})"
+    if command[0] == "notify":
+        return f"{call};"
+    shown = f"{call}; say({json.dumps(DONE)});" if command[0] in VOID else f"say({call});"
+    return f"try {{ {shown} }} catch (refused) {{ say(refused.name); }}"
+
+
+def opening(case, opened):
+    """How a user of the library gets at its document: a module of node as `require` gives it, or the page itself."""
+    if not opened:
+        return []
+    module = re.search(r'require\("([^"]*)"\)', opened)
+    note = [f"// npm install {module[1]}@{case.version}"] if module and case.version else []
+    names = {it[0] for it in case.commands}
+    wanted = [it for it, need in zip(WINDOW, (None, "createStaticRange", "createObserver")) if need is None or need in names]
+    return [*note, f"const {{ {', '.join(wanted)} }} = {opened};"]
+
+
+def snippet_of(case, opened=None):
+    """Returns the whole script of a case, and the printed forms of the last reply: as it is told, and as it is due."""
+    made = {0}
+    lines = body_of(case, made)
+    asked, printed = asked_line(case.commands[-1]), Printed(case.commands[-1], made)
+    told, due = printed.form(case.told), printed.form(case.replies[-1])
+    names = {it[0] for it in case.commands}
+    helpers = [SAY, *([RECORD] if names & {"takeRecords", "createObserver"} else []), *([ALL] if any("all(" in it for it in lines) else [])]
+    helpers += [TREE] if "tree" in names else []
+    lines.append(asked)
+    if "notify" in names:
+        lines = ["(async () => {", *lines, "})();"]
+    return "\n".join([*opening(case, opened), *helpers, *lines]), told, due
+
