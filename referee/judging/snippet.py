@@ -191,4 +191,3 @@ def snippet_of(case, opened=None):
     if "notify" in names:
         lines = ["(async () => {", *lines, "})();"]
     return "\n".join([*opening(case, opened), *helpers, *lines]), told, due
-
