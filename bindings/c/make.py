@@ -19,7 +19,11 @@ from version import LICENSE, VERSION
 
 HERE = os.path.dirname(os.path.abspath(__file__))
 CRATE = "dom_c"
-SONAME = "libhuckleport.so.0"
+# Until 1.0 each 0.x has a binary interface of its own; then all of a first number have one.
+SERIES = ".".join(VERSION.split(".")[: 2 if VERSION.startswith("0.") else 1])
+SONAME = f"libhuckleport.so.{SERIES}"
+# The version of all symbols, which the linker writes into programs.
+SYMBOLS = f"HUCKLEPORT_{SERIES}"
 
 PKGCONFIG = """\
 prefix={prefix}
@@ -100,7 +104,7 @@ def share(compiler, archive, names, folder):
     """The shared object, which shows these names alone, and the names by which it is linked."""
     script = os.path.join(folder, "names.map")
     with open(script, "w", encoding="utf-8") as file:
-        file.write("{ global: " + "".join(f"{it}; " for it in names) + "local: *; };\n")
+        file.write(f"{SYMBOLS} {{ global: " + "".join(f"{it}; " for it in names) + "local: *; };\n")
     to = os.path.join(folder, SONAME)
     words = ["-shared", f"-Wl,-soname,{SONAME}", f"-Wl,--version-script={script}", "-Wl,-z,defs", "-Wl,-z,noexecstack"]
     words += ["-Wl,--whole-archive", archive, "-Wl,--no-whole-archive"]
@@ -114,7 +118,7 @@ def share(compiler, archive, names, folder):
 def shown(path, compiler):
     """The names that a shared object shows."""
     said = call(call(compiler, "-print-prog-name=nm").strip(), "-D", "--defined-only", path)
-    return {line.split()[-1].partition("@")[0] for line in said.splitlines() if line.strip()}
+    return {line.split()[-1].partition("@")[0] for line in said.splitlines() if line.strip()} - {SYMBOLS}
 
 
 def check(path, names, compiler="gcc"):
