@@ -1,14 +1,30 @@
 """The files of an artefact by their paths, and how they are written: the same bytes each time, with one time for all of them."""
+import contextlib
 import gzip
 import io
 import os
+import subprocess
 import tarfile
 import time
 import zipfile
 from collections import namedtuple
 
-# When all files of an artefact were changed, as they say: this, or what the variable SOURCE_DATE_EPOCH has, as is the custom. Zip has none before 1980.
-MOMENT = max(int(os.environ.get("SOURCE_DATE_EPOCH", "0")), 315532800)
+# Zip has no time before 1980.
+FIRST = 315532800
+
+
+def moment():
+    """When all files of an artefact were changed, as they say: SOURCE_DATE_EPOCH, as is the custom, or the time of the commit."""
+    given = os.environ.get("SOURCE_DATE_EPOCH")
+    if given is None:
+        words = ["git", "log", "-1", "--format=%ct"]
+        here = os.path.dirname(os.path.abspath(__file__))
+        with contextlib.suppress(OSError, subprocess.CalledProcessError):
+            given = subprocess.run(words, cwd=here, stdout=subprocess.PIPE, stderr=subprocess.DEVNULL, text=True, check=True).stdout.strip()
+    return max(int(given or 0), FIRST)
+
+
+MOMENT = moment()
 
 # target: what a link leads to, and None of a file.
 File = namedtuple("File", "content mode target", defaults=(b"", 0o644, None))

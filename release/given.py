@@ -3,6 +3,7 @@ import os
 import re
 import shutil
 import sys
+import time
 
 import files
 
@@ -10,6 +11,7 @@ ROOT = os.path.dirname(os.path.dirname(os.path.abspath(__file__)))
 BINDINGS = os.path.join(ROOT, "bindings")
 sys.path.insert(0, os.path.join(BINDINGS, "c"))
 import make
+from make import assemble
 from exports import SOURCES, modules
 from header import header
 from version import LICENSE, VERSION
@@ -20,6 +22,16 @@ LIBRARY = os.path.join(BINDINGS, "c/out")
 MODULE, MODULE_FILES = os.path.join(BINDINGS, "web/out"), ("huckleport.wasm", "calls.js")
 NAME = f"huckleport-{VERSION}"
 ARCHIVE, SHARED, HEADER = "libhuckleport.a", make.SONAME, "huckleport.h"
+
+
+# The terms, which each file of a release carries.
+LICENSES = ("LICENSE", "LICENSE-MIT", "LICENSE-APACHE", "NOTICE")
+
+
+def dated(it):
+    """A man page with the release's date."""
+    when = time.strftime("%B %d, %Y", time.gmtime(files.MOMENT)).replace(" 0", " ")
+    return it._replace(content=re.sub(rb"^\.Dd .*$", f".Dd {when}".encode(), it.content, flags=re.M))
 
 
 def text_of(path):

@@ -3,18 +3,26 @@ import base64
 import hashlib
 import json
 import os
+import re
 import shutil
 import sysconfig
 import tomllib
 
 import files
-from given import ARCHIVE, BINDINGS, LICENSE, MODULE_FILES, NAME, ROOT, VERSION, has_header, has_module, page, run, text_of
+from given import ARCHIVE, BINDINGS, LICENSE, LICENSES, MODULE_FILES, NAME, ROOT, VERSION, assemble, has_header, has_module, page, text_of
+from machines import extension, tool
 
-TAG = "cp38-abi3-linux_x86_64"
+CLASSIFIERS = ("Development Status :: 4 - Beta", "Intended Audience :: Developers", "Operating System :: POSIX :: Linux", "Topic :: Text Processing :: Markup", "Typing :: Typed")
+URLS = {"Homepage": "https://huckleport.example/", "Changelog": "https://huckleport.example/CHANGELOG.md"}
+# The last minor version of Python that the packages were tried with.
+LAST_PYTHON = 13
+# The modules ask for nothing newer than this glibc.
+GLIBC = (2, 17)
 
 
-def license_file():
-    return files.text(text_of("LICENSE"))
+def licenses(at=""):
+    """The terms, by their paths in a folder."""
+    return {f"{at}{it}": files.text(text_of(it)) for it in LICENSES}
 
 
 # ---- Python
@@ -23,9 +31,10 @@ def license_file():
 def metadata(project, about):
     """What a wheel says of itself: the project's own file, and its page."""
     head = {"Metadata-Version": "2.4", "Name": project["name"], "Version": VERSION, "Summary": project["description"]}
-    head.update({"License-Expression": LICENSE, "License-File": "LICENSE", "Requires-Python": project["requires-python"]})
-    head["Description-Content-Type"] = "text/markdown"
-    lines = [*head.items(), *(("Requires-Dist", it) for it in project.get("dependencies", ()))]
+    head.update({"License-Expression": LICENSE, "Requires-Python": project["requires-python"], "Description-Content-Type": "text/markdown"})
+    lines = [*head.items(), *(("License-File", it) for it in LICENSES), *(("Requires-Dist", it) for it in project.get("dependencies", ()))]
+    lines += [("Classifier", it) for it in (*CLASSIFIERS, *map("Programming Language :: Python :: 3.{}".format, versions(project)))]
+    lines += [("Project-URL", f"{name}, {it}") for name, it in URLS.items()]
     for extra, its in project.get("optional-dependencies", {}).items():
         lines += [("Provides-Extra", extra), *(("Requires-Dist", f"{it}; extra == '{extra}'") for it in its)]
     return files.text("".join(f"{name}: {it}\n" for name, it in lines) + "\n" + page(about).content.decode())
@@ -37,18 +46,31 @@ def record(found, at):
     return files.text("".join(f"{path},sha256={sums[path]},{len(it.content)}\n" for path, it in found.items()) + f"{at},,\n")
 
 
-def wheel(work, to):
+def versions(project):
+    """The minor versions of Python that a package was tried with."""
+    return range(int(project["requires-python"].rpartition(".")[2]), LAST_PYTHON + 1)
+
+
+def asked_glibc(path):
+    """The newest version of the C library that a module asks for."""
+    with open(path, "rb") as file:
+        return max(tuple(map(int, it.split(b"."))) for it in re.findall(rb"GLIBC_(\d+\.\d+)", file.read()))
+
+
+def wheel(work, to, machine):
     """The wheel for each CPython from 3.8 on, with the extension module. It is a zip whose form is settled, and needs no tool of its own."""
-    if not shutil.which("gcc") or not has_header(sysconfig.get_path("include"), "Python.h"):
-        return "there is no gcc, or no Python.h"
-    module = os.path.join(work, "_core.abi3.so")
-    run("python/extension.py", "--build", "--library", work, "--to", module)
+    if not shutil.which(tool(machine, "gcc")) or not has_header(sysconfig.get_path("include"), "Python.h"):
+        return f"there is no {tool(machine, 'gcc')}, or no Python.h"
+    module = extension(work, machine)
+    if asked_glibc(module) > GLIBC:
+        return f"the extension module asks for glibc {'.'.join(map(str, asked_glibc(module)))}"
     project = tomllib.loads(text_of("bindings/python/pyproject.toml"))["project"]
     found = files.under(os.path.join(BINDINGS, "python/huckleport"), (".py", ".pyi", "py.typed"), "huckleport")
     found["huckleport/_core.abi3.so"] = files.of(module, 0o755)
     about = f"{NAME}.dist-info"
     found[f"{about}/METADATA"] = metadata(project, "docs/python.md")
-    close(found, about, TAG, os.path.join(to, f"{NAME}-{TAG}.whl"))
+    tag = f"cp38-abi3-{machine.wheel}"
+    close(found, about, tag, os.path.join(to, f"{NAME}-{tag}.whl"))
     return None
 
 
@@ -66,7 +88,7 @@ def serving(_, to):
 def close(found, about, tag, path):
     """Writes a wheel, once the terms, its form and its sums are in it."""
     found[f"{about}/WHEEL"] = files.text(f"Wheel-Version: 1.0\nGenerator: huckleport\nRoot-Is-Purelib: {str(tag.endswith('any')).lower()}\nTag: {tag}\n")
-    found[f"{about}/licenses/LICENSE"] = license_file()
+    found.update(licenses(f"{about}/licenses/"))
     found[f"{about}/RECORD"] = record(found, f"{about}/RECORD")
     files.packed(found, path)
 
@@ -74,15 +96,26 @@ def close(found, about, tag, path):
 # ---- Rust
 
 
+def code(work):
+    """The proved code: as assembly for each processor, if that is of the sources that are here, and else as the archive of this one."""
+    try:
+        for it in assemble.MACHINES:
+            assemble.fits(assemble.LIBRARY, it)
+    except assemble.Unfit:
+        return {f"lib/{ARCHIVE}": files.of(os.path.join(work, ARCHIVE))}
+    names = [assemble.assembly(assemble.LIBRARY, it) for it in assemble.MACHINES]
+    found = {f"assembly/{it.removesuffix('.xz')}": files.File(assemble.plain(assemble.content(it))) for it in names}
+    return found | {f"assembly/{assemble.HEAP}": files.File(assemble.content(assemble.HEAP))}
+
+
 def crate(work, to):
-    """The crate, with the archive in its folder lib."""
+    """The crate, with the proved code, which its build script compiles."""
     folder = os.path.join(BINDINGS, "rust")
     found = {it: files.of(os.path.join(folder, it)) for it in ("Cargo.toml", "Cargo.lock", "build.rs", ".cargo/config.toml")}
     found.update(files.under(os.path.join(folder, "stand-in"), (".toml", ".json", ".rs"), "stand-in"))
     for it in ("src", "examples"):
         found.update(files.under(os.path.join(folder, it), (".rs",), it))
-    found[f"lib/{ARCHIVE}"] = files.of(os.path.join(work, ARCHIVE))
-    found.update({"README.md": page("docs/rust.md"), "LICENSE": license_file()})
+    found.update(code(work) | licenses() | {"README.md": page("docs/rust.md")})
     files.tar(found, NAME, os.path.join(to, f"{NAME}.crate"))
 
 
@@ -102,6 +135,6 @@ def npm(work, to):
         return "there is no module (bindings/web/make.py makes it)"
     found = files.under(os.path.join(BINDINGS, "javascript/lib"), (".js", ".ts"), "lib")
     found.update({f"out/{it}": files.of(os.path.join(work, it)) for it in MODULE_FILES})
-    found.update({"package.json": manifest(), "README.md": page("docs/javascript.md"), "LICENSE": license_file()})
+    found.update({"package.json": manifest(), "README.md": page("docs/javascript.md")} | licenses())
     files.tar(found, "package", os.path.join(to, f"{NAME}.tgz"))
     return None

@@ -1,44 +1,101 @@
-"""Makes the files of a release of what was proved and built: an archive, a package for Debian, two wheels, a crate and a package for npm, and their sums.
+"""Makes the files of a release of what was proved and built: for each processor an archive, packages for Debian and a wheel; a wheel for serving, a crate and
+a package for npm; an archive of references; an SBOM, what the files were made of, and their sums.
 
-Nothing is proved here. The program and the libraries are taken as they are; the header is made of the exports, and the shared object has to show its
-calls and no other name. What this machine has no tools for is left out, with a line that says so. The same input gives the same bytes on one machine.
+Nothing is proved here. The program and the libraries are taken as they are, and for another processor built of generated/; the header is made of the exports,
+and the shared object has to show its calls and no other name. What this machine has no tools for is left out, with a line that says so. The same input gives
+the same bytes on one machine.
 """
 import argparse
 import hashlib
 import os
+import subprocess
 import sys
 import tempfile
+import time
 
-from given import LIBRARY, take
+import debian
+import files
+import notices
+from given import LIBRARY, NAME, ROOT, VERSION, assemble
 from languages import crate, npm, serving, wheel
-from prefix import archive, debian
+from machines import HERE, MACHINES, gather
+from prefix import archive
+from references import references
 
-MAKERS = {"the archive": archive, "the package for Debian": debian, "the wheel": wheel, "the wheel of serving": serving, "the crate": crate, "the package for npm": npm}
-SUMS = "SHA256SUMS"
+FOR_EACH = {"the archive": archive, "the packages for Debian": debian.packages, "the wheel": wheel}
+ONCE = {"the wheel of serving": serving, "the crate": crate, "the package for npm": npm, "the references": references}
+SUMS, MADE_OF, SBOM = "SHA256SUMS", "MADE-OF", f"{NAME}.spdx.json"
 
 
 def sums(folder):
-    """Writes the sums of all that was made, as `sha256sum --check` reads them."""
-    names = sorted(os.listdir(folder))
-    lines = []
-    for name in names:
+    """The sums of all that was made, by name."""
+    found = {}
+    for name in sorted(os.listdir(folder)):
         with open(os.path.join(folder, name), "rb") as file:
-            lines.append(f"{hashlib.sha256(file.read()).hexdigest()}  {name}\n")
-    with open(os.path.join(folder, SUMS), "w", encoding="utf-8") as file:
-        file.writelines(lines)
-    return names
+            found[name] = hashlib.sha256(file.read()).hexdigest()
+    return found
 
 
-def release(library, to):
+def write(folder, name, text):
+    with open(os.path.join(folder, name), "w", encoding="utf-8") as file:
+        file.write(text)
+
+
+def said_by(*words):
+    """What a command writes; nothing if it is not here or fails."""
+    try:
+        return subprocess.run(words, cwd=ROOT, stdout=subprocess.PIPE, stderr=subprocess.DEVNULL, text=True, check=True).stdout.strip()
+    except (OSError, subprocess.CalledProcessError):
+        return ""
+
+
+def kit():
+    """How the kit names itself by which the proofs were made, as generated/ has it, or the kit that is here."""
+    try:
+        noted = [it for it in assemble.text_of(assemble.SUMS).splitlines() if it.startswith("# kit: ")]
+    except OSError:
+        noted = []
+    return noted[0].removeprefix("# kit: ") if noted else said_by("rt", "version") or "unknown"
+
+
+def made_of():
+    """What a release was made of: its version, commit and kit, and the sums that the proofs were noted under."""
+    commit = said_by("git", "rev-parse", "HEAD") or "unknown"
+    changed = " with changes that are not committed" if said_by("git", "status", "--porcelain") else ""
+    text = f"version: {VERSION}\ncommit: {commit}{changed}\nkit: {kit()}\nprocessor that made it: {HERE}\n"
+    try:
+        return f"{text}\ngenerated/SUMS, which names the proved code and its sources:\n{assemble.text_of(assemble.SUMS)}"
+    except OSError:
+        return text
+
+
+def close(folder, key):
+    """Writes what belongs to a release as a whole: what it was made of, its SBOM, its sums, and the signature of these."""
+    write(folder, MADE_OF, made_of())
+    moment = time.strftime("%Y-%m-%dT%H:%M:%SZ", time.gmtime(files.MOMENT))
+    write(folder, SBOM, notices.sbom(NAME, VERSION, moment, kit(), sums(folder)))
+    write(folder, SUMS, "".join(f"{total}  {name}\n" for name, total in sums(folder).items()))
+    if key:
+        sign(folder, key)
+
+
+def sign(folder, key):
+    """Signs the sums by a key of gpg, beside them."""
+    subprocess.run(["gpg", "--batch", "--yes", "--local-user", key, "--armor", "--detach-sign", os.path.join(folder, SUMS)], check=True)
+
+
+def release(library, to, key=None):
     """Makes all files of a release in a folder, which is empty before; returns what was left out, and why."""
     left = {}
-    with tempfile.TemporaryDirectory() as work:
-        take(library, work)
-        for what, maker in MAKERS.items():
-            why = maker(work, to)
-            if why:
-                left[what] = why
-    sums(to)
+    for machine in MACHINES.values():
+        with tempfile.TemporaryDirectory() as work:
+            why = gather(library, work, machine)
+            makers = {} if why else {f"{what} for {machine.name}": (maker, (work, to, machine)) for what, maker in FOR_EACH.items()}
+            if machine.name == HERE:
+                makers |= {what: (maker, (work, to)) for what, maker in ONCE.items()}
+            left |= {f"all for {machine.name}": why} if why else {}
+            left |= {what: why for what, (maker, given) in makers.items() if (why := maker(*given))}
+    close(to, key)
     return left
 
 
@@ -47,11 +104,12 @@ def main():
     parser.add_argument("folder", metavar="FOLDER", help="where the files go; it is made, or is empty")
     words = "where the libraries are, and the program if it is there too (bindings/c/out, and the program of crates/domserve/out)"
     parser.add_argument("--library", metavar="FOLDER", default=LIBRARY, help=words)
+    parser.add_argument("--key", metavar="KEY", help="signs SHA256SUMS by this key of gpg")
     given = parser.parse_args()
     os.makedirs(given.folder, exist_ok=True)
     if os.listdir(given.folder):
         sys.exit(f"{given.folder} is not empty")
-    for what, why in release(given.library, given.folder).items():
+    for what, why in release(given.library, given.folder, given.key).items():
         print(f"left out: {what}, since {why}")
     for name in sorted(os.listdir(given.folder)):
         print(os.path.join(given.folder, name))

@@ -1,40 +1,60 @@
 #!/usr/bin/env python3
 """Makes a release, and installs and uses each of its files where nothing knows of the repository.
 
-- the archive: by pkg-config, as it was unpacked and after it was moved; its program; by cmake;
-- the package for Debian: unpacked, its fields, its program, and by pkg-config; and installed by apt, where a copy of the system's folders can be had;
-- the wheel, by pip in an empty environment, and the wheel of serving beside it;
-- the crate, in a project of cargo: with the archive beside it, by pkg-config, and by HUCKLEPORT_LIB_DIR; and what its page and its comments show;
-- the package for npm, in an empty project.
+- the archive: by pkg-config, as it was unpacked and after it was moved; its program; by cmake; its man pages;
+- the packages for Debian: by lintian, unpacked, their fields, the program, by pkg-config; and installed by apt, if a copy of the system's folders can be had;
+- the wheel, its tag and fields, by pip in an empty environment, and the wheel of serving beside it;
+- the crate, in a project of cargo: as it is, by pkg-config, and by HUCKLEPORT_LIB_DIR; and the examples of its page and comments;
+- the package for npm, in an empty project;
+- the terms in each file, the SBOM, the sums and their signature, and that two makings give the same bytes;
+- the library's interface beside that of the last release, by abidiff;
+- what is for aarch64, under qemu.
 
 Nothing is fetched. What this machine has no tool for is left out, and said to be. The libraries are those of bindings/c/out, and the program that of
-crates/domserve/out, where --library names no other folder.
+crates/domserve/out, unless --library names another folder. It runs some minutes, and is no part of the gate.
 """
 import argparse
 import glob
 import hashlib
+import json
 import os
+import re
 import shutil
 import subprocess
 import sys
 import tarfile
 import tempfile
+import time
 import unittest
+import unittest.mock
+import zipfile
 
 sys.dont_write_bytecode = True
-HERE = os.path.dirname(os.path.abspath(__file__))
-sys.path.insert(0, HERE)
-from given import BINDINGS, LIBRARY, LICENSE, PROGRAM, SHARED, VERSION
-from making import SUMS, release
+FOLDER = os.path.dirname(os.path.abspath(__file__))
+sys.path.insert(0, FOLDER)
+import abi
+import debian
+import files
+import making
+import notices
+from given import BINDINGS, LIBRARY, LICENSE, LICENSES, PROGRAM, SHARED, VERSION, make
+from header import header
+from machines import HERE, MACHINES
+from making import MADE_OF, SBOM, SUMS, release
 
-PROGRAMS = os.path.join(HERE, "programs")
+PROGRAMS = os.path.join(FOLDER, "programs")
 EDITOR = os.path.join(BINDINGS, "c/examples/editor.c")
 # What a program of each language prints: the text of a range that was put around a text, to which a word was added.
 PRINTED = "some more text\n"
 LINES, REPLIES = '["createElement",0,"p"]\n["appendChild",0,1]\n["tree",0]\n', '{"ok":1}\n{"ok":1}\n{"ok":[[0,0,9,"#document"],[1,1,1,"p",[]]]}\n'
 # What the tests may tell a program of their own surroundings.
 KNOWN = ("PATH", "HOME", "LANG", "CARGO_HOME", "RUSTUP_HOME", "TMPDIR")
-MULTIARCH = "usr/lib/x86_64-linux-gnu"
+MACHINE = MACHINES[HERE]
+MULTIARCH = f"usr/lib/{MACHINE.multiarch}"
+OTHER = next(it for it in MACHINES.values() if it.name != HERE)
+ARCHIVES = f"*-{HERE}-linux.tar.gz"
+# The files that tell of the release as a whole.
+WHOLE = {SUMS, f"{SUMS}.asc"}
 # Debian's Python, for which Debian has psycopg.
 SYSTEM = "/usr/bin/python3"
 # Whether a folder can be mounted as a copy of another one.
@@ -49,7 +69,7 @@ def needs(*tools):
 class Release(unittest.TestCase):
     """What each test has: the files of the release, and an empty folder outside of the repository, in which commands run."""
 
-    made = None
+    made = given = library = None
 
     def setUp(self):
         self.folder = tempfile.mkdtemp()
@@ -107,15 +127,106 @@ class Sums(Release):
     def test_each_file_has_its_sum(self):
         with open(os.path.join(self.made, SUMS), encoding="utf-8") as file:
             said = dict(reversed(line.split()) for line in file)
-        self.assertEqual(set(said), set(os.listdir(self.made)) - {SUMS})
+        self.assertEqual(set(said), set(os.listdir(self.made)) - WHOLE)
         for name, due in said.items():
             with open(os.path.join(self.made, name), "rb") as file:
                 self.assertEqual(hashlib.sha256(file.read()).hexdigest(), due)
 
 
+    def test_sbom_and_what_it_was_made_of(self):
+        with open(os.path.join(self.made, SBOM), encoding="utf-8") as file:
+            found = json.load(file)
+        self.assertEqual((found["spdxVersion"], found["dataLicense"]), ("SPDX-2.3", "CC0-1.0"))
+        packages = {it["name"]: it["versionInfo"] for it in found["packages"]}
+        self.assertEqual(packages["huckleport"], VERSION)
+        self.assertLessEqual({it["name"] for it in notices.components()}, set(packages))
+        named = {it["fileName"].removeprefix("./"): it["checksums"][0]["checksumValue"] for it in found["files"]}
+        self.assertEqual(set(named), set(os.listdir(self.made)) - WHOLE - {SBOM})
+        ids = {it["SPDXID"] for it in [*found["packages"], *found["files"], found]}
+        self.assertEqual({it[end] for it in found["relationships"] for end in ("spdxElementId", "relatedSpdxElement")} - ids, set())
+        with open(os.path.join(self.made, MADE_OF), encoding="utf-8") as file:
+            self.assertEqual([it.partition(":")[0] for it in file.read().splitlines()[:3]], ["version", "commit", "kit"])
+
+    def test_notice(self):
+        self.assertEqual(notices.faults(), [])
+        with open(notices.NOTICE, encoding="utf-8") as file:
+            self.assertEqual(file.read(), notices.notice())
+
+    def test_terms(self):
+        """Each archive and package has the terms whole."""
+        due = {it: files.of(os.path.join(os.path.dirname(FOLDER), it)).content for it in LICENSES}
+        for file in sorted(os.listdir(self.made)):
+            if file.endswith((".tar.gz", ".crate", ".tgz")) and "-references" not in file:
+                with tarfile.open(os.path.join(self.made, file)) as archive:
+                    found = {os.path.basename(it.name): archive.extractfile(it).read() for it in archive if it.isfile()}
+            elif file.endswith(".whl"):
+                with zipfile.ZipFile(os.path.join(self.made, file)) as archive:
+                    found = {os.path.basename(it): archive.read(it) for it in archive.namelist()}
+            else:
+                continue
+            with self.subTest(file):
+                self.assertEqual({it: found.get(it) for it in due}, due)
+
+    @needs("gpg")
+    def test_signature(self):
+        """The sums are signed by a key that is given, and another text than theirs is refused."""
+        home = self.at("home")
+        os.mkdir(home, 0o700)
+        self.run_in("gpg", "--batch", "--quiet", "--passphrase", "", "--quick-generate-key", "Release", "ed25519", "sign", "never", GNUPGHOME=home)
+        os.mkdir(self.at("signed"))
+        shutil.copy(os.path.join(self.made, SUMS), self.at("signed"))
+        with unittest.mock.patch.dict(os.environ, GNUPGHOME=home):
+            making.sign(self.at("signed"), "Release")
+        self.run_in("gpg", "--batch", "--quiet", "--verify", f"signed/{SUMS}.asc", f"signed/{SUMS}", GNUPGHOME=home)
+        with open(self.at("signed", SUMS), "a", encoding="utf-8") as file:
+            file.write("0  another\n")
+        words = ["gpg", "--batch", "--verify", f"signed/{SUMS}.asc", f"signed/{SUMS}"]
+        self.assertNotEqual(subprocess.run(words, cwd=self.folder, env={**os.environ, "GNUPGHOME": home}, stderr=subprocess.DEVNULL, check=False).returncode, 0)
+        self.run_in("gpgconf", "--kill", "all", GNUPGHOME=home)
+
+
+class Again(Release):
+    def test_same_bytes(self):
+        """A second making gives the same bytes; the references, which their tools write, are told apart."""
+        if Release.given:
+            self.skipTest("left out, since the release was not made now")
+        release(Release.library, self.folder)
+        sums = [{name: total for name, total in making.sums(it).items() if name not in (*WHOLE, SBOM) and "-references" not in name} for it in (self.made, self.folder)]
+        self.assertEqual(*sums)
+
+
+class Interface(unittest.TestCase):
+    """The library's interface beside that of the last release of its series."""
+
+    CALL = "uint8_t hp_close(hp_session *session);"
+
+    def setUp(self):
+        if abi.missing():
+            self.skipTest(f"left out, since there is no {' and no '.join(abi.missing())}")
+        if not os.path.exists(abi.kept()):
+            self.skipTest("left out, since no release of this series has an interface yet")
+        self.text = header(abi.modules(abi.SOURCES))
+
+    def test_is_that_of_the_last_release(self):
+        self.assertIsNone(abi.changes(self.text))
+
+    def test_what_it_refuses(self):
+        self.assertIsNone(abi.changes(self.text.replace(self.CALL, self.CALL + "\nuint8_t hp_more(hp_session *session);")))
+        self.assertIn("hp_close", abi.changes(self.text.replace(self.CALL, "")))
+        self.assertIn("hp_close", abi.changes(self.text.replace(self.CALL, "uint8_t hp_close(hp_session *session, size_t more);")))
+        struct = re.search(r"typedef struct \w+ \{\n(.*?)\n\}", self.text, re.S)[1]
+        self.assertIsNotNone(abi.changes(self.text.replace(struct, struct + "\n    uint64_t more;", 1)))
+
+    def test_names(self):
+        """The shared object has the series in its name, and each call its version."""
+        said = make.call("objdump", "-T", os.path.join(Release.library, SHARED))
+        self.assertIn(f"HUCKLEPORT_{make.SERIES} hp_open", " ".join(said.split()).replace(f"({make.SYMBOLS})", make.SYMBOLS))
+        self.assertIn(f"libhuckleport.so.{make.SERIES}", make.call("objdump", "-p", os.path.join(Release.library, SHARED)))
+
+
 class Archive(Release):
     def test_program(self):
-        top = self.unpacked(self.file("*-x86_64-linux.tar.gz"))
+        top = self.unpacked(self.file(ARCHIVES))
         self.tries_domserve(os.path.join(top, "bin/domserve"))
         for it in ("man/man1/domserve.1", "bash-completion/completions/domserve", "zsh/site-functions/_domserve"):
             self.assertTrue(os.path.isfile(os.path.join(top, "share", it)), it)
@@ -123,18 +234,32 @@ class Archive(Release):
     @needs("bash")
     def test_completion(self):
         words = "source share/bash-completion/completions/domserve; COMP_WORDS=(domserve --l); COMP_CWORD=1; _domserve; echo ${COMPREPLY[@]}"
-        self.folder = self.unpacked(self.file("*-x86_64-linux.tar.gz"))
+        self.folder = self.unpacked(self.file(ARCHIVES))
         self.assertEqual(self.run_in("bash", "-c", words), "--line\n")
 
     @needs("man")
     def test_man_page(self):
-        top = self.unpacked(self.file("*-x86_64-linux.tar.gz"))
-        said = self.run_in("man", "--pager=cat", os.path.join(top, "share/man/man1/domserve.1"), MANWIDTH="100")
-        self.assertIn("How many bytes a line may have, from 1 to 1073741824.", said)
+        top = self.unpacked(self.file(ARCHIVES))
+        pages = {it: self.run_in("man", "--pager=cat", os.path.join(top, f"share/man/man{it[-1]}", it), MANWIDTH="100") for it in ("domserve.1", "huckleport.3")}
+        self.assertIn("How many bytes a line may have, from 1 to 1073741824.", pages["domserve.1"])
+        for name, parts in (("domserve.1", ("ENVIRONMENT", "FILES", "EXIT STATUS", "EXAMPLES")), ("huckleport.3", ("RETURN VALUES", "FILES", "EXAMPLES"))):
+            self.assertLessEqual(set(parts), set(pages[name].splitlines()))
+        dates = {re.search(r"\w+ \d+, \d{4}", it.splitlines()[-1])[0] for it in pages.values()}
+        self.assertEqual(dates, {time.strftime("%B %d, %Y", time.gmtime(files.MOMENT)).replace(" 0", " ")})
+
+    @needs("gcc")
+    def test_example_of_the_man_page(self):
+        top = self.unpacked(self.file(ARCHIVES))
+        with open(os.path.join(top, "share/man/man3/huckleport.3"), encoding="utf-8") as file:
+            code = re.search(r"#include.*?(?=^\.Ed)", file.read(), re.DOTALL | re.MULTILINE)[0]
+        with open(self.at("page.c"), "w", encoding="utf-8") as file:
+            file.write(code)
+        self.run_in("gcc", "-Wall", "-Werror", "page.c", "-I", f"{top}/include", f"{top}/lib/libhuckleport.a", "-o", "page")
+        self.run_in(self.at("page"))
 
     @needs("gcc", "pkg-config")
     def test_by_pkg_config_here_and_moved(self):
-        first = self.unpacked(self.file("*-x86_64-linux.tar.gz"))
+        first = self.unpacked(self.file(ARCHIVES))
         self.tries_c(f"{first}/lib", PKG_CONFIG_PATH=f"{first}/lib/pkgconfig")
         os.makedirs(self.at("another"))
         os.rename(first, self.at("another/place"))
@@ -143,7 +268,7 @@ class Archive(Release):
 
     @needs("gcc", "cmake", "make")
     def test_by_cmake(self):
-        top = self.unpacked(self.file("*-x86_64-linux.tar.gz"))
+        top = self.unpacked(self.file(ARCHIVES))
         self.copied("CMakeLists.txt")
         shutil.copy(EDITOR, self.folder)
         self.run_in("cmake", "-S", ".", "-B", "built", f"-DCMAKE_PREFIX_PATH={top}")
@@ -154,17 +279,49 @@ class Archive(Release):
 
 @needs("dpkg-deb")
 class Debian(Release):
+    def package(self, name, machine=MACHINE):
+        return self.file(f"{name}_*_{machine.debian}.deb")
+
+    def extracted(self, machine=MACHINE):
+        for it in debian.PACKAGES:
+            self.run_in("dpkg-deb", "--extract", self.package(it, machine), "root")
+        return self.at("root")
+
     def test_fields_and_program(self):
-        package = self.file("*.deb")
-        said = self.run_in("dpkg-deb", "--field", package, "Version", "License", "Architecture")
-        self.assertEqual(said, f"Version: {VERSION}\nLicense: {LICENSE}\nArchitecture: amd64\n")
-        self.run_in("dpkg-deb", "--extract", package, "root")
-        self.tries_domserve(self.at("root/usr/bin/domserve"))
-        self.assertTrue(os.path.isfile(self.at("root", MULTIARCH, SHARED)))
+        for name in debian.PACKAGES:
+            said = self.run_in("dpkg-deb", "--field", self.package(name), "Package", "Version", "Architecture")
+            self.assertEqual(said, f"Package: {name}\nVersion: {VERSION}\nArchitecture: {MACHINE.debian}\n")
+            self.run_in("dpkg-deb", "--control", self.package(name), name)
+            self.assertTrue(os.path.isfile(self.at(name, "md5sums")))
+        said = self.run_in("dpkg-deb", "--field", self.package("libhuckleport-dev"), "Depends")
+        self.assertIn(f"{debian.LIBRARY} (= {VERSION})", said)
+        with open(self.at(debian.LIBRARY, "shlibs"), encoding="utf-8") as file:
+            self.assertEqual(file.read(), f"libhuckleport {make.SERIES} {debian.LIBRARY} (>= {VERSION})\n")
+        with open(self.at(debian.LIBRARY, "symbols"), encoding="utf-8") as file:
+            self.assertIn(f" hp_open@HUCKLEPORT_{make.SERIES} {VERSION}\n", file.read())
+        top = self.extracted()
+        for it in debian.PACKAGES:
+            self.run_in("sh", "-c", f"cd root && md5sum --quiet --check ../{it}/md5sums")
+        self.tries_domserve(os.path.join(top, "usr/bin/domserve"))
+        for it in ("usr/share/man/man1/domserve.1.gz", "usr/share/man/man3/huckleport.3.gz", f"{MULTIARCH}/{SHARED}", "usr/share/doc/huckleport/changelog.gz"):
+            self.assertTrue(os.path.isfile(os.path.join(top, it)), it)
+
+    @needs("lintian")
+    def test_lintian(self):
+        """No error and no warning."""
+        packages = [self.package(it) for it in debian.PACKAGES]
+        ran = subprocess.run(["lintian", "--allow-root", *packages], stdout=subprocess.PIPE, stderr=subprocess.STDOUT, text=True, check=False)
+        self.assertEqual((ran.returncode, ran.stdout), (0, ""))
+
+    def test_python(self):
+        """The package for Python, by the system's own Python."""
+        top = self.extracted()
+        self.copied("program.py")
+        self.assertEqual(self.run_in(SYSTEM, "program.py", PYTHONPATH=os.path.join(top, debian.PYTHON)), PRINTED)
 
     @needs("gcc", "pkg-config")
     def test_by_pkg_config(self):
-        self.run_in("dpkg-deb", "--extract", self.file("*.deb"), "root")
+        self.extracted()
         libraries = self.at("root", MULTIARCH)
         self.tries_c(libraries, PKG_CONFIG_LIBDIR=f"{libraries}/pkgconfig", PKG_CONFIG_SYSROOT_DIR=self.at("root"))
 
@@ -173,11 +330,27 @@ class Debian(Release):
         if os.geteuid() != 0 or subprocess.run(["unshare", "--mount", "sh", "-c", OVERLAY], stderr=subprocess.DEVNULL).returncode:
             self.skipTest("left out, since there is no root who may mount a copy of the system's folders")
         self.copied("installed.sh")
-        self.tries_editor("unshare", "--mount", "sh", "installed.sh", os.path.abspath(self.file("*.deb")), EDITOR)
+        packages = [os.path.abspath(self.package(it)) for it in debian.PACKAGES]
+        self.tries_editor("unshare", "--mount", "sh", "installed.sh", EDITOR, *packages)
         self.assertFalse(os.path.exists("/usr/bin/domserve"))
 
 
 class Wheel(Release):
+    def test_tag_and_fields(self):
+        """The tag is one that PyPI takes, and the module asks for no newer C library than it names."""
+        path = self.file(f"huckleport-*_{HERE}.whl")
+        self.assertTrue(path.endswith(f"-cp38-abi3-manylinux_2_17_{HERE}.whl"), path)
+        with zipfile.ZipFile(path) as wheel:
+            module = next(it for it in wheel.namelist() if it.endswith(".so"))
+            asked = {tuple(map(int, it.split(b"."))) for it in re.findall(rb"GLIBC_(\d+\.\d+)", wheel.read(module))}
+            about = wheel.read(next(it for it in wheel.namelist() if it.endswith("/METADATA"))).decode()
+            wheel.extract(module, self.folder)
+        self.assertLessEqual(max(asked), (2, 17))
+        needed = set(re.findall(r"NEEDED\s+(\S+)", make.call("objdump", "-p", self.at(module))))
+        self.assertLessEqual(needed, {"libc.so.6"})
+        for field in ("Classifier: Programming Language :: Python :: 3.8\n", "Project-URL: Homepage", f"License-Expression: {LICENSE}", "License-File: NOTICE"):
+            self.assertIn(field, about)
+
     def installed(self, wheel):
         """The Python of an empty environment in which the wheel is installed."""
         if subprocess.run([sys.executable, "-m", "pip", "--version"], stdout=subprocess.DEVNULL, stderr=subprocess.DEVNULL).returncode:
@@ -225,11 +398,14 @@ class Crate(Release):
         self.project()
         # (a pkg-config that finds nothing, whatever is installed on this machine)
         self.tries(PKG_CONFIG_LIBDIR=self.at("nowhere"))
-        os.rename(self.at("huckleport/lib"), self.at("elsewhere"))
-        self.tries(HUCKLEPORT_LIB_DIR=self.at("elsewhere"))
+        for it in ("lib", "assembly"):
+            shutil.rmtree(self.at("huckleport", it), ignore_errors=True)
+        self.tries(HUCKLEPORT_LIB_DIR=os.path.abspath(Release.library))
+        # (cargo asks the build script anew, whatever it built before)
+        shutil.rmtree(self.at("target"))
         if not shutil.which("pkg-config"):
             self.skipTest("left out, the last way, since there is no pkg-config")
-        top = self.unpacked(self.file("*-x86_64-linux.tar.gz"))
+        top = self.unpacked(self.file(ARCHIVES))
         self.tries(PKG_CONFIG_LIBDIR=f"{top}/lib/pkgconfig")
 
     def test_what_its_page_shows(self):
@@ -253,6 +429,56 @@ class Npm(Release):
         self.assertEqual(self.run_in("node", "program.mjs"), PRINTED)
 
 
+class References(Release):
+    def test_each_language(self):
+        top = self.unpacked(self.file("*-references.tar.gz"))
+        for tool, page, words in (("doxygen", "c/index.html", "Huckleport"), ("cargo", "rust/huckleport/index.html", "huckleport"), (None, "typescript/index.d.ts", "Document")):
+            if tool is None or shutil.which(tool):
+                with open(os.path.join(top, page), encoding="utf-8") as file:
+                    self.assertIn(words, file.read())
+        if subprocess.run([SYSTEM, "-c", "import sphinx"], stderr=subprocess.DEVNULL, check=False).returncode == 0:
+            self.assertTrue(os.path.isfile(os.path.join(top, "python/index.html")))
+
+
+class Elsewhere(Release):
+    """The other processor's files, under qemu, with its C library as Debian's compiler for it brings it."""
+
+    def setUp(self):
+        super().setUp()
+        self.root = f"/usr/{OTHER.multiarch}"
+        if not shutil.which(OTHER.qemu) or not os.path.isdir(self.root):
+            self.skipTest(f"left out, since there is no {OTHER.qemu}, or no {self.root}")
+        self.emulated = [OTHER.qemu, "-L", self.root]
+
+    def test_archive(self):
+        top = self.unpacked(self.file(f"*-{OTHER.name}-linux.tar.gz"))
+        self.assertEqual(self.run_in(*self.emulated, os.path.join(top, "bin/domserve"), given=LINES), REPLIES)
+        for library in ("libhuckleport.a", SHARED):
+            self.run_in(f"{OTHER.cross}gcc", EDITOR, f"-I{top}/include", f"{top}/lib/{library}", "-o", library + ".user")
+            self.tries_editor(*self.emulated, "-E", f"LD_LIBRARY_PATH={top}/lib", self.at(library + ".user"))
+
+    @needs("dpkg-deb")
+    def test_packages(self):
+        for name in debian.PACKAGES:
+            package = self.file(f"{name}_*_{OTHER.debian}.deb")
+            self.assertEqual(self.run_in("dpkg-deb", "--field", package, "Architecture"), f"{OTHER.debian}\n")
+            self.run_in("dpkg-deb", "--extract", package, "root")
+        self.assertEqual(self.run_in(*self.emulated, self.at("root/usr/bin/domserve"), given=LINES), REPLIES)
+
+    @needs("lintian")
+    def test_lintian(self):
+        packages = [self.file(f"{it}_*_{OTHER.debian}.deb") for it in debian.PACKAGES]
+        ran = subprocess.run(["lintian", "--allow-root", *packages], stdout=subprocess.PIPE, stderr=subprocess.STDOUT, text=True, check=False)
+        self.assertEqual((ran.returncode, ran.stdout), (0, ""))
+
+    def test_wheel(self):
+        with zipfile.ZipFile(self.file(f"huckleport-*_{OTHER.name}.whl")) as wheel:
+            module = next(it for it in wheel.namelist() if it.endswith(".so"))
+            wheel.extract(module, self.folder)
+        # (the processor in the head of an ELF file)
+        self.assertEqual(files.of(self.at(module)).content[18], {"aarch64": 183, "x86_64": 62}[OTHER.name])
+
+
 def missing(given):
     """What no release can be made without, where it is not there."""
     found = [os.path.join(given.library, it) for it in ("libhuckleport.a", SHARED)]
@@ -274,7 +500,7 @@ def main():
         if not given.release:
             for what, why in release(given.library, folder).items():
                 print(f"left out: {what}, since {why}")
-        Release.made = os.path.abspath(given.release or folder)
+        Release.made, Release.given, Release.library = os.path.abspath(given.release or folder), given.release, given.library
         ran = unittest.main(argv=[__file__, *given.only], exit=False, verbosity=2)
     return 0 if ran.result.wasSuccessful() else 1
 

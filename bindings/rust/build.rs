@@ -1,11 +1,11 @@
-//! Finds the library: in the folder that HUCKLEPORT_LIB_DIR names; else by pkg-config, where that has this version of it; else beside the crate, in
-//! `lib`, as a release has it, or where `bindings/c/make.py` puts it, which is run where nothing is there.
+//! Finds the library: in the folder that HUCKLEPORT_LIB_DIR names; else by pkg-config, if that has this version of it; else beside the crate, in `lib` or
+//! as `assembly`, which the C compiler (CC, or cc) compiles, as releases have them; or in the repository, where `bindings/c/make.py` makes it.
 use std::env;
 use std::path::{Path, PathBuf};
 use std::process::Command;
 
 const ARCHIVE: &str = "libhuckleport.a";
-const SETTINGS: [&str; 5] = ["HUCKLEPORT_LIB_DIR", "PKG_CONFIG", "PKG_CONFIG_PATH", "PKG_CONFIG_LIBDIR", "PKG_CONFIG_SYSROOT_DIR"];
+const SETTINGS: [&str; 7] = ["CC", "AR", "HUCKLEPORT_LIB_DIR", "PKG_CONFIG", "PKG_CONFIG_PATH", "PKG_CONFIG_LIBDIR", "PKG_CONFIG_SYSROOT_DIR"];
 
 fn has_archive(folder: &Path) -> bool {
     folder.join(ARCHIVE).is_file()
@@ -29,7 +29,38 @@ fn folder() -> PathBuf {
     }
     let here = PathBuf::from(env::var_os("CARGO_MANIFEST_DIR").expect("cargo sets CARGO_MANIFEST_DIR"));
     let beside = || Some(here.join("lib")).filter(|it| has_archive(it));
-    by_pkg_config().or_else(beside).unwrap_or_else(|| made(&here))
+    by_pkg_config().or_else(beside).or_else(|| assembled(&here)).unwrap_or_else(|| made(&here))
+}
+
+/// A tool of the C compiler: of the target's own name if another processor is built for.
+fn tool(machine: &str, variable: &str, name: &str, cross: &str) -> String {
+    let is_here = env::var_os("TARGET") == env::var_os("HOST");
+    let usual = if is_here { name.to_string() } else { format!("{machine}-linux-gnu-{cross}") };
+    env::var(variable).unwrap_or(usual)
+}
+
+fn run(program: &str, words: &[&str], folder: &Path) -> Option<()> {
+    let ran = Command::new(program).args(words).current_dir(folder).status();
+    if !matches!(ran, Ok(it) if it.success()) {
+        eprintln!("{program} {} failed in {}.", words.join(" "), folder.display());
+        return None;
+    }
+    Some(())
+}
+
+/// Compiles the proved assembly beside the crate into an archive of this build; none if there is none for the processor.
+fn assembled(here: &Path) -> Option<PathBuf> {
+    let machine = env::var("CARGO_CFG_TARGET_ARCH").ok()?;
+    let (code, heap) = (here.join(format!("assembly/huckleport.{machine}.s")), here.join("assembly/heap.c"));
+    if !code.is_file() || env::var("CARGO_CFG_TARGET_OS").ok()? != "linux" {
+        return None;
+    }
+    let folder = PathBuf::from(env::var_os("OUT_DIR")?);
+    let compiler = tool(&machine, "CC", "cc", "gcc");
+    run(&compiler, &["-c", code.to_str()?, "-o", "huckleport.o"], &folder)?;
+    run(&compiler, &["-O2", "-fPIC", "-c", heap.to_str()?, "-o", "heap.o"], &folder)?;
+    run(&tool(&machine, "AR", "ar", "ar"), &["rcs", ARCHIVE, "huckleport.o", "heap.o"], &folder)?;
+    Some(folder)
 }
 
 /// The folder of the library in the repository, which is built there in seconds where it is missing; for another processor, one of this build.

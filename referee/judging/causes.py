@@ -247,8 +247,9 @@ def node_document_alone(shown):
 
 
 def text_content_alone(shown):
-    """The text content is told otherwise."""
-    return shown.is_at_end() and shown.gives("ok", "ok")
+    """The text content is told otherwise, or the length of a Document or doctype whose text content was set."""
+    is_text = shown.name == "textContent" or shown.kind(shown.values[0]) in (DOCUMENT, DOCTYPE)
+    return shown.is_at_end() and shown.gives("ok", "ok") and is_text
 
 
 def document_is_copied(shown):
