@@ -19,7 +19,7 @@ CORE = """ Documents by the DOM Standard: trees, character data, attributes, liv
 PYTHON = "usr/lib/python3/dist-packages"
 # Of each package its section, its first line, what its text adds, and the packages that it asks for.
 PACKAGES = {
-    "huckleport": ("text", "documents by the DOM Standard, one JSON command a line", "The program domserve: a JSON command a line in, a JSON reply a line out.", ()),
+    "huckleport": ("text", "documents by the DOM Standard, one JSON command a line", "The program domserve: a JSON command a line in, a JSON reply a line out.", ("python3",)),
     LIBRARY: ("libs", "documents by the DOM Standard, shared library", "The shared library, for programs in C.", ()),
     "libhuckleport-dev": ("libdevel", "documents by the DOM Standard, header and static library", "The header, the static library, and examples.", (f"{LIBRARY} (= {VERSION})",)),
     "python3-huckleport": ("python", "documents by the DOM Standard, for Python", "The package huckleport for Python 3.", ("python3 (>= 3.8)",)),

@@ -66,7 +66,7 @@ def take(library, work):
         if not os.path.isfile(path):
             sys.exit(f"{path} is not there: python3 {script} makes it")
         shutil.copy(path, work)
-    where = next((it for it in (library, MODULE) if has_module(it)), None)
+    where = next((it for it in (library, MODULE, assemble.FOLDER) if has_module(it)), None)
     for it in MODULE_FILES if where else ():
         shutil.copy(os.path.join(where, it), work)
     found = modules(SOURCES)

@@ -96,14 +96,19 @@ def close(found, about, tag, path):
 # ---- Rust
 
 
-def code(work):
-    """The proved code: as assembly for each processor, if that is of the sources that are here, and else as the archive of this one."""
+def has_assembly(machine):
     try:
-        for it in assemble.MACHINES:
-            assemble.fits(assemble.LIBRARY, it)
+        assemble.fits(assemble.LIBRARY, machine)
     except assemble.Unfit:
+        return False
+    return True
+
+
+def code(work):
+    """The proved code: as assembly for each processor that has some of the sources that are here, and else as the archive of this one."""
+    names = [assemble.assembly(assemble.LIBRARY, it) for it in assemble.MACHINES if has_assembly(it)]
+    if not names:
         return {f"lib/{ARCHIVE}": files.of(os.path.join(work, ARCHIVE))}
-    names = [assemble.assembly(assemble.LIBRARY, it) for it in assemble.MACHINES]
     found = {f"assembly/{it.removesuffix('.xz')}": files.File(assemble.plain(assemble.content(it))) for it in names}
     return found | {f"assembly/{assemble.HEAP}": files.File(assemble.content(assemble.HEAP))}
 

@@ -64,4 +64,3 @@ def extension(work, machine):
     if not os.path.exists(module):
         run("python/extension.py", "--build", "--library", work, "--to", module, "--compiler", tool(machine, "gcc"))
     return module
-

@@ -21,6 +21,8 @@ def below(work, libraries, prefix):
     """All files below a prefix, by the folder of the libraries, and by the prefix as huckleport.pc has it."""
     up = "/".join(".." for _ in libraries.split("/"))
     found = {"bin/domserve": files.of(os.path.join(work, "domserve"), 0o755), f"include/{HEADER}": files.of(os.path.join(work, HEADER))}
+    found["bin/domserve-explain"] = files.of(os.path.join(os.path.dirname(SHARE), "domserve-explain"), 0o755)
+    found["share/huckleport/commands.json"] = files.text(text_of("docs/commands.json"))
     found[f"{libraries}/{ARCHIVE}"] = files.of(os.path.join(work, ARCHIVE))
     found[f"{libraries}/{SHARED}"] = files.of(os.path.join(work, SHARED))
     found[f"{libraries}/libhuckleport.so"] = files.link(SHARED)

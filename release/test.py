@@ -231,6 +231,22 @@ class Archive(Release):
         for it in ("man/man1/domserve.1", "bash-completion/completions/domserve", "zsh/site-functions/_domserve"):
             self.assertTrue(os.path.isfile(os.path.join(top, "share", it)), it)
 
+    def test_explain(self):
+        """Replies stay byte for byte; what a refused line had to have goes to standard error; a reader that ends early ends it silently."""
+        top = self.unpacked(self.file(ARCHIVES))
+        explain, program = (os.path.join(top, "bin", it) for it in ("domserve-explain", "domserve"))
+        lines = '["remove"]\n["tree",0]\n\nhelp\n["nosuch"]\n["notify",1]'
+        ran = subprocess.run([explain], input=lines, stdout=subprocess.PIPE, stderr=subprocess.PIPE, text=True, timeout=60, check=True)
+        self.assertEqual(ran.stdout, self.run_in(program, given=lines))
+        told = [it.split(": ") for it in ran.stderr.splitlines()]
+        self.assertEqual([it[:2] for it in told], [["line 1", "bad-arguments"], ["line 3", "bad-json"], ["line 4", "bad-json"], ["line 5", "bad-command"], ["line 6", "bad-arguments"]])
+        self.assertEqual(told[0][2:], ['["remove", "NODE"]', "NODE is a number from 0 on"])
+        self.assertIn('["setStart", "RANGE", "NODE", "OFFSET"]', self.run_in(explain, "--commands"))
+        self.assertEqual(subprocess.run([explain, "--line", "0"], stdin=subprocess.DEVNULL, stderr=subprocess.DEVNULL, check=False).returncode, 2)
+        words = f"while true; do echo '[\"tree\",0]'; done | {explain} 2>err | head -n 1; echo ${{PIPESTATUS[1]}}"
+        self.assertEqual(self.run_in("bash", "-c", words), '{"ok":[[0,0,9,"#document"]]}\n141\n')
+        self.assertEqual(files.of(self.at("err")).content, b"")
+
     @needs("bash")
     def test_completion(self):
         words = "source share/bash-completion/completions/domserve; COMP_WORDS=(domserve --l); COMP_CWORD=1; _domserve; echo ${COMPREPLY[@]}"
