@@ -204,7 +204,16 @@ class Lines(Run):
     def test_causes(self):
         self.assertEqual({it["cause"] for it in read_known(KNOWN)} | {"anything"}, set(CAUSES))
 
-    @unittest.skipUnless(shutil.which("node"), "there is no node")
+    def test_cargo_fails(self):
+        """Of a failed build in Rust one line is told."""
+        cargo = os.path.join(self.folder, "cargo")
+        with open(cargo, "w", encoding="utf-8") as file:
+            file.write("#!/bin/sh\necho warning: nothing >&2; echo 'error: there is no such crate' >&2; echo more >&2; exit 101\n")
+        os.chmod(cargo, 0o755)
+        with unittest.mock.patch.dict(os.environ, PATH=f"{self.folder}:/usr/bin:/bin"):
+            status, out, err = said("play", *core(), "--player", "rust", "--out", self.folder)
+        self.assertEqual((status, out, err), (3, "", "referee: cargo can't build the player in Rust: error: there is no such crate\n"))
+
     def test_known_hangs(self):
         """A known hang's reply is waited for a short time, and its command drawn seldom."""
         known = Hanging(["in its own place"])
