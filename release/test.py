@@ -37,6 +37,7 @@ import debian
 import files
 import making
 import notices
+import other
 from given import BINDINGS, LIBRARY, LICENSE, LICENSES, PROGRAM, SHARED, VERSION, make
 from header import header
 from machines import HERE, MACHINES
@@ -490,9 +491,14 @@ class Elsewhere(Release):
     def test_wheel(self):
         with zipfile.ZipFile(self.file(f"huckleport-*_{OTHER.name}.whl")) as wheel:
             module = next(it for it in wheel.namelist() if it.endswith(".so"))
-            wheel.extract(module, self.folder)
+            wheel.extractall(self.folder)
         # (the processor in the head of an ELF file)
         self.assertEqual(files.of(self.at(module)).content[18], {"aarch64": 183, "x86_64": 62}[OTHER.name])
+        python = os.path.join(other.PYTHON, "usr/bin/python3.11")
+        if OTHER.name != other.MACHINE or not os.path.isfile(python):
+            self.skipTest(f"left out, the use of it, since there is no {python} (tools/other.py --install)")
+        self.copied("program.py")
+        self.assertEqual(self.run_in(OTHER.qemu, "-L", other.PYTHON, python, "program.py", PYTHONPATH=self.folder), PRINTED)
 
 
 def missing(given):
