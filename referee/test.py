@@ -417,7 +417,7 @@ class Players(unittest.TestCase):
         """The faults of jsdom are found, each by ten commands or fewer, and stand on the page."""
         with tempfile.TemporaryDirectory() as folder:
             drawn = [word for it in ("texts", "observers", "observers", "traversal") for word in ("--group", it)]
-            status, out, err = said("play", *core(), "--out", folder, "--quiet", "--player", "jsdom", *drawn, "--seed", "21", "--streams", "48", "--for", "60")
+            status, out, err = said("play", *core(), "--out", folder, "--quiet", "--player", "jsdom", *drawn, "--seed", "21", "--streams", "48", "--for", "240")
             cases, told = cases_of(folder)
             if status == 3 or told["version"] != "20.0.3":
                 print(f"left out: jsdom: {(out + err).strip()}")
