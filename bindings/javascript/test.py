@@ -34,6 +34,9 @@ SETTINGS = {**os.environ, "NODE_PATH": os.pathsep.join(filter(None, [os.environ.
 # The oldest node that the package is for.
 OLDEST = 20
 
+# How many random calls are made among the tests.
+FEW_CALLS = 15000
+
 # What is run by node: what it is, node's options, and the files.
 PARTS = (
     ("the tests of the package", ["--expose-gc"], "tests/*.test.js"),
@@ -106,7 +109,7 @@ def main():
     for what, words, files in PARTS:
         found = sorted(os.path.relpath(it, HERE) for it in glob.glob(os.path.join(HERE, files)))
         faults |= bool(found) and run(what, ["node", *words, "--test", "--test-reporter=spec", *found], env=SETTINGS)
-    return int(faults | types())
+    return int(faults | random_calls(FEW_CALLS) | types())
 
 
 if __name__ == "__main__":

@@ -141,17 +141,15 @@ function setTextContent(node, text) {
   return isKnownEmpty(node) ? fill(node, text ?? "") : replaceByText(node, text ?? "");
 }
 
-/** Whether lists that follow have nothing to do with the children of a node. */
-const hasTextsOnly = (node) => sessionOf(node).lists.length > 0 && elementNumbers(node).length === 0;
-
 function replaceByText(node, text) {
   const session = sessionOf(node);
   const gone = childNumbers(node);
-  const isOfTexts = hasTextsOnly(node);
+  // (lists of elements stay as they are where only texts leave)
+  const losesElements = session.lists.length > 0 && elementNumbers(node).length > 0;
   check(native.hp_set_text_content(session.index, numberOf(node), text));
   left(node, gone);
-  if (isOfTexts) session.movedTexts();
-  else session.moved();
+  if (losesElements) session.moved();
+  else session.movedTexts();
 }
 
 /** Children that have left a parent, by their numbers: those that have wrappers are roots now, the others go where nothing holds them. */
