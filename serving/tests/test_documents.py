@@ -194,7 +194,8 @@ class Fences(Served):
         document = self.handed_in("overtaken")
         first, second = self.worker(), self.worker()
         _, epoch = self.claimed(first, "overtaken")
-        self.assertIsNone(self.connection.execute("select from huckleport.claim(%s, '0.0', 9, null, '{}')", (second,)).fetchone())
+        words = "select from huckleport.claim(%s, '0.0', 9, array[%s::bigint], '{}')"
+        self.assertIsNone(self.connection.execute(words, (second, document)).fetchone())
         self.connection.execute("update huckleport.workers set until = clock_timestamp() - interval '1 s' where id = %s", (first,))
         self.assertEqual(self.claimed(second, "overtaken"), (document, epoch + 1))
         self.assertIsNone(self.recorded(first, document, epoch))
