@@ -251,6 +251,8 @@ class Npm(Release):
             os.rename(self.unpacked(package), self.at("node_modules/huckleport"))
         self.copied("program.mjs")
         self.assertEqual(self.run_in("node", "program.mjs"), PRINTED)
+        for it in ("LICENSE", "README.md", "docs/javascript.md", "out/bytes.js", "lib/dom.d.ts"):
+            self.assertTrue(os.path.isfile(self.at(f"node_modules/huckleport/{it}")), it)
 
 
 def missing(given):

@@ -11,6 +11,7 @@ HERE = os.path.dirname(os.path.abspath(__file__))
 sys.dont_write_bytecode = True
 sys.path.insert(0, os.path.join(os.path.dirname(HERE), "c"))
 from exports import status_word
+from header import lends, mended
 
 # Calls that base.h has in a form of its own.
 OWN = {"hp_open", "hp_close"}
@@ -25,6 +26,19 @@ WRITERS = {"name": ("3 * {0}.length", "putName"), "text": ("2 * {0}.length", "pu
 
 C_HEAD = """\
 /* The glue: a call of the module for each call of the library. Made by bindings/web/glue.py from the exports; not to be edited. */
+#include "huckleport.h"
+"""
+
+# A session that has ended, since memory ran out, is read as any other: its edits alone are refused.
+C_FOUND = """
+#ifdef HP_ENDED
+static inline uint8_t status_read(uint8_t status)
+{
+    return status == HP_ENDED ? HP_OK : status;
+}
+
+@CALLS@#endif
+
 #include "base.h"
 #include "html.h"
 """
@@ -111,6 +125,18 @@ def in_c(export, structs):
     return f"\nSHOWN({export.name})({declared})\n{{\n{body}}}\n"
 
 
+def reading(found, structs):
+    """Returns the macros by which each call of the library answers HP_OK in place of HP_ENDED, if the library has that status."""
+    lent = lends(structs.values())
+    lines = []
+    for it in (export for module in found for export in module.exports):
+        # (the header has an inline form of some calls, under the calls' names)
+        is_mended = bool(mended(it, lent))
+        lines += [f"#undef {it.name}\n"] if is_mended else []
+        lines.append(f"#define {it.name}(...) status_read({it.name}{'_mended' if is_mended else ''}(__VA_ARGS__))\n")
+    return C_FOUND.replace("@CALLS@", "".join(lines))
+
+
 # ---- In JavaScript
 
 
@@ -166,4 +192,4 @@ def glue(found):
     wanting = next(it.value for it in constants if it.name == "HP_OUT_OF_MEMORY")
     in_script = JS_HEAD.replace("\n/** Each", f"\nconst OUT_OF_MEMORY = {wanting};\n\n/** Each") + "".join(in_js(it, structs) for it in exports) + "});\n"
     in_script += f"\n/** The library's constants. */\nexport const NUMBERS = {{\n{numbers}}};\n\n/** How each status is printed. */\nexport const WORDS = {{\n{printed}}};\n"
-    return C_HEAD + "".join(in_c(it, structs) for it in exports), in_script
+    return C_HEAD + reading(found, structs) + "".join(in_c(it, structs) for it in exports), in_script
