@@ -211,11 +211,12 @@ export const PAGE_SCENES = {
     },
   },
   "first walk": {
-    says: "a node of a fresh copy visited once by firstChild, nextSibling and parentNode",
+    says: "a node of five fresh copies visited once by firstChild, nextSibling and parentNode",
     ready(window, count) {
-      const copy = tableOf(window, count / 2).table.cloneNode(true);
+      const { table } = tableOf(window, count / 10);
+      const copies = Array.from({ length: 5 }, () => table.cloneNode(true));
       return () => {
-        if (walkOnce(copy) < count) throw new Error("a node is missing");
+        for (const copy of copies) if (walkOnce(copy) < count / 5) throw new Error("a node is missing");
       };
     },
   },

@@ -16,7 +16,7 @@ const HELP = `Nanoseconds of processor time a step of scenes, by this package an
 
   --count N     how many steps a scene has (20000); some have a share of it
   --times N     how often each runs a scene at most (7), and at least twice
-  --seconds N   after how many seconds of processor time a scene is not run again (1.5)
+  --seconds N   after how many seconds of processor time a scene is not run again (1)
   --scene NAME  only this scene; more of them with commas between: ${Object.keys(SCENES).join(", ")}
   --help        this text
 `;
@@ -24,7 +24,7 @@ const HELP = `Nanoseconds of processor time a step of scenes, by this package an
 const OPTIONS = {
   count: { type: "string", default: "20000" },
   times: { type: "string", default: "7" },
-  seconds: { type: "string", default: "1.5" },
+  seconds: { type: "string", default: "1" },
   scene: { type: "string" },
   inside: { type: "boolean" },
   help: { type: "boolean" },

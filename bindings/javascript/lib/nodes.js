@@ -89,7 +89,9 @@ export function tagName(node) {
   return name.namespace === HTML && isOfDocument(node).isHtml ? name.capital : name.qualified;
 }
 
-export const hasData = (node) => kindOf(node) === TEXT || kindOf(node) === COMMENT || kindOf(node) === INSTRUCTION;
+const isOfData = (kind) => kind === TEXT || kind === COMMENT || kind === INSTRUCTION;
+
+export const hasData = (node) => isOfData(kindOf(node));
 
 /** A text that is longer is not kept beside its node. */
 const LONGEST_KEPT = 1000;
@@ -98,13 +100,21 @@ const LONGEST_KEPT = 1000;
 const hasKept = (its) => its.values !== null && its.stamp === its.session.links;
 
 /** The data of a text, a comment or an instruction, kept until it changes. */
-export function dataOf(node) {
-  const its = itsOf(node);
-  if (hasKept(its)) return its.values;
+export const dataOf = (node) => textOf(itsOf(node));
+
+const textOf = (its) => (hasKept(its) ? its.values : readText(its));
+
+function readText(its) {
   const text = lent(data(its.session.index, its.number));
   its.fresh();
   if (text.length <= LONGEST_KEPT) its.values = text;
   return text;
+}
+
+/** The value of a node as the standard has it: its data, or null. */
+function nodeValue(node) {
+  const its = itsOf(node);
+  return isOfData(its.kind) ? textOf(its) : null;
 }
 
 /** Says that the data of a node has changed. */
@@ -568,7 +578,7 @@ export const Node = known({
     nextSibling: nextOf,
     nodeValue: {
       type: "DOMString?",
-      get: (node) => (hasData(node) ? dataOf(node) : null),
+      get: nodeValue,
       set: (node, text) => void (hasData(node) && setData(node, text ?? "")),
     },
     textContent: { type: "DOMString?", get: textContent, set: setTextContent },
