@@ -136,6 +136,13 @@ static void read_all(struct said *to, bool stays)
 enum { QUESTIONS = 17,
     CALLS = 22 };
 
+/* (the range ends behind the second child first: it may hold no part of an element) */
+static uint8_t surround(void)
+{
+    uint8_t status = hp_set_end(&session, 0, 2, 2);
+    return status ? status : hp_surround_contents(&session, 0, 8);
+}
+
 static uint8_t call(int number)
 {
     hp_options options = HP_OPTIONS_INIT;
@@ -163,7 +170,7 @@ static uint8_t call(int number)
     case 18: return hp_remove(&session, 6);
     case 19: return hp_extract_contents(&session, 0, &made);
     case 20: return hp_replace_children(&session, 2, 8);
-    default: return hp_surround_contents(&session, 0, 8);
+    default: return surround();
     }
 }
 

@@ -13,7 +13,7 @@
 #include <string.h>
 #include <wchar.h>
 
-#include "huckleport.h"
+#include "ended.h"
 
 /* Objects by the kinds of their numbers. */
 typedef enum { FAMILY_NODE, FAMILY_RANGE, FAMILY_STATIC_RANGE, FAMILY_NODE_ITERATOR, FAMILY_TREE_WALKER, FAMILY_OBSERVER, FAMILIES } Family;

@@ -147,8 +147,7 @@ static const Order *order_below(Calls *calls, uint32_t node)
 /* Whether a name of a node was asked for, and is lent. */
 static bool is_name_lent(Calls *calls, uint32_t node, uint8_t part, hp_bytes *to)
 {
-    hp_place place;
-    return hp_node(&calls->session, node, &place) == HP_OK && hp_node_name(&calls->session, part, to) == HP_OK;
+    return hp_name_of(&calls->session, node, part, to) == HP_OK;
 }
 
 /* The name of an element, which is asked for where it is not known, and learned. It lies there until the next call, or until a label is new. */

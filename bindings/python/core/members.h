@@ -2,7 +2,7 @@
 #ifndef HUCKLEPORT_MEMBERS_H
 #define HUCKLEPORT_MEMBERS_H
 
-#include "answers.h"
+#include "held.h"
 
 /* ---- what a member was given */
 
@@ -133,24 +133,17 @@ static PyObject *calls_node_object(PyObject *self, PyObject *words)
     return node_from(word(words, 0), (Calls *)self, number);
 }
 
-static PyObject *name_answer(hp_session *session, uint8_t part)
-{
-    hp_bytes view;
-    return hp_node_name(session, part, &view) == HP_OK ? name_from(view.bytes, view.length) : NULL;
-}
-
 static PyObject *calls_read_name(PyObject *self, PyObject *words)
 {
     if (is_busy((Calls *)self))
         return NULL;
     uint32_t node = 0;
     uint8_t part = 0;
-    hp_place place;
+    hp_bytes name;
     if (!is_counted(words, 2, "read_name") || !uint32_of(word(words, 0), &node) || !uint8_of(word(words, 1), &part))
         return NULL;
-    uint8_t status = hp_node(session_at(self), node, &place);
-    PyObject *found = status ? NULL : name_answer(session_at(self), part);
-    return found || PyErr_Occurred() ? found : refused(status ? status : HP_NOT_THERE, "node", self, words);
+    uint8_t status = hp_name_of(session_at(self), node, part, &name);
+    return status ? refused(status, "node", self, words) : name_from(name.bytes, name.length);
 }
 
 static PyObject *line_answer(hp_session *session)
@@ -195,7 +188,10 @@ static PyObject *calls_read_printed(PyObject *self, PyObject *words)
 
 static PyObject *tree_of(PyObject *self, PyObject *session, PyObject *words, uint32_t node, size_t most)
 {
+    hp_node_links links;
     uint8_t status = hp_tree(session_at(self), node);
+    if (status == HP_OUT_OF_MEMORY && hp_links(session_at(self), node, &links) == HP_OK)
+        return held_tree(session, (Calls *)self, node, most);
     return status ? refused(status, "tree", self, words) : rows_answer(session, (Calls *)self, most);
 }
 
@@ -237,7 +233,7 @@ static bool is_pending_answered(uint8_t status, PyObject *self)
 {
     PyObject *words = status ? PyTuple_New(0) : NULL;
     if (words)
-        refused(status, "take_pending", self, words);
+        raised(status, "take_pending", self, words);
     Py_XDECREF(words);
     return status == HP_OK;
 }
@@ -322,19 +318,20 @@ static void know_name(PyObject *self, PyObject *name)
 
 static PyObject *part_of_name(PyObject *self, const char *call, uint8_t part, bool is_any)
 {
-    hp_place place;
+    hp_bytes name;
+    hp_node_links links;
     PyObject *found = part ? NULL : known_name(self);
     if (found)
         return found;
-    uint8_t status = hp_node(session_of(self), number_of(self), &place);
-    found = status ? NULL : name_answer(session_of(self), part);
+    uint8_t status = hp_name_of(session_of(self), number_of(self), part, &name);
+    found = status ? NULL : name_from(name.bytes, name.length);
     if (found && !part)
         know_name(self, found);
-    if (found || PyErr_Occurred())
+    if (!status)
         return found;
-    if (status || !is_any)
-        return refused_of(status ? status : HP_NOT_THERE, call, self, NULL, 0);
-    return kind_name(self, place.kind);
+    if (status != HP_NOT_THERE || !is_any || hp_links(session_of(self), number_of(self), &links) != HP_OK)
+        return refused_of(status, call, self, NULL, 0);
+    return kind_name(self, links.kind);
 }
 
 static PyObject *node_node_name(PyObject *self, PyObject *nothing)

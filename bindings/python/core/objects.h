@@ -61,8 +61,11 @@ static State *state_of_type(PyTypeObject *type)
 
 /* ---- refusals */
 
+/* What a session that has ended tells in place of a call, or null. */
+static PyObject *held_answer(Calls *calls, const char *call, PyObject *words);
+
 /* Raises what a status says of a call with these words. */
-static PyObject *refused(uint8_t status, const char *call, PyObject *calls, PyObject *words)
+static PyObject *raised(uint8_t status, const char *call, PyObject *calls, PyObject *words)
 {
     ((Calls *)calls)->epoch += status == HP_OUT_OF_MEMORY;
     PyObject *hook = ((Calls *)calls)->state->refuse_hook;
@@ -73,6 +76,13 @@ static PyObject *refused(uint8_t status, const char *call, PyObject *calls, PyOb
         PyErr_Format(PyExc_RuntimeError, "%s: %d", call, (int)status);
     Py_XDECREF(fault);
     return NULL;
+}
+
+/* The same, unless memory was wanting for what can be told without it. */
+static PyObject *refused(uint8_t status, const char *call, PyObject *calls, PyObject *words)
+{
+    PyObject *held = status == HP_OUT_OF_MEMORY ? held_answer((Calls *)calls, call, words) : NULL;
+    return held || PyErr_Occurred() ? held : raised(status, call, calls, words);
 }
 
 /* The same for a member: the words are its object and what it was given. */
@@ -88,9 +98,9 @@ static PyObject *refused_of(uint8_t status, const char *call, PyObject *self, Py
         Py_INCREF(it);
         PyTuple_SetItem(words, 1 + at, it);
     }
-    refused(status, call, (PyObject *)((Thing *)self)->calls, words);
+    PyObject *found = refused(status, call, (PyObject *)((Thing *)self)->calls, words);
     Py_DECREF(words);
-    return NULL;
+    return found;
 }
 
 /* ---- sessions */

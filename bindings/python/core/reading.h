@@ -273,8 +273,9 @@ static bool is_named(Calls *calls, uint32_t node, const Slice *name)
 static bool is_valued(hp_session *session, uint32_t node, const Slice *name, const Slice *value)
 {
     hp_text_view found;
-    return hp_get_attribute(session, node, name->at, name->length) == HP_OK && hp_text(session, &found) == HP_OK && found.length == value->length &&
-        (!found.length || memcmp(found.units, value->at, 2 * found.length) == 0);
+    uint8_t status = hp_get_attribute(session, node, name->at, name->length);
+    status = status == HP_OUT_OF_MEMORY ? attribute_lent(session, node, name, &found) : status ? status : hp_text(session, &found);
+    return status == HP_OK && found.length == value->length && (!found.length || memcmp(found.units, value->at, 2 * found.length) == 0);
 }
 
 /* Keeps of elements those of a name, or the first with a value of an attribute. */
@@ -418,6 +419,8 @@ static PyObject *read_attribute(PyObject *self, PyObject *node, const void *how)
     if (!own_node_of(self, node, &number))
         return NULL;
     uint8_t status = hp_get_attribute(session_at(self), number, name->at, name->length);
+    if (status == HP_OUT_OF_MEMORY)
+        return attribute_held((Calls *)self, number, name);
     return status ? refused_of(status, "get_attribute", node, NULL, 0) : text_answer(session_at(self));
 }
 
@@ -523,7 +526,7 @@ static PyObject *calls_read_orders(PyObject *self, PyObject *words)
         return NULL;
     PyObject *asked = status ? PyTuple_GetSlice(words, 0, 1) : NULL;
     if (asked)
-        refused(status, "tree", self, asked);
+        raised(status, "tree", self, asked);
     Py_XDECREF(asked);
     return status ? NULL : none();
 }

@@ -464,7 +464,7 @@ static bool is_there(PyObject *self, PyObject *words, uint32_t node)
     uint8_t status = hp_links(session_at(self), node, &links);
     PyObject *asked = status ? PyTuple_GetSlice(words, 0, 1) : NULL;
     if (asked)
-        refused(status, "tree", self, asked);
+        raised(status, "tree", self, asked);
     Py_XDECREF(asked);
     return status == HP_OK;
 }

@@ -62,7 +62,7 @@ class InUse(Error):
 
 
 class OutOfMemory(Error, MemoryError):
-    """Memory was wanting, now or before: the session answers nothing else."""
+    """Out of memory, now or before: the session has ended. What it holds can still be read and serialized."""
 
 
 class SessionClosed(Error, ValueError):
@@ -175,7 +175,10 @@ ASKED: Dict[str, str] = {
 
 def refusal(status: int, call: str, calls: Any = None, words: Sequence[Any] = ()) -> Error:
     """The exception for a status of a call with these words. Below 32 are the standard's codes."""
+    kind = KINDS.get(status, DOMException if status < made.HP_TYPE_ERROR else Error)
+    # (out of memory, there may be none to load a module)
+    if calls is None or kind is OutOfMemory:
+        return kind(status, ASKED.get(call, call), None)
     from .reasons import reason
 
-    kind = KINDS.get(status, DOMException if status < made.HP_TYPE_ERROR else Error)
-    return kind(status, ASKED.get(call, call), None if calls is None else reason(status, call, calls, words))
+    return kind(status, ASKED.get(call, call), reason(status, call, calls, words))

@@ -32,7 +32,7 @@ class Refused:
 
     def place(self, name: str) -> Any:
         """Where the node of a parameter stands."""
-        return self.calls.node(self.words[name])
+        return self.calls.links(self.words[name])
 
     def said(self, number: int) -> str:
         """A node in a sentence: ``3 <#text>``."""
@@ -75,7 +75,7 @@ def in_the_way(it: Refused) -> str:
     if it.place("parent").kind != DOCUMENT or it.place("node").kind not in ONLY_ONCE:
         return ""
     for other in it.calls.read_children(parent):
-        if other not in passed and it.calls.node(other).kind == it.place("node").kind:
+        if other not in passed and it.calls.links(other).kind == it.place("node").kind:
             return f", which has {it.said(other)}"
     return ""
 

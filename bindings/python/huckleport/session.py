@@ -10,7 +10,7 @@ from typing import Any, Dict, List, NamedTuple, Optional, Sequence, Tuple, Type,
 from ._calls import Calls, settle
 from ._signatures import HP_NO_SUCH_OBJECT, HP_NONE, hp_options
 from .documents import Document
-from .errors import BadType, Error, NoSuchObject, refusal, together
+from .errors import BadType, Error, NoSuchObject, OutOfMemory, refusal, together
 from .nodes import CharacterData, Comment, DocumentFragment, DocumentType, Element, Node, ProcessingInstruction, Row, Text
 from .objects import SessionObject
 from .observers import Callback, MutationObserver, MutationRecord, is_async
@@ -33,6 +33,14 @@ KINDS: Dict[int, Type[Node]] = {
 
 def _close(calls: Calls) -> None:
     calls.close()
+
+
+def _name_elsewhere(kind: int) -> str:
+    """The name that all nodes of a kind have, as another session tells it."""
+    with Session() as session:
+        document = session.document
+        nodes = (document, document.create_text_node(""), document.create_comment(""), document.create_document_fragment())
+        return next(it.node_name for it in nodes if it.node_type == kind)
 
 
 class Counts(NamedTuple):
@@ -103,7 +111,7 @@ class Session:
 
     def node(self, number: int) -> Node:
         """The node of that number, for what lines made."""
-        return self._keep(KINDS[self._calls.node(number).kind], number)
+        return self._keep(KINDS[self._calls.links(number).kind], number)
 
     def range(self, number: int) -> Range:
         """The live range of that number."""
@@ -150,7 +158,7 @@ class Session:
     def _any_node(self) -> int:
         """The first Document, or a new one where it was discarded."""
         try:
-            self._calls.node(0)
+            self._calls.links(0)
         except NoSuchObject:
             return self._calls.new_document()
         return 0
@@ -257,7 +265,10 @@ class Session:
 
     def _printed_name(self, node: int) -> str:
         """The name of a node as its line prints it."""
-        name: str = json.loads(self._calls.read_printed(node))["ok"]["name"]
+        try:
+            name: str = json.loads(self._calls.read_printed(node))["ok"]["name"]
+        except OutOfMemory:
+            return _name_elsewhere(self._calls.links(node).kind)
         return name
 
     def _rows(self, node: Node, most: Optional[int] = None) -> List[Row]:
