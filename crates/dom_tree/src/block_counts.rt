@@ -16,7 +16,7 @@ const RUN: u32 = 256;
 const RUN_MADE: u32 = 4096;
 
 // How near questions are to each other that are of one place.
-const ONE_PLACE: u32 = 128;
+const ONE_PLACE: usize = 128;
 
 /// How many blocks there must be room for, with so many children and some more.
 pub(crate) fn blocks_of(count: u32) -> usize
@@ -157,7 +157,7 @@ impl BlockCounts {
     }
 
     // Whether the children are rather numbered one by one: blocks were outgrown, so often as is tried, and since then questions are near each other.
-    fn gives_way(&mut self, steps: u32) -> bool
+    fn gives_way(&mut self, steps: usize) -> bool
         ensures { self.new ≡ self.old }
     {
         if self.each.is_empty() {
@@ -221,7 +221,7 @@ impl BlockCounts {
     }
 
     /// Makes blocks of so many children, where there is room for them and they serve; else there are none. The child that is asked for stands so many steps behind the nearest one that is known.
-    pub(crate) fn fill(&mut self, count: u32, steps: u32) -> bool
+    pub(crate) fn fill(&mut self, count: u32, steps: usize) -> bool
         ensures filled { IsTrue result → AreFilled self.new count }
         ensures none { result ≡ false → self.new ≡ [] }
     {

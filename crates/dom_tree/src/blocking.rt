@@ -264,11 +264,12 @@ pub(crate) fn number_around<X>(
         blocks.come_near(slot, index_of(links, child), number_of(links, child));
         return;
     }
-    let steps = (index as u32).saturating_sub(sure_of(links, parent));
+    let number = number_of(links, child);
+    let steps = index.saturating_sub(sure_of(links, parent) as usize);
     if blocks.fill(slot, links.count(parent), steps) {
         number_blocks(links, blocks, parent);
     } else {
         number_up_to(links, parent, child, index);
-        blocks.come_near(slot, 0, number_of(links, child));
+        blocks.come_near(slot, 0, number);
     }
 }

@@ -153,7 +153,7 @@ impl Blocks {
     }
 
     /// Makes blocks of a parent's children, where they are many and there is room, and where it serves more than one place; else the parent has none from then on. The child that is asked for stands so many steps behind the nearest one that is known.
-    pub(crate) fn fill(&mut self, parent: Slot, count: u32, steps: u32) -> bool
+    pub(crate) fn fill(&mut self, parent: Slot, count: u32, steps: usize) -> bool
         ensures filled { IsTrue result → AreFilled (counts_in self.new parent) count }
         ensures none { result ≡ false → counts_in self.new parent ≡ [] }
         ensures others { (p : ℕ) → counts_in self.new p
