@@ -147,11 +147,13 @@ impl BlockCounts {
     {
         let blocks = blocks_of(count);
         if self.each.capacity() < blocks {
-            self.each.reserve((blocks * 2).saturating_sub(self.each.len()))?;
+            self.each
+                .reserve((blocks * 2).saturating_sub(self.each.len()))?;
         }
         let runs = blocks / RUN as usize + 1;
         if self.runs.capacity() < runs {
-            self.runs.reserve((runs * 2).saturating_sub(self.runs.len()))?;
+            self.runs
+                .reserve((runs * 2).saturating_sub(self.runs.len()))?;
         }
         Ok(())
     }
