@@ -148,8 +148,40 @@ fn copy_node(
     world.make(label, content, document)
 }
 
-// Copies one node, to be the last child of a parent, into that one's node document.
+// Copies one node, to be the last child of a parent, into that one's node document. A parent with many children gets room for blocks of them.
 fn copy_under(
+    world: &mut World,
+    alloc: Global,
+    node: NodeId,
+    parent: NodeId,
+) -> Result<NodeId, AllocError>
+    requires whole { IsWhole world.old }
+    requires held { HasNode world.old.tree.forest node }
+    requires parent_held { HasNode world.old.tree.forest parent }
+    requires room { world.old.tree.made < 4294967295 }
+    requires kinds { MayStand world.old.tree.forest parent node }
+    ensures number { IfOk result (λ id. id ≡ world.old.tree.made) }
+    ensures copied { IfSome (entry_in world.old.tree.forest parent)
+        (λ p. IfSome (entry_in world.old.tree.forest node) (λ e.
+        OnOk result (Follows world.old world.new (made_under parent p.value.document e.value)))) }
+    ensures failed { OnErr result (LeavesAll world.old world.new) }
+    ensures observers { world.new.observers ≡ world.old.observers }
+    ensures whole { IsWhole world.new }
+{
+    make_room(world, parent)?;
+    copy_last(world, alloc, node, parent)
+}
+
+// Room for blocks of a parent's children, if these are many. The world stays as it is.
+fn make_room(world: &mut World, parent: NodeId) -> Result<(), AllocError>
+    requires { HasNode world.old.tree.forest parent }
+    ensures { world.new ≡ world.old }
+{
+    world.tree.make_room(parent)
+}
+
+// The same, with no room for blocks.
+fn copy_last(
     world: &mut World,
     alloc: Global,
     node: NodeId,

@@ -155,12 +155,20 @@ impl World {
         self.queue_tree_record(parent, nodes, &[], previous, child)
     }
 
-    // Room for blocks of a parent's children, where a question about them wanted it. The world stays as it is.
+    // Room for blocks of a parent's children, if these are many. The world stays as it is.
     fn make_room_for_blocks(&mut self, parent: NodeId) -> Result<(), AllocError>
         requires { HasNode self.old.tree.forest parent }
         ensures { self.new ≡ self.old }
     {
         self.tree.make_room(parent)
+    }
+
+    // The same for so many children more.
+    fn make_room_for_many(&mut self, parent: NodeId, more: usize) -> Result<(), AllocError>
+        requires { HasNode self.old.tree.forest parent }
+        ensures { self.new ≡ self.old }
+    {
+        self.tree.make_room_for(parent, more)
     }
 
     /// Inserts a node that is no fragment under a parent, before a child of it or last.
@@ -208,7 +216,7 @@ impl World {
         if nodes.is_empty() {
             return Ok(());
         }
-        self.make_room_for_blocks(parent)?;
+        self.make_room_for_many(parent, nodes.len())?;
         self.remove_all(nodes)?;
         self.queue_emptied(node, nodes)?;
         self.insert_all(suppressed, parent, child, nodes)
@@ -236,7 +244,7 @@ impl World {
         if nodes.is_empty() {
             return Ok(());
         }
-        self.make_room_for_blocks(parent)?;
+        self.make_room_for_many(parent, nodes.len())?;
         self.remove_all_unreferred(node, nodes)?;
         self.queue_emptied(node, nodes)?;
         self.insert_all(false, parent, child, nodes)
