@@ -36,6 +36,17 @@ pub enum Refusal {
 /// The version that `--version` tells.
 const VERSION: &str = "0.1.0";
 
+/// What help says below the options: statuses, and an example.
+const AFTER: &str = "\
+Exit status: 0 at the end of the input, 1 out of memory, 2 for a mistake in the options, 3 for a failed read or write.
+
+Example:
+  $ printf '[\"createElement\",0,\"p\"]\\n[\"appendChild\",0,1]\\n' | domserve
+  {\"ok\":1}
+  {\"ok\":1}
+
+domserve(1) and its pages have the commands; domserve-explain --commands lists them.";
+
 /// The program with no options, and what it says of itself.
 fn program<'a>(alloc: Global) -> Command<'a>
     ensures { app_of result ≡ with_version (new_app (codes "domserve")) }
@@ -44,6 +55,7 @@ fn program<'a>(alloc: Global) -> Command<'a>
         .about(
             "Keeps documents (DOM Standard): one JSON command a line in, one JSON reply a line out",
         )
+        .after_help(AFTER)
         .version(VERSION)
 }
 
@@ -53,14 +65,14 @@ fn command<'a>(alloc: Global) -> Result<Command<'a>, AllocError>
     let line = Arg::new(alloc, "line")
         .long("line")
         .value_name("BYTES")
-        .help("How many bytes a line may have")
+        .help("How many bytes a line may have, from 1 to 1073741824")
         .action(ArgAction::Set)
         .value_parser(clap::value_parser!(u64).range(1..=1073741824))
         .default_value("1048576");
     let numbers = Arg::new(alloc, "numbers")
         .long("numbers")
         .value_name("N")
-        .help("How many numbers there are of each kind of object")
+        .help("How many numbers there are of each kind of object, from 1 to 4294967295")
         .action(ArgAction::Set)
         .value_parser(clap::value_parser!(u64).range(1..=4294967295))
         .default_value("4294967295");
