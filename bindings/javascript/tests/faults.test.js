@@ -209,8 +209,8 @@ test("a session that has ended is read and serialized as before, and no other en
   item.append("one < ", document.createComment("aside"), document.createProcessingInstruction("target", "data"), "two");
   const read = () => [
     [serialize(document), serialize(item), item.textContent, root.textContent, item.firstChild.data, item.childNodes[1].data, item.childNodes[2].target],
-    [item.getAttribute("id"), item.getAttribute("none"), item.hasAttribute("title"), item.getAttributeNames(), Array.from(item.attributes, (it) => it.value)],
-    [document.getElementById("first") === item, document.getElementsByTagName("p").length, document.querySelectorAll("[title]").length, item.parentNode === root],
+    [item.getAttribute("id"), item.getAttribute("none"), item.hasAttribute("title"), item.getAttributeNames().map((name) => [name, item.getAttribute(name)])],
+    [document.getElementById("first") === item, document.getElementsByTagName("p").length, document.getElementsByClassName("none").length, item.parentNode === root],
     [document.documentElement.nodeName, item.firstChild.nodeName, root.children.length, item.isConnected],
   ];
   const before = read();
