@@ -94,7 +94,11 @@ impl<'a> Part<'a> {
 
     /// The number of such a node.
     pub(crate) fn node(&self) -> Option<u32> {
-        if self.index == HELD { Some(self.notice as u32) } else { None }
+        if self.index == HELD {
+            Some(self.notice as u32)
+        } else {
+            None
+        }
     }
 
     pub(crate) fn of_notice(self, notice: usize) -> Self {

@@ -161,7 +161,14 @@ impl Session {
             Err(refusal) => return Err(refusal),
         }
         let it = self.links(node)?;
-        Ok(Description { document: it.document, kind: it.kind, parent: it.parent, previous: it.previous, next: it.next, of: Part::held(&self.handle, node) })
+        Ok(Description {
+            document: it.document,
+            kind: it.kind,
+            parent: it.parent,
+            previous: it.previous,
+            next: it.next,
+            of: Part::held(&self.handle, node),
+        })
     }
 
     /// The children of a node.
