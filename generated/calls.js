@@ -137,6 +137,10 @@ export const callsOver = (module, { reserve, putName, putText, putOctets, putNum
   hp_first_child: module.hp_first_child,
   hp_last_child: module.hp_last_child,
   hp_child_at: module.hp_child_at,
+  hp_name_of(session, node, part) {
+    const status = module.hp_name_of(session, node, part);
+    return status === 0 ? bytesAt() : status;
+  },
   hp_data_of(session, node) {
     const status = module.hp_data_of(session, node);
     return status === 0 ? textAt() : status;
@@ -324,6 +328,7 @@ export const NUMBERS = {
   HP_BAD_LENGTHS: 53,
   HP_BAD_CHOICE: 54,
   HP_NOT_THERE: 55,
+  HP_ENDED: 56,
   HP_NONE: 4294967295,
   HP_ATTRIBUTES: 0,
   HP_CHARACTER_DATA: 1,
@@ -357,4 +362,5 @@ export const WORDS = {
   53: "bad-lengths",
   54: "bad-choice",
   55: "not-there",
+  56: "ended",
 };

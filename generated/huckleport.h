@@ -2,8 +2,10 @@
  * Documents by the DOM Standard. Made by bindings/c/header.py from the exports of the library; not to be edited.
  *
  * Every call answers a status: HP_OK, or why it was refused. A refused call changes nothing of the session, and leaves what its out
- * pointers point at. Every call with a session can also answer HP_CLOSED and HP_OUT_OF_MEMORY; after the latter the session answers
- * nothing else, and hp_close still frees all of it.
+ * pointers point at. Every call with a session can also answer HP_CLOSED. One that takes memory can answer HP_OUT_OF_MEMORY: the session
+ * has then ended, and so answers every later command. What it holds is read still, by the calls that answer HP_ENDED in place of HP_OK:
+ * each held node with its names and attributes, static ranges and walkers as before that call, all ranges, iterators and observers.
+ * hp_close frees all of it.
  *
  * Objects are told by numbers, each kind from 0 on, and no number is used again. Node 0 is a Document. HP_NONE stands for null.
  * Names are UTF-8: bytes and their count. Texts are UTF-16: units and their count. Null with a count of 0 is an empty one.
@@ -62,7 +64,8 @@ extern "C" {
 #define HP_BAD_COMMAND 38
 /** Printed as bad-arguments. */
 #define HP_BAD_ARGUMENTS 39
-/** Memory was wanting, now or at an earlier call: the session answers nothing more. */
+/** Memory was wanting, now or at an earlier call: the session has ended. It takes no command, and what it holds can
+ * be read. */
 #define HP_OUT_OF_MEMORY 48
 /** The handle is closed. */
 #define HP_CLOSED 49
@@ -78,6 +81,8 @@ extern "C" {
 #define HP_BAD_CHOICE 54
 /** The last answer, or the node, has no such part. */
 #define HP_NOT_THERE 55
+/** The session has ended, since memory was wanting once. The answer is of what it holds. */
+#define HP_ENDED 56
 /** The number that stands for null; no object has it. */
 #define HP_NONE ((uint32_t)4294967295u)
 /** The record tells of an attribute. */
@@ -519,7 +524,7 @@ uint8_t hp_tree(hp_session *session, uint32_t node);
 
 /** @} */
 
-/** @name What stands around a node, read with no command: the last answer stays, and no memory is taken
+/** @name What stands around a node, read with no command: the last answer stays, and no memory is taken. A session that has ended answers too, of what it holds, by `HP_ENDED`
  * @{ */
 
 /** What a node is, and what stands around it: all of it at once, in constant time.
@@ -545,8 +550,13 @@ uint8_t hp_children_into(hp_session *session, uint32_t node, uint32_t *numbers, 
 
 /** @} */
 
-/** @name What a node holds, lent with no command: the last answer stays, and no memory is taken
+/** @name What a node holds, lent with no command: the last answer stays, and no memory is taken. A session that has ended lends too what it holds, by `HP_ENDED`
  * @{ */
+
+/** A part of a node's name: 0 the name of an Element or a DocumentType, or the target of a ProcessingInstruction; 1
+ * the public id and 2 the system id of a DocumentType. Another kind has none.
+ * @return HP_OK, or why it was refused. */
+uint8_t hp_name_of(hp_session *session, uint32_t node, uint8_t part, hp_bytes *out);
 
 /** The data of a Text, a Comment or a ProcessingInstruction. Another kind has none.
  * @return HP_OK, or why it was refused. */
@@ -618,7 +628,8 @@ uint8_t hp_set_attribute(hp_session *session, uint32_t element, const uint8_t *n
  * @return HP_OK, or why it was refused; also HP_NOT_UTF8. */
 uint8_t hp_get_attribute(hp_session *session, uint32_t element, const uint8_t *name, size_t name_length);
 
-/** Whether there is an attribute of that name. DOM Standard: Element.hasAttribute.
+/** Whether there is an attribute of that name. No memory is taken, and a session that has ended answers by HP_ENDED.
+ * DOM Standard: Element.hasAttribute.
  * @return HP_OK, or why it was refused; also HP_NOT_UTF8. */
 uint8_t hp_has_attribute(hp_session *session, uint32_t element, const uint8_t *name, size_t name_length, uint8_t *is_there);
 
@@ -1024,6 +1035,14 @@ static inline uint8_t hp_children_into_mended(hp_session *session, uint32_t node
 }
 #define hp_children_into(...) hp_children_into_mended(__VA_ARGS__)
 
+static inline uint8_t hp_name_of_mended(hp_session *session, uint32_t node, uint8_t part, hp_bytes *out)
+{
+    out->bytes = (const uint8_t *)hp_nothing;
+    out->length = 0;
+    return hp_name_of(session, node, part, out);
+}
+#define hp_name_of(...) hp_name_of_mended(__VA_ARGS__)
+
 static inline uint8_t hp_data_of_mended(hp_session *session, uint32_t node, hp_text_view *out)
 {
     out->units = (const uint16_t *)hp_nothing;
@@ -1169,6 +1188,7 @@ static inline const char *hp_status_word(uint8_t status)
     case HP_BAD_LENGTHS: return "bad-lengths";
     case HP_BAD_CHOICE: return "bad-choice";
     case HP_NOT_THERE: return "not-there";
+    case HP_ENDED: return "ended";
     default: return "";
     }
 }

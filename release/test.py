@@ -503,61 +503,6 @@ class Elsewhere(Release):
         self.assertEqual(self.run_in(OTHER.qemu, "-L", other.PYTHON, python, "program.py", PYTHONPATH=self.folder), PRINTED)
 
 
-class References(Release):
-    def test_each_language(self):
-        top = self.unpacked(self.file("*-references.tar.gz"))
-        for tool, page, words in (("doxygen", "c/index.html", "Huckleport"), ("cargo", "rust/huckleport/index.html", "huckleport"), (None, "typescript/index.d.ts", "Document")):
-            if tool is None or shutil.which(tool):
-                with open(os.path.join(top, page), encoding="utf-8") as file:
-                    self.assertIn(words, file.read())
-        if subprocess.run([SYSTEM, "-c", "import sphinx"], stderr=subprocess.DEVNULL, check=False).returncode == 0:
-            self.assertTrue(os.path.isfile(os.path.join(top, "python/index.html")))
-
-
-class Elsewhere(Release):
-    """The other processor's files, under qemu, with its C library as Debian's compiler for it brings it."""
-
-    def setUp(self):
-        super().setUp()
-        self.root = f"/usr/{OTHER.multiarch}"
-        if not shutil.which(OTHER.qemu) or not os.path.isdir(self.root):
-            self.skipTest(f"left out, since there is no {OTHER.qemu}, or no {self.root}")
-        self.emulated = [OTHER.qemu, "-L", self.root]
-
-    def test_archive(self):
-        top = self.unpacked(self.file(f"*-{OTHER.name}-linux.tar.gz"))
-        self.assertEqual(self.run_in(*self.emulated, os.path.join(top, "bin/domserve"), given=LINES), REPLIES)
-        for library in ("libhuckleport.a", SHARED):
-            self.run_in(f"{OTHER.cross}gcc", EDITOR, f"-I{top}/include", f"{top}/lib/{library}", "-o", library + ".user")
-            self.tries_editor(*self.emulated, "-E", f"LD_LIBRARY_PATH={top}/lib", self.at(library + ".user"))
-
-    @needs("dpkg-deb")
-    def test_packages(self):
-        for name in debian.PACKAGES:
-            package = self.file(f"{name}_*_{OTHER.debian}.deb")
-            self.assertEqual(self.run_in("dpkg-deb", "--field", package, "Architecture"), f"{OTHER.debian}\n")
-            self.run_in("dpkg-deb", "--extract", package, "root")
-        self.assertEqual(self.run_in(*self.emulated, self.at("root/usr/bin/domserve"), given=LINES), REPLIES)
-
-    @needs("lintian")
-    def test_lintian(self):
-        packages = [self.file(f"{it}_*_{OTHER.debian}.deb") for it in debian.PACKAGES]
-        ran = subprocess.run(["lintian", "--allow-root", *packages], stdout=subprocess.PIPE, stderr=subprocess.STDOUT, text=True, check=False)
-        self.assertEqual((ran.returncode, ran.stdout), (0, ""))
-
-    def test_wheel(self):
-        with zipfile.ZipFile(self.file(f"huckleport-*_{OTHER.name}.whl")) as wheel:
-            module = next(it for it in wheel.namelist() if it.endswith(".so"))
-            wheel.extractall(self.folder)
-        # (the processor in the head of an ELF file)
-        self.assertEqual(files.of(self.at(module)).content[18], {"aarch64": 183, "x86_64": 62}[OTHER.name])
-        python = os.path.join(other.PYTHON, "usr/bin/python3.11")
-        if OTHER.name != other.MACHINE or not os.path.isfile(python):
-            self.skipTest(f"left out, the use of it, since there is no {python} (tools/other.py --install)")
-        self.copied("program.py")
-        self.assertEqual(self.run_in(OTHER.qemu, "-L", other.PYTHON, python, "program.py", PYTHONPATH=self.folder), PRINTED)
-
-
 def missing(given):
     """What no release can be made without, where it is not there."""
     found = [os.path.join(given.library, it) for it in ("libhuckleport.a", SHARED)]

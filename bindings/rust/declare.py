@@ -57,6 +57,11 @@ pub(crate) struct Handle {
 // SAFETY: the library keeps nothing by threads, and a session may go to another thread between two calls.
 unsafe impl Send for Handle {}
 
+/// The status of a call: a session that has ended is read as any other.
+fn read(status: u8) -> u8 {
+    if status == HP_ENDED { HP_OK } else { status }
+}
+
 impl Drop for Handle {
     fn drop(&mut self) {
         // SAFETY: as at the head of the file. Closing frees all that the session keeps.
@@ -75,6 +80,12 @@ impl Handle {
         } else {
             Err(status)
         }
+    }
+
+    pub(crate) fn has_ended(&self) -> bool {
+        let mut out = hp_counts::default();
+        // SAFETY: as at the head of the file.
+        unsafe { hp_in_use(self.session.get(), &mut out) == HP_ENDED }
     }
 """
 
@@ -173,7 +184,7 @@ def method(it, is_reading, lent):
     text = f"\n    pub(crate) fn {it.name[3:]}({', '.join([reach, *ins])}) -> Result<{answer}, u8> {{\n"
     text += "".join(f"        let mut {places[its.name]} = {nothing(its, lent)};\n" for its in outs)
     words = ", ".join(handed(its, places.get(its.name)) for its in it.parameters)
-    text += f"        // SAFETY: as at the head of the file.\n        let status = unsafe {{ {it.name}({words}) }};\n"
+    text += f"        // SAFETY: as at the head of the file.\n        let status = read(unsafe {{ {it.name}({words}) }});\n"
     if not any(its.type in lent for its in outs):
         return text + f"        if status == HP_OK {{ Ok({value}) }} else {{ Err(status) }}\n    }}\n"
     text += "        if status != HP_OK {\n            return Err(status);\n        }\n"

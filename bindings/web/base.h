@@ -326,11 +326,8 @@ static void note_name(hp_session *session, uint32_t node, uint32_t number)
 /* Asks for a part of a node's name: its number. */
 static uint32_t ask_name(hp_session *session, uint32_t node, uint8_t part, uint32_t *number)
 {
-    hp_place its;
     hp_bytes bytes;
-    uint32_t status = hp_node(session, node, &its);
-    if (status == HP_OK)
-        status = hp_node_name(session, part, &bytes);
+    uint32_t status = hp_name_of(session, node, part, &bytes);
     if (status != HP_OK)
         return status;
     *number = number_of_name(bytes.bytes, bytes.length);
@@ -445,7 +442,7 @@ SHOWN(children)(uint32_t index, uint32_t node)
 
 /* ---- Trees. */
 
-enum { ELEMENT = 1, DOCTYPE = 10 };
+enum { ELEMENT = 1, TEXT = 3, DOCTYPE = 10, FRAGMENT = 11 };
 
 /* The children of a node that are elements. */
 SHOWN(element_children)(uint32_t index, uint32_t node)
@@ -551,6 +548,94 @@ static bool put_part(hp_session *session, enum part part, size_t at, const name 
     return part == ELEMENTS ? put_element(session, at) : put_holder(session, at, its);
 }
 
+/* ---- The same of a session that has ended, by calls that take no memory. */
+
+static bool put_held_attributes(hp_session *session, uint32_t node, uint32_t *count)
+{
+    hp_bytes its;
+    hp_text_view value;
+    for (*count = 0; hp_attribute_at(session, node, *count, &its, &value) == HP_OK; ++*count)
+        if (!put_name(HP_OK, &its) || !put_text(HP_OK, &value))
+            return false;
+    return true;
+}
+
+static bool put_held_row(hp_session *session, uint32_t node, uint32_t depth, uint8_t kind)
+{
+    hp_bytes its;
+    hp_text_view text;
+    uint32_t at = word_count + 3, count = 0;
+    if (!has_words(4))
+        return false;
+    put(depth);
+    put(node);
+    put(kind);
+    put(0);
+    if (!put_name(hp_name_of(session, node, 0, &its), &its) || !put_text(hp_data_of(session, node, &text), &text))
+        return false;
+    for (uint8_t part = 1; kind == DOCTYPE && part < 3; part++)
+        if (!put_name(hp_name_of(session, node, part, &its), &its))
+            return false;
+    if (!put_held_attributes(session, node, &count))
+        return false;
+    words[at] = count;
+    return true;
+}
+
+/* Finds an attribute by its name: its value, which is lent. */
+static uint32_t held_value(hp_session *session, uint32_t node, const name *its, hp_text_view *value)
+{
+    hp_bytes bytes;
+    uint32_t status;
+    for (size_t at = 0; (status = hp_attribute_at(session, node, at, &bytes, value)) == HP_OK; at++)
+        if (bytes.length == its->length && !memcmp(bytes.bytes, its->bytes, bytes.length))
+            return HP_OK;
+    return status;
+}
+
+static bool put_held(hp_session *session, enum part part, uint32_t node, uint32_t depth, uint8_t kind, const name *its)
+{
+    hp_bytes bytes;
+    hp_text_view value;
+    if (part == WHOLE)
+        return put_held_row(session, node, depth, kind);
+    if (kind != ELEMENT || (part == HOLDERS && held_value(session, node, its, &value) != HP_OK))
+        return true;
+    if (!has_words(1))
+        return false;
+    put(node);
+    return part == ELEMENTS ? put_name(hp_name_of(session, node, 0, &bytes), &bytes) : put_text(HP_OK, &value);
+}
+
+/* From the links of a node: the next in tree order among those below the node at depth 0; HP_NONE behind the last. */
+static uint32_t next_below(hp_session *session, hp_node_links *links, uint32_t *depth)
+{
+    if (links->first_child != HP_NONE) {
+        ++*depth;
+        return links->first_child;
+    }
+    while (*depth && links->next == HP_NONE) {
+        if (hp_links(session, links->parent, links) != HP_OK)
+            return HP_NONE;
+        --*depth;
+    }
+    return *depth ? links->next : HP_NONE;
+}
+
+static uint32_t of_held(hp_session *session, uint32_t node, enum part part, const name *its)
+{
+    hp_node_links links;
+    uint32_t depth = 0, status = HP_OK;
+    while (status == HP_OK && node != HP_NONE) {
+        status = hp_links(session, node, &links);
+        if (status == HP_OK && !put_held(session, part, node, depth, links.kind, its))
+            status = HP_OUT_OF_MEMORY;
+        if (status == HP_OK)
+            node = next_below(session, &links, &depth);
+    }
+    return status;
+}
+
 static uint32_t of_rows(uint32_t index, uint32_t node, enum part part, const name *its)
 {
     hp_session *session;
@@ -560,6 +645,8 @@ static uint32_t of_rows(uint32_t index, uint32_t node, enum part part, const nam
         return refused;
     begin_words();
     uint32_t status = hp_tree(session, node);
+    if (status == HP_OUT_OF_MEMORY)
+        return end_words(of_held(session, node, part, its));
     if (status == HP_OK)
         status = hp_count(session, &count);
     for (size_t at = 0; at < count && status == HP_OK; at++)
@@ -591,14 +678,19 @@ SHOWN(holders)(uint32_t index, uint32_t node, uint32_t number)
 
 /* ---- Attributes and elements by the number of a name. */
 
+static uint32_t leave_text(uint32_t status, const hp_text_view *text)
+{
+    numbers[0] = status == HP_OK ? place(text->units) : 0;
+    numbers[1] = status == HP_OK ? (uint32_t)text->length : 0;
+    return leave(status);
+}
+
 static uint32_t lent(hp_session *session, uint32_t status)
 {
     hp_text_view text = { NULL, 0 };
     if (status == HP_OK)
         status = hp_text(session, &text);
-    numbers[0] = place(text.units);
-    numbers[1] = (uint32_t)text.length;
-    return leave(status);
+    return leave_text(status, &text);
 }
 
 /* The value of an attribute: its place and its length. */
@@ -608,7 +700,9 @@ SHOWN(value)(uint32_t index, uint32_t element, uint32_t number)
     uint32_t refused = number >= name_count ? HP_NOT_THERE : enter(index, &session);
     if (refused)
         return refused;
-    return lent(session, hp_get_attribute(session, element, names[number].bytes, names[number].length));
+    hp_text_view value;
+    uint32_t status = hp_get_attribute(session, element, names[number].bytes, names[number].length);
+    return status == HP_OUT_OF_MEMORY ? leave_text(held_value(session, element, &names[number], &value), &value) : lent(session, status);
 }
 
 SHOWN(set_value)(uint32_t index, uint32_t element, uint32_t number, uint32_t at, uint32_t length)
@@ -647,15 +741,54 @@ SHOWN(node_name)(uint32_t index, uint32_t node, uint32_t part)
 SHOWN(data)(uint32_t index, uint32_t node)
 {
     hp_session *session;
+    hp_text_view data;
     uint32_t refused = enter(index, &session);
-    return refused ? refused : lent(session, hp_data(session, node));
+    if (refused)
+        return refused;
+    uint32_t status = hp_data(session, node);
+    return status == HP_OUT_OF_MEMORY ? leave_text(hp_data_of(session, node, &data), &data) : lent(session, status);
+}
+
+/* The data of the Texts below a node of a session that has ended, one after another; they stand where words do. */
+static uint32_t held_content(hp_session *session, uint32_t node)
+{
+    hp_node_links links;
+    hp_text_view data;
+    uint32_t depth = 0, status = HP_OK;
+    size_t length = 0;
+    begin_words();
+    while (status == HP_OK && node != HP_NONE) {
+        status = hp_links(session, node, &links);
+        if (status == HP_OK && links.kind == TEXT)
+            status = hp_data_of(session, node, &data);
+        if (status == HP_OK && links.kind == TEXT) {
+            if (!has_words((length + data.length) / 2 + 1))
+                status = HP_OUT_OF_MEMORY;
+            else
+                __builtin_memcpy((uint16_t *)words + length, data.units, data.length * sizeof(uint16_t));
+            length += data.length;
+        }
+        if (status == HP_OK)
+            node = next_below(session, &links, &depth);
+    }
+    return leave_text(status, &(hp_text_view){ .units = (uint16_t *)words, .length = length });
 }
 
 SHOWN(content)(uint32_t index, uint32_t node)
 {
     hp_session *session;
+    hp_node_links links;
+    hp_text_view data;
     uint32_t refused = enter(index, &session);
-    return refused ? refused : lent(session, hp_text_content(session, node));
+    if (refused)
+        return refused;
+    uint32_t status = hp_text_content(session, node);
+    if (status != HP_OUT_OF_MEMORY)
+        return lent(session, status);
+    status = hp_links(session, node, &links);
+    if (status != HP_OK || links.kind == ELEMENT || links.kind == FRAGMENT)
+        return status == HP_OK ? held_content(session, node) : leave(status);
+    return leave_text(hp_data_of(session, node, &data), &data);
 }
 
 /* The attributes of an element in their order: their count, the number of each name, and then the values. */
@@ -665,26 +798,21 @@ SHOWN(attributes)(uint32_t index, uint32_t element)
     hp_bytes its;
     hp_text_view value = { NULL, 0 };
     size_t count = 0;
-    uint32_t refused = enter(index, &session);
+    uint32_t status, refused = enter(index, &session);
     if (refused)
         return refused;
     begin_words();
-    uint32_t status = hp_attribute_names(session, element);
-    if (status == HP_OK)
-        status = hp_count(session, &count);
-    if (status == HP_OK && !has_words(count + 1))
-        status = HP_OUT_OF_MEMORY;
+    while ((status = hp_attribute_at(session, element, count, &its, &value)) == HP_OK)
+        count++;
+    status = status != HP_NOT_THERE ? status : has_words(count + 1) ? HP_OK : HP_OUT_OF_MEMORY;
     if (status == HP_OK)
         put((uint32_t)count);
     for (size_t each = 0; each < count && status == HP_OK; each++)
-        if (!put_name(hp_name_at(session, each, &its), &its))
+        if (!put_name(hp_attribute_at(session, element, each, &its, &value), &its))
             status = HP_OUT_OF_MEMORY;
-    for (size_t each = 0; each < count && status == HP_OK; each++) {
-        name *known = &names[words[each + 1]];
-        status = hp_get_attribute(session, element, known->bytes, known->length);
-        if (status == HP_OK && !put_text(hp_text(session, &value), &value))
+    for (size_t each = 0; each < count && status == HP_OK; each++)
+        if (!put_text(hp_attribute_at(session, element, each, &its, &value), &value))
             status = HP_OUT_OF_MEMORY;
-    }
     return end_words(status);
 }
 

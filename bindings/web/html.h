@@ -10,7 +10,7 @@
 /* Names were met of which nothing was told. They are the answer: the number of each, and whether it is that of an attribute. */
 #define UNTOLD 253
 
-enum { TEXT = 3, INSTRUCTION = 7, COMMENT = 8 };
+enum { INSTRUCTION = 7, COMMENT = 8 };
 
 /* What an element is by its name: without content, with text as it is, with content elsewhere. */
 enum { IS_VOID = 1, IS_RAW = 2, IS_TEMPLATE = 4 };

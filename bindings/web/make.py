@@ -25,7 +25,7 @@ HERE = os.path.dirname(os.path.abspath(__file__))
 ROOT = os.path.dirname(os.path.dirname(HERE))
 OUT = os.path.join(HERE, "out")
 sys.dont_write_bytecode = True
-sys.path[:0] = [HERE, os.path.join(ROOT, "bindings/c")]
+sys.path[:0] = [HERE, os.path.join(ROOT, "bindings/c"), os.path.join(ROOT, "tools")]
 
 from exports import SOURCES, modules
 from glue import glue

@@ -703,9 +703,9 @@ export function replaced(node, parent, child) {
 /** Puts a wrapper where the core says that its node stands. Links are not mended: `renewed` of the session has to be said. */
 export function settle(node) {
   const session = sessionOf(node);
-  check(native.hp_node(session.index, numberOf(node)));
-  const document = out[0];
-  const parent = out[3];
+  check(native.hp_links(session.index, numberOf(node)));
+  const document = out[1];
+  const parent = out[2];
   if (parent !== NONE) itsOf(node).place(itsOf(wrap(session, parent)));
   else itsOf(node).loosen(kindOf(node) === DOCUMENT ? null : itsOf(wrap(session, document)));
 }

@@ -198,6 +198,41 @@ test("the memory of the module can be bounded, and what is refused then ends its
   assert.equal(other.document.createElement("p").nodeName, "P");
 });
 
+test("a session that has ended is read and serialized as before, and no other ends", () => {
+  const session = new Session();
+  const other = new Session();
+  const { document } = session;
+  const root = document.appendChild(document.createElement("html"));
+  const item = root.appendChild(document.createElement("p"));
+  item.setAttribute("id", "first");
+  item.setAttribute("title", '"&');
+  item.append("one < ", document.createComment("aside"), document.createProcessingInstruction("target", "data"), "two");
+  const read = () => [
+    [serialize(document), serialize(item), item.textContent, root.textContent, item.firstChild.data, item.childNodes[1].data, item.childNodes[2].target],
+    [item.getAttribute("id"), item.getAttribute("none"), item.hasAttribute("title"), item.getAttributeNames().map((name) => [name, item.getAttribute(name)])],
+    [document.getElementById("first") === item, document.getElementsByTagName("p").length, document.getElementsByClassName("none").length, item.parentNode === root],
+    [document.documentElement.nodeName, item.firstChild.nodeName, root.children.length, item.isConnected],
+  ];
+  const before = read();
+  memory.limit(memory.size + 262144);
+  try {
+    assert.throws(() => {
+      for (const made = []; ; ) made.push(document.createTextNode("x".repeat(10000)));
+    }, RangeError);
+  } finally {
+    memory.limit(0);
+  }
+  assert.deepEqual(read(), before);
+  assert.throws(() => item.append("x"), RangeError);
+  assert.throws(() => item.setAttribute("a", "b"), RangeError);
+  assert.throws(() => document.createElement("p"), RangeError);
+  assert.throws(() => item.cloneNode(true), RangeError);
+  assert.deepEqual(read(), before);
+  session.close();
+  assert.throws(() => item.textContent, { name: "InvalidStateError" });
+  assert.equal(serialize(other.document.createElement("p")), "<p></p>");
+});
+
 test("memory is reserved ahead, or refused without the end of a session", () => {
   const document = createDocument();
   const root = document.appendChild(document.createElement("p"));

@@ -71,6 +71,9 @@ macro_rules! parts {
 }
 pub(crate) use parts;
 
+/// The index that stands for no answer, but for a node.
+const HELD: usize = usize::MAX;
+
 /// A part of the last answer: the handle, and the indexes that lead to it.
 #[derive(Clone, Copy)]
 pub(crate) struct Part<'a> {
@@ -82,6 +85,20 @@ pub(crate) struct Part<'a> {
 impl<'a> Part<'a> {
     pub(crate) fn whole(handle: &'a Handle) -> Self {
         Part { handle, notice: 0, index: 0 }
+    }
+
+    /// A node, whose parts are told by calls that take no memory: also by a session that has ended.
+    pub(crate) fn held(handle: &'a Handle, node: Node) -> Self {
+        Part { handle, notice: node.number() as usize, index: HELD }
+    }
+
+    /// The number of such a node.
+    pub(crate) fn node(&self) -> Option<u32> {
+        if self.index == HELD {
+            Some(self.notice as u32)
+        } else {
+            None
+        }
     }
 
     pub(crate) fn of_notice(self, notice: usize) -> Self {

@@ -24,8 +24,19 @@ impl Session {
 
     /// The value of an attribute; none where there is no such attribute.
     pub fn get_attribute(&mut self, element: Node, name: &str) -> Result<Option<&[u16]>> {
-        self.handle.get_attribute(element.number(), name.as_bytes()).map_err(Exception::of)?;
-        self.text()
+        match self.handle.get_attribute(element.number(), name.as_bytes()).map_err(Exception::of) {
+            Ok(()) => self.text(),
+            Err(Exception::OutOfMemory) => self.held_attribute(element, name),
+            Err(refusal) => Err(refusal),
+        }
+    }
+
+    /// The same by calls that take no memory.
+    fn held_attribute(&self, element: Node, name: &str) -> Result<Option<&[u16]>> {
+        let handle = &self.handle;
+        handle.links(element.number()).map_err(Exception::of)?;
+        let mut all = (0..).map_while(|at| handle.attribute_at(element.number(), at).ok());
+        Ok(all.find(|it| it.0 == name.as_bytes()).map(|it| it.1))
     }
 
     /// Whether there is an attribute of that name.

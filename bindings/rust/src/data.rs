@@ -7,8 +7,11 @@ use crate::session::Session;
 impl Session {
     /// The data of a node.
     pub fn data(&mut self, node: Node) -> Result<&[u16]> {
-        self.handle.data(node.number()).map_err(Exception::of)?;
-        self.handle.text().map_err(Exception::of)
+        match self.handle.data(node.number()).map_err(Exception::of) {
+            Ok(()) => self.handle.text().map_err(Exception::of),
+            Err(Exception::OutOfMemory) => self.handle.data_of(node.number()).map_err(Exception::of),
+            Err(refusal) => Err(refusal),
+        }
     }
 
     /// Sets the data of a node.

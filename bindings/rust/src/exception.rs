@@ -66,7 +66,7 @@ exceptions! {
     BadCommand, HP_BAD_COMMAND, "bad-command";
     /// A line has other arguments than its command.
     BadArguments, HP_BAD_ARGUMENTS, "bad-arguments";
-    /// Memory was wanting, now or before: the session answers nothing else from then on.
+    /// Out of memory, now or before: the session has ended. What it holds can still be read and serialized.
     OutOfMemory, HP_OUT_OF_MEMORY, "out-of-memory";
     /// The limits of a session are out of their range.
     BadLimits, HP_BAD_LIMITS, "bad-limits";

@@ -338,6 +338,11 @@ pub(crate) struct Handle {
 // SAFETY: the library keeps nothing by threads, and a session may go to another thread between two calls.
 unsafe impl Send for Handle {}
 
+/// The status of a call: a session that has ended is read as any other.
+fn read(status: u8) -> u8 {
+    if status == HP_ENDED { HP_OK } else { status }
+}
+
 impl Drop for Handle {
     fn drop(&mut self) {
         // SAFETY: as at the head of the file. Closing frees all that the session keeps.
@@ -358,29 +363,35 @@ impl Handle {
         }
     }
 
+    pub(crate) fn has_ended(&self) -> bool {
+        let mut out = hp_counts::default();
+        // SAFETY: as at the head of the file.
+        unsafe { hp_in_use(self.session.get(), &mut out) == HP_ENDED }
+    }
+
     pub(crate) fn version(&self) -> Result<u32, u8> {
         let mut out = 0;
         // SAFETY: as at the head of the file.
-        let status = unsafe { hp_version(&mut out) };
+        let status = read(unsafe { hp_version(&mut out) });
         if status == HP_OK { Ok(out) } else { Err(status) }
     }
 
     pub(crate) fn line(&mut self, line: &[u8]) -> Result<(), u8> {
         // SAFETY: as at the head of the file.
-        let status = unsafe { hp_line(self.session.get(), line.as_ptr(), line.len()) };
+        let status = read(unsafe { hp_line(self.session.get(), line.as_ptr(), line.len()) });
         if status == HP_OK { Ok(()) } else { Err(status) }
     }
 
     pub(crate) fn print(&mut self) -> Result<(), u8> {
         // SAFETY: as at the head of the file.
-        let status = unsafe { hp_print(self.session.get()) };
+        let status = read(unsafe { hp_print(self.session.get()) });
         if status == HP_OK { Ok(()) } else { Err(status) }
     }
 
     pub(crate) fn text(&self) -> Result<&[u16], u8> {
         let mut out = hp_text_view { units: NonNull::dangling().as_ptr(), length: 0 };
         // SAFETY: as at the head of the file.
-        let status = unsafe { hp_text(self.session.get(), &mut out) };
+        let status = read(unsafe { hp_text(self.session.get(), &mut out) });
         if status != HP_OK {
             return Err(status);
         }
@@ -391,7 +402,7 @@ impl Handle {
     pub(crate) fn name_at(&self, index: usize) -> Result<&[u8], u8> {
         let mut out = hp_bytes { bytes: NonNull::dangling().as_ptr(), length: 0 };
         // SAFETY: as at the head of the file.
-        let status = unsafe { hp_name_at(self.session.get(), index, &mut out) };
+        let status = read(unsafe { hp_name_at(self.session.get(), index, &mut out) });
         if status != HP_OK {
             return Err(status);
         }
@@ -402,7 +413,7 @@ impl Handle {
     pub(crate) fn reply_line(&self) -> Result<&[u8], u8> {
         let mut out = hp_bytes { bytes: NonNull::dangling().as_ptr(), length: 0 };
         // SAFETY: as at the head of the file.
-        let status = unsafe { hp_reply_line(self.session.get(), &mut out) };
+        let status = read(unsafe { hp_reply_line(self.session.get(), &mut out) });
         if status != HP_OK {
             return Err(status);
         }
@@ -413,28 +424,28 @@ impl Handle {
     pub(crate) fn count(&self) -> Result<usize, u8> {
         let mut out = 0;
         // SAFETY: as at the head of the file.
-        let status = unsafe { hp_count(self.session.get(), &mut out) };
+        let status = read(unsafe { hp_count(self.session.get(), &mut out) });
         if status == HP_OK { Ok(out) } else { Err(status) }
     }
 
     pub(crate) fn number_at(&self, index: usize) -> Result<u32, u8> {
         let mut out = 0;
         // SAFETY: as at the head of the file.
-        let status = unsafe { hp_number_at(self.session.get(), index, &mut out) };
+        let status = read(unsafe { hp_number_at(self.session.get(), index, &mut out) });
         if status == HP_OK { Ok(out) } else { Err(status) }
     }
 
     pub(crate) fn numbers_into(&self, numbers: &mut [u32]) -> Result<usize, u8> {
         let mut out = 0;
         // SAFETY: as at the head of the file.
-        let status = unsafe { hp_numbers_into(self.session.get(), numbers.as_mut_ptr(), numbers.len(), &mut out) };
+        let status = read(unsafe { hp_numbers_into(self.session.get(), numbers.as_mut_ptr(), numbers.len(), &mut out) });
         if status == HP_OK { Ok(out) } else { Err(status) }
     }
 
     pub(crate) fn node_name(&self, part: u8) -> Result<&[u8], u8> {
         let mut out = hp_bytes { bytes: NonNull::dangling().as_ptr(), length: 0 };
         // SAFETY: as at the head of the file.
-        let status = unsafe { hp_node_name(self.session.get(), part, &mut out) };
+        let status = read(unsafe { hp_node_name(self.session.get(), part, &mut out) });
         if status != HP_OK {
             return Err(status);
         }
@@ -445,14 +456,14 @@ impl Handle {
     pub(crate) fn row_at(&self, index: usize) -> Result<hp_row, u8> {
         let mut out = hp_row::default();
         // SAFETY: as at the head of the file.
-        let status = unsafe { hp_row_at(self.session.get(), index, &mut out) };
+        let status = read(unsafe { hp_row_at(self.session.get(), index, &mut out) });
         if status == HP_OK { Ok(out) } else { Err(status) }
     }
 
     pub(crate) fn row_name(&self, index: usize, part: u8) -> Result<&[u8], u8> {
         let mut out = hp_bytes { bytes: NonNull::dangling().as_ptr(), length: 0 };
         // SAFETY: as at the head of the file.
-        let status = unsafe { hp_row_name(self.session.get(), index, part, &mut out) };
+        let status = read(unsafe { hp_row_name(self.session.get(), index, part, &mut out) });
         if status != HP_OK {
             return Err(status);
         }
@@ -463,7 +474,7 @@ impl Handle {
     pub(crate) fn row_text(&self, index: usize) -> Result<&[u16], u8> {
         let mut out = hp_text_view { units: NonNull::dangling().as_ptr(), length: 0 };
         // SAFETY: as at the head of the file.
-        let status = unsafe { hp_row_text(self.session.get(), index, &mut out) };
+        let status = read(unsafe { hp_row_text(self.session.get(), index, &mut out) });
         if status != HP_OK {
             return Err(status);
         }
@@ -474,7 +485,7 @@ impl Handle {
     pub(crate) fn row_attribute_name(&self, index: usize, at: usize) -> Result<&[u8], u8> {
         let mut out = hp_bytes { bytes: NonNull::dangling().as_ptr(), length: 0 };
         // SAFETY: as at the head of the file.
-        let status = unsafe { hp_row_attribute_name(self.session.get(), index, at, &mut out) };
+        let status = read(unsafe { hp_row_attribute_name(self.session.get(), index, at, &mut out) });
         if status != HP_OK {
             return Err(status);
         }
@@ -485,7 +496,7 @@ impl Handle {
     pub(crate) fn row_attribute_value(&self, index: usize, at: usize) -> Result<&[u16], u8> {
         let mut out = hp_text_view { units: NonNull::dangling().as_ptr(), length: 0 };
         // SAFETY: as at the head of the file.
-        let status = unsafe { hp_row_attribute_value(self.session.get(), index, at, &mut out) };
+        let status = read(unsafe { hp_row_attribute_value(self.session.get(), index, at, &mut out) });
         if status != HP_OK {
             return Err(status);
         }
@@ -496,42 +507,42 @@ impl Handle {
     pub(crate) fn notice_at(&self, index: usize) -> Result<hp_notice, u8> {
         let mut out = hp_notice::default();
         // SAFETY: as at the head of the file.
-        let status = unsafe { hp_notice_at(self.session.get(), index, &mut out) };
+        let status = read(unsafe { hp_notice_at(self.session.get(), index, &mut out) });
         if status == HP_OK { Ok(out) } else { Err(status) }
     }
 
     pub(crate) fn record_at(&self, notice: usize, index: usize) -> Result<hp_record, u8> {
         let mut out = hp_record::default();
         // SAFETY: as at the head of the file.
-        let status = unsafe { hp_record_at(self.session.get(), notice, index, &mut out) };
+        let status = read(unsafe { hp_record_at(self.session.get(), notice, index, &mut out) });
         if status == HP_OK { Ok(out) } else { Err(status) }
     }
 
     pub(crate) fn records_into(&self, notice: usize, records: &mut [hp_record]) -> Result<usize, u8> {
         let mut out = 0;
         // SAFETY: as at the head of the file.
-        let status = unsafe { hp_records_into(self.session.get(), notice, records.as_mut_ptr(), records.len(), &mut out) };
+        let status = read(unsafe { hp_records_into(self.session.get(), notice, records.as_mut_ptr(), records.len(), &mut out) });
         if status == HP_OK { Ok(out) } else { Err(status) }
     }
 
     pub(crate) fn record_added_at(&self, notice: usize, index: usize, at: usize) -> Result<u32, u8> {
         let mut out = 0;
         // SAFETY: as at the head of the file.
-        let status = unsafe { hp_record_added_at(self.session.get(), notice, index, at, &mut out) };
+        let status = read(unsafe { hp_record_added_at(self.session.get(), notice, index, at, &mut out) });
         if status == HP_OK { Ok(out) } else { Err(status) }
     }
 
     pub(crate) fn record_removed_at(&self, notice: usize, index: usize, at: usize) -> Result<u32, u8> {
         let mut out = 0;
         // SAFETY: as at the head of the file.
-        let status = unsafe { hp_record_removed_at(self.session.get(), notice, index, at, &mut out) };
+        let status = read(unsafe { hp_record_removed_at(self.session.get(), notice, index, at, &mut out) });
         if status == HP_OK { Ok(out) } else { Err(status) }
     }
 
     pub(crate) fn record_name(&self, notice: usize, index: usize) -> Result<&[u8], u8> {
         let mut out = hp_bytes { bytes: NonNull::dangling().as_ptr(), length: 0 };
         // SAFETY: as at the head of the file.
-        let status = unsafe { hp_record_name(self.session.get(), notice, index, &mut out) };
+        let status = read(unsafe { hp_record_name(self.session.get(), notice, index, &mut out) });
         if status != HP_OK {
             return Err(status);
         }
@@ -542,7 +553,7 @@ impl Handle {
     pub(crate) fn record_old_value(&self, notice: usize, index: usize) -> Result<&[u16], u8> {
         let mut out = hp_text_view { units: NonNull::dangling().as_ptr(), length: 0 };
         // SAFETY: as at the head of the file.
-        let status = unsafe { hp_record_old_value(self.session.get(), notice, index, &mut out) };
+        let status = read(unsafe { hp_record_old_value(self.session.get(), notice, index, &mut out) });
         if status != HP_OK {
             return Err(status);
         }
@@ -553,232 +564,232 @@ impl Handle {
     pub(crate) fn new_document(&mut self) -> Result<u32, u8> {
         let mut out = 0;
         // SAFETY: as at the head of the file.
-        let status = unsafe { hp_new_document(self.session.get(), &mut out) };
+        let status = read(unsafe { hp_new_document(self.session.get(), &mut out) });
         if status == HP_OK { Ok(out) } else { Err(status) }
     }
 
     pub(crate) fn create_element(&mut self, document: u32, name: &[u8]) -> Result<u32, u8> {
         let mut out = 0;
         // SAFETY: as at the head of the file.
-        let status = unsafe { hp_create_element(self.session.get(), document, name.as_ptr(), name.len(), &mut out) };
+        let status = read(unsafe { hp_create_element(self.session.get(), document, name.as_ptr(), name.len(), &mut out) });
         if status == HP_OK { Ok(out) } else { Err(status) }
     }
 
     pub(crate) fn create_text(&mut self, document: u32, data: &[u16]) -> Result<u32, u8> {
         let mut out = 0;
         // SAFETY: as at the head of the file.
-        let status = unsafe { hp_create_text(self.session.get(), document, data.as_ptr(), data.len(), &mut out) };
+        let status = read(unsafe { hp_create_text(self.session.get(), document, data.as_ptr(), data.len(), &mut out) });
         if status == HP_OK { Ok(out) } else { Err(status) }
     }
 
     pub(crate) fn create_comment(&mut self, document: u32, data: &[u16]) -> Result<u32, u8> {
         let mut out = 0;
         // SAFETY: as at the head of the file.
-        let status = unsafe { hp_create_comment(self.session.get(), document, data.as_ptr(), data.len(), &mut out) };
+        let status = read(unsafe { hp_create_comment(self.session.get(), document, data.as_ptr(), data.len(), &mut out) });
         if status == HP_OK { Ok(out) } else { Err(status) }
     }
 
     pub(crate) fn create_pi(&mut self, document: u32, target: &[u8], data: &[u16]) -> Result<u32, u8> {
         let mut out = 0;
         // SAFETY: as at the head of the file.
-        let status = unsafe { hp_create_pi(self.session.get(), document, target.as_ptr(), target.len(), data.as_ptr(), data.len(), &mut out) };
+        let status = read(unsafe { hp_create_pi(self.session.get(), document, target.as_ptr(), target.len(), data.as_ptr(), data.len(), &mut out) });
         if status == HP_OK { Ok(out) } else { Err(status) }
     }
 
     pub(crate) fn create_doctype(&mut self, document: u32, name: &[u8], public_id: &[u8], system_id: &[u8]) -> Result<u32, u8> {
         let mut out = 0;
         // SAFETY: as at the head of the file.
-        let status = unsafe { hp_create_doctype(self.session.get(), document, name.as_ptr(), name.len(), public_id.as_ptr(), public_id.len(), system_id.as_ptr(), system_id.len(), &mut out) };
+        let status = read(unsafe { hp_create_doctype(self.session.get(), document, name.as_ptr(), name.len(), public_id.as_ptr(), public_id.len(), system_id.as_ptr(), system_id.len(), &mut out) });
         if status == HP_OK { Ok(out) } else { Err(status) }
     }
 
     pub(crate) fn create_fragment(&mut self, document: u32) -> Result<u32, u8> {
         let mut out = 0;
         // SAFETY: as at the head of the file.
-        let status = unsafe { hp_create_fragment(self.session.get(), document, &mut out) };
+        let status = read(unsafe { hp_create_fragment(self.session.get(), document, &mut out) });
         if status == HP_OK { Ok(out) } else { Err(status) }
     }
 
     pub(crate) fn insert_before(&mut self, parent: u32, node: u32, child: u32) -> Result<(), u8> {
         // SAFETY: as at the head of the file.
-        let status = unsafe { hp_insert_before(self.session.get(), parent, node, child) };
+        let status = read(unsafe { hp_insert_before(self.session.get(), parent, node, child) });
         if status == HP_OK { Ok(()) } else { Err(status) }
     }
 
     pub(crate) fn append_child(&mut self, parent: u32, node: u32) -> Result<(), u8> {
         // SAFETY: as at the head of the file.
-        let status = unsafe { hp_append_child(self.session.get(), parent, node) };
+        let status = read(unsafe { hp_append_child(self.session.get(), parent, node) });
         if status == HP_OK { Ok(()) } else { Err(status) }
     }
 
     pub(crate) fn adopt_node(&mut self, document: u32, node: u32) -> Result<(), u8> {
         // SAFETY: as at the head of the file.
-        let status = unsafe { hp_adopt_node(self.session.get(), document, node) };
+        let status = read(unsafe { hp_adopt_node(self.session.get(), document, node) });
         if status == HP_OK { Ok(()) } else { Err(status) }
     }
 
     pub(crate) fn replace_child(&mut self, parent: u32, node: u32, child: u32) -> Result<(), u8> {
         // SAFETY: as at the head of the file.
-        let status = unsafe { hp_replace_child(self.session.get(), parent, node, child) };
+        let status = read(unsafe { hp_replace_child(self.session.get(), parent, node, child) });
         if status == HP_OK { Ok(()) } else { Err(status) }
     }
 
     pub(crate) fn remove_child(&mut self, parent: u32, child: u32) -> Result<(), u8> {
         // SAFETY: as at the head of the file.
-        let status = unsafe { hp_remove_child(self.session.get(), parent, child) };
+        let status = read(unsafe { hp_remove_child(self.session.get(), parent, child) });
         if status == HP_OK { Ok(()) } else { Err(status) }
     }
 
     pub(crate) fn remove(&mut self, node: u32) -> Result<(), u8> {
         // SAFETY: as at the head of the file.
-        let status = unsafe { hp_remove(self.session.get(), node) };
+        let status = read(unsafe { hp_remove(self.session.get(), node) });
         if status == HP_OK { Ok(()) } else { Err(status) }
     }
 
     pub(crate) fn replace_children(&mut self, parent: u32, node: u32) -> Result<(), u8> {
         // SAFETY: as at the head of the file.
-        let status = unsafe { hp_replace_children(self.session.get(), parent, node) };
+        let status = read(unsafe { hp_replace_children(self.session.get(), parent, node) });
         if status == HP_OK { Ok(()) } else { Err(status) }
     }
 
     pub(crate) fn normalize(&mut self, node: u32) -> Result<(), u8> {
         // SAFETY: as at the head of the file.
-        let status = unsafe { hp_normalize(self.session.get(), node) };
+        let status = read(unsafe { hp_normalize(self.session.get(), node) });
         if status == HP_OK { Ok(()) } else { Err(status) }
     }
 
     pub(crate) fn set_text_content(&mut self, node: u32, text: &[u16]) -> Result<(), u8> {
         // SAFETY: as at the head of the file.
-        let status = unsafe { hp_set_text_content(self.session.get(), node, text.as_ptr(), text.len()) };
+        let status = read(unsafe { hp_set_text_content(self.session.get(), node, text.as_ptr(), text.len()) });
         if status == HP_OK { Ok(()) } else { Err(status) }
     }
 
     pub(crate) fn discard(&mut self, node: u32) -> Result<(), u8> {
         // SAFETY: as at the head of the file.
-        let status = unsafe { hp_discard(self.session.get(), node) };
+        let status = read(unsafe { hp_discard(self.session.get(), node) });
         if status == HP_OK { Ok(()) } else { Err(status) }
     }
 
     pub(crate) fn import_node(&mut self, document: u32, node: u32, deep: bool) -> Result<u32, u8> {
         let mut out = 0;
         // SAFETY: as at the head of the file.
-        let status = unsafe { hp_import_node(self.session.get(), document, node, deep, &mut out) };
+        let status = read(unsafe { hp_import_node(self.session.get(), document, node, deep, &mut out) });
         if status == HP_OK { Ok(out) } else { Err(status) }
     }
 
     pub(crate) fn clone_node(&mut self, node: u32, deep: bool) -> Result<u32, u8> {
         let mut out = 0;
         // SAFETY: as at the head of the file.
-        let status = unsafe { hp_clone_node(self.session.get(), node, deep, &mut out) };
+        let status = read(unsafe { hp_clone_node(self.session.get(), node, deep, &mut out) });
         if status == HP_OK { Ok(out) } else { Err(status) }
     }
 
     pub(crate) fn node(&mut self, node: u32) -> Result<hp_place, u8> {
         let mut out = hp_place::default();
         // SAFETY: as at the head of the file.
-        let status = unsafe { hp_node(self.session.get(), node, &mut out) };
+        let status = read(unsafe { hp_node(self.session.get(), node, &mut out) });
         if status == HP_OK { Ok(out) } else { Err(status) }
     }
 
     pub(crate) fn children(&mut self, node: u32) -> Result<(), u8> {
         // SAFETY: as at the head of the file.
-        let status = unsafe { hp_children(self.session.get(), node) };
+        let status = read(unsafe { hp_children(self.session.get(), node) });
         if status == HP_OK { Ok(()) } else { Err(status) }
     }
 
     pub(crate) fn index(&mut self, node: u32) -> Result<usize, u8> {
         let mut out = 0;
         // SAFETY: as at the head of the file.
-        let status = unsafe { hp_index(self.session.get(), node, &mut out) };
+        let status = read(unsafe { hp_index(self.session.get(), node, &mut out) });
         if status == HP_OK { Ok(out) } else { Err(status) }
     }
 
     pub(crate) fn length(&mut self, node: u32) -> Result<usize, u8> {
         let mut out = 0;
         // SAFETY: as at the head of the file.
-        let status = unsafe { hp_length(self.session.get(), node, &mut out) };
+        let status = read(unsafe { hp_length(self.session.get(), node, &mut out) });
         if status == HP_OK { Ok(out) } else { Err(status) }
     }
 
     pub(crate) fn root(&mut self, node: u32) -> Result<u32, u8> {
         let mut out = 0;
         // SAFETY: as at the head of the file.
-        let status = unsafe { hp_root(self.session.get(), node, &mut out) };
+        let status = read(unsafe { hp_root(self.session.get(), node, &mut out) });
         if status == HP_OK { Ok(out) } else { Err(status) }
     }
 
     pub(crate) fn contains(&mut self, node: u32, other: u32) -> Result<u8, u8> {
         let mut out = 0;
         // SAFETY: as at the head of the file.
-        let status = unsafe { hp_contains(self.session.get(), node, other, &mut out) };
+        let status = read(unsafe { hp_contains(self.session.get(), node, other, &mut out) });
         if status == HP_OK { Ok(out) } else { Err(status) }
     }
 
     pub(crate) fn is_equal(&mut self, node: u32, other: u32) -> Result<u8, u8> {
         let mut out = 0;
         // SAFETY: as at the head of the file.
-        let status = unsafe { hp_is_equal(self.session.get(), node, other, &mut out) };
+        let status = read(unsafe { hp_is_equal(self.session.get(), node, other, &mut out) });
         if status == HP_OK { Ok(out) } else { Err(status) }
     }
 
     pub(crate) fn compare_position(&mut self, node: u32, other: u32) -> Result<u32, u8> {
         let mut out = 0;
         // SAFETY: as at the head of the file.
-        let status = unsafe { hp_compare_position(self.session.get(), node, other, &mut out) };
+        let status = read(unsafe { hp_compare_position(self.session.get(), node, other, &mut out) });
         if status == HP_OK { Ok(out) } else { Err(status) }
     }
 
     pub(crate) fn text_content(&mut self, node: u32) -> Result<(), u8> {
         // SAFETY: as at the head of the file.
-        let status = unsafe { hp_text_content(self.session.get(), node) };
+        let status = read(unsafe { hp_text_content(self.session.get(), node) });
         if status == HP_OK { Ok(()) } else { Err(status) }
     }
 
     pub(crate) fn tree(&mut self, node: u32) -> Result<(), u8> {
         // SAFETY: as at the head of the file.
-        let status = unsafe { hp_tree(self.session.get(), node) };
+        let status = read(unsafe { hp_tree(self.session.get(), node) });
         if status == HP_OK { Ok(()) } else { Err(status) }
     }
 
     pub(crate) fn links(&self, node: u32) -> Result<hp_node_links, u8> {
         let mut out = hp_node_links::default();
         // SAFETY: as at the head of the file.
-        let status = unsafe { hp_links(self.session.get(), node, &mut out) };
+        let status = read(unsafe { hp_links(self.session.get(), node, &mut out) });
         if status == HP_OK { Ok(out) } else { Err(status) }
     }
 
     pub(crate) fn first_child(&self, node: u32) -> Result<u32, u8> {
         let mut out = 0;
         // SAFETY: as at the head of the file.
-        let status = unsafe { hp_first_child(self.session.get(), node, &mut out) };
+        let status = read(unsafe { hp_first_child(self.session.get(), node, &mut out) });
         if status == HP_OK { Ok(out) } else { Err(status) }
     }
 
     pub(crate) fn last_child(&self, node: u32) -> Result<u32, u8> {
         let mut out = 0;
         // SAFETY: as at the head of the file.
-        let status = unsafe { hp_last_child(self.session.get(), node, &mut out) };
+        let status = read(unsafe { hp_last_child(self.session.get(), node, &mut out) });
         if status == HP_OK { Ok(out) } else { Err(status) }
     }
 
     pub(crate) fn child_at(&self, node: u32, index: usize) -> Result<u32, u8> {
         let mut out = 0;
         // SAFETY: as at the head of the file.
-        let status = unsafe { hp_child_at(self.session.get(), node, index, &mut out) };
+        let status = read(unsafe { hp_child_at(self.session.get(), node, index, &mut out) });
         if status == HP_OK { Ok(out) } else { Err(status) }
     }
 
     pub(crate) fn children_into(&self, node: u32, numbers: &mut [u32]) -> Result<usize, u8> {
         let mut out = 0;
         // SAFETY: as at the head of the file.
-        let status = unsafe { hp_children_into(self.session.get(), node, numbers.as_mut_ptr(), numbers.len(), &mut out) };
+        let status = read(unsafe { hp_children_into(self.session.get(), node, numbers.as_mut_ptr(), numbers.len(), &mut out) });
         if status == HP_OK { Ok(out) } else { Err(status) }
     }
 
     pub(crate) fn name_of(&self, node: u32, part: u8) -> Result<&[u8], u8> {
         let mut out = hp_bytes { bytes: NonNull::dangling().as_ptr(), length: 0 };
         // SAFETY: as at the head of the file.
-        let status = unsafe { hp_name_of(self.session.get(), node, part, &mut out) };
+        let status = read(unsafe { hp_name_of(self.session.get(), node, part, &mut out) });
         if status != HP_OK {
             return Err(status);
         }
@@ -789,7 +800,7 @@ impl Handle {
     pub(crate) fn data_of(&self, node: u32) -> Result<&[u16], u8> {
         let mut out = hp_text_view { units: NonNull::dangling().as_ptr(), length: 0 };
         // SAFETY: as at the head of the file.
-        let status = unsafe { hp_data_of(self.session.get(), node, &mut out) };
+        let status = read(unsafe { hp_data_of(self.session.get(), node, &mut out) });
         if status != HP_OK {
             return Err(status);
         }
@@ -801,7 +812,7 @@ impl Handle {
         let mut name = hp_bytes { bytes: NonNull::dangling().as_ptr(), length: 0 };
         let mut value = hp_text_view { units: NonNull::dangling().as_ptr(), length: 0 };
         // SAFETY: as at the head of the file.
-        let status = unsafe { hp_attribute_at(self.session.get(), node, index, &mut name, &mut value) };
+        let status = read(unsafe { hp_attribute_at(self.session.get(), node, index, &mut name, &mut value) });
         if status != HP_OK {
             return Err(status);
         }
@@ -812,390 +823,390 @@ impl Handle {
     pub(crate) fn in_use(&self) -> Result<hp_counts, u8> {
         let mut out = hp_counts::default();
         // SAFETY: as at the head of the file.
-        let status = unsafe { hp_in_use(self.session.get(), &mut out) };
+        let status = read(unsafe { hp_in_use(self.session.get(), &mut out) });
         if status == HP_OK { Ok(out) } else { Err(status) }
     }
 
     pub(crate) fn data(&mut self, node: u32) -> Result<(), u8> {
         // SAFETY: as at the head of the file.
-        let status = unsafe { hp_data(self.session.get(), node) };
+        let status = read(unsafe { hp_data(self.session.get(), node) });
         if status == HP_OK { Ok(()) } else { Err(status) }
     }
 
     pub(crate) fn set_data(&mut self, node: u32, data: &[u16]) -> Result<(), u8> {
         // SAFETY: as at the head of the file.
-        let status = unsafe { hp_set_data(self.session.get(), node, data.as_ptr(), data.len()) };
+        let status = read(unsafe { hp_set_data(self.session.get(), node, data.as_ptr(), data.len()) });
         if status == HP_OK { Ok(()) } else { Err(status) }
     }
 
     pub(crate) fn append_data(&mut self, node: u32, data: &[u16]) -> Result<(), u8> {
         // SAFETY: as at the head of the file.
-        let status = unsafe { hp_append_data(self.session.get(), node, data.as_ptr(), data.len()) };
+        let status = read(unsafe { hp_append_data(self.session.get(), node, data.as_ptr(), data.len()) });
         if status == HP_OK { Ok(()) } else { Err(status) }
     }
 
     pub(crate) fn insert_data(&mut self, node: u32, offset: u32, data: &[u16]) -> Result<(), u8> {
         // SAFETY: as at the head of the file.
-        let status = unsafe { hp_insert_data(self.session.get(), node, offset, data.as_ptr(), data.len()) };
+        let status = read(unsafe { hp_insert_data(self.session.get(), node, offset, data.as_ptr(), data.len()) });
         if status == HP_OK { Ok(()) } else { Err(status) }
     }
 
     pub(crate) fn delete_data(&mut self, node: u32, offset: u32, count: u32) -> Result<(), u8> {
         // SAFETY: as at the head of the file.
-        let status = unsafe { hp_delete_data(self.session.get(), node, offset, count) };
+        let status = read(unsafe { hp_delete_data(self.session.get(), node, offset, count) });
         if status == HP_OK { Ok(()) } else { Err(status) }
     }
 
     pub(crate) fn replace_data(&mut self, node: u32, offset: u32, count: u32, data: &[u16]) -> Result<(), u8> {
         // SAFETY: as at the head of the file.
-        let status = unsafe { hp_replace_data(self.session.get(), node, offset, count, data.as_ptr(), data.len()) };
+        let status = read(unsafe { hp_replace_data(self.session.get(), node, offset, count, data.as_ptr(), data.len()) });
         if status == HP_OK { Ok(()) } else { Err(status) }
     }
 
     pub(crate) fn substring_data(&mut self, node: u32, offset: u32, count: u32) -> Result<(), u8> {
         // SAFETY: as at the head of the file.
-        let status = unsafe { hp_substring_data(self.session.get(), node, offset, count) };
+        let status = read(unsafe { hp_substring_data(self.session.get(), node, offset, count) });
         if status == HP_OK { Ok(()) } else { Err(status) }
     }
 
     pub(crate) fn split_text(&mut self, text: u32, offset: u32) -> Result<u32, u8> {
         let mut out = 0;
         // SAFETY: as at the head of the file.
-        let status = unsafe { hp_split_text(self.session.get(), text, offset, &mut out) };
+        let status = read(unsafe { hp_split_text(self.session.get(), text, offset, &mut out) });
         if status == HP_OK { Ok(out) } else { Err(status) }
     }
 
     pub(crate) fn set_attribute(&mut self, element: u32, name: &[u8], value: &[u16]) -> Result<(), u8> {
         // SAFETY: as at the head of the file.
-        let status = unsafe { hp_set_attribute(self.session.get(), element, name.as_ptr(), name.len(), value.as_ptr(), value.len()) };
+        let status = read(unsafe { hp_set_attribute(self.session.get(), element, name.as_ptr(), name.len(), value.as_ptr(), value.len()) });
         if status == HP_OK { Ok(()) } else { Err(status) }
     }
 
     pub(crate) fn get_attribute(&mut self, element: u32, name: &[u8]) -> Result<(), u8> {
         // SAFETY: as at the head of the file.
-        let status = unsafe { hp_get_attribute(self.session.get(), element, name.as_ptr(), name.len()) };
+        let status = read(unsafe { hp_get_attribute(self.session.get(), element, name.as_ptr(), name.len()) });
         if status == HP_OK { Ok(()) } else { Err(status) }
     }
 
     pub(crate) fn has_attribute(&mut self, element: u32, name: &[u8]) -> Result<u8, u8> {
         let mut out = 0;
         // SAFETY: as at the head of the file.
-        let status = unsafe { hp_has_attribute(self.session.get(), element, name.as_ptr(), name.len(), &mut out) };
+        let status = read(unsafe { hp_has_attribute(self.session.get(), element, name.as_ptr(), name.len(), &mut out) });
         if status == HP_OK { Ok(out) } else { Err(status) }
     }
 
     pub(crate) fn remove_attribute(&mut self, element: u32, name: &[u8]) -> Result<(), u8> {
         // SAFETY: as at the head of the file.
-        let status = unsafe { hp_remove_attribute(self.session.get(), element, name.as_ptr(), name.len()) };
+        let status = read(unsafe { hp_remove_attribute(self.session.get(), element, name.as_ptr(), name.len()) });
         if status == HP_OK { Ok(()) } else { Err(status) }
     }
 
     pub(crate) fn toggle_attribute(&mut self, element: u32, name: &[u8], force: u8) -> Result<u8, u8> {
         let mut out = 0;
         // SAFETY: as at the head of the file.
-        let status = unsafe { hp_toggle_attribute(self.session.get(), element, name.as_ptr(), name.len(), force, &mut out) };
+        let status = read(unsafe { hp_toggle_attribute(self.session.get(), element, name.as_ptr(), name.len(), force, &mut out) });
         if status == HP_OK { Ok(out) } else { Err(status) }
     }
 
     pub(crate) fn attribute_names(&mut self, element: u32) -> Result<(), u8> {
         // SAFETY: as at the head of the file.
-        let status = unsafe { hp_attribute_names(self.session.get(), element) };
+        let status = read(unsafe { hp_attribute_names(self.session.get(), element) });
         if status == HP_OK { Ok(()) } else { Err(status) }
     }
 
     pub(crate) fn create_range(&mut self, document: u32) -> Result<u32, u8> {
         let mut out = 0;
         // SAFETY: as at the head of the file.
-        let status = unsafe { hp_create_range(self.session.get(), document, &mut out) };
+        let status = read(unsafe { hp_create_range(self.session.get(), document, &mut out) });
         if status == HP_OK { Ok(out) } else { Err(status) }
     }
 
     pub(crate) fn clone_range(&mut self, range: u32) -> Result<u32, u8> {
         let mut out = 0;
         // SAFETY: as at the head of the file.
-        let status = unsafe { hp_clone_range(self.session.get(), range, &mut out) };
+        let status = read(unsafe { hp_clone_range(self.session.get(), range, &mut out) });
         if status == HP_OK { Ok(out) } else { Err(status) }
     }
 
     pub(crate) fn range(&mut self, range: u32) -> Result<hp_ends, u8> {
         let mut out = hp_ends::default();
         // SAFETY: as at the head of the file.
-        let status = unsafe { hp_range(self.session.get(), range, &mut out) };
+        let status = read(unsafe { hp_range(self.session.get(), range, &mut out) });
         if status == HP_OK { Ok(out) } else { Err(status) }
     }
 
     pub(crate) fn set_start(&mut self, range: u32, node: u32, offset: u32) -> Result<(), u8> {
         // SAFETY: as at the head of the file.
-        let status = unsafe { hp_set_start(self.session.get(), range, node, offset) };
+        let status = read(unsafe { hp_set_start(self.session.get(), range, node, offset) });
         if status == HP_OK { Ok(()) } else { Err(status) }
     }
 
     pub(crate) fn set_end(&mut self, range: u32, node: u32, offset: u32) -> Result<(), u8> {
         // SAFETY: as at the head of the file.
-        let status = unsafe { hp_set_end(self.session.get(), range, node, offset) };
+        let status = read(unsafe { hp_set_end(self.session.get(), range, node, offset) });
         if status == HP_OK { Ok(()) } else { Err(status) }
     }
 
     pub(crate) fn set_start_before(&mut self, range: u32, node: u32) -> Result<(), u8> {
         // SAFETY: as at the head of the file.
-        let status = unsafe { hp_set_start_before(self.session.get(), range, node) };
+        let status = read(unsafe { hp_set_start_before(self.session.get(), range, node) });
         if status == HP_OK { Ok(()) } else { Err(status) }
     }
 
     pub(crate) fn set_start_after(&mut self, range: u32, node: u32) -> Result<(), u8> {
         // SAFETY: as at the head of the file.
-        let status = unsafe { hp_set_start_after(self.session.get(), range, node) };
+        let status = read(unsafe { hp_set_start_after(self.session.get(), range, node) });
         if status == HP_OK { Ok(()) } else { Err(status) }
     }
 
     pub(crate) fn set_end_before(&mut self, range: u32, node: u32) -> Result<(), u8> {
         // SAFETY: as at the head of the file.
-        let status = unsafe { hp_set_end_before(self.session.get(), range, node) };
+        let status = read(unsafe { hp_set_end_before(self.session.get(), range, node) });
         if status == HP_OK { Ok(()) } else { Err(status) }
     }
 
     pub(crate) fn set_end_after(&mut self, range: u32, node: u32) -> Result<(), u8> {
         // SAFETY: as at the head of the file.
-        let status = unsafe { hp_set_end_after(self.session.get(), range, node) };
+        let status = read(unsafe { hp_set_end_after(self.session.get(), range, node) });
         if status == HP_OK { Ok(()) } else { Err(status) }
     }
 
     pub(crate) fn collapse(&mut self, range: u32, to_start: bool) -> Result<(), u8> {
         // SAFETY: as at the head of the file.
-        let status = unsafe { hp_collapse(self.session.get(), range, to_start) };
+        let status = read(unsafe { hp_collapse(self.session.get(), range, to_start) });
         if status == HP_OK { Ok(()) } else { Err(status) }
     }
 
     pub(crate) fn select_node(&mut self, range: u32, node: u32) -> Result<(), u8> {
         // SAFETY: as at the head of the file.
-        let status = unsafe { hp_select_node(self.session.get(), range, node) };
+        let status = read(unsafe { hp_select_node(self.session.get(), range, node) });
         if status == HP_OK { Ok(()) } else { Err(status) }
     }
 
     pub(crate) fn select_node_contents(&mut self, range: u32, node: u32) -> Result<(), u8> {
         // SAFETY: as at the head of the file.
-        let status = unsafe { hp_select_node_contents(self.session.get(), range, node) };
+        let status = read(unsafe { hp_select_node_contents(self.session.get(), range, node) });
         if status == HP_OK { Ok(()) } else { Err(status) }
     }
 
     pub(crate) fn release_range(&mut self, range: u32) -> Result<(), u8> {
         // SAFETY: as at the head of the file.
-        let status = unsafe { hp_release_range(self.session.get(), range) };
+        let status = read(unsafe { hp_release_range(self.session.get(), range) });
         if status == HP_OK { Ok(()) } else { Err(status) }
     }
 
     pub(crate) fn compare_boundary_points(&mut self, range: u32, how: u32, source: u32) -> Result<i8, u8> {
         let mut out = 0;
         // SAFETY: as at the head of the file.
-        let status = unsafe { hp_compare_boundary_points(self.session.get(), range, how, source, &mut out) };
+        let status = read(unsafe { hp_compare_boundary_points(self.session.get(), range, how, source, &mut out) });
         if status == HP_OK { Ok(out) } else { Err(status) }
     }
 
     pub(crate) fn compare_point(&mut self, range: u32, node: u32, offset: u32) -> Result<i8, u8> {
         let mut out = 0;
         // SAFETY: as at the head of the file.
-        let status = unsafe { hp_compare_point(self.session.get(), range, node, offset, &mut out) };
+        let status = read(unsafe { hp_compare_point(self.session.get(), range, node, offset, &mut out) });
         if status == HP_OK { Ok(out) } else { Err(status) }
     }
 
     pub(crate) fn is_point_in_range(&mut self, range: u32, node: u32, offset: u32) -> Result<u8, u8> {
         let mut out = 0;
         // SAFETY: as at the head of the file.
-        let status = unsafe { hp_is_point_in_range(self.session.get(), range, node, offset, &mut out) };
+        let status = read(unsafe { hp_is_point_in_range(self.session.get(), range, node, offset, &mut out) });
         if status == HP_OK { Ok(out) } else { Err(status) }
     }
 
     pub(crate) fn intersects_node(&mut self, range: u32, node: u32) -> Result<u8, u8> {
         let mut out = 0;
         // SAFETY: as at the head of the file.
-        let status = unsafe { hp_intersects_node(self.session.get(), range, node, &mut out) };
+        let status = read(unsafe { hp_intersects_node(self.session.get(), range, node, &mut out) });
         if status == HP_OK { Ok(out) } else { Err(status) }
     }
 
     pub(crate) fn common_ancestor(&mut self, range: u32) -> Result<u32, u8> {
         let mut out = 0;
         // SAFETY: as at the head of the file.
-        let status = unsafe { hp_common_ancestor(self.session.get(), range, &mut out) };
+        let status = read(unsafe { hp_common_ancestor(self.session.get(), range, &mut out) });
         if status == HP_OK { Ok(out) } else { Err(status) }
     }
 
     pub(crate) fn create_static_range(&mut self, start: u32, start_offset: u32, end: u32, end_offset: u32) -> Result<u32, u8> {
         let mut out = 0;
         // SAFETY: as at the head of the file.
-        let status = unsafe { hp_create_static_range(self.session.get(), start, start_offset, end, end_offset, &mut out) };
+        let status = read(unsafe { hp_create_static_range(self.session.get(), start, start_offset, end, end_offset, &mut out) });
         if status == HP_OK { Ok(out) } else { Err(status) }
     }
 
     pub(crate) fn static_range(&mut self, range: u32) -> Result<hp_static_ends, u8> {
         let mut out = hp_static_ends::default();
         // SAFETY: as at the head of the file.
-        let status = unsafe { hp_static_range(self.session.get(), range, &mut out) };
+        let status = read(unsafe { hp_static_range(self.session.get(), range, &mut out) });
         if status == HP_OK { Ok(out) } else { Err(status) }
     }
 
     pub(crate) fn release_static_range(&mut self, range: u32) -> Result<(), u8> {
         // SAFETY: as at the head of the file.
-        let status = unsafe { hp_release_static_range(self.session.get(), range) };
+        let status = read(unsafe { hp_release_static_range(self.session.get(), range) });
         if status == HP_OK { Ok(()) } else { Err(status) }
     }
 
     pub(crate) fn range_text(&mut self, range: u32) -> Result<(), u8> {
         // SAFETY: as at the head of the file.
-        let status = unsafe { hp_range_text(self.session.get(), range) };
+        let status = read(unsafe { hp_range_text(self.session.get(), range) });
         if status == HP_OK { Ok(()) } else { Err(status) }
     }
 
     pub(crate) fn delete_contents(&mut self, range: u32) -> Result<(), u8> {
         // SAFETY: as at the head of the file.
-        let status = unsafe { hp_delete_contents(self.session.get(), range) };
+        let status = read(unsafe { hp_delete_contents(self.session.get(), range) });
         if status == HP_OK { Ok(()) } else { Err(status) }
     }
 
     pub(crate) fn extract_contents(&mut self, range: u32) -> Result<u32, u8> {
         let mut out = 0;
         // SAFETY: as at the head of the file.
-        let status = unsafe { hp_extract_contents(self.session.get(), range, &mut out) };
+        let status = read(unsafe { hp_extract_contents(self.session.get(), range, &mut out) });
         if status == HP_OK { Ok(out) } else { Err(status) }
     }
 
     pub(crate) fn clone_contents(&mut self, range: u32) -> Result<u32, u8> {
         let mut out = 0;
         // SAFETY: as at the head of the file.
-        let status = unsafe { hp_clone_contents(self.session.get(), range, &mut out) };
+        let status = read(unsafe { hp_clone_contents(self.session.get(), range, &mut out) });
         if status == HP_OK { Ok(out) } else { Err(status) }
     }
 
     pub(crate) fn insert_node(&mut self, range: u32, node: u32) -> Result<(), u8> {
         // SAFETY: as at the head of the file.
-        let status = unsafe { hp_insert_node(self.session.get(), range, node) };
+        let status = read(unsafe { hp_insert_node(self.session.get(), range, node) });
         if status == HP_OK { Ok(()) } else { Err(status) }
     }
 
     pub(crate) fn surround_contents(&mut self, range: u32, parent: u32) -> Result<(), u8> {
         // SAFETY: as at the head of the file.
-        let status = unsafe { hp_surround_contents(self.session.get(), range, parent) };
+        let status = read(unsafe { hp_surround_contents(self.session.get(), range, parent) });
         if status == HP_OK { Ok(()) } else { Err(status) }
     }
 
     pub(crate) fn create_iterator(&mut self, root: u32, show: u32, names: &[u8], lengths: &[u32], verdicts: &[u8]) -> Result<u32, u8> {
         let mut out = 0;
         // SAFETY: as at the head of the file.
-        let status = unsafe { hp_create_iterator(self.session.get(), root, show, names.as_ptr(), names.len(), lengths.as_ptr(), lengths.len(), verdicts.as_ptr(), verdicts.len(), &mut out) };
+        let status = read(unsafe { hp_create_iterator(self.session.get(), root, show, names.as_ptr(), names.len(), lengths.as_ptr(), lengths.len(), verdicts.as_ptr(), verdicts.len(), &mut out) });
         if status == HP_OK { Ok(out) } else { Err(status) }
     }
 
     pub(crate) fn create_walker(&mut self, root: u32, show: u32, names: &[u8], lengths: &[u32], verdicts: &[u8]) -> Result<u32, u8> {
         let mut out = 0;
         // SAFETY: as at the head of the file.
-        let status = unsafe { hp_create_walker(self.session.get(), root, show, names.as_ptr(), names.len(), lengths.as_ptr(), lengths.len(), verdicts.as_ptr(), verdicts.len(), &mut out) };
+        let status = read(unsafe { hp_create_walker(self.session.get(), root, show, names.as_ptr(), names.len(), lengths.as_ptr(), lengths.len(), verdicts.as_ptr(), verdicts.len(), &mut out) });
         if status == HP_OK { Ok(out) } else { Err(status) }
     }
 
     pub(crate) fn iterator(&mut self, iterator: u32) -> Result<hp_iterator_at, u8> {
         let mut out = hp_iterator_at::default();
         // SAFETY: as at the head of the file.
-        let status = unsafe { hp_iterator(self.session.get(), iterator, &mut out) };
+        let status = read(unsafe { hp_iterator(self.session.get(), iterator, &mut out) });
         if status == HP_OK { Ok(out) } else { Err(status) }
     }
 
     pub(crate) fn next_node(&mut self, iterator: u32) -> Result<u32, u8> {
         let mut out = 0;
         // SAFETY: as at the head of the file.
-        let status = unsafe { hp_next_node(self.session.get(), iterator, &mut out) };
+        let status = read(unsafe { hp_next_node(self.session.get(), iterator, &mut out) });
         if status == HP_OK { Ok(out) } else { Err(status) }
     }
 
     pub(crate) fn previous_node(&mut self, iterator: u32) -> Result<u32, u8> {
         let mut out = 0;
         // SAFETY: as at the head of the file.
-        let status = unsafe { hp_previous_node(self.session.get(), iterator, &mut out) };
+        let status = read(unsafe { hp_previous_node(self.session.get(), iterator, &mut out) });
         if status == HP_OK { Ok(out) } else { Err(status) }
     }
 
     pub(crate) fn walker(&mut self, walker: u32) -> Result<hp_walker_at, u8> {
         let mut out = hp_walker_at::default();
         // SAFETY: as at the head of the file.
-        let status = unsafe { hp_walker(self.session.get(), walker, &mut out) };
+        let status = read(unsafe { hp_walker(self.session.get(), walker, &mut out) });
         if status == HP_OK { Ok(out) } else { Err(status) }
     }
 
     pub(crate) fn set_current(&mut self, walker: u32, node: u32) -> Result<(), u8> {
         // SAFETY: as at the head of the file.
-        let status = unsafe { hp_set_current(self.session.get(), walker, node) };
+        let status = read(unsafe { hp_set_current(self.session.get(), walker, node) });
         if status == HP_OK { Ok(()) } else { Err(status) }
     }
 
     pub(crate) fn walk(&mut self, walker: u32, direction: u8) -> Result<u32, u8> {
         let mut out = 0;
         // SAFETY: as at the head of the file.
-        let status = unsafe { hp_walk(self.session.get(), walker, direction, &mut out) };
+        let status = read(unsafe { hp_walk(self.session.get(), walker, direction, &mut out) });
         if status == HP_OK { Ok(out) } else { Err(status) }
     }
 
     pub(crate) fn release_iterator(&mut self, iterator: u32) -> Result<(), u8> {
         // SAFETY: as at the head of the file.
-        let status = unsafe { hp_release_iterator(self.session.get(), iterator) };
+        let status = read(unsafe { hp_release_iterator(self.session.get(), iterator) });
         if status == HP_OK { Ok(()) } else { Err(status) }
     }
 
     pub(crate) fn release_walker(&mut self, walker: u32) -> Result<(), u8> {
         // SAFETY: as at the head of the file.
-        let status = unsafe { hp_release_walker(self.session.get(), walker) };
+        let status = read(unsafe { hp_release_walker(self.session.get(), walker) });
         if status == HP_OK { Ok(()) } else { Err(status) }
     }
 
     pub(crate) fn create_observer(&mut self) -> Result<u32, u8> {
         let mut out = 0;
         // SAFETY: as at the head of the file.
-        let status = unsafe { hp_create_observer(self.session.get(), &mut out) };
+        let status = read(unsafe { hp_create_observer(self.session.get(), &mut out) });
         if status == HP_OK { Ok(out) } else { Err(status) }
     }
 
     pub(crate) fn observe(&mut self, observer: u32, node: u32, options: &hp_options, names: &[u8], lengths: &[u32]) -> Result<(), u8> {
         // SAFETY: as at the head of the file.
-        let status = unsafe { hp_observe(self.session.get(), observer, node, options, names.as_ptr(), names.len(), lengths.as_ptr(), lengths.len()) };
+        let status = read(unsafe { hp_observe(self.session.get(), observer, node, options, names.as_ptr(), names.len(), lengths.as_ptr(), lengths.len()) });
         if status == HP_OK { Ok(()) } else { Err(status) }
     }
 
     pub(crate) fn disconnect(&mut self, observer: u32) -> Result<(), u8> {
         // SAFETY: as at the head of the file.
-        let status = unsafe { hp_disconnect(self.session.get(), observer) };
+        let status = read(unsafe { hp_disconnect(self.session.get(), observer) });
         if status == HP_OK { Ok(()) } else { Err(status) }
     }
 
     pub(crate) fn take_records(&mut self, observer: u32) -> Result<(), u8> {
         // SAFETY: as at the head of the file.
-        let status = unsafe { hp_take_records(self.session.get(), observer) };
+        let status = read(unsafe { hp_take_records(self.session.get(), observer) });
         if status == HP_OK { Ok(()) } else { Err(status) }
     }
 
     pub(crate) fn notify(&mut self) -> Result<(), u8> {
         // SAFETY: as at the head of the file.
-        let status = unsafe { hp_notify(self.session.get()) };
+        let status = read(unsafe { hp_notify(self.session.get()) });
         if status == HP_OK { Ok(()) } else { Err(status) }
     }
 
     pub(crate) fn pending(&mut self) -> Result<(), u8> {
         // SAFETY: as at the head of the file.
-        let status = unsafe { hp_pending(self.session.get()) };
+        let status = read(unsafe { hp_pending(self.session.get()) });
         if status == HP_OK { Ok(()) } else { Err(status) }
     }
 
     pub(crate) fn take_pending(&mut self) -> Result<(), u8> {
         // SAFETY: as at the head of the file.
-        let status = unsafe { hp_take_pending(self.session.get()) };
+        let status = read(unsafe { hp_take_pending(self.session.get()) });
         if status == HP_OK { Ok(()) } else { Err(status) }
     }
 
     pub(crate) fn tell_observer(&mut self, observer: u32) -> Result<(), u8> {
         // SAFETY: as at the head of the file.
-        let status = unsafe { hp_tell_observer(self.session.get(), observer) };
+        let status = read(unsafe { hp_tell_observer(self.session.get(), observer) });
         if status == HP_OK { Ok(()) } else { Err(status) }
     }
 
     pub(crate) fn release_observer(&mut self, observer: u32) -> Result<(), u8> {
         // SAFETY: as at the head of the file.
-        let status = unsafe { hp_release_observer(self.session.get(), observer) };
+        let status = read(unsafe { hp_release_observer(self.session.get(), observer) });
         if status == HP_OK { Ok(()) } else { Err(status) }
     }
 }

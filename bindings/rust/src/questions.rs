@@ -63,7 +63,7 @@ pub struct Description<'a> {
 
 impl<'a> Description<'a> {
     fn part(&self, part: u8) -> Option<&'a str> {
-        maybe(self.of.handle.node_name(part)).map(name)
+        self.of.node().and_then(|node| maybe(self.of.handle.name_of(node, part))).map(name)
     }
 
     /// The name of an Element or a DocumentType, or the target of a ProcessingInstruction.
@@ -156,14 +156,18 @@ impl Session {
 impl Session {
     /// Where a node stands, and what it is called.
     pub fn node(&mut self, node: Node) -> Result<Description<'_>> {
-        let it = self.handle.node(node.number()).map_err(Exception::of)?;
+        match self.handle.node(node.number()).map_err(Exception::of) {
+            Ok(_) | Err(Exception::OutOfMemory) => {}
+            Err(refusal) => return Err(refusal),
+        }
+        let it = self.links(node)?;
         Ok(Description {
-            document: Node::from_number(it.document),
-            kind: Kind::of(it.kind.into()),
-            parent: Node::told(it.parent),
-            previous: Node::told(it.previous),
-            next: Node::told(it.next),
-            of: Part::whole(&self.handle),
+            document: it.document,
+            kind: it.kind,
+            parent: it.parent,
+            previous: it.previous,
+            next: it.next,
+            of: Part::held(&self.handle, node),
         })
     }
 

@@ -1,5 +1,6 @@
 //! The rows of a tree.
 use crate::answers::{maybe, name, parts, there, Part};
+use crate::ffi::Handle;
 use crate::numbers::Node;
 use crate::questions::Kind;
 use std::fmt;
@@ -23,8 +24,21 @@ impl<'a> Row<'a> {
         Row { depth: it.depth, node: Node::from_number(it.node), kind: Kind::of(it.type_), attributes: it.attributes, of: of.at(index) }
     }
 
+    /// A row of a session that has ended.
+    pub(crate) fn held(handle: &'a Handle, depth: usize, node: Node) -> Result<Self, u8> {
+        let links = handle.links(node.number())?;
+        let mut attributes = 0;
+        while handle.attribute_at(node.number(), attributes).is_ok() {
+            attributes += 1;
+        }
+        Ok(Row { depth, node, kind: Kind::of(links.kind.into()), attributes, of: Part::held(handle, node) })
+    }
+
     fn part(&self, part: u8) -> Option<&'a str> {
-        maybe(self.of.handle.row_name(self.of.index, part)).map(name)
+        match self.of.node() {
+            Some(node) => maybe(self.of.handle.name_of(node, part)).map(name),
+            None => maybe(self.of.handle.row_name(self.of.index, part)).map(name),
+        }
     }
 
     /// The name of an Element or a DocumentType, or the target of a ProcessingInstruction.
@@ -44,7 +58,10 @@ impl<'a> Row<'a> {
 
     /// The data of a Text, a Comment or a ProcessingInstruction.
     pub fn data(&self) -> Option<&'a [u16]> {
-        maybe(self.of.handle.row_text(self.of.index))
+        maybe(match self.of.node() {
+            Some(node) => self.of.handle.data_of(node),
+            None => self.of.handle.row_text(self.of.index),
+        })
     }
 
     /// The attributes of an Element, in order.
@@ -62,6 +79,10 @@ impl fmt::Debug for Row<'_> {
 }
 
 fn attribute(of: Part<'_>, at: usize) -> (&str, &[u16]) {
+    if let Some(node) = of.node() {
+        let (found, value) = there(of.handle.attribute_at(node, at));
+        return (name(found), value);
+    }
     let value = there(of.handle.row_attribute_value(of.index, at));
     (name(there(of.handle.row_attribute_name(of.index, at))), value)
 }

@@ -81,6 +81,19 @@ impl Session {
         }
     }
 
+    /// Whether the session has ended, since an allocation was refused. It can then be read and serialized; what changes it answers
+    /// [`Exception::OutOfMemory`].
+    ///
+    /// ```
+    /// # fn main() -> Result<(), huckleport::Exception> {
+    /// assert!(!huckleport::Session::new()?.has_ended());
+    /// # Ok(())
+    /// # }
+    /// ```
+    pub fn has_ended(&self) -> bool {
+        self.handle.has_ended()
+    }
+
     /// How many objects of each kind the session has, in constant time. The last answer stays where it is, unless an [`Owned`](crate::Owned) was
     /// dropped since: what that had is let go first.
     ///

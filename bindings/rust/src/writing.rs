@@ -1,5 +1,5 @@
 //! What writing HTML and XML has in common: rows of a tree are written one after the other, and what is open is closed in time.
-use crate::exception::Result;
+use crate::exception::{Exception, Result};
 use crate::numbers::Node;
 use crate::questions::Kind;
 use crate::rows::Row;
@@ -67,14 +67,50 @@ fn name_of_parent(session: &mut Session, node: Node) -> Result<Option<String>> {
     Ok(session.node(parent)?.name().map(str::to_owned))
 }
 
+/// Goes from a node to the next in tree order, as deep as that stands below the root.
+fn next_below(session: &Session, mut node: Node, mut depth: usize) -> Result<Option<(usize, Node)>> {
+    if let Some(child) = session.first_child(node)? {
+        return Ok(Some((depth + 1, child)));
+    }
+    while depth > 0 {
+        let links = session.links(node)?;
+        match (links.next, links.parent) {
+            (Some(next), _) => return Ok(Some((depth, next))),
+            (None, Some(parent)) => node = parent,
+            (None, None) => return Ok(None),
+        }
+        depth -= 1;
+    }
+    Ok(None)
+}
+
+/// The rows of a tree of a session that has ended.
+fn held_rows(session: &Session, root: Node) -> Result<Vec<Row<'_>>> {
+    let mut found = Vec::new();
+    let mut at = Some((0, root));
+    while let Some((depth, node)) = at {
+        found.push(Row::held(&session.handle, depth, node).map_err(Exception::of)?);
+        at = next_below(session, node, depth)?;
+    }
+    Ok(found)
+}
+
 /// A node and all below it.
 pub(crate) fn whole(session: &mut Session, node: Node, markup: &impl Markup) -> Result<String> {
     let parent = name_of_parent(session, node)?;
+    if session.has_ended() {
+        return write(held_rows(session, node)?.into_iter(), parent.as_deref(), markup);
+    }
     write(session.tree(node)?, parent.as_deref(), markup)
 }
 
 /// What is below a node.
 pub(crate) fn inside(session: &mut Session, node: Node, markup: &impl Markup) -> Result<String> {
+    if session.has_ended() {
+        let mut rows = held_rows(session, node)?.into_iter();
+        let parent = rows.next().and_then(|it| it.name());
+        return write(rows, parent, markup);
+    }
     let mut rows = session.tree(node)?;
     let parent = rows.next().and_then(|it| it.name());
     write(rows, parent, markup)

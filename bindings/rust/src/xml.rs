@@ -135,17 +135,17 @@ impl Markup for Xml {
 }
 
 /// Whether a node is a Document without an element.
-fn lacks_element(session: &mut Session, node: Node) -> Result<bool> {
-    if session.node(node)?.kind != Kind::Document {
-        return Ok(false);
-    }
-    let children: Vec<Node> = session.children(node)?.collect();
-    for it in children {
-        if session.node(it)?.kind == Kind::Element {
+fn lacks_element(session: &Session, node: Node) -> Result<bool> {
+    let links = session.links(node)?;
+    let mut child = links.first_child;
+    while let Some(it) = child {
+        let its = session.links(it)?;
+        if its.kind == Kind::Element {
             return Ok(false);
         }
+        child = its.next;
     }
-    Ok(true)
+    Ok(links.kind == Kind::Document)
 }
 
 /// A node and all below it as XML. A Document and a DocumentFragment are what is below them.
