@@ -399,7 +399,7 @@ class Players(unittest.TestCase):
 
     @staticmethod
     def short(name):
-        words = ["--lines", "3000"] if name in LIBRARIES else ["--streams", "9", "--for", "10", "--wait", "2", "--seed", "21"]
+        words = ["--lines", "3000"] if name in LIBRARIES else ["--streams", "3", "--for", "10", "--wait", "2", "--seed", "21"]
         with tempfile.TemporaryDirectory() as folder:
             status, out, err = said("play", *core(), "--out", folder, "--quiet", "--player", name, *words)
             return status, out + err, [it.commands for it in cases_of(folder)[0] if it.known is None]

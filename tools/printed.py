@@ -26,6 +26,8 @@ PASSED_OVER = (
 )
 # What a block is not run without, by the first word of one of its lines.
 TOOLS = ("cargo", "node", "gcc", "python3", "socat", "doxygen", "man")
+# The oldest node that the package for JavaScript runs in.
+LEAST_NODE = 20
 # The longest that a block may take, in seconds.
 LIMIT = 900
 # What runs made, and what is taken over of it.
@@ -72,11 +74,19 @@ def fault_of(block, folder):
     return None if same else f"it wrote\n{ran.stdout}where the page has\n{block.shown}"
 
 
+def major_of(tool):
+    """Returns the first number of a tool's version."""
+    said = subprocess.run([tool, "--version"], stdout=subprocess.PIPE, text=True, check=False).stdout
+    return int(re.search(r"\d+", said)[0])
+
+
 def reason(script):
     """Returns why a script is not run, if it is not: what it is, or the tool that it lacks."""
     found = next((why for pattern, why in PASSED_OVER if re.search(pattern, script)), None)
     if re.search(r"\bbindings/python\b", script) and not os.path.isfile(f"{sysconfig.get_path('include')}/Python.h"):
         return found, "there is no Python.h"
+    if re.search(r"(?m)^node\b", script) and shutil.which("node") and major_of("node") < LEAST_NODE:
+        return found, f"node is older than {LEAST_NODE}"
     lacking = [it for it in TOOLS if re.search(rf"(?m)^(\(cd \w+ && )?{it}\b", script) and not shutil.which(it)]
     return found, f"there is no {lacking[0]}" if lacking else None
 
